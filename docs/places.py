@@ -77,6 +77,10 @@ def crates():
     return [line.split(":")[0].split()[0] for line in lines if line.strip() and not line.startswith("#")]
 
 
+def is_for_tests(crate):
+    return crate.endswith("_tests") or crate == "test_records"
+
+
 @functools.cache
 def bodies():
     """The script tests/bodies, which knows functions and wrong bodies."""

@@ -23,16 +23,27 @@ NO_PROGRAM = "there is no program docker: build it by `./docker` or install it b
 # One to seven bytes from 0x21 to 0x7E, as docker reads a TIPLOC; but a word that begins with a
 # hyphen is no TIPLOC.
 TIPLOC = re.compile(r"[!-,.-~][!-~]{0,6}")
+# Six such bytes, as `desk` reads a UID.
+UID = re.compile(r"[!-~]{6}")
 # The first and the last column of each field of a line of `files`, and of the description in a docker's heading, by the names in docs/FORMATS.md;
 # docs/columns compares both.
 FILE = {
     "date of extract": (1, 10), "time of extract": (12, 15), "current file reference": (17, 23), "update indicator": (25, 25), "last file reference": (27, 33),
 }
 HEADING = {"description of the TIPLOC": (27, 52)}
+# The columns of a name in a line of `known`, and the first one of its value.
+NAME = (1, 12)
+VALUE = 14
 # How many bytes of answers are kept between commands.
 KEPT = 64 << 20
 # After how many seconds a process that gave no answer is ended.
 PATIENCE = 300
+# The status of an answer where this way to ask doesn't know the request. No program has it.
+UNKNOWN = 5
+# The status with which a desk refuses a line that it doesn't know.
+NO_REQUEST = 2
+# What is asked once of each STATE.
+LISTS = (("files",), ("known",), ("places",))
 
 
 class Answer(NamedTuple):
@@ -52,6 +63,15 @@ class Extract(NamedTuple):
     @property
     def name(self):
         return f"{'full extract' if self.indicator == 'F' else 'update'} {self.reference} of {self.date} {self.time[:2]}:{self.time[2:]}"
+
+
+class Coverage(NamedTuple):
+    """What `known` says of the days that STATE covers: the horizon, the day of the newest full extract, and the last day of the schedules, apart from those
+    without an end. Each is None if there is none. `schedules` is how many there are."""
+    horizon: Optional[str]
+    full: Optional[str]
+    last: Optional[str]
+    schedules: int
 
 
 def is_tiploc(word):
@@ -74,6 +94,13 @@ def extracts_of(text):
     """The files that a text of `files` lists."""
     lines = text.decode("ascii").split("\n")[:-1]
     return [Extract(*fields(line, FILE)) for line in lines]
+
+
+def coverage_of(text):
+    """The days that a text of `known` covers."""
+    found = {line[NAME[0] - 1:NAME[1]].strip(): line[VALUE - 1:] for line in text.decode("ascii").splitlines()}
+    horizon, full = found.get("HORIZON", "NONE"), found.get("FULL")
+    return Coverage(None if horizon == "NONE" else horizon, full and full[:10], found.get("LAST"), int(found["SCHEDULES"]))
 
 
 def missing(extracts):
@@ -106,6 +133,9 @@ def identity(path):
 class Reader:
     """What both ways share: words are checked before they are sent, and one request is under way at a time."""
 
+    # Whether it knows single trains.
+    has_trains = False
+
     def __init__(self, program, state):
         self.program = program
         self.state = os.path.abspath(state)
@@ -122,6 +152,22 @@ class Reader:
     def files(self):
         """The list of files that STATE is made of."""
         return self.ask(("files",))
+
+    def places(self):
+        """The list of places. Only `desk` knows it; one of an older version refuses with NO_REQUEST."""
+        return self.ask(("places",)) if self.has_trains else Answer(UNKNOWN, b"names need the program desk\n")
+
+    def known(self):
+        """What STATE covers. Only `desk` knows it, as `places`."""
+        return self.ask(("known",)) if self.has_trains else Answer(UNKNOWN, b"the days that are covered need the program desk\n")
+
+    def train(self, uid, date):
+        """The schedule of a UID on a day. Only `desk` knows it."""
+        if UID.fullmatch(uid) is None:
+            return Answer(2, f"{uid!r} is no UID: it has six characters\n".encode())
+        if not is_date(date):
+            return Answer(2, f"{date!r} is no day: write YYYY-MM-DD, from 1960 to 2059\n".encode())
+        return self.ask(("train", uid, date)) if self.has_trains else Answer(UNKNOWN, b"a train by itself needs the program desk\n")
 
     def close(self):
         """Ends what was started."""
@@ -178,18 +224,21 @@ class Desk(Reader):
     """One process of `desk`, without --write, so that nothing that is asked changes STATE. It is started with the first request, and again
     where it ended."""
 
+    has_trains = True
+
     def __init__(self, program, state):
         super().__init__(program, state)
         self.process = None
         self.seen = None
-        self.known = None
+        self.knowledge = None
+        self.lists = {}
 
     def ask(self, request):
         with self.turn:
             for _ in range(2):
                 try:
                     fault = self.renewed()
-                    return fault or self.exchange(" ".join(request))
+                    return fault or self.lists.get(request) or self.answered(request)
                 except Ended:
                     fault = self.end()
                     if fault is not None:
@@ -200,13 +249,22 @@ class Desk(Reader):
         """The docker of a place, if asking for it reads no STATE: here always."""
         return self.print_docker(tiploc, date)
 
+    def answered(self, request):
+        """The answer of the process. A list is kept until STATE changes, and so is that there is none."""
+        answer = self.exchange(" ".join(request))
+        if request in LISTS and answer.status in (0, NO_REQUEST):
+            self.lists[request] = answer
+        return answer
+
     def renewed(self):
         """Sees to it that the process knows what STATE's file has now, and no more. The fault, if there is one."""
         now, known = identity(self.state), knowledge(self.state)
+        if self.process is None or now != self.seen:
+            self.lists.clear()
         if self.process is None:
             self.start()
         elif now != self.seen:
-            if grew(self.known, known):
+            if grew(self.knowledge, known):
                 answer = self.exchange("renew")
                 if answer.status != 0:
                     return answer
@@ -214,7 +272,7 @@ class Desk(Reader):
                 # Another state took its place. What is in memory would only join it.
                 self.end()
                 self.start()
-        self.seen, self.known = now, known
+        self.seen, self.knowledge = now, known
         return None
 
     def start(self):

@@ -3,8 +3,8 @@ every machine."""
 import pathlib
 import subprocess
 
-import desks
-import extracts
+import programs
+import records
 
 UIDS = 3000
 PLACES = 700
@@ -53,16 +53,16 @@ def route(number):
 def journey(number, salt):
     """The locations of a train, with a change en route in one of ten. Some trains pass midnight."""
     at, time = route(number), 2 * mixed(number, salt, 1400)
-    lines = [extracts.origin(at[0], clock(time), "1", "FL")]
+    lines = [records.origin(at[0], clock(time), "1", "FL")]
     for stop, place in enumerate(at[1:-1]):
         time += 6 + mixed(number + stop, salt + 1, 12)
         if mixed(number * 31 + stop, 6, 70) == 0:
-            lines.append(extracts.record(f"CR{place:8} OO2C{stop:02}"))
+            lines.append(records.record(f"CR{place:8} OO2C{stop:02}"))
         if mixed(number * 31 + stop, 7, 3) == 0:
-            lines.append(extracts.passes(place, clock(time)))
+            lines.append(records.passes(place, clock(time)))
         else:
-            lines.append(extracts.calls(place, clock(time), clock(time + 2)))
-    return "".join(lines) + extracts.terminus(at[-1], clock(time + 9), "2")
+            lines.append(records.calls(place, clock(time), clock(time + 2)))
+    return "".join(lines) + records.terminus(at[-1], clock(time + 9), "2")
 
 
 def base(number, salt=8, transaction="N"):
@@ -70,33 +70,33 @@ def base(number, salt=8, transaction="N"):
     last = "240420" if mixed(number, 9, 3) == 0 else "241214"
     days = ("1111100", "1111111", "0000011", "1111110")[mixed(number, 10, 4)]
     train = f"{1 + mixed(number, 11, 9)}{'ABCM'[number % 4]}{number % 100:02}"
-    extra = extracts.record("BX         NTY") if number % 2 else ""
-    return (extracts.basic(transaction, uid_of(number), "231210", last, days, train)
+    extra = records.record("BX         NTY") if number % 2 else ""
+    return (records.basic(transaction, uid_of(number), "231210", last, days, train)
             + extra + journey(number, salt))
 
 
 def overlay(number, transaction="N"):
     first, last = f"2406{1 + mixed(number, 12, 15):02}", f"2406{16 + mixed(number, 12, 15):02}"
-    schedule = extracts.basic(
+    schedule = records.basic(
         transaction, uid_of(number), first, last, "1111111", "1X99", stp="O")
     return schedule + journey(number, 13)
 
 
 def cancellation(number):
     day = f"2406{10 + mixed(number, 14, 10):02}"
-    return extracts.basic("N", uid_of(number), day, day, "1111111", stp="C")
+    return records.basic("N", uid_of(number), day, day, "1111111", stp="C")
 
 
 def link(number, last="241214"):
     at = route(number)[-1]
-    return extracts.association(uid_of(number), uid_of((number + 1) % UIDS), "231210", last, at)
+    return records.association(uid_of(number), uid_of((number + 1) % UIDS), "231210", last, at)
 
 
 def full():
     """An extract in the order of national ones: places, associations, and schedules by UID."""
-    parts = [extracts.header("240609", "DFROC1A")]
+    parts = [records.header("240609", "DFROC1A")]
     for number in range(PLACES):
-        parts.append(extracts.place("TI", place_of(number), f"PLACE {number}"))
+        parts.append(records.place("TI", place_of(number), f"PLACE {number}"))
     parts += [link(number) for number in range(0, UIDS, 7)]
     for number in range(UIDS):
         parts.append(base(number))
@@ -104,27 +104,27 @@ def full():
             parts.append(overlay(number))
         if number % 4 == 0:
             parts.append(cancellation(number))
-    return extracts.extract(*parts)
+    return records.extract(*parts)
 
 
 def update(date, reference, turn):
     """An update: some places change, and of every twentieth UID something is new."""
-    parts = [extracts.header(date, reference)]
+    parts = [records.header(date, reference)]
     for number in range(20 + turn, 50, 3):
         new = place_of(number).replace("X", "Y") if number % 2 else ""
-        parts.append(extracts.place("TA", place_of(number), f"PLACE {number}, AGAIN", new))
+        parts.append(records.place("TA", place_of(number), f"PLACE {number}, AGAIN", new))
     parts += [link(number, "240720") for number in range(turn, UIDS, 70)]
     for number in range(turn, UIDS, 20):
         match number // 20 % 4:
             case 0:
                 parts.append(base(number, 15, "R"))
             case 1:
-                parts.append(extracts.basic("D", uid_of(number), "231210"))
+                parts.append(records.basic("D", uid_of(number), "231210"))
             case 2:
                 parts.append(cancellation(number + 1))
             case _:
                 parts.append(base(UIDS + number, 8))
-    return extracts.extract(*parts)
+    return records.extract(*parts)
 
 
 def item(number):
@@ -144,8 +144,8 @@ def endless():
     places = b"".join(
         b"\1" + place_of(number).encode() + stamp + b"\1" + b" " * 63 for number in range(1, 600)
     )
-    lines = extracts.basic("N", "C00001", "600101", "991231", "1111111")
-    lines += extracts.origin(HUB, "0900") + 599 * extracts.passes(HUB, "0900 ")
+    lines = records.basic("N", "C00001", "600101", "991231", "1111111")
+    lines += records.origin(HUB, "0900") + 599 * records.passes(HUB, "0900 ")
     key = b"C00001" + bytes(2) + b"P"
     schedule = b"\3" + key + stamp + b"\1" + (4 * 10**9).to_bytes(4, "big")
     schedule += lines.replace("\n", "").encode()
@@ -158,7 +158,7 @@ def endless():
 
 def docker(*words):
     """Runs a command that has to succeed."""
-    subprocess.run([desks.DOCKER, *words], check=True, stdin=subprocess.DEVNULL)
+    subprocess.run([programs.DOCKER, *words], check=True, stdin=subprocess.DEVNULL)
 
 
 def make(folder):

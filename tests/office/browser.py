@@ -8,6 +8,9 @@ import tempfile
 import urllib.request
 
 
+ENTER, ESCAPE, TAB, UP, DOWN = "\ue007", "\ue00c", "\ue004", "\ue013", "\ue015"
+
+
 class Browser:
     def __init__(self):
         self.folder = tempfile.TemporaryDirectory()
@@ -38,6 +41,11 @@ class Browser:
     def run(self, script, *words):
         """What a function's body of JavaScript gives in the page."""
         return self.ask("/execute/sync", {"script": script, "args": list(words)})
+
+    def keys(self, text):
+        """Presses keys, one after the other. Those that make no letter have names above."""
+        pressed = [{"type": kind, "value": key} for key in text for kind in ("keyDown", "keyUp")]
+        self.ask("/actions", {"actions": [{"type": "key", "id": "keyboard", "actions": pressed}]})
 
     def media(self, media):
         self.cdp("Emulation.setEmulatedMedia", media=media)

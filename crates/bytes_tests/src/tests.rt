@@ -1,5 +1,6 @@
 ghost use Rattle.std.specs.Prelude.{◌<◌};
 
+use self::compare::same;
 use cif_file::read_pieces;
 use cif_line::{Bytes, Day, Kept, Tiploc};
 use docker_bytes::{
@@ -7,57 +8,34 @@ use docker_bytes::{
     read_state, write_state,
 };
 use docker_state::{Merge, State};
-use records::{
-    AA, BS, BS_DELETED, BS_REVISED, HD, HD_8A, HD_9B, HD_10B, HEAD, HEAD_OF_NO_FILE, HEAD_OF_NO_OP,
-    HEAD_OF_NO_TAG, ITEM, ITEM_5A, ITEM_7B, ITEM_LATE, LO, LT, MARK, MOST, OLD_MARK, ONE, TA, TI,
-    TWO, ZZ,
+use pieces::{
+    HEAD, HEAD_OF_NO_FILE, HEAD_OF_NO_OP, HEAD_OF_NO_TAG, ITEM, ITEM_5A, ITEM_7B, ITEM_LATE, MARK,
+    MOST, OLD_MARK, ONE, TWO,
 };
 use std::alloc::Global;
-use std::fmt::Debug;
 use std::process::Abort;
+use test_records::{
+    AA_JOIN, BS, BS_DELETED, BS_REVISED, HD, HD_8A, HD_9B, HD_10B, LO, LT, TA, TI, ZZ, text,
+};
 
+mod compare;
 mod endless;
 mod failing;
 mod horizons;
 mod merged;
 mod migrated;
 mod parts;
+mod pieces;
 mod received;
-mod records;
-
-// Tests compare values with these functions, which end the test if they differ. An assertion in its
-// own function is proved once for all rows.
-
-fn same<T: PartialEq + Debug + Drop>(rt: &impl Abort, got: T, wanted: T) {
-    assert_eq!(rt; got, wanted);
-}
-
-fn same_in<T: PartialEq + Debug + Drop>(rt: &impl Abort, name: &str, got: T, wanted: T) {
-    assert_eq!(rt; got, wanted, "{name}");
-}
 
 /// The pieces joined.
 fn joined_text(rt: &impl Abort, alloc: Global, pieces: &[&[u8]]) -> Vec<u8> {
-    let mut text = Vec::new(alloc);
-    for piece in pieces {
-        text.extend_from_slice(piece).expect(rt, "room");
-    }
-    text
-}
-
-/// The text of these records.
-fn lines(rt: &impl Abort, alloc: Global, records: &[&[u8]]) -> Vec<u8> {
-    let mut text = Vec::new(alloc);
-    for record in records {
-        text.extend_from_slice(record).expect(rt, "room");
-        text.push(b'\n').expect(rt, "room");
-    }
-    text
+    text(alloc, pieces, b"").expect(rt, "room")
 }
 
 /// The state of the file of these records.
 fn state(rt: &impl Abort, alloc: Global, records: &[&[u8]]) -> State {
-    let text = lines(rt, alloc, records);
+    let text = text(alloc, records, b"\n").expect(rt, "room");
     let file = read_pieces(alloc, &[text.as_slice()], 1000).expect(rt, "a file");
     State::of_file(alloc, file).expect(rt, "room")
 }
@@ -153,7 +131,7 @@ fn texts_of_each_kind_of_entry(rt: HostRuntime) {
     let amended = state(&rt, alloc, &[HD_10B, TA, ZZ]);
     let renamed = join(&rt, alloc, place, amended);
     goes_round(&rt, alloc, &renamed, 171, 7);
-    let associated = state(&rt, alloc, &[HD, AA, ZZ]);
+    let associated = state(&rt, alloc, &[HD, AA_JOIN, ZZ]);
     goes_round(&rt, alloc, &associated, 161, 1);
 }
 

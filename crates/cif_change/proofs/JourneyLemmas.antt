@@ -1,4 +1,4 @@
--- The lines that the reader of a schedule has taken, according to what it keeps of them.
+-- The lines that the reader of a schedule has taken, according to what it keeps.
 use Rattle.std.proofs.Common.{◌≡◌, ℕ, ◌+◌, ◌≤◌, ◌<◌, Bool, true, false, cond, List, [], ◌∷◌, ◌++◌, map, subst, refl, ap, sym, ◌∙◌, Some, None, arith, append-nil, append_assoc}
 use Rattle.std.specs.Prelude.{Option, IsTrue, ◌↔◌, ◌||◌, ◌&&◌, nat_le, is_some, is_none, IsOk, OnOk, IfErr, Result, Ok, Err}
 use Rattle.std.proofs.lemmas.Bool.{false≢true, le-leb, leb-true}
@@ -36,7 +36,7 @@ some_is x y same = cc
 
 -- ---- the end
 
--- lines that have a stage are a schedule if and only if a schedule may end there
+-- lines that lead to a stage are a schedule if and only if a schedule may end at that stage
 whole_iff : (lines : Lines) (stage : Stage) → stage_of lines ≡ Some stage → IsSchedule lines ↔ (may_end stage lines ≡ true)
 whole_iff lines stage at = (
   λ is.
@@ -45,7 +45,7 @@ whole_iff lines stage at = (
   λ may. (schedule_iff_stage lines).1 (stage, record { found = at; may = may }),
 )
 
--- the test agrees with what the reader keeps
+-- a test by the stage and the flag is the test of the lines themselves
 may_end_same : (stage : Stage) (lines : Lines) (lacking : Bool) → lacking ≡ may_lack (first_record lines)
     → may_end_by (Some stage) lacking ≡ may_end stage lines
 may_end_same after_basic lines lacking same = same
@@ -64,7 +64,7 @@ complete_iff journey lines has = by journey.stage refl
         let same = may_end_same stage lines journey.lacking has.lacking_is in
         (λ test. iff.1 (sym same ∙ test), λ is. same ∙ iff.0 is)
 
--- the lines are a schedule if and only if the reader says so
+-- the lines are a schedule if and only if this test passes
 pub complete_by : (journey : JourneyState) (lines : Lines) (result : Bool) → result ≡ may_end_by journey.stage journey.lacking → HasLines journey lines
     → IsTrue result ↔ IsSchedule lines
 complete_by journey lines result told has =
@@ -72,12 +72,12 @@ complete_by journey lines result told has =
 
 -- ---- one more line
 
--- the stage after one more line; a first line is a basic schedule
+-- the stage after one more line; the first line has to be a basic schedule
 abbrev pub next_by : Option Stage → Lines → List ℕ → Option Stage
 next_by None lines line = cond (is_first_line line) (Some after_basic) None
 next_by (Some stage) lines line = next_stage stage lines line
 
--- the cause why there is no next stage
+-- the cause, if there is no next stage
 abbrev pub cause_by : Option Stage → List ℕ → fault.FileCause
 cause_by None line = first_line_cause line
 cause_by (Some stage) line = schedule_cause stage line
@@ -108,12 +108,13 @@ fault_by journey lines line has is nowhere = by journey.stage refl nowhere
         (subst (λ l. IsScheduleFault l line (first_line_cause line)) (sym (has.fresh h)) (first (is_first_line line) refl told))
     by (Some stage) h told = subst (λ s. IsScheduleFault lines line (cause_by s line)) (sym h) (schedule_fault lines stage line (sym has.stage_is ∙ h) is told)
 
--- a line that leads to no stage is refused for its cause
+-- a line that leads to no stage is refused for this cause
 pub refused_by : (journey : JourneyState) (lines : Lines) (line : List ℕ) (cause : fault.FileCause) → HasLines journey lines → IsRecord line
     → next_by journey.stage lines line ≡ None → cause_by journey.stage line ≡ cause → IsScheduleFault lines line cause
 refused_by journey lines line cause has is nowhere same = subst (IsScheduleFault lines line) same (fault_by journey lines line has is nowhere)
 
--- an answer that is `Ok` if and only if there is a next stage, and otherwise gives the cause
+-- a result that is `Ok` if and only if there is a next stage says whether some schedule begins with
+-- these lines
 pub judged_ok : {A : Type 0} (answer : Result A FileCause) (journey : JourneyState) (lines : Lines) (line : List ℕ) → HasLines journey lines → IsRecord line
     → IsOk answer ↔ (is_some (next_by journey.stage lines line) ≡ true) → IsOk answer ↔ BeginsSchedule (lines ++ line ∷ [])
 judged_ok answer journey lines line has is iff = (
@@ -130,7 +131,7 @@ judged_ok answer journey lines line has is iff = (
     from None h begins = absurd ((fault_by journey lines line has is h).here begins)
     from (Some next) h begins = iff.1 (λ i. is_some (h i))
 
--- a refused line is refused for the cause at its place
+-- the cause of such a result is why the line is refused
 pub judged_err : {A : Type 0} (answer : Result A FileCause) (journey : JourneyState) (lines : Lines) (line : List ℕ) (told : fault.FileCause)
     → HasLines journey lines → IsRecord line
     → IsOk answer ↔ (is_some (next_by journey.stage lines line) ≡ true) → told ≡ cause_by journey.stage line
@@ -144,7 +145,7 @@ judged_err (Err cause) journey lines line told has is iff same err =
     by None h = fault_by journey lines line has is h
     by (Some next) h = let bad = iff.1 (λ i. is_some (h i)) in absurd cc
 
--- the tests of a first line, and of a later line at its place
+-- whether a first line leads to a stage
 pub first_test : (journey : JourneyState) (lines : Lines) (line : List ℕ) → journey.stage ≡ None
     → is_some (next_by journey.stage lines line) ≡ is_first_line line
 first_test journey lines line at = (λ i. is_some (next_by (at i) lines line)) ∙ by (is_first_line line)
@@ -153,18 +154,18 @@ first_test journey lines line at = (λ i. is_some (next_by (at i) lines line)) �
     by true = refl
     by false = refl
 
--- a stage that leads on by this kind
+-- this stage comes from an earlier one by a line of this kind
 pub record LeadsOn (stage : Option Stage) (kind : Option Kind) (next : Stage) : Type 0 where
   pub here : Stage
   pub at : stage ≡ Some here
   pub after : stage_after here kind ≡ Some next
 
--- a stage after a line of a kind comes from an earlier stage
+-- each stage after a line comes from an earlier stage
 pub leads_on : (stage : Option Stage) (kind : Option Kind) (next : Stage) → stage_then stage kind ≡ Some next → LeadsOn stage kind next
 leads_on None kind next led = absurd cc
 leads_on (Some here) kind next led = record { here = here; at = refl; after = led }
 
--- the test of a later line at its place
+-- whether a later line leads to a stage, if its kind may come next
 pub next_test : (journey : JourneyState) (lines : Lines) (line : List ℕ) (next : Stage) → IsRecord line → stage_then journey.stage (kind_of line) ≡ Some next
     → is_some (next_by journey.stage lines line) ≡ is_sound_next lines line
 next_test journey lines line next is led =
@@ -177,7 +178,7 @@ next_test journey lines line next is led =
     by true = refl
     by false = refl
 
--- why a line at its place is refused: its leftmost bad field, or the third midnight
+-- why a line is refused whose kind may come next: its leftmost bad field, or a third midnight
 pub next_cause : (journey : JourneyState) (line : List ℕ) (next : Stage) → stage_then journey.stage (kind_of line) ≡ Some next
     → field_cause line ≡ cause_by journey.stage line
 next_cause journey line next led =
@@ -191,11 +192,11 @@ next_cause journey line next led =
         (λ i. cond (is_none (h i)) bad_kind (cond (is_none (stage_after here (kind_of line))) bad_place (field_cause line)))
         ∙ (λ i. cond (is_none (after i)) bad_place (field_cause line))
 
--- what holds if and only if a test passes holds if and only if an equal test passes
+-- an equivalence with a test, for an equal test
 pub iff_along : (P : Type 0) (a b : Bool) → a ≡ b → P ↔ (b ≡ true) → P ↔ (a ≡ true)
 iff_along P a b same iff = (λ p. same ∙ iff.0 p, λ test. iff.1 (sym same ∙ test))
 
--- a record of no kind, and one that can't come after the lines so far
+-- a record of no kind is refused, and so is one that can't come after these lines
 pub unknown_kind : (journey : JourneyState) (lines : Lines) (line : List ℕ) → HasLines journey lines → IsRecord line → kind_of line ≡ None
     → IsScheduleFault lines line fault.bad_kind
 unknown_kind journey lines line has is none = refused_by journey lines line fault.bad_kind has is (nowhere journey.stage) (cause journey.stage)
@@ -218,7 +219,7 @@ unknown_kind journey lines line has is none = refused_by journey lines line faul
     cause None = λ i. cond (is_none (none i)) bad_kind (cond (is_basic_kind (kind_of line)) (field_cause line) bad_place)
     cause (Some stage) = λ i. cond (is_none (none i)) bad_kind (cond (is_none (stage_after stage (kind_of line))) bad_place (field_cause line))
 
--- a line of a kind that can't come there
+-- a line is refused if its kind can't come next
 pub out_of_place : (journey : JourneyState) (lines : Lines) (line : List ℕ) (stage : Stage) (kind : Kind) → HasLines journey lines → IsRecord line
     → journey.stage ≡ Some stage → kind_of line ≡ Some kind
     → stage_after stage (Some kind) ≡ None → IsScheduleFault lines line fault.bad_place
@@ -238,7 +239,7 @@ out_of_place journey lines line stage kind has is at known none =
 
 -- ---- the times of one more line
 
--- the falls of times, one after the other
+-- how often two runs of times pass midnight, one after the other
 pub falls_in_turn : (last first : Option ℕ) (rest : List ℕ) → falls_after last (time_list first ++ rest) ≡ falls_after last (time_list first) + falls_after
     (later_or first last) rest
 falls_in_turn None None rest = omega arith
@@ -246,7 +247,7 @@ falls_in_turn (Some last) None rest = omega arith
 falls_in_turn None (Some time) rest = omega arith
 falls_in_turn (Some last) (Some time) rest = omega arith
 
--- the last of the times, one after the other
+-- the last time of two runs, one after the other
 pub last_in_turn : (last first second third : Option ℕ) → later_or third (later_or second (later_or first last)) ≡ later_or
     (last_of (time_list first ++ time_list second ++ time_list third)) last
 last_in_turn last None None None = refl
@@ -261,9 +262,9 @@ last_in_turn last (Some a) (Some b) (Some c) = refl
 one_line : (line : List ℕ) → times_along (line ∷ []) ≡ map (λ (time : Occasion × ℕ). time.1) (times_of line)
 one_line line = ap (map (λ (time : Occasion × ℕ). time.1)) (append-nil (times_of line))
 
--- ---- what the reader keeps of one more line
+-- ---- what the reader keeps after one more line
 
--- the first line stays, because some lines came before
+-- the first line stays the same, as there was one before
 first_stays : (lines : Lines) (stage : Stage) (line : List ℕ) → stage_of lines ≡ Some stage → first_record (lines ++ line ∷ []) ≡ first_record lines
 first_stays [] stage line at = cc
 first_stays (basic ∷ rest) stage line at = refl
@@ -277,7 +278,7 @@ next_is lines line stage next at is sound after =
     ∙ (λ i. cond (sound i) (stage_after stage (kind_of line)) None)
     ∙ after
 
--- for a deletion only the stage goes on
+-- for a deletion only the stage changes
 pub deletion_goes_on : (journey : JourneyState) (lines : Lines) (line : List ℕ) (stage next : Stage) → HasLines journey lines → IsRecord line
     → journey.stage ≡ Some stage → journey.deletion ≡ true
     → stage_after stage (kind_of line) ≡ Some next → HasLines (record journey { stage = Some next }) (lines ++ line ∷ [])
@@ -296,7 +297,7 @@ deletion_goes_on journey lines line stage next has is at deletion after =
     deletion_sound : is_deletion (first_record lines) ≡ true → is_sound_next lines line ≡ true
     deletion_sound told = λ i. told i || (has_good_fields line && nat_le (midnights (lines ++ line ∷ [])) 2)
 
--- the line is sound if its fields are good and the midnights with it are few
+-- a line is sound if its fields are good and the schedule still passes midnight at most twice
 sound_by_falls : (journey : JourneyState) (lines : Lines) (line : List ℕ) (more : ℕ) → HasLines journey lines → journey.deletion ≡ false
     → more ≡ journey.falls + falls_after journey.last (times_along (line ∷ [])) → is_sound_next lines line ≡ (has_good_fields line && nat_le more 2)
 sound_by_falls journey lines line more has kept falls =
@@ -305,7 +306,7 @@ sound_by_falls journey lines line more has kept falls =
     (sym (has.falls_are kept) i + falls_after (sym (has.last_is kept) i) (times_along (line ∷ []))) 2))
     ∙ (λ i. has_good_fields line && nat_le (sym falls i) 2)
 
--- a schedule that is no deletion goes on with a sound line
+-- a schedule that isn't a deletion continues with a sound line
 pub sound_goes_on : (journey : JourneyState) (lines : Lines) (line : List ℕ) (stage next : Stage) (more : ℕ) (later : Option ℕ) → HasLines journey lines
     → IsRecord line → journey.stage ≡ Some stage
     → journey.deletion ≡ false → stage_after stage (kind_of line) ≡ Some next → HasGoodFields line
@@ -325,7 +326,7 @@ sound_goes_on journey lines line stage next more later has is at kept after fiel
       last_is = λ _. last ∙ (λ i. later_or (last_of (times_along (line ∷ []))) (has.last_is kept i)) ∙ sym (last_time_step lines line);
     }
 
--- the falls of three times, one after the other
+-- how often three times pass midnight, one after the other
 pub falls_of_three : (falls : ℕ) (last first second third : Option ℕ)
     → ((falls + falls_after last (time_list first)) + falls_after (later_or first last) (time_list second)) + falls_after
     (later_or second (later_or first last)) (time_list third)
@@ -336,23 +337,23 @@ falls_of_three falls last first second third =
     let two = falls_in_turn (later_or first last) second (time_list third) in
     omega arith
 
--- ---- the times of a line of a kind
+-- ---- the times of a line, by its kind
 
--- the one time of an origin
+-- an origin has one time
 pub origin_time : (line : List ℕ) → HasKind origin_location line → HasGoodFields line
     → map (λ (time : Occasion × ℕ). time.1) (times_of line) ≡ half_minutes (columns 11 15 line) ∷ []
 origin_time line is good =
     (λ i. map (λ (time : Occasion × ℕ). time.1) (times_by_kind (is i) line))
     ∙ ap (λ time. map (λ (t : Occasion × ℕ). t.1) (timed departure time)) (time_there (columns 11 15 line) (good_fields origin_location line is good).1.0)
 
--- the one time of a terminus
+-- a terminus has one time
 pub terminus_time : (line : List ℕ) → HasKind terminating_location line → HasGoodFields line
     → map (λ (time : Occasion × ℕ). time.1) (times_of line) ≡ half_minutes (columns 11 15 line) ∷ []
 terminus_time line is good =
     (λ i. map (λ (time : Occasion × ℕ). time.1) (times_by_kind (is i) line))
     ∙ ap (λ time. map (λ (t : Occasion × ℕ). t.1) (timed arrival time)) (time_there (columns 11 15 line) (good_fields terminating_location line is good).1.0)
 
--- the times of a call
+-- the times of a call: at most three
 pub call_times : (line : List ℕ) (first second third : Option ℕ) → HasKind intermediate_location line
     → first ≡ scheduled_time (columns 11 15 line) → second ≡ scheduled_time (columns 21 25 line) → third ≡ scheduled_time (columns 16 20 line)
     → map (λ (time : Occasion × ℕ). time.1) (times_of line) ≡ time_list first ++ time_list second ++ time_list third
@@ -374,11 +375,11 @@ call_times line first second third is one two three =
 
 -- ---- the first line
 
--- a basic schedule with good fields is a first line
+-- a basic schedule with good fields is a schedule's first line
 pub first_line_is : (line : List ℕ) → IsRecord line → HasKind basic_schedule line → HasGoodFields line → is_first_line line ≡ true
 first_line_is line is kind fields = (first_line_iff_test line).0 (record { is = is; kind = kind; fields = fields })
 
--- what the reader keeps of a basic schedule
+-- what the reader keeps after a basic schedule
 pub basic_read : (line : List ℕ) (journey : JourneyState) → is_first_line line ≡ true → journey.stage ≡ Some after_basic
     → journey.deletion ≡ is_deletion line → journey.lacking ≡ may_lack line
     → journey.falls ≡ 0 → journey.last ≡ None → HasLines journey (line ∷ [])
@@ -394,16 +395,16 @@ basic_read line journey first at deletion lacking falls last =
       last_is = λ _. last ∙ ap last_of (sym times);
     }
 
--- ---- one more line at its place
+-- ---- one more line whose kind may come next
 
--- what is kept after a line of a deletion
+-- what the reader keeps after a line of a deletion
 pub deletion_read : (journey : JourneyState) (lines : Lines) (line : List ℕ) (next : Stage) → HasLines journey lines → IsRecord line
     → stage_then journey.stage (kind_of line) ≡ Some next
     → journey.deletion ≡ true → HasLines (record journey { stage = Some next }) (lines ++ line ∷ [])
 deletion_read journey lines line next has is led deletion =
     let on = leads_on journey.stage (kind_of line) next led in deletion_goes_on journey lines line on.here next has is on.at deletion on.after
 
--- the times that the line gives, and what is kept after them
+-- the times of the line, and what the reader keeps after them
 pub record IsTimed (journey : JourneyState) (line : List ℕ) (first second third : Option ℕ) (more : ℕ) (later : Option ℕ) : Type 0 where
   pub times : map (λ (time : Occasion × ℕ). time.1) (times_of line) ≡ time_list first ++ time_list second ++ time_list third
   pub falls : more ≡ journey.falls + falls_after journey.last (time_list first ++ time_list second ++ time_list third)
@@ -414,7 +415,7 @@ timed_falls : (journey : JourneyState) (line : List ℕ) (first second third : O
     → more ≡ journey.falls + falls_after journey.last (times_along (line ∷ []))
 timed_falls journey line first second third more later told = told.falls ∙ (λ i. journey.falls + falls_after journey.last (sym (one_line line ∙ told.times) i))
 
--- a line is sound if and only if there are still at most two midnights
+-- a line is sound if and only if the schedule still passes midnight at most twice
 pub sound_test : (journey : JourneyState) (lines : Lines) (line : List ℕ) (first second third : Option ℕ) (more : ℕ) (later : Option ℕ)
     → HasLines journey lines → journey.deletion ≡ false
     → HasGoodFields line → IsTimed journey line first second third more later → is_sound_next lines line ≡ nat_le more 2
@@ -422,21 +423,21 @@ sound_test journey lines line first second third more later has kept fields told
     sound_by_falls journey lines line more has kept (timed_falls journey line first second third more later told)
     ∙ (λ i. test_by_none (leftmost_bad_field line) fields i && nat_le more 2)
 
--- a line with few midnights is sound
+-- at most two midnights make the line sound
 pub sound_by_few : (journey : JourneyState) (lines : Lines) (line : List ℕ) (first second third : Option ℕ) (more : ℕ) (later : Option ℕ)
     → HasLines journey lines → journey.deletion ≡ false
     → HasGoodFields line → IsTimed journey line first second third more later → more ≤ 2 → is_sound_next lines line ≡ true
 sound_by_few journey lines line first second third more later has kept fields told few =
     sound_test journey lines line first second third more later has kept fields told ∙ le-leb more 2 few
 
--- a line with a third midnight is not sound
+-- a third midnight makes it unsound
 pub unsound_by_many : (journey : JourneyState) (lines : Lines) (line : List ℕ) (first second third : Option ℕ) (more : ℕ) (later : Option ℕ)
     → HasLines journey lines → journey.deletion ≡ false
     → HasGoodFields line → IsTimed journey line first second third more later → 2 < more → ¬ (is_sound_next lines line ≡ true)
 unsound_by_many journey lines line first second third more later has kept fields told many sound =
     let few = leb-true more 2 (sym (sound_test journey lines line first second third more later has kept fields told) ∙ sound) in omega arith
 
--- what is kept after a sound line
+-- what the reader keeps after a sound line
 pub sound_read : (journey : JourneyState) (lines : Lines) (line : List ℕ) (next : Stage) (first second third : Option ℕ) (more : ℕ) (later : Option ℕ)
     → HasLines journey lines → IsRecord line
     → stage_then journey.stage (kind_of line) ≡ Some next → journey.deletion ≡ false → HasGoodFields line
@@ -447,14 +448,14 @@ sound_read journey lines line next first second third more later has is led kept
     sound_goes_on journey lines line on.here next more later has is on.at kept on.after fields (timed_falls journey line first second third more later told) few
     (told.last ∙ last_in_turn journey.last first second third ∙ (λ i. later_or (last_of (sym (one_line line ∙ told.times) i)) journey.last))
 
--- ---- answers on a line
+-- ---- results for a line
 
--- what holds for a value holds if there is one
+-- a promise for an `Ok` result holds if the result is `Ok`
 pub of_ok : {A E P : Type 0} (answer : Result A E) → OnOk answer P → IsOk answer → P
 of_ok (Ok value) holds is = holds
 of_ok (Err cause) holds is = absurd (false≢true is)
 
--- a cause is the line's if it is the cause after all lines that the reader may have
+-- a cause refuses the line if it does so after all lines that the reader may have taken
 pub faults_line : {A : Type 0} (answer : Result A FileCause) (journey : JourneyState) (line : List ℕ)
     → ((lines : Lines) → HasLines journey lines → IfErr answer (λ cause. IsScheduleCause lines line (cause_meant cause)))
     → IfErr answer (FaultsLine journey line)

@@ -1,4 +1,4 @@
--- What is noted stays noted when more is, and each row notes its places.
+-- What is noted stays noted when more comes, and each row notes its places.
 use Rattle.std.proofs.Common.{◌≡◌, ℕ, zero, suc, ◌+◌, ◌-◌, ◌≤◌, ◌<◌, List, [], ◌∷◌, ◌++◌, map, take, drop, length, get_or, refl, ap, sym, ◌∙◌, subst, Bool, true, false, cond, Some, None, inl, inr, ◌⊎◌, arith, append-nil}
 use Rattle.std.specs.Prelude.{slice_get, min}
 use Rattle.std.proofs.lemmas.Bool.{cases_lt}
@@ -19,9 +19,9 @@ none_some a h = cc
 some_is : {A : Type 0} (a b : A) → Some a ≡ Some b → a ≡ b
 some_is a b h = cc
 
--- ---- what is kept
+-- ---- what stays
 
--- pushing an element keeps the list
+-- a list that has one more element still has the others
 pub pushed_keeps : {A : Type 0} (xs : List A) (x : A) (ys : List A) → ys ≡ xs ++ x ∷ [] → Keeps xs ys
 pushed_keeps {A} xs x ys pushed i z is = ap (λ (zs : List A). slice_get zs i) pushed ∙ there xs i is
   where
@@ -30,7 +30,7 @@ pushed_keeps {A} xs x ys pushed i z is = ap (λ (zs : List A). slice_get zs i) p
     there (y ∷ ys) zero is = is
     there (y ∷ ys) (suc i) is = there ys i is
 
--- the pushed element is at the end
+-- the new element is the last one
 pub pushed_at : {A : Type 0} (xs : List A) (x : A) (ys : List A) → ys ≡ xs ++ x ∷ [] → slice_get ys (length xs) ≡ Some x
 pushed_at {A} xs x ys pushed = ap (λ (zs : List A). slice_get zs (length xs)) pushed ∙ there xs
   where
@@ -38,13 +38,13 @@ pushed_at {A} xs x ys pushed = ap (λ (zs : List A). slice_get zs (length xs)) p
     there [] = refl
     there (y ∷ ys) = there ys
 
--- a list that is kept is not longer
+-- a longer list that keeps a list has no fewer elements
 pub keeps_len : {A : Type 0} (xs ys : List A) → Keeps xs ys → length xs ≤ length ys
 keeps_len [] ys keeps = omega arith
 keeps_len (x ∷ xs) [] keeps = absurd (none_some x (keeps 0 x refl))
 keeps_len (x ∷ xs) (y ∷ ys) keeps = let rest = keeps_len xs ys (λ i z is. keeps (suc i) z is) in omega arith
 
--- a part of a list stays when the list is kept
+-- a part of the list stays the same
 part_kept : (f n : ℕ) (xs ys : List ℕ) → Keeps xs ys → f + n ≤ length xs → take n (drop f ys) ≡ take n (drop f xs)
 part_kept zero zero xs ys keeps within = refl
 part_kept zero (suc n) [] ys keeps within = absurd (omega arith)
@@ -57,7 +57,7 @@ part_kept (suc f) n [] ys keeps within = absurd (omega arith)
 part_kept (suc f) n (x ∷ xs) [] keeps within = absurd (none_some x (keeps 0 x refl))
 part_kept (suc f) n (x ∷ xs) (y ∷ ys) keeps within = part_kept f n xs ys (λ i z is. keeps (suc i) z is) (omega arith)
 
--- numbers still name what they named
+-- indexes of places are still indexes of the same places
 pub ranks_kept : (old new : List (List ℕ)) → Keeps old new → (places : List (List ℕ)) (numbers : List ℕ) → AreRanks old places numbers
     → AreRanks new places numbers
 ranks_kept old new keeps [] [] are = refl
@@ -71,7 +71,7 @@ ranks_kept old new keeps (place ∷ places) (n ∷ ns) are =
     λ i. first i ∷ rest i
 
 module _ (names more : List (List ℕ)) (numbers others : List ℕ) (keeps : Keeps names more) (kept : Keeps numbers others) where
-  -- what a piece noted is still noted
+  -- what a piece noted for a row is still noted
   pub noted_kept : (item : Item) (piece : Piece) → IsNoted names numbers item piece → IsNoted more others item piece
   noted_kept item piece is = record {
     calls = subst (λ (ns : List ℕ). AreRanks more (call_places item.0 item.1) ns) (sym (same false))
@@ -84,7 +84,7 @@ module _ (names more : List (List ℕ)) (numbers others : List ℕ) (keeps : Kee
       same : (links : Bool) → numbers_of links others piece ≡ numbers_of links numbers piece
       same links = ap (if_asked piece.is_link links) (part_kept piece.from piece.count numbers others kept is.within)
 
-  -- so is what all pieces noted
+  -- what all pieces noted for their rows is still noted
   pub all_kept : (items : List Item) (pieces : List Piece) → AreNoted names numbers items pieces → AreNoted more others items pieces
   all_kept [] [] are = tt
   all_kept [] (piece ∷ pieces) are = are
@@ -104,7 +104,7 @@ in_all : (pieces : List Piece) (piece : Piece) → numbers_in (pieces ++ piece �
 in_all [] piece = omega arith
 in_all (other ∷ pieces) piece = let rest = in_all pieces piece in omega arith
 
--- one more row is noted
+-- one more row is noted after the others
 pub row_noted : (old new : Notes) (item : Item) (piece : Piece) → Keeps old.names.list.items new.names.list.items → Keeps old.numbers.items new.numbers.items
     → IsNext new.names.list.items old.numbers.items new.numbers.items item piece → new.pieces.items ≡ old.pieces.items ++ piece ∷ []
     → (items : List Item) → HasNoted items old → HasNoted (items ++ item ∷ []) new
@@ -121,7 +121,7 @@ row_noted old new item piece keeps kept next pushed items has = record {
       );
 }
 
--- names and numbers that no row has do not matter
+-- more names and numbers don't matter, as long as no row is added
 pub none_noted : (old new : Notes) → Keeps old.names.list.items new.names.list.items → Keeps old.numbers.items new.numbers.items
     → new.pieces.items ≡ old.pieces.items → (items : List Item) → HasNoted items old → HasNoted items new
 none_noted old new keeps kept same items has = record {
@@ -159,13 +159,13 @@ no_calls (schedule_key key) lapsed never = (refl, refl)
 no_calls (association_key key) lapsed never = (refl, refl)
 no_calls (tiploc_key code) lapsed never = (refl, refl)
 
--- a key that is not put notes no number
+-- a row whose key isn't put adds no number
 none_next : (names : List (List ℕ)) (numbers : List ℕ) (key : Key) (op : Op) → body_of op ≡ None → IsNext names numbers numbers (key, op) no_piece
 none_next names numbers key op none =
     let nowhere = no_calls key op (λ body put. none_some body (sym none ∙ ap body_of put)) in
     nothing_next names numbers (key, op) nowhere.0 nowhere.1
 
--- so its row has none
+-- a row whose key isn't put gets a piece without numbers
 pub none_row : (old new : Notes) (piece : Piece) → old.names.list.items ≡ new.names.list.items → old.numbers.items ≡ new.numbers.items → piece ≡ no_piece
     → new.pieces.items ≡ old.pieces.items ++ piece ∷ [] → (items : List Item) (key : Key) (op : Op) → body_of op ≡ None → HasNoted items old
     → HasNoted (items ++ (key, op) ∷ []) new
@@ -178,7 +178,7 @@ none_row old new piece same_names same_numbers none pushed items key op not_put 
     (none_next new.names.list.items new.numbers.items key op not_put)))
     pushed items has
 
--- the numbers that are new
+-- all numbers that are new
 came_all : (old new : List ℕ) (count : ℕ) → count ≡ length new - length old → take count (drop (length old) new) ≡ drop (length old) new
 came_all old new count is = by (drop (length old) new) (let len = length-drop (length old) new in omega arith)
   where
@@ -193,7 +193,7 @@ module _ (names : List (List ℕ)) (old new : List ℕ) (kept : Keeps old new) (
   came : take count (drop (length old) new) ≡ drop (length old) new
   came = came_all old new count count_is
 
-  -- the piece of a schedule's calls
+  -- the piece of a schedule: the numbers of the places at which it calls
   pub calls_next : (key : ScheduleKey) (lines : List (List ℕ)) → AreRanks names (map (columns 3 9) (location_lines lines)) (drop (length old) new)
       → IsNext names old new (schedule_key key, put_with (schedule_body lines)) (record { is_link = false; from = length old; count = count })
   calls_next key lines are = record {
@@ -205,7 +205,7 @@ module _ (names : List (List ℕ)) (old new : List ℕ) (kept : Keeps old new) (
     apart = (let len = keeps_len old new kept in omega arith);
   }
 
--- like `calls_next`, for a key and a body that are equal to these
+-- like `calls_next`, for a row that equals such a row
 pub calls_put : (names : List (List ℕ)) (old new : List ℕ) → Keeps old new → (from count : ℕ) → from ≡ length old → count ≡ length new - length old
     → (key : Key) (body : Body) (schedule : ScheduleKey) (lines : List (List ℕ)) → key ≡ schedule_key schedule → body ≡ schedule_body lines
     → AreRanks names (map (columns 3 9) (location_lines lines)) (drop (length old) new)
@@ -217,7 +217,7 @@ calls_put names old new kept from count from_is count_is key body schedule lines
     (sym from_is)
     (calls_next names old new kept count count_is schedule lines are))
 
--- a number that is pushed names its place
+-- a number that is added names its place
 pub one_pushed : (names : List (List ℕ)) (old new : List ℕ) (place : List ℕ) (number : ℕ) → new ≡ old ++ number ∷ [] → slice_get names number ≡ Some place
     → AreRanks names (place ∷ []) (drop (length old) new)
 one_pushed names old new place number pushed is =
@@ -225,9 +225,9 @@ one_pushed names old new place number pushed is =
     ∙ ap (map (slice_get names)) (drop-append_seam old (number ∷ []))
     ∙ (λ i. is i ∷ [])
 
--- ---- place by place
+-- ---- one place after the other
 
--- what was kept is the beginning of the list
+-- a list begins with the list that it keeps
 keeps_front : (xs ys : List ℕ) → Keeps xs ys → ys ≡ xs ++ drop (length xs) ys
 keeps_front [] ys keeps = refl
 keeps_front (x ∷ xs) [] keeps = absurd (none_some x (keeps 0 x refl))
@@ -236,7 +236,7 @@ keeps_front (x ∷ xs) (y ∷ ys) keeps =
     let rest = keeps_front xs ys (λ i z is. keeps (suc i) z is) in
     λ i. same i ∷ rest i
 
--- the numbers that are new since the first list, and then more
+-- the numbers that came first and those that came after them are the new ones
 came_since : (first old new more : List ℕ) → Keeps first old → Keeps old new
     → drop (length first) old ++ (drop (length old) new ++ more) ≡ drop (length first) new ++ more
 came_since first old new more one two =
@@ -253,7 +253,7 @@ one_more names places place (n ∷ []) more are rest =
     let first : slice_get names n ≡ Some place = cc in
     λ i. first i ∷ rest i
 
--- the places of the rest will be noted after what is noted
+-- the places of the rest are still to be noted, after those that are noted
 abbrev pub IsLeft : List (List ℕ) → List (List ℕ) → List (List ℕ) → List ℕ → List ℕ → Type 0
 IsLeft names all rest first numbers = (others : List (List ℕ)) (more : List ℕ) → Keeps names others → AreRanks others rest more
     → AreRanks others all (drop (length first) numbers ++ more)
@@ -274,14 +274,14 @@ pub all_came : (names all : List (List ℕ)) (first numbers : List ℕ) → IsLe
 all_came names all first numbers left =
     subst (AreRanks names all) (append-nil (drop (length first) numbers)) (left names [] (λ i x is. is) refl)
 
--- a location record is the first of them
+-- a location record gives the next place
 pub location_first : (rest behind : List (List ℕ)) (line : List ℕ) → rest ≡ line ∷ behind → is_location (kind_of line) ≡ true
     → map (columns 3 9) (location_lines rest) ≡ columns 3 9 line ∷ map (columns 3 9) (location_lines behind)
 location_first rest behind line whole is =
     ap (λ (lines : List (List ℕ)). map (columns 3 9) (location_lines lines)) whole
     ∙ (λ i. map (columns 3 9) (cond (is i) (line ∷ location_lines behind) (location_lines behind)))
 
--- another line is not one of them
+-- any other line gives none
 pub location_other : (rest behind : List (List ℕ)) (line : List ℕ) → rest ≡ line ∷ behind → is_location (kind_of line) ≡ false
     → map (columns 3 9) (location_lines rest) ≡ map (columns 3 9) (location_lines behind)
 location_other rest behind line whole is =
@@ -292,9 +292,9 @@ pub no_lines : (rest : List (List ℕ)) → length rest ≡ 0 → rest ≡ []
 no_lines [] none = refl
 no_lines (line ∷ rest) none = absurd (omega arith)
 
--- ---- row by row
+-- ---- one row after the other
 
--- what comes before the rest of a list
+-- the elements of a list before this rest
 abbrev pub front_of : List Item → List Item → List Item
 front_of all rest = take (length all - length rest) all
 
@@ -309,7 +309,7 @@ pub record AreNotedBefore (all rest : List Item) (notes : Notes) : Type 0 where
   pub noted : HasNoted (front_of all rest) notes
   pub whole : front_of all rest ++ rest ≡ all
 
--- before the first item none is noted
+-- at first none is noted
 pub none_before : (all : List Item) (notes : Notes) → HasNoted [] notes → AreNotedBefore all all notes
 none_before all notes none =
     let front : front_of all all ≡ [] = front_is [] all all refl in
@@ -330,14 +330,14 @@ one_noted all rest behind item old new rest_is noted before =
       whole = ap (λ (items : List Item). items ++ behind) front ∙ all_is;
     }
 
--- at the end all are noted
+-- at the end all items are noted
 pub all_noted : (all rest : List Item) (notes : Notes) → length rest ≡ 0 → AreNotedBefore all rest notes → HasNoted all notes
 all_noted all [] notes none before = subst (λ (items : List Item). HasNoted items notes) (sym (append-nil (front_of all [])) ∙ before.whole) before.noted
 all_noted all (item ∷ rest) notes none before = absurd (omega arith)
 
 -- ---- changes
 
--- one more change is noted, if the op that it leaves at its key is
+-- one more change is noted, if its key with the op that it leaves there is
 pub change_noted : (notes : Notes) (made : List model.Change) (change : model.Change) (op : Op) → op_of change.act ≡ op
     → HasNoted (items_put made ++ (change.key, op) ∷ []) notes → HasNoted (items_put (made ++ change ∷ [])) notes
 change_noted notes made change op is has =
@@ -355,7 +355,7 @@ piece_at names numbers (first ∷ items) (piece ∷ pieces) are zero item is =
     subst (λ (i : Item). IsNoted names numbers i piece) (some_is first item is) are.0
 piece_at names numbers (first ∷ items) (piece ∷ pieces) are (suc n) item is = piece_at names numbers items pieces are.1 n item is
 
--- the picked rows are noted
+-- the rows that are picked are noted, with their own pieces
 pub picked_noted : (names : List (List ℕ)) (numbers : List ℕ) (items : List Item) (pieces : List Piece) → AreNoted names numbers items pieces → (order : List ℕ)
     (picked : List Item) → ArePicked items order picked → AreNoted names numbers picked (map (λ n. get_or pieces n no_piece) order)
 picked_noted names numbers items pieces are [] [] is = tt
@@ -368,9 +368,9 @@ picked_noted names numbers items pieces are (n ∷ order) (item ∷ picked) is =
     let behind : ArePicked items order picked = cc in
     (piece_at names numbers items pieces are n item here, picked_noted names numbers items pieces are order picked behind)
 
--- ---- parts of a list
+-- ---- parts of a list, cut to its length
 
--- the number of elements to drop may be cut to the length of the list
+-- dropping more elements than the list has is dropping all
 pub drop_min : (n : ℕ) (xs : List ℕ) → drop (min n (length xs)) xs ≡ drop n xs
 drop_min n xs = by (cases_lt n (length xs))
   where
@@ -378,7 +378,7 @@ drop_min n xs = by (cases_lt n (length xs))
     by (inl few) = ap (λ k. drop k xs) (omega arith)
     by (inr past) = drop_all (min n (length xs)) xs (omega arith) ∙ sym (drop_all n xs past)
 
--- the number of elements to take may be cut to the length of the list
+-- taking more elements than the list has is taking all
 pub take_min : (n : ℕ) (xs : List ℕ) → take (min n (length xs)) xs ≡ take n xs
 take_min n xs = by (cases_lt n (length xs))
   where

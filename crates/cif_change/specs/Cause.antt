@@ -1,11 +1,11 @@
--- What the causes of faults mean, by the names of the definitions, and their texts.
+-- Causes of faults, translated to the definitions, and their texts.
 use Rattle.std.specs.Prelude.{ℕ, List, ◌++◌, codes, decimal, Option, Some, None}
 use Rattle.docker_model.specs.file.FileFault.{too_many, after_trailer, bad_length, bad_byte, bad_kind, bad_place, bad_field, third_midnight, no_end}
 use Rattle.docker_model.specs.file.FileFault as fault
 use Rattle.cif_change.specs.declared.cause.FileCause.{FileCause}
 use Rattle.cif_change.specs.declared.cause.FileCause.TheVariants as cause
 
--- a cause. Out of memory is no fault of a text
+-- a cause as the definitions have it. Out of memory is None, since it is no fault of a text
 abbrev pub cause_meant : FileCause → Option fault.FileCause
 cause_meant cause.Length = Some bad_length
 cause_meant (cause.Byte at) = Some (bad_byte at)
@@ -31,17 +31,17 @@ cause_name cause.After = codes "After"
 cause_name cause.TooMany = codes "TooMany"
 cause_name cause.Memory = codes "Memory"
 
--- the column that a cause holds
+-- the column that a cause names, if it names one
 abbrev pub cause_column : FileCause → Option ℕ
 cause_column (cause.Byte column) = Some column
 cause_column (cause.Field column) = Some column
 cause_column _ = None
 
--- a name, and a column after it
+-- a name, and the column after it if there is one
 abbrev pub name_and_column : List ℕ → Option ℕ → List ℕ
 name_and_column name None = name
 name_and_column name (Some column) = name ++ codes " " ++ decimal column
 
--- a cause as its name and the column
+-- the text of a cause: its name, and the column if it names one
 abbrev pub cause_text : FileCause → List ℕ
 cause_text it = name_and_column (cause_name it) (cause_column it)

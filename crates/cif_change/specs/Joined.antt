@@ -1,8 +1,8 @@
--- The bytes that are left of joined lines.
+-- The bytes of joined lines that aren't read yet.
 use Rattle.std.specs.Prelude.{ℕ, List, ◌++◌}
 use Rattle.std.specs.List.{concat}
 use Rattle.cif_change.specs.declared.joined.Joined.{Joined}
 
--- the bytes in hand, followed by the bytes of the lines after them
+-- the bytes of the current line that are left, and then the bytes of the lines after it
 abbrev pub joined_bytes : Joined → List ℕ
 joined_bytes bytes = bytes.front.now ++ concat bytes.lines.now

@@ -1,5 +1,5 @@
--- What rows have noted: numbers that name their places, and which of the numbers belong to each
--- row.
+-- The places that rows name, noted as numbers: each number is the index of a place, and each row
+-- has a piece of the numbers.
 use Rattle.std.specs.Prelude.{⊤, ℕ, ◌≡◌, ◌+◌, ◌≤◌, Bool, true, false, List, [], ◌∷◌, map, take, drop, length, slice_get, Some}
 use Rattle.docker_model.specs.file.Change as model
 use Rattle.docker_model.specs.file.Change.{Key}
@@ -8,65 +8,65 @@ use Rattle.cif_change.specs.declared.notes.Notes.{Notes}
 use Rattle.cif_change.specs.declared.piece.Piece.{Piece}
 use Rattle.cif_change.specs.NamedPlaces.{AreRanks, call_places, link_places}
 
--- a key with its op
+-- a row without its stamp: a key and its op
 abbrev pub Item : Type 0
 Item = Key × Op
 
--- the keys of rows with their ops
+-- the items of these rows
 abbrev pub items_of : List (Key × Entry) → List Item
 items_of rows = map (λ (row : Key × Entry). (row.0, row.1.op)) rows
 
--- the keys of changes with the ops that they make
+-- the items of these changes: each key with the op that the change leaves there
 abbrev pub items_put : List model.Change → List Item
 items_put changes = map (λ (change : model.Change). (change.key, op_of change.act)) changes
 
--- each element of the old list is at the same index in the new one
+-- the new list has each element of the old one at the same index
 abbrev pub Keeps : {A : Type 0} → List A → List A → Type 0
 Keeps {A} old new = (i : ℕ) (x : A) → slice_get old i ≡ Some x → slice_get new i ≡ Some x
 
--- the numbers if the piece has the kind asked for, links or calls, and otherwise none
+-- the numbers if the piece is of the kind that is asked for, and otherwise none
 abbrev pub if_asked : Bool → Bool → List ℕ → List ℕ
 if_asked true true numbers = numbers
 if_asked true false numbers = []
 if_asked false true numbers = []
 if_asked false false numbers = numbers
 
--- the numbers of a piece, if it has the kind asked for: links or calls
+-- the numbers in a piece, if it is of the kind that is asked for: links or calls
 abbrev pub numbers_of : Bool → List ℕ → Piece → List ℕ
 numbers_of links numbers piece = if_asked piece.is_link links (take piece.count (drop piece.from numbers))
 
--- the numbers of a piece name the places of a key and its op
+-- the numbers in the piece name the places at which the item calls or is linked
 pub record IsNoted (names : List (List ℕ)) (numbers : List ℕ) (item : Item) (piece : Piece) : Type 0 where
   pub calls : AreRanks names (call_places item.0 item.1) (numbers_of false numbers piece)
   pub links : AreRanks names (link_places item.0 item.1) (numbers_of true numbers piece)
   pub within : piece.from + piece.count ≤ length numbers
 
--- each item is noted by its piece
+-- each item is noted in its own piece
 abbrev pub AreNoted : List (List ℕ) → List ℕ → List Item → List Piece → Type 0
 AreNoted names numbers [] [] = ⊤
 AreNoted names numbers [] (piece ∷ pieces) = ⊥
 AreNoted names numbers (item ∷ items) [] = ⊥
 AreNoted names numbers (item ∷ items) (piece ∷ pieces) = IsNoted names numbers item piece × AreNoted names numbers items pieces
 
--- the count of the numbers of pieces
+-- how many numbers these pieces have
 abbrev pub numbers_in : List Piece → ℕ
 numbers_in [] = 0
 numbers_in (piece ∷ pieces) = piece.count + numbers_in pieces
 
--- the places of the keys and their ops are noted, one after the other
+-- the places of these items are noted, one item after the other
 pub record HasNoted (items : List Item) (notes : Notes) : Type 0 where
   pub are : AreNoted notes.names.list.items notes.numbers.items items notes.pieces.items
   pub apart : numbers_in notes.pieces.items ≤ length notes.numbers.items
 
--- the piece has the numbers that are new
+-- the piece of the next item has all numbers that are new
 pub record IsNext (names : List (List ℕ)) (old new : List ℕ) (item : Item) (piece : Piece) : Type 0 where
   pub noted : IsNoted names new item piece
   pub apart : length old + piece.count ≤ length new
 
--- the piece of a row without numbers
+-- the piece of a row that names no place
 abbrev pub no_piece : Piece
 no_piece = record { is_link = false; from = 0; count = 0 }
 
--- the picked items are at these indexes
+-- the picked items stand at these indexes
 abbrev pub ArePicked : List Item → List ℕ → List Item → Type 0
 ArePicked items order picked = map (slice_get items) order ≡ map Some picked

@@ -11,18 +11,18 @@ use std::fmt;
 /// The cause of a fault.
 #[derive(Clone, Copy, PartialEq, Eq, Debug)]
 pub enum FileCause {
-    /// The line does not have 80 bytes.
+    /// The line hasn't 80 bytes.
     Length,
-    /// A byte of the line is not printable. Holds the leftmost such column, from 1.
+    /// A byte of the line isn't printable. Holds the leftmost such column, from 1.
     Byte(u8),
-    /// The line does not begin with the identity of a kind of record.
+    /// The line doesn't begin with the identity of a kind of record.
     Kind,
-    /// No file that begins with the earlier records has a record of this kind next.
+    /// No file with the earlier records continues with a record of this kind.
     Place,
-    /// A checked field of the record is not good. Holds the first column of the leftmost such
-    /// field, from 1.
+    /// A checked field of the record isn't good. Holds the first column of the leftmost such field,
+    /// from 1.
     Field(u8),
-    /// The record's schedule passes midnight a third time there.
+    /// The record's schedule passes midnight for the third time there.
     Midnights,
     /// The text ends before a trailer.
     NoEnd,
@@ -30,12 +30,12 @@ pub enum FileCause {
     After,
     /// There are more records than the limit allows.
     TooMany,
-    /// The allocator refused to grow: out of memory.
+    /// Out of memory: the allocator refused to grow.
     Memory,
 }
 
 impl FileCause {
-    /// The name of the cause, as it stands in the text of a fault.
+    /// The cause's name, as the text of a fault has it.
     pub fn name(&self) -> &'static str
         ensures name { result.now ≡ cause_name self.now }
         ensures len { length result.now ≤ 9 }
@@ -54,7 +54,7 @@ impl FileCause {
         }
     }
 
-    /// The column that the cause holds, from 1. None if it holds no column.
+    /// The column that the cause names, from 1. None if it names none.
     pub fn column(&self) -> Option<u8>
         ensures { result ≡ cause_column self.now }
     {

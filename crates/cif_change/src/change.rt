@@ -1,4 +1,4 @@
-//! Changes of keys, and the order of bodies and acts.
+//! Changes, what they put at keys, and the order of both.
 ghost use Rattle.std.specs.Prelude.{◌≡◌, ◌↔◌, ◌+◌, ◌-◌, ◌<◌, ◌≤◌, IsTrue};
 ghost use Rattle.std.specs.Ordering.{on, as_partial_cmp, eq_by_cmp};
 ghost use Rattle.std.specs.Cmp.{partial_equiv_from_equiv, on_equiv, on_total, eq_by_cmp_equiv, partial_order_from_total};
@@ -18,21 +18,21 @@ use crate::same::{are_same_lines, compare_lines, is_same_line};
 use cif_line::{Line, NO_END, Until};
 use std::cmp::Ordering;
 
-/// What is put at a key. A body that ends earlier is less. If both end together, the bytes of the
-/// joined lines decide, and then the tag of the key.
+/// What is put at a key. In the order of bodies one that ends earlier is less. Of two that end
+/// together, the joined bytes of their lines decide, and then the kind of key.
 #[derive(Debug, Drop)]
 pub enum Body {
-    /// Columns 10 to 72 of the record of a TIPLOC.
+    /// Columns 10 to 72 of a TIPLOC's record.
     Tiploc([u8; 63]),
-    /// The record of an association, with transaction `N`.
+    /// An association's record, with transaction `N`.
     Assoc(Line),
-    /// The records of a schedule, with transaction `N` in the first.
+    /// A schedule's records, with transaction `N` in the first.
     Schedule(Lines),
 }
 
 impl Body {
-    /// The number of the body's last day, counted from 0 for 1960-01-01. It is 65535 if the end
-    /// date means no end or cannot be read, and for a TIPLOC.
+    /// The number of the body's last day, counted from 0 for 1960-01-01. It is 65535 for a TIPLOC,
+    /// and if the end date can't be read or means no end.
     pub fn end_number(&self) -> u16
         ensures { result ≡ body_end (body_meant self.now) }
     {
@@ -46,8 +46,8 @@ impl Body {
         }
     }
 
-    /// The tag of the keys that have such a body: 1 for a TIPLOC, 2 for an association, 3 for a
-    /// schedule.
+    /// The tag of the body's kind, which its keys have too: 1 for a TIPLOC, 2 for an association, 3
+    /// for a schedule.
     fn tag(&self) -> u8
         ensures { result ≡ body_tag (body_meant self.now) }
     {
@@ -58,7 +58,7 @@ impl Body {
         }
     }
 
-    /// Its bytes; lines are joined.
+    /// The body's bytes. If it has several lines, their bytes are joined.
     fn bytes(&self) -> Joined<'_>
         ensures { joined_bytes result ≡ body_bytes (body_meant self.now) }
     {
@@ -69,7 +69,7 @@ impl Body {
         }
     }
 
-    /// How its bytes compare with the bytes of another body.
+    /// Compares the bytes of two bodies.
     fn cmp_bytes(&self, other: &Body) -> Ordering
         ensures { result ≡
             bytes_cmp (body_bytes (body_meant self.now)) (body_bytes (body_meant other.now)) }
@@ -82,7 +82,7 @@ impl Body {
         }
     }
 
-    /// Whether the two bodies are equal: of one kind and with the same bytes.
+    /// Whether the bodies are equal: of one kind, and with the same bytes.
     fn is_same(&self, other: &Body) -> bool
         ensures { IsTrue result ↔ (body_meant self.now ≡ body_meant other.now) }
     {
@@ -97,7 +97,7 @@ impl Body {
     }
 }
 
-/// Six columns of a line, from the given column on.
+/// Six columns of a line, starting at this one.
 fn six_from(line: &Line, first: usize) -> &[u8; 6]
     requires from { 0 < first }
     requires within { first + 5 ≤ 80 }
@@ -109,7 +109,7 @@ fn six_from(line: &Line, first: usize) -> &[u8; 6]
     }
 }
 
-/// The end number that a field with an end date gives.
+/// The end number of an end date field.
 fn end_in(field: &[u8; 6]) -> u16
     ensures { result ≡ readable_end field.now }
 {
@@ -153,7 +153,7 @@ impl Ord for Body {
     ghost matches_eq = { λ a b. refl };
 
     fn cmp(&self, other: &Body) -> Ordering {
-        // Most bodies that are compared are equal; their end dates needn't be read.
+        // Most bodies that are compared are equal, and then no end date has to be read.
         if self.is_same(other) {
             return Ordering::Equal;
         }
@@ -164,12 +164,12 @@ impl Ord for Body {
     }
 }
 
-/// What a change does to its key. A deletion is less than each put.
+/// What a change does at its key. In the order of acts a deletion is less than any put.
 #[derive(Debug, Drop)]
 pub enum Act {
     /// The key is deleted.
     Delete,
-    /// The key is added, or has this body from now on.
+    /// The key has this body from now on, whether it was there before or not.
     Put(Body),
 }
 

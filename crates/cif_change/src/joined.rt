@@ -6,7 +6,7 @@ ghost use Rattle.docker_model.specs.state.Order.{bytes_cmp};
 use cif_line::Line;
 use std::cmp::Ordering;
 
-/// The bytes of a front, followed by the joined bytes of some lines.
+/// Some bytes, and then the bytes of some lines.
 #[derive(Drop)]
 pub(crate) struct Joined<'a> {
     front: &'a [u8],
@@ -22,7 +22,7 @@ impl<'a> Joined<'a> {
         Joined { front, lines }
     }
 
-    /// How these bytes and others compare, byte by byte.
+    /// Compares these bytes with others, byte by byte.
     pub(crate) fn compare(self, other: Joined<'_>) -> Ordering
         ensures { result ≡ bytes_cmp (joined_bytes self.entry) (joined_bytes other.entry) }
     {

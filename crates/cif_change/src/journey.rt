@@ -34,10 +34,10 @@ impl Journey {
         }
     }
 
-    /// Takes the next line. It is refused if no schedule begins with the lines so far and this one.
-    /// The cause is the first of these that holds. `Kind`: its identity is of no kind of record.
-    /// `Place`: a record of its kind can't come next. `Field`: its leftmost bad field. `Midnights`:
-    /// the third midnight. The last two don't apply to the journey of a deletion. A refused line
+    /// Takes the next line. It is refused if no schedule begins with the earlier lines and this
+    /// one. The cause is the first that applies: `Kind`, if its identity isn't any record's;
+    /// `Place`, if its kind can't come next; `Field`, for its leftmost bad field; `Midnights`, at
+    /// the third midnight. Within a deletion's journey the last two don't apply. A refused line
     /// changes nothing.
     pub fn line(&mut self, line: &Line) -> Result<(), FileCause>
         ensures ok { JudgesLine self.old line.now (IsOk result) }
@@ -50,7 +50,7 @@ impl Journey {
         self.progress.take(line)
     }
 
-    /// Whether the lines are a schedule.
+    /// Whether the lines that were taken are a schedule.
     pub fn complete(&self) -> bool
         ensures { JudgesWhole self.now (IsTrue result) }
     {

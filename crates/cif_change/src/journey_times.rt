@@ -9,14 +9,14 @@ ghost use Rattle.cif_change.specs.JourneyRead.{time_list, times_list, AreTimesOf
 
 use cif_line::{FieldFault, Kind, Line, Time, call, origin, terminus};
 
-/// How often a journey has passed midnight, and its last time so far.
+/// How often a journey has passed midnight, and its last time.
 #[derive(Clone, Copy, PartialEq, Eq, Debug)]
 pub(crate) struct Clock {
     pub falls: u8,
     pub last: Option<Time>,
 }
 
-/// The times of a line in their order. A line has at most three.
+/// The times of one line, in order. A line has at most three.
 #[derive(Clone, Copy, PartialEq, Eq, Debug)]
 pub(crate) struct LineTimes {
     first: Option<Time>,
@@ -25,7 +25,7 @@ pub(crate) struct LineTimes {
 }
 
 impl Clock {
-    /// The clock before the first time.
+    /// The clock before any time.
     pub(crate) fn new() -> Clock
         ensures { result ≡ record { falls = 0; last = None } }
     {
@@ -36,7 +36,8 @@ impl Clock {
     }
 
     /// The clock after one more time, if there is one. A time below the last one is past midnight.
-    /// Nothing branches on whether there is one, since trains call and pass in no order.
+    /// There is no branch on whether there is a time, since calls and passes follow each other
+    /// unpredictably.
     fn then(self, time: Option<Time>) -> Clock
         requires { self.falls < 255 }
         ensures falls { result.falls ≡ self.falls + falls_after self.last (time_list time) }
@@ -61,7 +62,7 @@ impl Clock {
     }
 }
 
-/// Whether there are both times and the next one is below the last one: it is past midnight.
+/// Whether both times are there and the next one is below the last one, and so past midnight.
 fn is_fall(last: &Option<Time>, next: &Option<Time>) -> bool
     ensures { falls_after last.now (time_list next.now) ≡ (if result then 1 else 0) }
 {
@@ -71,7 +72,7 @@ fn is_fall(last: &Option<Time>, next: &Option<Time>) -> bool
     }
 }
 
-/// The times of a line after a basic schedule, or its leftmost bad field.
+/// The times of a line after the basic schedule, or its leftmost bad field.
 pub(crate) fn times_at(kind: Kind, line: &Line) -> Result<LineTimes, FieldFault>
     requires kind { HasKind (meaning kind) line.now }
     requires follows { follows_basic (Some (meaning kind)) ≡ true }
@@ -106,7 +107,7 @@ fn origin_times(line: &Line) -> Result<LineTimes, FieldFault>
     })
 }
 
-/// The arrival, the pass and the departure at an intermediate location, each if given.
+/// The arrival, the pass and the departure at an intermediate location, as far as they are given.
 fn call_times(line: &Line) -> Result<LineTimes, FieldFault>
     requires kind { HasKind intermediate_location line.now }
     ensures ok { IsOk result ↔ HasGoodFields line.now }

@@ -10,8 +10,8 @@ ghost use Rattle.cif_change.specs.Meaning.{key_meant};
 use cif_line::{Day, Stp, Tiploc, Uid};
 use std::cmp::Ordering;
 
-/// A key that a change puts or deletes. Keys of TIPLOCs come first, then keys of associations, then
-/// keys of schedules.
+/// A key that a change puts or deletes. In the order of keys TIPLOCs come first, then associations,
+/// and then schedules.
 #[derive(Clone, Copy, Debug)]
 pub enum Key {
     /// The code of a timing point.
@@ -25,7 +25,7 @@ pub enum Key {
 /// The key of an association.
 #[derive(Clone, Copy, PartialEq, Eq, PartialOrd, Ord, Debug)]
 pub struct AssocKey {
-    /// The UID of the train that the other one is associated with.
+    /// The UID of the base train.
     pub base: Uid,
     /// The UID of the associated train.
     pub associated: Uid,
@@ -33,7 +33,7 @@ pub struct AssocKey {
     pub start: Day,
     /// Where the trains meet.
     pub location: Tiploc,
-    /// The suffix that distinguishes several calls of the base train there.
+    /// The base train's location suffix, which distinguishes its calls at that place.
     pub suffix: u8,
     /// The STP indicator.
     pub stp: Stp,
@@ -51,7 +51,7 @@ pub struct ScheduleKey {
 }
 
 impl Key {
-    /// The tag of the key: 1 for a TIPLOC, 2 for an association, 3 for a schedule.
+    /// The tag of this kind of key: 1 for a TIPLOC, 2 for an association, 3 for a schedule.
     fn tag(&self) -> u8
         ensures { result ≡ key_tag (key_meant self.now) }
     {

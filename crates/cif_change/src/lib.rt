@@ -1,5 +1,5 @@
-//! What a file changes: keys, what is put at them, and the orders of both. The reader of a
-//! schedule's lines, and the causes for refusing a record. The places that changes and rows name.
+//! What a file changes: keys, bodies, and the orders of both. It also has the reader of a
+//! schedule's lines, the causes for refusing a record, and the places that changes and rows name.
 #![tactic(auto)]
 
 mod cause;

@@ -23,7 +23,7 @@ impl Model for Lines {
 }
 
 impl Lines {
-    /// These lines.
+    /// A schedule's lines, from this vector.
     pub fn of(lines: Vec<Line>) -> Lines
         ensures { result ≡ lines.items }
     {

@@ -1,26 +1,26 @@
-//! Where each place was last found.
+//! A memo of where each place was last found.
 ghost use Rattle.std.specs.Prelude.{◌≡◌, IfSome, Some, slice_get};
 
 use crate::names::{is_at, packed};
 use cif_line::Memory;
 use std::alloc::Global;
 
-/// The number of slots in a memo.
+/// How many slots a memo has.
 const SLOTS: usize = 65_536;
 
-/// The number of consecutive slots that may have the index of a place.
+/// How many slots, one after the other, may hold the index of one place.
 const NEAR: usize = 8;
 
-/// For some places, the index at which each was last found. The slot comes from a hash of the
-/// place's bytes. A slot may have the index of another place, so the place at the index is
-/// compared.
+/// Remembers for some places the index at which each was last found. A place's first slot comes
+/// from a hash of its bytes. A slot may also hold another place's index, so the place at the index
+/// is compared.
 #[derive(Debug, Drop)]
 pub(crate) struct Memo {
     slots: Vec<u32>,
 }
 
 impl Memo {
-    /// A memo of no place. It takes no memory, and keeps nothing until it grows.
+    /// A memo without slots. It allocates nothing, and remembers nothing until it grows.
     pub(crate) fn new(alloc: Global) -> Memo {
         Memo {
             slots: Vec::new(alloc),
@@ -35,7 +35,7 @@ impl Memo {
         Ok(())
     }
 
-    /// The index of a place in a list of places, if it is kept.
+    /// The index of a place in this list of places, if it is remembered.
     pub(crate) fn find(&self, places: &[[u8; 7]], place: &[u8; 7]) -> Option<u32>
         ensures { IfSome result (λ index. slice_get places.now index ≡ Some place.now) }
     {
@@ -50,8 +50,8 @@ impl Memo {
         None
     }
 
-    /// Keeps where a place was found: in the first free one of its slots, or in the first if none
-    /// is free.
+    /// Remembers where a place was found: in the first free one of its slots, or in its first slot
+    /// if none is free.
     pub(crate) fn set(&mut self, place: &[u8; 7], index: u32) {
         let first = slot_of(place);
         for step in 0..NEAR {
@@ -68,8 +68,8 @@ impl Memo {
     }
 }
 
-/// The first slot of a place: the highest sixteen bits of its bytes, read as a number, times a
-/// constant.
+/// A place's first slot: its bytes as a number, times a constant, of which the highest sixteen bits
+/// count.
 fn slot_of(place: &[u8; 7]) -> usize {
     (packed(place).wrapping_mul(0x9E37_79B9_7F4A_7C15) >> 48) as usize
 }

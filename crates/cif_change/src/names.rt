@@ -1,4 +1,4 @@
-//! The places that rows name, with provisional numbers.
+//! The places that rows name, numbered as they come.
 ghost use Rattle.std.specs.Prelude.{◌≡◌, ◌++◌, [], ◌∷◌, IfOk, IsTrue, Some, slice_get};
 ghost use Rattle.std.specs.Int.{from_le_bytes, w64};
 ghost use Rattle.cif_change.specs.Noted.{Keeps};
@@ -7,8 +7,8 @@ use crate::memo::Memo;
 use cif_line::Memory;
 use std::alloc::Global;
 
-/// Places in the order in which they came. A place may occur more than once. Its number is one of
-/// its indexes.
+/// Places, in the order in which they came. A place may be there more than once, and its number is
+/// one of its indexes.
 #[derive(Debug, Drop)]
 pub struct PlaceNames {
     /// The places.
@@ -17,7 +17,7 @@ pub struct PlaceNames {
 }
 
 impl PlaceNames {
-    /// No place yet. It takes no memory.
+    /// No place yet. It allocates nothing.
     pub(crate) fn new(alloc: Global) -> PlaceNames
         ensures { result.list.items ≡ [] }
     {
@@ -27,8 +27,8 @@ impl PlaceNames {
         }
     }
 
-    /// The number of a place. If the memo doesn't know the place, it gets the next number. `Memory`
-    /// if the allocator refuses to grow.
+    /// The number of a place. A place that the memo doesn't find gets the next number. `Memory` if
+    /// the allocator refuses to grow.
     pub(crate) fn number_of(&mut self, place: &[u8; 7]) -> Result<u32, Memory>
         ensures kept { Keeps self.old.list.items self.new.list.items }
         ensures number { IfOk result (λ number.
@@ -47,7 +47,7 @@ impl PlaceNames {
     }
 }
 
-/// Whether a place is at an index of a list.
+/// Whether this place is at this index of the list.
 pub(crate) fn is_at(places: &[[u8; 7]], index: u32, place: &[u8; 7]) -> bool
     ensures { IsTrue result → slice_get places.now index ≡ Some place.now }
 {
@@ -57,15 +57,15 @@ pub(crate) fn is_at(places: &[[u8; 7]], index: u32, place: &[u8; 7]) -> bool
     }
 }
 
-/// Whether two places are equal.
+/// Whether two places have the same bytes.
 fn is_same(one: &[u8; 7], other: &[u8; 7]) -> bool
     ensures { IsTrue result → one.now ≡ other.now }
 {
     packed(one) == packed(other)
 }
 
-/// A place as one number, with the first byte lowest. So two places are compared at once, not byte
-/// by byte.
+/// A place packed into one number, its first byte lowest. So two places are compared at once, and
+/// not byte by byte.
 pub(crate) fn packed(place: &[u8; 7]) -> u64
     ensures { result ≡ from_le_bytes w64 (place.now ++ 0 ∷ []) }
 {

@@ -1,4 +1,4 @@
-//! The places that rows and changes name, noted as the rows come.
+//! Notes which places rows and changes name, row by row.
 ghost use Rattle.std.specs.Prelude.{◌≡◌, ◌≤◌, ◌++◌, [], ◌∷◌, List, length, map, get_or, vec_len, vec_capacity, IsOk, IsErr, None};
 ghost use Rattle.docker_model.specs.file.Change as model;
 ghost use Rattle.docker_model.specs.state.Op as ops;
@@ -14,20 +14,20 @@ use crate::piece::Piece;
 use cif_line::Memory;
 use std::alloc::Global;
 
-/// What rows name: their places by provisional numbers, in the order in which they came, and for
-/// each row the numbers that belong to it.
+/// Which places rows name. Places have provisional numbers, in the order in which they came, and
+/// each row has a piece of these numbers.
 #[derive(Debug, Drop)]
 pub struct Notes {
-    /// The places that have numbers.
+    /// The places and their numbers.
     pub names: PlaceNames,
     /// The numbers of the places that the rows name, row by row.
     pub numbers: Vec<u32>,
-    /// For each row, the numbers that belong to it.
+    /// Each row's piece of the numbers.
     pub pieces: Vec<Piece>,
 }
 
 impl Notes {
-    /// Nothing noted yet. It takes no memory.
+    /// Nothing noted yet. It allocates nothing.
     pub fn new(alloc: Global) -> Notes
         ensures { HasNoted [] result }
     {
@@ -38,8 +38,8 @@ impl Notes {
         }
     }
 
-    /// What the rows with these numbers name, in this order. The number of a row is the count of
-    /// rows noted before it. The pieces go into an empty vector with room for them.
+    /// The notes of these rows only, in this order. A row's number is how many rows were noted
+    /// before it. The pieces go into `pieces`, which is empty and has room for them.
     pub fn picked(self, order: &[u32], mut pieces: Vec<Piece>) -> Notes
         requires none { pieces.items ≡ [] }
         requires empty { vec_len pieces ≡ 0 }
@@ -62,7 +62,8 @@ impl Notes {
         }
     }
 
-    /// Notes the next row, a key that is put with a body. If memory runs out, the row is left out.
+    /// Notes the next row, whose key is put with this body. If memory runs out, the row isn't
+    /// noted.
     pub fn note_put(&mut self, key: &Key, body: &Body) -> Result<(), Memory>
         ensures ok { IsOk result → (items : List Item) → HasNoted items self.old
             → HasNoted (items ++ (key_meant key.now, put_with (body_meant body.now)) ∷ [])
@@ -76,8 +77,8 @@ impl Notes {
         Ok(())
     }
 
-    /// Notes the next row, a key that is not put and so names no place. If memory runs out, the row
-    /// is left out.
+    /// Notes the next row, whose key isn't put, so it names no place. If memory runs out, the row
+    /// isn't noted.
     pub fn note_none(&mut self) -> Result<(), Memory>
         ensures ok { IsOk result → (items : List Item) (key : model.Key) (op : ops.Op)
             → body_of op ≡ None → HasNoted items self.old
@@ -90,7 +91,7 @@ impl Notes {
         Ok(())
     }
 
-    /// Notes what the next change puts. If memory runs out, the change is left out.
+    /// Notes the next change. If memory runs out, the change isn't noted.
     pub fn note_change(&mut self, change: &Change) -> Result<(), Memory>
         ensures ok { IsOk result → (made : List model.Change)
             → HasNoted (items_put made) self.old
@@ -106,7 +107,7 @@ impl Notes {
     }
 }
 
-/// The pieces at these indexes, in an empty vector that has room for them.
+/// The pieces at these indexes, in `pieces`, which is empty and has room for them.
 fn picked_pieces(all: &[Piece], order: &[u32], mut pieces: Vec<Piece>) -> Vec<Piece>
     requires none { pieces.items ≡ [] }
     requires empty { vec_len pieces ≡ 0 }

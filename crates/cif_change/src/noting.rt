@@ -1,4 +1,4 @@
-//! The numbers of the places that a row names, as it is noted.
+//! Notes the numbers of the places that a row names.
 ghost use Rattle.std.specs.Prelude.{◌≡◌, [], ◌∷◌, drop, length, map, IsOk, IfOk};
 ghost use Rattle.docker_model.specs.records.Record.{columns};
 ghost use Rattle.docker_model.specs.state.Op.{put_with};
@@ -13,7 +13,7 @@ use crate::piece::Piece;
 use crate::places::{is_location, tiploc_in};
 use cif_line::{Line, Memory};
 
-/// Notes the places of what is put at a key. Returns which of the numbers are its own.
+/// Notes the places that a key with this body names. Returns the row's piece of the numbers.
 pub(crate) fn piece_of(
     names: &mut PlaceNames,
     numbers: &mut Vec<u32>,
@@ -49,7 +49,7 @@ pub(crate) fn piece_of(
     }
 }
 
-/// The count of the numbers. `Memory` if it doesn't fit.
+/// How many numbers there are. `Memory` if 32 bits can't hold it.
 fn count_of(numbers: &Vec<u32>) -> Result<u32, Memory>
     ensures { IfOk result (λ count. count ≡ length numbers.now.items) }
 {
@@ -59,7 +59,7 @@ fn count_of(numbers: &Vec<u32>) -> Result<u32, Memory>
     }
 }
 
-/// Notes the TIPLOC of each location record among some lines.
+/// Notes the TIPLOC of each location record among the lines.
 fn note_locations(
     names: &mut PlaceNames,
     numbers: &mut Vec<u32>,

@@ -1,21 +1,21 @@
-//! Which of the noted numbers belong to a row.
+//! A row's piece of the numbers that were noted.
 ghost use Rattle.std.specs.Prelude.{◌≡◌, false, drop, take};
 ghost use Rattle.cif_change.specs.Noted.{numbers_of};
 
-/// The numbers that belong to a row, among all that were noted: for the places where a schedule
-/// calls, or for the one where an association is.
+/// Which of the noted numbers belong to a row. They stand for the places where a schedule calls, or
+/// for the place of an association.
 #[derive(Clone, Copy, Debug, PartialEq, Eq, PartialOrd, Ord)]
 pub struct Piece {
-    /// Whether the numbers belong to an association.
+    /// Whether the row is an association.
     pub is_link: bool,
     /// The index of the first number.
     pub from: u32,
-    /// The count of the numbers.
+    /// How many numbers there are.
     pub count: u32,
 }
 
 impl Piece {
-    /// The piece of a row without numbers.
+    /// The piece of a row that names no place.
     pub(crate) fn none() -> Piece
         ensures { result ≡ record { is_link = false; from = 0; count = 0 } }
     {
@@ -26,7 +26,7 @@ impl Piece {
         }
     }
 
-    /// The numbers of the piece, if it has the kind asked for: links or calls.
+    /// The numbers of the piece, if it is of the kind that is asked for: links or calls.
     pub fn numbers<'a>(&self, numbers: &'a [u32], links: bool) -> &'a [u32]
         ensures { result.now ≡ numbers_of links numbers.entry.now self.now }
     {
@@ -38,7 +38,7 @@ impl Piece {
     }
 }
 
-/// The numbers from an index on.
+/// The numbers from this index on.
 fn behind(numbers: &[u32], from: usize) -> &[u32]
     ensures { result.now ≡ drop from numbers.entry.now }
 {

@@ -1,12 +1,12 @@
-//! How far a reader of a schedule's lines has come.
+//! The progress of a reader of a schedule's lines.
 ghost use Rattle.std.specs.Prelude.{◌≡◌, ◌≤◌, true, None};
 
 use crate::journey_times::Clock;
 use crate::stage::ScheduleStage;
 
-/// What a reader keeps of a schedule's lines so far: its stage, or none before the first line;
-/// whether it is a deletion; whether it may lack its journey; and the times so far. They pass
-/// midnight at most twice. No times are kept of a deletion.
+/// What a reader keeps of a schedule's lines. `stage` is none before the first line. `lacking` says
+/// whether the schedule may lack its journey. The times pass midnight at most twice; of a deletion
+/// none are kept.
 #[derive(Clone, Copy, PartialEq, Eq, Debug)]
 pub struct Progress {
     pub(crate) stage: Option<ScheduleStage>,

@@ -1,4 +1,4 @@
-//! Compares lines sixteen bytes at a time, because most of the lines that are compared are equal.
+//! Compares lines sixteen bytes at a time, since most lines that are compared are equal.
 ghost use Rattle.std.specs.Prelude.{◌≡◌, ◌↔◌, ◌+◌, ◌≤◌, length, take, drop, IsTrue};
 ghost use Rattle.std.specs.List.{concat};
 ghost use Rattle.docker_model.specs.state.Order.{bytes_cmp};
@@ -25,8 +25,7 @@ pub(crate) fn are_same_lines(mut own: &[Line], mut other: &[Line]) -> bool
     own.is_empty() && other.is_empty()
 }
 
-/// How the bytes of two lists of lines compare. Skips the lines at the front that are equal in
-/// both.
+/// Compares the bytes of two lists of lines. Lines at the front that are equal in both are skipped.
 pub(crate) fn compare_lines(mut own: &[Line], mut other: &[Line]) -> Ordering
     ensures { result ≡ bytes_cmp (concat own.entry.now) (concat other.entry.now) }
 {
@@ -40,7 +39,7 @@ pub(crate) fn compare_lines(mut own: &[Line], mut other: &[Line]) -> Ordering
     Joined::new(&[], own).compare(Joined::new(&[], other))
 }
 
-/// Whether two lines are equal. No byte has a branch of its own.
+/// Whether two lines are equal. There is no branch for a single byte.
 pub(crate) fn is_same_line(own: &Line, other: &Line) -> bool
     ensures { IsTrue result ↔ (own.now ≡ other.now) }
 {
@@ -52,7 +51,7 @@ pub(crate) fn is_same_line(own: &Line, other: &Line) -> bool
         & is_same_block(one, two, 4 * BLOCK)
 }
 
-/// Whether two lines have the same sixteen bytes from a place on. The place counts from 0.
+/// Whether two lines have the same sixteen bytes from this index on.
 #[inline(always)]
 fn is_same_block(one: &[u8], two: &[u8], at: usize) -> bool
     requires one { at + BLOCK ≤ length one.now }

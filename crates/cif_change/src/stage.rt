@@ -1,4 +1,4 @@
-//! How far a schedule has come.
+//! The stages of a schedule.
 ghost use Rattle.std.specs.Prelude.{◌≡◌, option_map, Some, IsSome, true};
 ghost use Rattle.docker_model.specs.file.File.{follows_basic};
 ghost use Rattle.cif_laws.specs.ScheduleStage.{stage_after};
@@ -7,7 +7,7 @@ ghost use Rattle.cif_change.specs.JourneyRead.{stage_meant, may_end_by, is_over_
 
 use cif_line::Kind;
 
-/// How far a schedule has come, according to its lines so far.
+/// How far a schedule's lines have come.
 #[derive(Clone, Copy, PartialEq, Eq, Debug)]
 pub(crate) enum ScheduleStage {
     /// After its basic schedule.
@@ -21,7 +21,7 @@ pub(crate) enum ScheduleStage {
 }
 
 impl ScheduleStage {
-    /// The stage after one more line of this kind. None if no schedule has such a line next.
+    /// The stage after one more line of this kind. None if a line of this kind can't come next.
     pub(crate) fn after(self, kind: Kind) -> Option<ScheduleStage>
         ensures stage { option_map stage_meant result ≡
             stage_after (stage_meant self) (Some (meaning kind)) }
@@ -42,7 +42,7 @@ impl ScheduleStage {
         }
     }
 
-    /// Whether a schedule may end here. `lacking` says whether it may lack its journey.
+    /// Whether a schedule may end at this stage. `lacking` says whether it may lack its journey.
     pub(crate) fn may_end(self, lacking: bool) -> bool
         ensures { result ≡ may_end_by (Some (stage_meant self)) lacking }
     {

@@ -1,4 +1,4 @@
-//! The steps of a reader of a schedule's lines.
+//! The steps of the reader of a schedule's lines.
 ghost use Rattle.std.specs.Prelude.{◌≡◌, ◌==◌, ℕ, ◌↔◌, IsTrue, IsOk, IsErr, IfOk, IfErr, OnOk, Some, true, List, [], ◌∷◌};
 ghost use Rattle.docker_model.specs.records.Record.{HasKind, IsRecord, basic_schedule, column};
 ghost use Rattle.docker_model.specs.records.Field.{is_deletion};
@@ -31,7 +31,7 @@ impl Progress {
         }
     }
 
-    /// Whether the lines are a schedule.
+    /// Whether the lines that were taken are a schedule.
     pub fn complete(self) -> bool
         ensures { JudgesWhole (progress_meant self) (IsTrue result) }
     {
@@ -48,7 +48,7 @@ impl Progress {
         self.deletion
     }
 
-    /// Whether its journey is complete, so that no schedule goes on after its lines.
+    /// Whether its journey is complete, so that no further line can belong to it.
     pub fn is_over(self) -> bool
         ensures { result ≡ is_over_by (progress_meant self).stage }
     {
@@ -58,7 +58,7 @@ impl Progress {
         }
     }
 
-    /// Takes one more line, or returns why no schedule goes on with it. A refused line changes
+    /// Takes the next line, or returns why no schedule continues with it. A refused line changes
     /// nothing.
     pub(crate) fn take(&mut self, line: &Line) -> Result<(), FileCause>
         ensures ok { JudgesLine (progress_meant self.old) line.now (IsOk result) }
@@ -73,7 +73,7 @@ impl Progress {
         }
     }
 
-    /// Takes one more record of this kind, or returns why no schedule goes on with it. A refused
+    /// Takes the next record, of this kind, or returns why no schedule continues with it. A refused
     /// record changes nothing.
     pub fn advance(&mut self, kind: Kind, line: &Line) -> Result<(), FileCause>
         requires record { IsRecord line.now }
@@ -110,7 +110,7 @@ impl Progress {
         }
     }
 
-    /// Takes one more line, which is at its place.
+    /// Takes the next line, whose kind may come there.
     fn advance_to(&mut self, next: ScheduleStage, kind: Kind, line: &Line) -> Result<(), FileCause>
         requires record { IsRecord line.now }
         requires kind { HasKind (meaning kind) line.now }
@@ -147,7 +147,7 @@ impl Progress {
     }
 }
 
-/// The progress after the first line, if that is a good basic schedule.
+/// The progress after the first line, if that is a basic schedule with good fields.
 fn behind_first(kind: Kind, line: &Line) -> Result<Progress, FileCause>
     requires record { IsRecord line.now }
     requires kind { HasKind (meaning kind) line.now }
@@ -199,7 +199,7 @@ fn is_deletion(view: &Basic<'_>) -> bool
     }
 }
 
-/// Whether the schedule cancels a train on its days.
+/// Whether the schedule is a cancellation: the train doesn't run on its days.
 fn is_cancellation(view: &Basic<'_>) -> bool
     ensures { result ≡ (column 80 view.now == 67) }
 {

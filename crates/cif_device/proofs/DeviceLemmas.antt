@@ -1,4 +1,4 @@
--- One write after another.
+-- Writes and reads, one after another, and how often a device has failed.
 use Rattle.std.proofs.Common.{◌≡◌, ℕ, ◌+◌, ◌-◌, List, ◌++◌, arith, length, take, drop, replicate, Option, None, Some, refl, ap, sym, subst, ◌∙◌, append_assoc}
 use Rattle.std.proofs.lemmas.Grind.{common_steps}
 use Rattle.std.specs.Prelude.{◌≢◌, true, false, Result, Ok, Err, IsErr, OnOk, OnErr}
@@ -8,31 +8,31 @@ use Rattle.std.proofs.lemmas.List.Folds.{concat-append}
 use Rattle.std.proofs.Math.Seq.{take-add}
 use Rattle.cif_device.specs.Device.{CountsFailure, Takes, Round, Goes}
 
--- two writes one after the other take both pieces
+-- two writes, one after the other, take both pieces
 pub Takes-append : (old middle new : Option (List ℕ)) (front back : List ℕ) →
     Takes old front middle → Takes middle back new → Takes old (front ++ back) new
 Takes-append None middle new front back first second = rw first at second
 Takes-append (Some taken) middle new front back first second =
     (rw first at second) ∙ ap Some (append_assoc taken front back)
 
--- a write of the first `n` bytes past `done` takes the piece on from `done` to `done + n`
+-- if the first `done` bytes of a piece are taken, a write of `n` more makes it `done + n`
 pub Takes-take : (old middle new : Option (List ℕ)) (piece : List ℕ) (done n : ℕ) →
     Takes old (take done piece) middle → Takes middle (take n (drop done piece)) new →
     Takes old (take (done + n) piece) new
 Takes-take old middle new piece done n first second =
     rw take-add (Takes-append old middle new (take done piece) (take n (drop done piece)) first second)
 
--- the elements from `n` to the end are the rest
+-- the elements from index `n` on are the rest
 pub take-drop_all : (n : ℕ) (xs : List ℕ) → take (length xs - n) (drop n xs) ≡ drop n xs
 take-drop_all n xs = grind (arith, common_steps)
 
--- a text m times over, and then n more times
+-- a text repeated m times, and then n more times
 concat-replicate_add : (m n : ℕ) (text : List ℕ) →
     concat (replicate (m + n) text) ≡ concat (replicate m text) ++ concat (replicate n text)
 concat-replicate_add m n text =
     ap concat (sym (replicate-append-replicate m n text)) ∙ concat-append (replicate m text) (replicate n text)
 
--- what two reads of a source without end give, one after the other
+-- the bytes of two reads of an endless source, one after the other
 pub Goes-append : (old middle new : Round) (front back : List ℕ) →
     Goes old front middle → Goes middle back new → Goes old (front ++ back) new
 Goes-append old middle new front back (again, step, m, first) (again', step', n, second) =
@@ -49,7 +49,7 @@ Goes-append old middle new front back (again, step, m, first) (again', step', n,
         ∙ ap (λ more. front ++ more) then
         ∙ sym (append_assoc front back new.left)
 
--- ---- how often a device failed
+-- ---- how often a device has failed
 
 one_more_is_other : (before after : ℕ) → after ≡ before → after ≢ before + 1
 one_more_is_other before after same more = grind (arith, common_steps)
@@ -57,19 +57,19 @@ one_more_is_other before after same more = grind (arith, common_steps)
 false_is_not_true : false ≢ true
 false_is_not_true is = cc
 
--- the failures rose by one exactly in an error
+-- a count that rises by one with an error
 pub counts_error : {A E : Type 0} (result : Result A E) (before after : ℕ) →
     OnOk result (after ≡ before) → OnErr result (after ≡ before + 1) → CountsFailure (IsErr result) before after
 counts_error (Ok value) before after same more =
     ((λ error. absurd (false_is_not_true error), λ one_more. absurd (one_more_is_other before after same one_more)), λ no_error. same)
 counts_error (Err fault) before after same more = ((λ error. more, λ one_more. refl), λ no_error. absurd (no_error refl))
 
--- they stayed if there is none
+-- without an error it is the same
 pub same_if_ok : {A E : Type 0} (result : Result A E) (before after : ℕ) → CountsFailure (IsErr result) before after → OnOk result (after ≡ before)
 same_if_ok (Ok value) before after counted = counted.1 false_is_not_true
 same_if_ok (Err fault) before after counted = tt
 
--- they rose by one if there is one
+-- with an error it is one more
 pub one_more_if_err : {A E : Type 0} (result : Result A E) (before after : ℕ) → CountsFailure (IsErr result) before after → OnErr result (after ≡ before + 1)
 one_more_if_err (Ok value) before after counted = tt
 one_more_if_err (Err fault) before after counted = counted.0.0 refl

@@ -1,4 +1,4 @@
--- How the feeding of a taker from a source ends.
+-- How the feeding of a taker by a source ends.
 use Rattle.std.specs.Prelude.{◌≡◌, ℕ, List, Option, Result, Ok, Err}
 use Rattle.cif_device.specs.Device.{IsEnd}
 use Rattle.cif_device.specs.Taken.{BehindEach, HasFed, HasRefused, Refusing, Taking}
@@ -9,9 +9,9 @@ use Rattle.cif_device.specs.declared.feed.FeedFault.TheVariants as feed
 abbrev pub most_at_once : ℕ
 most_at_once = 65536
 
--- what a taker and what a source had left became, by the result. The taker took as many bytes as
--- that says, up to the end; or all that came before the source failed; or all before a piece that
--- it refused. Or memory ran out before a byte was read
+-- how a taker and a source end up, by the result. `Ok`: the taker took this many bytes, up to the
+-- end. `Source`: it took all that came before the source failed. `Refused`: it took all before a
+-- piece that it refused. `Memory`: nothing was read
 abbrev pub EndsFeeding : {T Terms Fault : Type 0} → Taking T Terms → Refusing T Terms Fault → T → T → Option (List ℕ) → Option (List ℕ)
     → Result ℕ (FeedFault Fault) → Type 0
 EndsFeeding takes refuses taker after left left_now (Ok count) =

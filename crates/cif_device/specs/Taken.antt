@@ -1,13 +1,13 @@
--- What takes a text piece by piece, and what it and the source that it is fed from become. The terms
--- of a taker are what stays as it is while it takes, such as a limit on the text.
+-- What a taker has taken, and what the source that feeds it has left. The terms of a taker stay the
+-- same while it takes; a limit on the text is an example.
 use Rattle.std.specs.Prelude.{◌≡◌, ℕ, ◌≤◌, List, ◌++◌, length, Option}
 use Rattle.cif_device.specs.Device.{Reads}
 
--- what says that a taker has taken a text, under its terms
+-- a relation that says: this taker has taken this text, under these terms
 abbrev pub Taking : Type 0 → Type 0 → Type 1
 Taking T Terms = T → Terms → List ℕ → Type 0
 
--- what says that a taker had taken a text and then refused a piece, for a fault
+-- a relation that says: this taker had taken this text, and then refused this piece, for this fault
 abbrev pub Refusing : Type 0 → Type 0 → Type 0 → Type 1
 Refusing T Terms Fault = T → Terms → List ℕ → List ℕ → Fault → Type 0
 
@@ -17,18 +17,18 @@ pub record IsTaking {T Terms : Type 0} (takes : Taking T Terms) (taker : T) : Ty
   pub text : List ℕ
   pub taken : takes taker terms text
 
--- this holds after each text that the taker may have taken
+-- this holds after each text that the taker may have taken so far
 abbrev pub BehindEach : {T Terms : Type 0} → Taking T Terms → T → (Terms → List ℕ → Type 0) → Type 0
 BehindEach {Terms = Terms} takes taker holds = (terms : Terms) (text : List ℕ) → takes taker terms text → holds terms text
 
--- a source lost this many bytes, and the taker has taken them after the text
+-- the source gave this many bytes, and the taker has taken them after the text
 pub record HasFed {T Terms : Type 0} (takes : Taking T Terms) (count : ℕ) (terms : Terms) (text : List ℕ) (old new : Option (List ℕ)) (taker : T) : Type 0 where
   pub bytes : List ℕ
   pub size : length bytes ≡ count
   pub lost : Reads old bytes new
   pub taken : takes taker terms (text ++ bytes)
 
--- a source lost what was taken after the text, and one piece more, of at most this many bytes
+-- the source gave what was taken after the text, and then one more piece of at most this many bytes
 pub record LosesOnePieceMore {T Terms : Type 0} (takes : Taking T Terms) (most : ℕ) (terms : Terms) (text : List ℕ) (old new : Option (List ℕ)) : Type 0 where
   pub bytes : List ℕ
   pub piece : List ℕ
@@ -37,7 +37,8 @@ pub record LosesOnePieceMore {T Terms : Type 0} (takes : Taking T Terms) (most :
   pub taker : T
   pub taken : takes taker terms (text ++ bytes)
 
--- a source lost what was taken after the text and one piece more, which was refused for the fault
+-- the source gave what was taken after the text, and then one more piece, which the taker refused
+-- for this fault
 pub record HasRefused {T Terms Fault : Type 0} (takes : Taking T Terms) (refuses : Refusing T Terms Fault) (most : ℕ) (terms : Terms) (text : List ℕ)
     (old new : Option (List ℕ)) (taker : T) (fault : Fault) : Type 0 where
   pub more : LosesOnePieceMore takes most terms text old new

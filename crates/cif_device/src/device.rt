@@ -1,16 +1,16 @@
-//! What a source and a sink of bytes promise, and the writing of a whole piece.
+//! What a source and a sink of bytes promise, and how a whole piece is written.
 ghost use Rattle.std.specs.Prelude.{◌≡◌, ℕ, ◌+◌, ◌-◌, ◌^◌, ◌<◌, ◌≤◌, Bool, List, Option, length, take, IfOk, OnOk, OnErr};
 ghost use Rattle.cif_device.specs.Device.{Reads, IsEnd, Ends, Takes, TakesPart};
 
 use std::alloc::{AllocError, AllocFailed};
 use thiserror::Error;
 
-/// A device answered that it failed.
+/// A device failed.
 #[derive(Clone, Copy, Debug, PartialEq, Eq, Hash, Error)]
 #[error("the device failed")]
 pub struct Failed;
 
-/// A growth was refused.
+/// The allocator refused memory.
 #[derive(Clone, Copy, Debug, PartialEq, Eq, Hash, Error)]
 #[error("out of memory")]
 pub struct Memory;
@@ -38,11 +38,11 @@ pub trait Source {
     // Whether it has reported its end.
     ghost ended: { Self → Bool };
 
-    // Whether it was read after it had reported its end.
+    // Whether it was read after it reported its end.
     ghost passed: { Self → Bool };
 
-    /// Reads the next bytes into the front of the buffer and answers how many they are; into a
-    /// buffer with room, 0 is the end. The buffer past them holds anything.
+    /// Reads the next bytes into the front of the buffer and returns their number. If the buffer
+    /// has room, 0 means the end. The rest of the buffer may hold anything.
     fn read(&mut self, into: &mut [u8]) -> Result<usize, Failed>
         requires { failures self.old < 2 ^ 64 - 1 }
         ensures within { IfOk result (λ n. n ≤ length into.new) }
@@ -70,8 +70,8 @@ pub trait Sink {
     // How often it has failed so far.
     ghost failures: { Self → ℕ };
 
-    /// Writes the first bytes of the piece, at least one, and returns their number. No write of
-    /// an empty piece is asked of a device.
+    /// Writes some of the first bytes of the piece, at least one, and returns their number. It is
+    /// never called with an empty piece.
     fn write(&mut self, piece: &[u8]) -> Result<usize, Failed>
         requires failures { failures self.old < 2 ^ 64 - 1 }
         requires piece { 0 < length piece.now }
@@ -88,8 +88,8 @@ pub trait Sink {
         ensures { result ≡ failures self.now };
 }
 
-/// Writes the whole piece, by as many writes as that takes. It stops at the first write that
-/// fails, and the sink then has a beginning of the piece.
+/// Writes the whole piece, in as many writes as that takes. It stops at the first write that fails;
+/// the sink then has taken a part of the piece, from its start.
 pub fn write_all<K: Sink>(sink: &mut K, piece: &[u8]) -> Result<(), Failed>
     requires { K.failures sink.old < 2 ^ 64 - 1 }
     ensures whole { OnOk result (Takes (K.taken sink.old) piece.now (K.taken sink.new)) }

@@ -1,4 +1,4 @@
-//! What takes a text in pieces, and the feeding of it from a source.
+//! A taker, which takes a text in pieces, and how a source feeds it.
 ghost use Rattle.std.specs.Prelude.{◌≡◌, ℕ, ◌-◌, ◌^◌, ◌<◌, ◌++◌, true, false, List, length, IfErr, OnOk, OnErr, Err};
 ghost use Rattle.cif_device.specs.Device.{CountsFailure};
 ghost use Rattle.cif_device.specs.FeedEnds.{EndsFeeding, most_at_once};
@@ -10,29 +10,29 @@ use std::alloc::Global;
 /// How many bytes of a source are read at once.
 pub const PIECE: usize = 65_536;
 
-/// Why a source was not fed to its end.
+/// Why a source wasn't fed to its end.
 #[derive(Clone, Copy, Debug, PartialEq, Eq)]
 pub enum FeedFault<F> {
     /// The source failed.
     Source,
-    /// A growth was refused, before a byte was read.
+    /// The allocator refused memory, before a byte was read.
     Memory,
-    /// The taker refused a piece, for this fault.
+    /// The taker refused a piece, for this reason.
     Refused(F),
 }
 
-/// What takes a text piece by piece, up to the first piece that it refuses.
+/// A taker: it takes a text piece by piece, up to the first piece that it refuses.
 pub trait Taker {
-    /// Why a piece is refused.
+    /// Why it refuses a piece.
     type Fault: Drop;
 
-    // What stays as it is while it takes, as a limit on the text.
+    // What stays the same while it takes, such as a limit on the text.
     ghost Terms: { Type 0 };
 
-    // It has taken this text, under these terms, and refused nothing.
+    // It has taken this text under these terms, and refused no piece of it.
     ghost takes: { Self → Terms → List ℕ → Type 0 };
 
-    // What it is once it has refused a piece after a text, and what the fault says of both.
+    // What it is after it took a text and refused a piece, and what the fault says of both.
     ghost refuses: { Self → Terms → List ℕ → List ℕ → Self.Fault → Type 0 };
 
     /// Takes the next bytes of the text.
@@ -42,15 +42,16 @@ pub trait Taker {
         ensures refused { IfErr result (λ fault. BehindEach takes self.old (λ terms text.
             refuses self.new terms text piece.now fault)) };
 
-    // Each text that it may have taken is shorter than this, so a source without end is refused.
+    // Any text that it has taken is shorter than this, so it refuses a piece of a source without
+    // end.
     ghost bounded: { (taker : Self) (terms : Terms) (text : List ℕ) → takes taker terms text
         → length text < 2 ^ 64 };
 }
 
-/// Feeds a taker all that a source has left, in pieces of at most 65,536 bytes, and returns the
-/// number of bytes. Nothing is read after the source reports its end, or after the piece that the
-/// taker refuses. It terminates for every source: what a taker accepts has a bound, so some piece of
-/// an endless source is refused.
+/// Feeds a taker all that a source has left, in pieces of at most 65,536 bytes. Returns the number
+/// of bytes. Nothing is read after the source reports its end or the taker refuses a piece. It
+/// terminates for every source: what a taker accepts has a bound, so it refuses some piece of an
+/// endless source.
 pub fn feed_all<S: Source, T: Taker>(
     alloc: Global,
     source: &mut S,

@@ -1,5 +1,5 @@
-//! The devices that bytes come from and go to: what a source and a sink promise, how a whole piece
-//! is written, how a text is fed to what takes it, and a source and a sink in memory.
+//! The devices that bytes come from and go to: what a source and a sink promise, and a source and a
+//! sink in memory. A whole piece is written here, and a source is fed to whatever takes its text.
 #![tactic(auto)]
 
 mod device;

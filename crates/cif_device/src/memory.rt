@@ -32,7 +32,7 @@ impl<'a> Model for Bytes<'a> {
 }
 
 impl<'a> Bytes<'a> {
-    /// A source of these bytes, with at most `step` of them a read.
+    /// A source of these bytes. One read gives at most `step` of them.
     pub fn new(bytes: &'a [u8], step: usize) -> Self
         requires { 0 < step }
         ensures left { result.left ≡ bytes.now }
@@ -72,7 +72,7 @@ impl Source for Bytes<'_> {
         ensures ending { IfOk result (λ n. Ends n (length into.new)
             self.old.ended self.new.ended self.old.passed self.new.passed) }
 
-        // What a source promises is above, and what this one adds below.
+        // Any source promises the clauses above. This one also promises the clauses below.
         ensures count { result ≡ Ok (read_count self.old (length into.old)) }
         ensures step { self.new.step ≡ self.old.step }
     {
@@ -89,7 +89,7 @@ impl Source for Bytes<'_> {
     }
 }
 
-/// A sink that keeps what it takes, in room that is reserved once. It fails only if it is full.
+/// A sink that keeps what it takes. Its room is reserved once, and it fails only if it is full.
 #[derive(Debug, Drop)]
 pub struct Kept {
     bytes: Vec<u8>,
@@ -114,7 +114,8 @@ impl Model for Kept {
 }
 
 impl Kept {
-    /// An empty sink with room for this many bytes. `Memory` if the allocator refuses that room.
+    /// An empty sink with room for this many bytes. Returns `Memory` if the allocator refuses that
+    /// room.
     pub fn new(alloc: Global, room: usize) -> Result<Kept, Memory>
         ensures empty { IfOk result (λ kept. kept.taken ≡ []) }
         ensures room { IfOk result (λ kept. kept.room ≡ room) }
@@ -137,14 +138,14 @@ impl Kept {
         self.bytes.as_slice()
     }
 
-    /// Whether it has room for no more bytes.
+    /// Whether it has no room left.
     pub(crate) fn is_full(&self) -> bool
         ensures { IsTrue result ↔ (room_left self.now ≡ 0) }
     {
         self.bytes.len() == self.room
     }
 
-    /// Takes a byte for which it has room.
+    /// Takes one byte. It has to have room for it.
     pub(crate) fn push(&mut self, byte: u8)
         requires { 0 < room_left self.old }
         ensures { self.new ≡ record self.old { taken = self.old.taken ++ byte ∷ [] } }
@@ -168,7 +169,7 @@ impl Sink for Kept {
         ensures counted { OnErr result (self.new.failures ≡ self.old.failures + 1) }
         ensures unmoved { OnErr result (self.new.taken ≡ self.old.taken) }
 
-        // What a sink promises is above, and what this one adds below.
+        // Any sink promises the clauses above. This one also promises the clauses below.
         ensures count { IfOk result (λ n. n ≡ min (length piece.now) (room_left self.old)) }
         ensures full { IsErr result ↔ (room_left self.old ≡ 0) }
         ensures room { self.new.room ≡ self.old.room }

@@ -29,10 +29,10 @@ use Rattle.cif_file.specs.declared.front.FileStage.{FileStage}
 use Rattle.cif_file.specs.declared.front.FileStage.TheVariants.{BeforeHeader, BetweenUnits, InSchedule, AfterEnd}
 use Rattle.cif_change.specs.Meaning.{key_meant}
 use Rattle.cif_file.specs.declared.ended.Ended.{Ended}
-use Rattle.cif_file.specs.KeeperRead.{Keeps, change_opened, AddsLine, AddsSingle, Closes}
+use Rattle.cif_file.specs.KeeperRead.{Keeps, change_opened, Begins, AddsLine, AddsSingle, Closes}
 use Rattle.cif_file.specs.EndedRead.{IsEnded}
 use Rattle.cif_change.specs.JourneyRead.{progress_meant, HasLines, Advances, IsScheduleCause, is_over_by}
-use Rattle.cif_file.specs.RecordsRead.{with_new_first, header_of, IsOpen, IsKept, HasRecords, IsOver, GoesOnWith, IsNoNext, IsNoNextCause, IsWholeBy, GoesOnTo, StandsBefore}
+use Rattle.cif_file.specs.RecordsRead.{header_of, IsOpen, IsKept, HasRecords, IsOver, GoesOnWith, IsNoNext, IsNoNextCause, IsWholeBy, GoesOnTo, StandsBefore}
 
 abbrev Lines : Type 0
 Lines = List (List ℕ)
@@ -94,10 +94,6 @@ first_stays : (lines : Lines) (line : List ℕ) → 0 < length lines → first_r
 first_stays [] line some = absurd (omega arith)
 first_stays (basic ∷ others) line some = refl
 
-new_first_stays : (lines : Lines) (line : List ℕ) → 0 < length lines → with_new_first lines ++ line ∷ [] ≡ with_new_first (lines ++ line ∷ [])
-new_first_stays [] line some = absurd (omega arith)
-new_first_stays (basic ∷ others) line some = refl
-
 some_lines : (lines : Lines) (stage : Stage) → stage_of lines ≡ Some stage → 0 < length lines
 some_lines [] stage at = absurd cc
 some_lines (basic ∷ others) stage at = omega arith
@@ -122,7 +118,7 @@ same_change n m k l b c body numbers keys tests = λ i. record { number = number
 -- a whole schedule makes its change
 pub changes_closed : (opened : Opened) (lines before : Lines) → HasLines (progress_meant opened.progress) lines → opened.number ≡ length before + 1
     → key_meant (key.Schedule opened.key) ≡ schedule_named (first_record lines) → IsSchedule lines
-    → changes (before ++ lines) ≡ changes before ++ change_opened opened (with_new_first lines) ∷ []
+    → changes (before ++ lines) ≡ changes before ++ change_opened opened lines ∷ []
 changes_closed opened [] before has number named is = absurd (let size = ap (λ (l : Lines). length l) is.whole in omega arith)
 changes_closed opened (basic ∷ others) before has number named is =
     changes_append 1 before basic others (ap follows_basic kind)
@@ -209,7 +205,7 @@ pub basic_added : {K : Type 0} (keeps : Keeps K) (old new : Front K) (opened : O
     → IsRecord line → HasKind basic_schedule line
     → HasGoodFields line
     → opened.number ≡ length records + 1 → key_meant (key.Schedule opened.key) ≡ schedule_named line → HasLines (progress_meant opened.progress) (line ∷ [])
-    → new.header ≡ old.header → new.stage ≡ InSchedule opened → AddsLine keeps old.keeper (as_new line) new.keeper
+    → new.header ≡ old.header → new.stage ≡ InSchedule opened → Begins keeps old.keeper line new.keeper
     → HasRecords keeps new (records ++ line ∷ [])
 basic_added keeps old new opened records line over is kind fields number named has same_header place added = record {
   place = in_schedule after_basic (line ∷ []);
@@ -228,7 +224,7 @@ basic_added keeps old new opened records line over is kind fields number named h
         number_is = number;
         key_is = named;
         progress_is = has;
-        kept = added [] (changes records) over.kept;
+        kept = added (changes records) over.kept;
       });
 }
 
@@ -275,7 +271,7 @@ over_of_closed keeps old new opened records has place whole same_header closed =
       kept =
           subst (keeps new.keeper [])
           (sym (changes_closed opened told.lines told.before told.progress_is told.number_is told.key_is is) ∙ ap changes (sym told.whole))
-          (closed (with_new_first told.lines) (changes told.before) told.kept);
+          (closed told.lines (changes told.before) told.progress_is is told.kept);
       anew =
           λ line stops. ap (λ p. next_place p line) told.place_is ∙ next_behind told.stage told.lines line
           ((whole_iff told.lines told.stage told.stage_is).0 is) stops;
@@ -319,7 +315,7 @@ stands_before keeps front new opened records line has place same_header same is 
       key_is = ap (λ k. key_meant (key.Schedule k)) after.named ∙ told.key_is;
       progress_is = after.read told.lines told.progress_is;
       goes_on = begins told.lines told.progress_is;
-      kept = subst (λ k. keeps k (with_new_first told.lines) (changes told.before)) (sym same) told.kept;
+      kept = subst (λ k. keeps k told.lines (changes told.before)) (sym same) told.kept;
     }
 
 stage_begun : (lines : Lines) (line : List ℕ) → BeginsSchedule (lines ++ line ∷ []) → (next : Stage) × (stage_of (lines ++ line ∷ []) ≡ Some next)
@@ -355,6 +351,12 @@ header_followed keeps front opened line records before =
     let size = ap (λ (l : Lines). length l) before.whole ∙ length-append before.before before.lines in
     before.header_is ∙ sym (header_stays records (line ∷ []) (omega arith))
 
+-- a line was added to lines, of which there are some
+pub added_to : {K : Type 0} (keeps : Keeps K) (old new : K) (lines : Lines) (line : List ℕ) (made : List Change) → 0 < length lines
+    → AddsLine keeps old line new → keeps old lines made → keeps new (lines ++ line ∷ []) made
+added_to keeps old new [] line made some added kept = absurd (omega arith)
+added_to keeps old new (basic ∷ others) line made some added kept = added basic others made kept
+
 -- a line that leaves the schedule open
 pub line_added : {K : Type 0} (keeps : Keeps K) (old new : Front K) (opened : Opened) (line : List ℕ) (records : Lines)
     → StandsBefore keeps old opened line records
@@ -381,9 +383,7 @@ line_added keeps old new opened line records before inside same_header place add
             number_is = before.number_is;
             key_is = before.key_is ∙ ap schedule_named (sym (first_stays before.lines line some));
             progress_is = before.progress_is;
-            kept =
-                subst (λ l. keeps new.keeper l (changes before.before)) (new_first_stays before.lines line some)
-                (added (with_new_first before.lines) (changes before.before) before.kept);
+            kept = added_to keeps old.keeper new.keeper before.lines line (changes before.before) some added before.kept;
           });
     }
 
@@ -392,7 +392,8 @@ pub line_closed : {K : Type 0} (keeps : Keeps K) (old new : Front K) (opened : O
     → StandsBefore keeps old opened line records
     → is_over_by (progress_meant opened.progress).stage ≡ true
     → new.header ≡ old.header → new.stage ≡ BetweenUnits
-    → ((lines : Lines) (made : List Change) → keeps old.keeper lines made → keeps new.keeper [] (made ++ change_opened opened (lines ++ line ∷ []) ∷ []))
+    → ((lines : Lines) (made : List Change) → 0 < length lines → HasLines (progress_meant opened.progress) (lines ++ line ∷ [])
+    → IsSchedule (lines ++ line ∷ []) → keeps old.keeper lines made → keeps new.keeper [] (made ++ change_opened opened (lines ++ line ∷ []) ∷ []))
     → HasRecords keeps new (records ++ line ∷ [])
 line_closed keeps old new opened line records before outside same_header place closed =
     let next = stage_begun before.lines line before.goes_on in
@@ -406,11 +407,10 @@ line_closed keeps old new opened line records before outside same_header place c
       kept_are = subst (λ p. IsKept keeps p new.keeper between_units (records ++ line ∷ [])) (sym place) (
         refl,
         subst (keeps new.keeper []) (
-            (λ i. changes before.before ++ change_opened opened (new_first_stays before.lines line some i) ∷ [])
-            ∙ sym (changes_closed opened (before.lines ++ line ∷ []) before.before before.progress_is before.number_is
+            sym (changes_closed opened (before.lines ++ line ∷ []) before.before before.progress_is before.number_is
             (before.key_is ∙ ap schedule_named (sym (first_stays before.lines line some))) is)
             ∙ ap changes (sym ((λ i. before.whole i ++ line ∷ []) ∙ append_assoc before.before before.lines (line ∷ []))))
-            (closed (with_new_first before.lines) (changes before.before) before.kept),
+            (closed before.lines (changes before.before) some before.progress_is is before.kept),
       );
     }
 

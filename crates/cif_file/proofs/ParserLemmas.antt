@@ -54,7 +54,7 @@ above most n many = by (nat_le n most) refl
 
 -- ---- out of memory
 
--- memory may run out at a line if some file begins with the records and the line
+-- memory may run out at a line if some file begins with the records and that line
 memory_told : (limit : ℕ) (records : Lines) (line : List ℕ) (number : ℕ) (all : Lines) → length records < limit → GoesOnWith records line
     → number ≡ length records + 1 → all ≡ records ++ line ∷ []
     → WantsMemoryAt limit all number
@@ -67,7 +67,7 @@ memory_told limit records line number all under goes_on counted whole =
       sound = subst BeginsFile (sym (take_all number all (omega arith))) (subst BeginsFile (sym whole) ((begins_iff_place (records ++ line ∷ [])).1 goes_on));
     }
 
--- more records after them change nothing
+-- more records after the one at which memory ran out make no difference
 memory_more : (limit : ℕ) (records others : Lines) (number : ℕ) → WantsMemoryAt limit records number → WantsMemoryAt limit (records ++ others) number
 memory_more limit records others number told = record {
   some = told.some;
@@ -82,7 +82,7 @@ end_by_test _ h = absurd cc
 
 -- ---- the next record
 
--- a record after the trailer
+-- a record after the trailer is refused
 pub after_cause : {K : Type 0} (keeps : Keeps K) (limit : ℕ) (front : Front K) (records : Lines) (line : List ℕ) → HasRecords keeps front records
     → IsFile records → length records < limit
     → IsCauseNext limit records line after_trailer
@@ -97,7 +97,7 @@ after_cause keeps limit front records line has is under = record {
     none true = refl
     none false = refl
 
--- a line that is no record leads nowhere
+-- a line that isn't a record leads to no place
 no_next : (place : Place) (line : List ℕ) → ¬ IsRecord line → next_place place line ≡ None
 no_next place line bad = by (next_place place line) refl
   where
@@ -105,14 +105,14 @@ no_next place line bad = by (next_place place line) refl
     by None h = h
     by (Some next) h = absurd (bad (next_by_test place line next h).is)
 
--- the cause of a line is some cause
+-- a line that is refused has a cause
 some_cause : (over ended : Bool) (first second third : model.FileCause)
     → cond over (Some first) (cond ended (Some second) (Some third)) ≡ Some (cond over first (cond ended second third))
 some_cause true ended first second third = refl
 some_cause false true first second third = refl
 some_cause false false first second third = refl
 
--- the fault of a line that is no record
+-- the fault of a line that isn't a record
 pub refused_line : (wants : Type 0) (limit : ℕ) (records : Lines) (line : List ℕ) (cause : Option model.FileCause) (fault : FileFault)
     → IsRefusedNext limit records cause fault → ¬ IsRecord line
     → ((place : Place) → cause ≡ Some (length_cause place line)) → IsFaultNext wants limit records line fault
@@ -134,7 +134,7 @@ refused_long limit records fault next = record {
   cause = next.is ∙ some_cause (nat_le limit (length records)) (is_after_end next.place) too_many after_trailer bad_length;
 }
 
--- a record that the front refuses
+-- the cause of a record that can't come next
 pub front_cause : (wants : Type 0) (limit : ℕ) (records : Lines) (line : List ℕ) (cause : FileCause) → length records < limit
     → IsNoNextCause wants records line (cause_meant cause)
     → IsCauseBehind wants limit records line (cause_meant cause)
@@ -146,7 +146,7 @@ front_cause wants limit records line cause under told = by (cause_meant cause) t
 
 -- ---- a line that ends
 
--- the line was taken, with its bytes that came before
+-- the line that ends here was taken, together with its earlier bytes
 pub ended_read : {K : Type 0} (keeps : Keeps K) (old new : FileReading K) (limit : ℕ) (text front : List ℕ) → IsReading keeps old limit text → HasNoFeed front
     → HasCounted keeps new.records limit (told_lines text ++ strip_carriage_return (open_line text ++ front) ∷ []) → new.partial.items ≡ []
     → IsReading keeps new limit (text ++ (front ++ 10 ∷ []))
@@ -156,7 +156,7 @@ ended_read keeps old new limit text front reading plain counted none = record {
   short = let size = ap (λ (l : List ℕ). length l) (open_line_ended text front plain) in omega arith;
 }
 
--- its fault is returned
+-- the fault of the line that ends here is returned
 pub ended_fault : {K : Type 0} (keeps : Keeps K) (wants : Type 0) (old : FileReading K) (limit : ℕ) (text front : List ℕ) (fault : FileFault)
     → IsReading keeps old limit text → HasNoFeed front
     → IsFaultNext wants limit (told_lines text) (strip_carriage_return (open_line text ++ front)) fault → IsFaultTold limit (text ++ (front ++ 10 ∷ [])) fault
@@ -171,7 +171,7 @@ ended_fault keeps wants old limit text front fault reading plain next = by (caus
         subst (λ f. IsFaultSoFar limit (text ++ (front ++ 10 ∷ [])) f) (λ i. record { number = sym next.number i; cause = told.is i })
         (fault_at_feed limit text front [] told.place plain told.at reading.counted.within told.here)
 
--- or the line is too long
+-- the line that ends here is too long, and that fault is returned
 pub ended_long : {K : Type 0} (keeps : Keeps K) (old : FileReading K) (limit : ℕ) (text front : List ℕ) (fault : FileFault) → IsReading keeps old limit text
     → HasNoFeed front
     → 82 ≤ length (open_line text ++ front)
@@ -189,7 +189,7 @@ ended_long keeps old limit text front fault reading plain many next =
 
 -- ---- more of a line
 
--- more bytes of a line are kept
+-- more bytes of an open line are kept
 pub kept_read : {K : Type 0} (keeps : Keeps K) (old new : FileReading K) (limit : ℕ) (text more : List ℕ) → IsReading keeps old limit text → HasNoFeed more
     → length old.partial.items + length more ≤ 81 → new.records ≡ old.records
     → new.partial.items ≡ old.partial.items ++ more → IsReading keeps new limit (text ++ more)
@@ -203,7 +203,7 @@ kept_read keeps old new limit text more reading plain few records kept = record 
       let same = ap (λ (l : List ℕ). length l) reading.partial_is in omega arith;
 }
 
--- or the line is too long
+-- the open line is too long, and that fault is returned
 pub kept_long : {K : Type 0} (keeps : Keeps K) (old : FileReading K) (limit : ℕ) (text more : List ℕ) (fault : FileFault) → IsReading keeps old limit text
     → HasNoFeed more
     → ¬ (length old.partial.items + length more ≤ 81)
@@ -225,7 +225,7 @@ kept_long keeps old limit text more fault reading plain many next =
 
 -- ---- a fault that was returned stays
 
--- a fault of a text is a fault of each longer text
+-- a fault of a text is also a fault of each longer text
 pub told_stays : (limit : ℕ) (text more : List ℕ) (fault : FileFault) → IsFaultTold limit text fault → IsFaultTold limit (text ++ more) fault
 told_stays limit text more fault told = by (cause_meant fault.cause) told
   where
@@ -248,7 +248,7 @@ pub counted_ended : {K : Type 0} (keeps : Keeps K) (reading : FileReading K) (li
 counted_ended keeps reading limit text is none =
     subst (HasCounted keeps reading.records limit) (sym (lines_of_ended text (sym is.partial_is ∙ none))) is.counted
 
--- a fault of the open line at the end is the text's
+-- a fault of the line that is open at the end is a fault of the text
 pub end_fault : {K : Type 0} (keeps : Keeps K) (wants : Type 0) (reading : FileReading K) (limit : ℕ) (text : List ℕ) (fault : FileFault)
     → IsReading keeps reading limit text → 0 < length (open_line text)
     → IsFaultNext wants limit (told_lines text) (strip_carriage_return (open_line text)) fault → IsRefused limit text fault
@@ -263,14 +263,14 @@ end_fault keeps wants reading limit text fault is some next = by (cause_meant fa
         subst (λ f. IsFileFault limit text f) (λ i. record { number = sym next.number i; cause = told.is i })
         (fault_at_end limit text told.place told.at is.counted.within some told.here)
 
--- what is returned for a text whose lines were counted
+-- what is returned for a text, once its lines were counted
 pub file_at_end : {K : Type 0} (keeps : Keeps K) (records : Records K) (limit : ℕ) (text : List ℕ) (ended : Ended K)
     → HasCounted keeps records limit (lines_of text) → EndsCounted keeps records ended → IsEndedText keeps limit text ended
 file_at_end keeps records limit text ended counted told =
     let is = told limit (lines_of text) counted in
     record { records = lines_of text; is_text = record { lines = refl; is = is.0; within = counted.within }; of_records = is.1 }
 
--- if the records are no file, the fault after the last record is the text's
+-- if the records aren't a file, the text has a fault after the last record
 pub no_end_at_end : {K : Type 0} (keeps : Keeps K) (records : Records K) (limit : ℕ) (text : List ℕ) (fault : FileFault)
     → HasCounted keeps records limit (lines_of text) → EndsUnended keeps records fault
     → IsRefused limit text fault
@@ -283,13 +283,13 @@ no_end_at_end keeps records limit text fault counted ends =
       cause = refl;
     }))
 
--- no complete record is at fault
+-- no complete record of a text that was read is at fault
 pub reading_tells_none : {K : Type 0} (keeps : Keeps K) (reading : FileReading K) (limit : ℕ) (text : List ℕ) → IsReading keeps reading limit text
     → (fault : model.FileFault)
     → ¬ IsFaultSoFar limit text fault
 reading_tells_none keeps reading limit text is = no_fault_told limit text is.counted.has.place is.counted.has.at is.counted.within is.short
 
--- a fault that was returned is the text's fault in the end
+-- a fault that was returned earlier is the fault of the whole text
 pub told_refused : (limit : ℕ) (text : List ℕ) (fault : FileFault) → IsFaultTold limit text fault → IsRefused limit text fault
 told_refused limit text fault told = by (cause_meant fault.cause) told
   where
@@ -299,9 +299,9 @@ told_refused limit text fault told = by (cause_meant fault.cause) told
         (memory_more limit (told_lines text) (line_left (open_line text)) fault.number here)
     by (Some cause) here = inl here.is
 
--- ---- a line that is no record
+-- ---- a line that isn't a record
 
--- a line that is no record, above the limit
+-- a line that isn't a record, above the limit
 pub refused_over : {K : Type 0} (keeps : Keeps K) (records : Records K) (limit : ℕ) (taken : Lines) (cause : Option model.FileCause) (fault : FileFault)
     → HasCounted keeps records limit taken
     → fault.number ≡ records.next
@@ -316,7 +316,7 @@ refused_over keeps records limit taken cause fault counted number over told = re
       λ i. cond (sym (le-leb limit (length taken) most) i) (Some too_many) (cond (is_after_end counted.has.place) (Some after_trailer) cause));
 }
 
--- a line that is no record, within the limit
+-- a line that isn't a record, within the limit
 pub refused_within : {K : Type 0} (keeps : Keeps K) (records : Records K) (limit : ℕ) (taken : Lines) (cause : Option model.FileCause) (fault : FileFault)
     (ended : Bool) → HasCounted keeps records limit taken
     → fault.number ≡ records.next → records.next ≤ records.limit
@@ -344,9 +344,9 @@ refused_within keeps records limit taken cause fault ended counted number within
             let is = (file_iff_place taken).1 (counted.has.at ∙ ap Some (end_by_test counted.has.place k)) in
             let bad : true ≡ false = sym (iff.1 is) ∙ h in absurd cc
 
--- ---- a line that ends, by what was taken of it
+-- ---- a line that ends, by the bytes that were taken of it
 
--- if bytes don't fit, they are more than 81 with the bytes that came before
+-- if the bytes don't fit, then with the earlier ones there are more than 81
 pub ended_many : {K : Type 0} (keeps : Keeps K) (old : FileReading K) (limit : ℕ) (text front : List ℕ) → IsReading keeps old limit text
     → ¬ (length old.partial.items + length front ≤ 81)
     → 82 ≤ length (open_line text ++ front)
@@ -355,21 +355,21 @@ ended_many keeps old limit text front reading many =
     let size = length-append (open_line text) front in
     above 81 (length (open_line text ++ front)) (λ few. many (omega arith))
 
--- the line that was taken is the line of the text
+-- the bytes that were taken are the text's line
 pub taken_is : {K : Type 0} (keeps : Keeps K) (old : FileReading K) (limit : ℕ) (text front raw line : List ℕ) → IsReading keeps old limit text
     → raw ≡ old.partial.items ++ front
     → line ≡ strip_carriage_return raw
     → line ≡ strip_carriage_return (open_line text ++ front)
 taken_is keeps old limit text front raw line reading whole strip = strip ∙ ap strip_carriage_return (whole ∙ ap (λ l. l ++ front) reading.partial_is)
 
--- the line that was taken is the line that ended
+-- the line that was taken is the one that ends here
 pub ended_ok : {K : Type 0} (keeps : Keeps K) (old new : FileReading K) (limit : ℕ) (text front line : List ℕ) → IsReading keeps old limit text → HasNoFeed front
     → line ≡ strip_carriage_return (open_line text ++ front)
     → HasCounted keeps new.records limit (told_lines text ++ line ∷ []) → new.partial.items ≡ [] → IsReading keeps new limit (text ++ (front ++ 10 ∷ []))
 ended_ok keeps old new limit text front line reading plain same counted none =
     ended_read keeps old new limit text front reading plain (subst (λ l. HasCounted keeps new.records limit (told_lines text ++ l ∷ [])) same counted) none
 
--- a fault of the line that ends is the text's
+-- a fault of the line that ends here is a fault of the text
 pub ended_err : {K : Type 0} (keeps : Keeps K) (wants : Type 0) (old : FileReading K) (limit : ℕ) (text front line : List ℕ) (fault : FileFault)
     → IsReading keeps old limit text → HasNoFeed front
     → line ≡ strip_carriage_return (open_line text ++ front) → FaultsNext keeps wants old.records line fault
@@ -378,7 +378,7 @@ ended_err keeps wants old limit text front line fault reading plain same told =
     ended_fault keeps wants old limit text front fault reading plain
     (subst (λ l. IsFaultNext wants limit (told_lines text) l fault) same (told limit (told_lines text) reading.counted))
 
--- no bytes of the line came before
+-- the line has no earlier bytes
 pub empty_is : {K : Type 0} (old : FileReading K) → true ≡ (length old.partial.items == 0) → old.partial.items ≡ []
 empty_is old none = by old.partial.items (eqb-true (length old.partial.items) 0 (sym none))
   where
@@ -395,7 +395,7 @@ some_is_open keeps old limit text reading some =
     let not_none = eqb-false (length old.partial.items) 0 (sym some) in
     above 0 (length (open_line text)) (λ none. not_none (omega (arith, size)))
 
--- the last line, which no line feed ended, was taken
+-- the last line was taken, although no line feed ends it
 pub counted_last : {K : Type 0} (keeps : Keeps K) (old : FileReading K) (records : Records K) (limit : ℕ) (text raw line : List ℕ) → IsReading keeps old limit text
     → false ≡ (length old.partial.items == 0) → raw ≡ old.partial.items
     → line ≡ strip_carriage_return raw → HasCounted keeps records limit (told_lines text ++ line ∷ []) → HasCounted keeps records limit (lines_of text)
@@ -405,7 +405,7 @@ counted_last keeps old records limit text raw line reading some same strip count
 
 -- ---- bytes cut at a line feed
 
--- the first line feed is the first place that passes
+-- the first line feed is at the first position that passes the test
 feed_place : (text : List ℕ) (end : ℕ) → position (λ b. b == 10) text ≡ Some end → position_or_len (λ b. b == 10) text ≡ end
 feed_place text end found =
     let at = position-Some (λ b. b == 10) text end 0 found in
@@ -433,13 +433,13 @@ cut_at text end found =
       plain = plain_front text end at.0 found;
     }
 
--- a text with no first line feed has none
+-- if no position passes the test, the text has no line feed
 pub no_feed_by : (text : List ℕ) → position (λ b. b == 10) text ≡ None → HasNoFeed text
 no_feed_by text none = λ k d below.
     let past = no_place (position_or_len (λ b. b == 10) text) (length text) _ refl none in
     fails_before_first (λ b. b == 10) text k d (omega arith)
 
--- what comes before the rest, with the bytes that were taken after it
+-- the front of a piece grows by the bytes that are taken from its rest
 cut_more : (piece rest front behind : List ℕ) → before_rest piece rest ++ rest ≡ piece → rest ≡ front ++ behind
     → (before_rest piece behind ≡ before_rest piece rest ++ front) × (before_rest piece behind ++ behind ≡ piece)
 cut_more piece rest front behind whole cut =
@@ -451,7 +451,7 @@ cut_more piece rest front behind whole cut =
     let same : before_rest piece behind ≡ done = (λ i. take (count i) (sym all i)) ∙ take-append_seam done behind in
     (same, ap (λ l. l ++ behind) same ∙ all)
 
--- at first nothing comes before the rest
+-- at first the front is empty and the rest is the whole piece
 cut_first : (piece : List ℕ) → (before_rest piece piece ≡ []) × (before_rest piece piece ++ piece ≡ piece)
 cut_first piece =
     let none : length piece - length piece ≡ 0 = omega arith in
@@ -462,11 +462,11 @@ cut_first piece =
     take_none [] = refl
     take_none (b ∷ l) = refl
 
--- the text is the line with its line feed, then what comes after them
+-- a text is its first line with the line feed, and then the rest
 pub cut_whole : (rest front behind : List ℕ) → IsCut rest front behind → rest ≡ (front ++ 10 ∷ []) ++ behind
 cut_whole rest front behind cut = cut.whole ∙ sym (append_assoc front (10 ∷ []) behind)
 
--- ---- a text that was taken up to its rest
+-- ---- a text that was taken, except for its rest
 
 abbrev Told : Type 1
 Told = ℕ → List ℕ → Type 0
@@ -480,7 +480,7 @@ takes_none before text =
       read = λ limit told is. subst (λ l. before limit (told ++ l)) (sym first.0) (subst (before limit) (sym (append-nil told)) is);
     }
 
--- more bytes were taken
+-- more of the rest was taken
 pub takes_further : (before middle after : Told) (text rest front behind : List ℕ) → TakesUpTo before text rest middle → rest ≡ front ++ behind
     → GoesOn middle front after → TakesUpTo before text behind after
 takes_further before middle after text rest front behind up_to cut on =
@@ -498,26 +498,26 @@ pub takes_line : (before middle next : Told) (text rest front behind : List ℕ)
 takes_line before middle next text rest front behind up_to cut on =
     takes_further before middle next text rest (front ++ 10 ∷ []) behind up_to (cut_whole rest front behind cut) on
 
--- and then more of the text
+-- a first part of the rest was taken, and then more of it
 pub takes_more : (before middle after : Told) (text rest left : List ℕ) → TakesUpTo before text rest middle → TakesUpTo middle rest left after
     → TakesUpTo before text left after
 takes_more before middle after text rest left up_to more =
     takes_further before middle after text rest (before_rest rest left) left up_to (sym more.whole) more.read
 
--- the rest was taken too
+-- the whole rest was taken
 pub takes_whole : (before middle after : Told) (text rest : List ℕ) → TakesUpTo before text rest middle → GoesOn middle rest after → GoesOn before text after
 takes_whole before middle after text rest up_to on = λ limit told is.
     subst (after limit) (append_assoc told (before_rest text rest) rest ∙ ap (λ l. told ++ l) up_to.whole)
     (on limit (told ++ before_rest text rest) (up_to.read limit told is))
 
--- a fault of the rest is the text's
+-- a fault of the rest is a fault of the text
 pub fault_of_rest : (before middle : Told) (text rest : List ℕ) (fault : FileFault) → TakesUpTo before text rest middle → TellsFault middle rest fault
     → TellsFault before text fault
 fault_of_rest before middle text rest fault up_to tells = λ limit told is.
     subst (λ t. IsFaultTold limit t fault) (append_assoc told (before_rest text rest) rest ∙ ap (λ l. told ++ l) up_to.whole)
     (tells limit (told ++ before_rest text rest) (up_to.read limit told is))
 
--- a fault of the beginning of a text is the text's
+-- a fault of the first part of a text is a fault of the text
 pub fault_of_front : (before : Told) (text front behind : List ℕ) (fault : FileFault) → text ≡ front ++ behind → TellsFault before front fault
     → TellsFault before text fault
 fault_of_front before text front behind fault cut tells = λ limit told is.
@@ -526,77 +526,77 @@ fault_of_front before text front behind fault cut tells = λ limit told is.
 
 -- ---- a parser with a fault, and without one
 
--- a parser that returned a fault was fed a text that has the fault
+-- if a parser has returned a fault, it may have been fed any text with that fault
 pub read_at_fault : (parser : ParserState) (limit : ℕ) (text : List ℕ) (fault : FileFault) → parser.fault ≡ Some fault → IsFaultTold limit text fault
     → HasRead parser limit text
 read_at_fault parser limit text fault at told = subst (IsReadingOrFault parser.reading limit text) (sym at) told
 
--- each text that it was fed has the fault
+-- if a parser has returned a fault, each text that it may have been fed has the fault
 pub fault_at_read : (parser : ParserState) (limit : ℕ) (text : List ℕ) (fault : FileFault) → parser.fault ≡ Some fault → HasRead parser limit text
     → IsFaultTold limit text fault
 fault_at_read parser limit text fault at has = subst (IsReadingOrFault parser.reading limit text) at has
 
--- the reading of a parser without a fault has read what the parser was fed
+-- if a parser has no fault, its reading has read whatever the parser was fed
 pub reading_at_none : (parser : ParserState) (limit : ℕ) (text : List ℕ) → parser.fault ≡ None → HasRead parser limit text
     → IsReading KeepsAll parser.reading limit text
 reading_at_none parser limit text at has = subst (IsReadingOrFault parser.reading limit text) at has
 
--- what the reading has read, the parser was fed
+-- if a parser has no fault, it was fed whatever its reading has read
 pub none_at_reading : (parser : ParserState) (limit : ℕ) (text : List ℕ) → parser.fault ≡ None → IsReading KeepsAll parser.reading limit text
     → HasRead parser limit text
 none_at_reading parser limit text at is = subst (IsReadingOrFault parser.reading limit text) (sym at) is
 
--- the reading of a parser that returned no fault has read what the parser was fed
+-- like `reading_at_none`, for a reading that equals the parser's
 pub reading_of : (parser : ParserState) (reading : FileReading FileSoFar) (limit : ℕ) (text : List ℕ) → parser.fault ≡ None → parser.reading ≡ reading
     → HasRead parser limit text → IsReading KeepsAll reading limit text
 reading_of parser reading limit text none same has = subst (λ r. IsReading KeepsAll r limit text) same (reading_at_none parser limit text none has)
 
--- a parser that returned a fault isn't one that returned no fault
+-- a parser that has returned a fault isn't one that has returned none
 pub had_failed : (parser : ParserState) (fault : FileFault) → parser.fault ≡ Some fault → ¬ HasNotFailed parser
 had_failed parser fault at none = none fault at
 
--- ---- a fault of a record that wasn't complete before
+-- ---- a fault at a record that wasn't complete before
 
 later_than : {K : Type 0} (keeps : Keeps K) (reading : FileReading K) (limit : ℕ) (text : List ℕ) (fault : FileFault) → IsReading keeps reading limit text
     → fault.number ≡ length (told_lines text) + 1
     → lines_told text < fault.number
 later_than keeps reading limit text fault is number = let same = lines_told_short text is.short in omega arith
 
--- memory ran out only if it may
+-- memory runs out only if it may
 wants_of : (wants : Type 0) (limit : ℕ) (records : Lines) (line : List ℕ) (fault : FileFault) → IsFaultNext wants limit records line fault
     → fault.cause ≡ Memory → wants
 wants_of wants limit records line fault next memory = (subst (λ cause. IsCauseBehind wants limit records line (cause_meant cause)) memory next.cause).0
 
--- it didn't run out if there is another cause
+-- a fault with another cause isn't out of memory
 no_want : (wants : Type 0) (fault : FileFault) (cause : model.FileCause) → cause_meant fault.cause ≡ Some cause → fault.cause ≡ Memory → wants
 no_want wants fault cause told memory = let bad : ◌≡◌ {A = Option model.FileCause} None (Some cause) = sym (ap cause_meant memory) ∙ told in absurd cc
 
--- the fault of a line after the text is later
+-- the fault of the next line is later than any of the text's complete lines
 pub later_next : {K : Type 0} (keeps : Keeps K) (wants : Type 0) (reading : FileReading K) (line : List ℕ) (fault : FileFault)
     → FaultsNext keeps wants reading.records line fault → IsLater keeps wants reading fault
 later_next keeps wants reading line fault told = λ limit text is.
     let next = told limit (told_lines text) is.counted in
     (later_than keeps reading limit text fault is next.number, wants_of wants limit (told_lines text) line fault next)
 
--- the fault of a line that is too long is later
+-- the fault of a line that is too long is later than any of the text's complete lines
 pub later_long : {K : Type 0} (keeps : Keeps K) (wants : Type 0) (reading : FileReading K) (fault : FileFault)
     → ((limit : ℕ) (text : List ℕ) → IsReading keeps reading limit text → IsLongNext limit (told_lines text) fault) → IsLater keeps wants reading fault
 later_long keeps wants reading fault told = λ limit text is.
     let next = told limit text is in
     (later_than keeps reading limit text fault is next.number, no_want wants fault (cause_of_long limit (length (told_lines text)) next.place) next.cause)
 
--- a fault after a longer text is also a fault after its beginning
+-- a fault beyond a longer text is also beyond its first part
 later_front : (text more : List ℕ) (fault : FileFault) → lines_told (text ++ more) < fault.number → lines_told text < fault.number
 later_front text more fault later = let grown = lines_told_grow text more in omega arith
 
--- a fault after more was read is a fault after what was read before
+-- a fault beyond all that was read is also beyond what was read earlier
 pub later_piece : {K : Type 0} (keeps : Keeps K) (wants : Type 0) (old new : FileReading K) (front : List ℕ) (fault : FileFault)
     → GoesOn (IsReading keeps old) front (IsReading keeps new) → IsLater keeps wants new fault
     → IsLater keeps wants old fault
 later_piece keeps wants old new front fault read later = λ limit text is.
     let behind = later limit (text ++ front) (read limit text is) in (later_front text front fault behind.0, behind.1)
 
--- the fault that a text has no end comes after all complete lines
+-- the fault of a text without an end is beyond all its complete lines
 pub later_end : {K : Type 0} (keeps : Keeps K) (wants : Type 0) (reading : FileReading K) (fault : FileFault)
     → ((limit : ℕ) (text : List ℕ) → IsReading keeps reading limit text → IsNoEndOf (lines_of text) fault)
     → IsLater keeps wants reading fault
@@ -606,7 +606,7 @@ later_end keeps wants reading fault told = λ limit text is.
     let number = (told limit text is).0 in
     (omega arith, no_want wants fault no_end (told limit text is).1)
 
--- the fault that a text has no end isn't out of memory
+-- the fault of a text without an end isn't out of memory
 pub last_end : {K : Type 0} (keeps : Keeps K) (reading : FileReading K) (fault : FileFault)
     → ((limit : ℕ) (text : List ℕ) → IsReading keeps reading limit text → IsNoEndOf (lines_of text) fault)
     → IsLast keeps reading fault
@@ -620,20 +620,21 @@ pub last_open : {K : Type 0} (keeps : Keeps K) (wants : Type 0) (reading : FileR
 last_open keeps wants reading line fault some told =
     λ _ limit text is. (told limit (told_lines text) is.counted).number ∙ sym (length_at_end text (some_is_open keeps reading limit text is some))
 
--- if the fault is later than what was read, it is later than what a parser without a fault was fed
+-- a fault beyond what the reading has read is beyond what the parser was fed
 pub names_later : (parser : ParserState) (reading : FileReading FileSoFar) (fault : FileFault) → parser.fault ≡ None → parser.reading ≡ reading
     → IsLater KeepsAll ⊤ reading fault
     → NamesLater parser fault
 names_later parser reading fault none same told = λ _ limit text has. (told limit text (reading_of parser reading limit text none same has)).0
 
--- and if it is at the last record of the one, it is at the last record of the other
+-- if a fault is at the last record that the reading has read, it is at the last that the parser was
+-- fed
 pub names_last : (parser : ParserState) (reading : FileReading FileSoFar) (fault : FileFault) → parser.fault ≡ None → parser.reading ≡ reading
     → IsLast KeepsAll reading fault
     → NamesLast parser fault
 names_last parser reading fault none same told =
     λ _ memory limit text has. told memory limit text (reading_of parser reading limit text none same has)
 
--- ---- a record that a text begins with
+-- ---- a record at the start of a text
 
 -- the record was taken
 pub record_read : {K : Type 0} (keeps : Keeps K) (before : Told) (old new : FileReading K) (text rest front line behind : List ℕ)
@@ -647,7 +648,7 @@ record_read keeps before old new text rest front line behind up_to begins same i
     (taken_is keeps old limit told at.front at.front line reading (ap (λ l. l ++ at.front) (sym none)) (same ∙ at.line_is))
     (taken limit (told_lines told) reading.counted) after)
 
--- its fault is the text's
+-- a fault of the record is the text's fault
 pub record_fault : {K : Type 0} (keeps : Keeps K) (wants : Type 0) (old : FileReading K) (rest front line behind : List ℕ) (fault : FileFault)
     → BeginsWithEighty rest front behind → line ≡ front → IsRecord front → old.partial.items ≡ []
     → FaultsNext keeps wants old.records line fault

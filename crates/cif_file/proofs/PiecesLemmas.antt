@@ -1,4 +1,4 @@
--- Pieces that are joined, one after another.
+-- Pieces, joined one after the other.
 use Rattle.std.proofs.Common.{◌≡◌, ℕ, ◌+◌, ◌<◌, ◌≤◌, List, [], ◌∷◌, ◌++◌, length, map, take, drop, get_or, subst, ap, sym, ◌∙◌, append-nil}
 use Rattle.std.specs.List.{concat}
 use Rattle.std.proofs.lemmas.List.{map_more, map-append, take-append-drop, take_all}
@@ -8,7 +8,7 @@ use Rattle.cif_file.specs.ParserRead.{ParserState, HasRead, IsFaultTold, IsRefus
 use Rattle.cif_file.proofs.ParserLemmas.{told_stays, told_refused}
 
 module _ {X : Type 0} (f : X → List ℕ) where
-  -- one more piece
+  -- the joined pieces, with one more
   pub joined_more : (pieces : List X) (i : ℕ) (d : X) → i < length pieces
       → concat (map f (take (i + 1) pieces)) ≡ concat (map f (take i pieces)) ++ f (get_or pieces i d)
   joined_more pieces i d below =
@@ -16,7 +16,7 @@ module _ {X : Type 0} (f : X → List ℕ) where
       ∙ concat-append (map f (take i pieces)) (f (get_or pieces i d) ∷ [])
       ∙ ap (λ last. concat (map f (take i pieces)) ++ last) (append-nil (f (get_or pieces i d)))
 
-  -- a parser that has read the pieces so far, and then the next, has read one more piece
+  -- a parser that has read the pieces up to one, and then that one, has read one more
   pub read_more : (parser : ParserState) (limit : ℕ) (pieces : List X) (i : ℕ) (d : X) → i < length pieces
       → HasRead parser limit (concat (map f (take i pieces)) ++ f (get_or pieces i d)) → HasRead parser limit (concat (map f (take (i + 1) pieces)))
   read_more parser limit pieces i d below read = subst (HasRead parser limit) (sym (joined_more pieces i d below)) read
@@ -26,7 +26,7 @@ module _ {X : Type 0} (f : X → List ℕ) where
       → HasRead parser limit (concat (map f pieces))
   read_all parser limit pieces i past read = subst (λ all. HasRead parser limit (concat (map f all))) (take_all i pieces past) read
 
-  -- a fault of the first pieces is a fault of all
+  -- a fault of the first pieces is a fault of all pieces
   pub refused_front : (limit : ℕ) (pieces : List X) (i : ℕ) (d : X) (fault : FileFault) → i < length pieces
       → IsFaultTold limit (concat (map f (take i pieces)) ++ f (get_or pieces i d)) fault
       → IsRefused limit (concat (map f pieces)) fault

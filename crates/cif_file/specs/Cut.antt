@@ -1,13 +1,14 @@
--- Bytes cut at a line end.
+-- Texts that are cut at a line end.
 use Rattle.std.specs.Prelude.{◌≡◌, ℕ, ◌-◌, ◌⊎◌, List, ◌∷◌, ◌++◌, length, take}
 use Rattle.cif_laws.specs.LinesTold.{HasNoFeed}
 
--- the text is the front, which has no line feed, then a line feed, then the rest
+-- the text is a front without a line feed, then a line feed, then the rest
 pub record IsCut (text front rest : List ℕ) : Type 0 where
   pub whole : text ≡ front ++ 10 ∷ rest
   pub plain : HasNoFeed front
 
--- the text is a line feed and then the rest, or a carriage return, a line feed, and then the rest
+-- the text is a line end and then the rest. A line end is a line feed, or a carriage return and a
+-- line feed
 abbrev pub BeginsWithEnd : List ℕ → List ℕ → Type 0
 BeginsWithEnd text rest = (text ≡ 10 ∷ rest) ⊎ (text ≡ 13 ∷ 10 ∷ rest)
 
@@ -18,6 +19,6 @@ pub record BeginsWithEighty (text line rest : List ℕ) : Type 0 where
   pub whole : text ≡ line ++ after
   pub ended : BeginsWithEnd after rest
 
--- the bytes of a text before what is left of it
+-- the bytes of a text before this rest
 abbrev pub before_rest : List ℕ → List ℕ → List ℕ
 before_rest text rest = take (length text - length rest) text

@@ -5,9 +5,11 @@ use Rattle.cif_file.specs.declared.ended.Ended.{Ended}
 use Rattle.cif_file.specs.declared.kept.FileSoFar.{FileSoFar}
 use Rattle.cif_file.specs.declared.parts.FileParts.{FileParts}
 use Rattle.cif_file.specs.declared.tally.Tally.{Tally}
+use Rattle.cif_file.specs.declared.thin_kept.ThinSoFar.{ThinSoFar}
 use Rattle.cif_file.specs.KeeperRead.{Keeps}
 use Rattle.cif_file.specs.MadeChanges.{file_of_parts}
 use Rattle.cif_file.specs.FileRead.{FileRead, FileCounted}
+use Rattle.cif_file.specs.ThinRead.{ThinRead, thin_of_parts}
 
 -- the header and the number of these records are returned, and their changes were kept
 pub record IsEnded {K : Type 0} (keeps : Keeps K) (records : List (List ℕ)) (ended : Ended K) : Type 0 where
@@ -27,6 +29,19 @@ parts_ended ended = record {
 -- the file
 abbrev pub file_ended : Ended FileSoFar → FileRead
 file_ended ended = file_of_parts (parts_ended ended)
+
+-- the parts of the file, if only what a place and a day need of its changes was kept
+abbrev pub thin_parts_ended : {P : Type 0} → Ended (ThinSoFar P) → FileParts
+thin_parts_ended ended = record {
+  header = ended.header;
+  records = ended.records;
+  changes = ended.keeper.thinned.made.changes;
+  notes = ended.keeper.thinned.made.notes;
+}
+
+-- what was kept of the file
+abbrev pub thin_ended : {P : Type 0} → Ended (ThinSoFar P) → ThinRead
+thin_ended ended = thin_of_parts ended.keeper.thinned.place ended.keeper.thinned.day ended.keeper.told.changes (thin_parts_ended ended)
 
 -- the counts of the file, if the changes were counted
 abbrev pub count_ended : Ended Tally → FileCounted

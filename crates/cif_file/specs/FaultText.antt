@@ -6,11 +6,11 @@ use Rattle.cif_file.specs.declared.fault.ReadFault.{ReadFault}
 use Rattle.cif_file.specs.declared.fault.ReadFault.TheVariants.{Source, File}
 use Rattle.cif_file.specs.declared.fault.ReadFault.TheVariants as read
 
--- the text of a fault: its record and its cause
+-- the text of a file's fault: its record's number and its cause
 abbrev pub fault_text : FileFault → List ℕ
 fault_text fault = codes "record " ++ decimal fault.number ++ codes ": " ++ cause_text fault.cause
 
--- why no file was read; a fault of the file has its own text
+-- why no file was read, as a text. If the file has a fault, it is that fault's text
 abbrev pub read_fault_text : ReadFault → List ℕ
 read_fault_text Source = codes "the source failed"
 read_fault_text (File fault) = fault_text fault

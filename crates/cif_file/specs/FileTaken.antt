@@ -1,4 +1,4 @@
--- What a reading has taken of a file, and what its fault says about a piece.
+-- What a reading has taken of a text, and what its fault says about the next piece.
 use Rattle.std.specs.Prelude.{◌≡◌, ℕ, ◌^◌, ◌<◌, ◌≤◌, List, ◌++◌, length}
 use Rattle.std.proofs.Common.{arith}
 use Rattle.docker_model.specs.file.File.{most_records}
@@ -11,13 +11,13 @@ use Rattle.cif_file.specs.declared.parser.FileReading.{FileReading}
 use Rattle.cif_file.specs.KeeperRead.{Keeps}
 use Rattle.cif_file.specs.ParserRead.{IsReading, IsFaultTold}
 
--- a text was read that has no fault so far, under a limit on the number of its records
+-- the reading has read this text, which has no fault so far, under this limit on records
 pub record TakesFile {K : Type 0} (keeps : Keeps K) (reading : FileReading K) (limit : ℕ) (text : List ℕ) : Type 0 where
   pub read : IsReading keeps reading limit text
   pub few : limit ≤ most_records
   pub sound : (fault : model.FileFault) → ¬ IsFaultSoFar limit text fault
 
--- a text that a reading has taken is bounded: at most 82 bytes for each record of the limit, and 81
+-- a text that a reading has taken has at most 82 bytes for each record within the limit, and 81
 -- more
 pub taken_is_bounded : {K : Type 0} (keeps : Keeps K) (reading : FileReading K) (limit : ℕ) (text : List ℕ) → TakesFile keeps reading limit text
     → length text < 2 ^ 64
@@ -26,8 +26,8 @@ taken_is_bounded keeps reading limit text has =
     let few = has.few in
     omega (arith, most, few)
 
--- the fault belongs to the text with the piece after it, at a record that the text by itself
--- doesn't complete; memory ran out only if it may
+-- the fault belongs to the text followed by the piece, at a record that the text without the piece
+-- doesn't complete. Memory ran out only if it may
 pub record RefusesPiece (wants : Type 0) (limit : ℕ) (text piece : List ℕ) (fault : FileFault) : Type 0 where
   pub told : IsFaultTold limit (text ++ piece) fault
   pub later : lines_told text < fault.number

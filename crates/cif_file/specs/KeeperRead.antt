@@ -1,8 +1,10 @@
 -- What a reader keeps of a file's records.
 use Rattle.std.specs.Prelude.{◌≡◌, ℕ, ◌<◌, List, [], ◌∷◌, ◌++◌, length, if◌then◌else◌}
+use Rattle.docker_model.specs.records.Field.{as_new}
+use Rattle.docker_model.specs.file.File.{IsSchedule}
 use Rattle.docker_model.specs.file.Change.{Change, changes_of_record, schedule_body, delete, put}
 use Rattle.cif_change.specs.declared.key.Key.TheVariants as key
-use Rattle.cif_change.specs.JourneyRead.{progress_meant}
+use Rattle.cif_change.specs.JourneyRead.{progress_meant, HasLines}
 use Rattle.cif_file.specs.declared.opened.Opened.{Opened}
 use Rattle.cif_file.specs.declared.kept.FileSoFar.{FileSoFar}
 use Rattle.cif_file.specs.MadeChanges.{HasMade}
@@ -16,31 +18,47 @@ Lines = List (List ℕ)
 abbrev pub Keeps : Type 0 → Type 1
 Keeps K = K → Lines → List Change → Type 0
 
--- the change of a schedule with these lines
-abbrev pub change_opened : Opened → Lines → Change
-change_opened opened lines = record {
+-- lines with the transaction of the first set to N
+abbrev pub with_new_first : Lines → Lines
+with_new_first [] = []
+with_new_first (basic ∷ others) = as_new basic ∷ others
+
+-- the change of a schedule with these lines, of which the first is as new
+abbrev pub change_renewed : Opened → Lines → Change
+change_renewed opened lines = record {
   number = opened.number;
   key = key_meant (key.Schedule opened.key);
   act = if (progress_meant opened.progress).deletion then delete else put (schedule_body lines);
 }
 
--- a line was added
-abbrev pub AddsLine : {K : Type 0} → Keeps K → K → List ℕ → K → Type 0
-AddsLine keeps old line new = (lines : Lines) (made : List Change) → keeps old lines made → keeps new (lines ++ line ∷ []) made
+-- the change of a schedule with these lines
+abbrev pub change_opened : Opened → Lines → Change
+change_opened opened lines = change_renewed opened (with_new_first lines)
 
--- the change of the schedule was made from the lines that were kept
+-- a schedule was begun, with this basic schedule
+abbrev pub Begins : {K : Type 0} → Keeps K → K → List ℕ → K → Type 0
+Begins keeps old basic new = (made : List Change) → keeps old [] made → keeps new (basic ∷ []) made
+
+-- a line was added after a basic schedule and others
+abbrev pub AddsLine : {K : Type 0} → Keeps K → K → List ℕ → K → Type 0
+AddsLine keeps old line new =
+    (basic : List ℕ) (others : Lines) (made : List Change) → keeps old (basic ∷ others) made → keeps new (basic ∷ others ++ line ∷ []) made
+
+-- the change of the schedule was made from the lines that were kept, which are a schedule's
 abbrev pub Closes : {K : Type 0} → Keeps K → K → Opened → K → Type 0
 Closes keeps old opened new =
-    (lines : Lines) (made : List Change) → keeps old lines made → keeps new [] (made ++ change_opened opened lines ∷ [])
+    (lines : Lines) (made : List Change) → HasLines (progress_meant opened.progress) lines → IsSchedule lines → keeps old lines made
+    → keeps new [] (made ++ change_opened opened lines ∷ [])
 
 -- the changes of a single record were made
 abbrev pub AddsSingle : {K : Type 0} → Keeps K → K → ℕ → List ℕ → K → Type 0
 AddsSingle keeps old number line new =
     (lines : Lines) (made : List Change) → keeps old lines made → keeps new lines (made ++ changes_of_record number line [])
 
--- the lines and the changes themselves are kept, and the places that the changes name are noted
+-- the lines, with the first as new, and the changes themselves are kept, and the places that the
+-- changes name are noted
 abbrev pub KeepsAll : FileSoFar → Lines → List Change → Type 0
-KeepsAll kept lines changes = (kept.lines.items ≡ lines) × HasMade kept.made changes
+KeepsAll kept lines changes = (kept.lines.items ≡ with_new_first lines) × HasMade kept.made changes
 
 -- the changes are counted, if their number fits in 64 bits
 abbrev pub CountsChanges : Tally → Lines → List Change → Type 0

@@ -1,4 +1,4 @@
--- What a parser of files was fed.
+-- What a parser of a file was fed.
 use Rattle.std.specs.Prelude.{◌≡◌, ℕ, ◌+◌, ◌<◌, ◌≤◌, ◌⊎◌, List, [], ◌∷◌, ◌++◌, length, take, Option, Some, None, nat_le}
 use Rattle.std.proofs.Common.{cond}
 use Rattle.docker_model.specs.file.Text.{lines_of}
@@ -28,7 +28,7 @@ use Rattle.cif_file.specs.RecordsRead.{HasRecords, GoesOnWith}
 abbrev Lines : Type 0
 Lines = List (List ℕ)
 
--- these records were taken, within the limit
+-- the reader has taken these records, which are within the limit
 pub record HasCounted {K : Type 0} (keeps : Keeps K) (state : Records K) (limit : ℕ) (records : Lines) : Type 0 where
   pub limit_is : state.limit ≡ limit
   pub next_is : state.next ≡ length records + 1
@@ -42,86 +42,89 @@ pub record IsCauseNext (limit : ℕ) (records : Lines) (line : List ℕ) (cause 
   pub here : (limit ≤ length records) ⊎ (next_place place line ≡ None)
   pub is : cause_of limit (length records) place line ≡ cause
 
--- a cause that was returned for a line; memory ran out only if it may, within the limit, and for a
--- line that can follow
+-- the reader has refused the line after these records for this cause. It is None for out of memory:
+-- memory ran out only if it may, and at a line that may come next
 abbrev pub IsCauseBehind : Type 0 → ℕ → Lines → List ℕ → Option model.FileCause → Type 0
 IsCauseBehind wants limit records line None = wants × (length records < limit) × GoesOnWith records line
 IsCauseBehind wants limit records line (Some cause) = IsCauseNext limit records line cause
 
--- a fault that was returned for the line after these records
+-- the reader has returned this fault for the line after these records
 pub record IsFaultNext (wants : Type 0) (limit : ℕ) (records : Lines) (line : List ℕ) (fault : FileFault) : Type 0 where
   pub number : fault.number ≡ length records + 1
   pub cause : IsCauseBehind wants limit records line (cause_meant fault.cause)
 
--- a fault that was returned for a line of more than 81 bytes after these records
+-- the reader has returned this fault for a line of more than 81 bytes after these records
 pub record IsLongNext (limit : ℕ) (records : Lines) (fault : FileFault) : Type 0 where
   pub number : fault.number ≡ length records + 1
   pub place : law.Place
   pub at : IsPlaceOf records place
   pub cause : cause_meant fault.cause ≡ Some (cause_of_long limit (length records) place)
 
--- the cause of a line that is no record: the limit and the trailer come before this cause
+-- why a line that isn't a record is refused: the limit is the first cause, then the trailer, then
+-- its own
 abbrev pub refusal : ℕ → ℕ → law.Place → Option model.FileCause → Option model.FileCause
 refusal limit count place cause = cond (nat_le limit count) (Some too_many) (cond (is_after_end place) (Some after_trailer) cause)
 
--- a fault that was returned for a line that is no record, for this cause, after these records
+-- the reader has returned this fault for a line after these records that isn't a record, for this
+-- cause
 pub record IsRefusedNext (limit : ℕ) (records : Lines) (cause : Option model.FileCause) (fault : FileFault) : Type 0 where
   pub number : fault.number ≡ length records + 1
   pub place : law.Place
   pub at : IsPlaceOf records place
   pub is : cause_meant fault.cause ≡ refusal limit (length records) place cause
 
--- the text ended after these records, which are no file
+-- the text ends after these records, which aren't a file
 abbrev pub IsNoEndOf : Lines → FileFault → Type 0
 IsNoEndOf records fault = (fault.number ≡ length records + 1) × (cause_meant fault.cause ≡ Some no_end) × (¬ IsFile records)
 
--- a cause that was returned for a line, within the limit
+-- the reader has refused a line within the limit, for this cause
 abbrev pub RefusesWithin : {K : Type 0} → Keeps K → Type 0 → Front K → List ℕ → FileCause → Type 0
 RefusesWithin keeps wants front line cause =
     (limit : ℕ) (records : Lines) → HasRecords keeps front records → length records < limit → IsCauseBehind wants limit records line (cause_meant cause)
 
--- the line was taken and counted
+-- the reader has taken and counted the line
 abbrev pub CountsNext : {K : Type 0} → Keeps K → Records K → List ℕ → Records K → Type 0
 CountsNext keeps old line new = (limit : ℕ) (records : Lines) → HasCounted keeps old limit records → HasCounted keeps new limit (records ++ line ∷ [])
 
--- a fault that was returned for the line
+-- the reader has returned this fault for the line
 abbrev pub FaultsNext : {K : Type 0} → Keeps K → Type 0 → Records K → List ℕ → FileFault → Type 0
 FaultsNext keeps wants state line fault = (limit : ℕ) (records : Lines) → HasCounted keeps state limit records → IsFaultNext wants limit records line fault
 
--- the records that were counted are a file, and this is returned for it
+-- the records that were counted are a file, and this is returned for them
 abbrev pub EndsCounted : {K : Type 0} → Keeps K → Records K → Ended K → Type 0
 EndsCounted keeps state ended = (limit : ℕ) (records : Lines) → HasCounted keeps state limit records → IsFile records × IsEnded keeps records ended
 
--- the records that were counted are no file, and this fault is returned after them
+-- the records that were counted aren't a file, and this fault is returned after them
 abbrev pub EndsUnended : {K : Type 0} → Keeps K → Records K → FileFault → Type 0
 EndsUnended keeps state fault = (limit : ℕ) (records : Lines) → HasCounted keeps state limit records → IsNoEndOf records fault
 
--- there was no fault: every complete line was taken, and the line after them is unfinished
+-- without a fault: all complete lines of the text were taken, and the bytes after them are kept as
+-- an open line
 pub record IsReading {K : Type 0} (keeps : Keeps K) (reading : FileReading K) (limit : ℕ) (text : List ℕ) : Type 0 where
   pub counted : HasCounted keeps reading.records limit (told_lines text)
   pub partial_is : reading.partial.items ≡ open_line text
   pub short : length (open_line text) ≤ 81
 
--- the text is the text of a file of at most this many records, and this is returned for it
+-- the text is the text of a file within the limit on records, and this is returned for it
 pub record IsEndedText {K : Type 0} (keeps : Keeps K) (limit : ℕ) (text : List ℕ) (ended : Ended K) : Type 0 where
   pub records : Lines
   pub is_text : IsFileText limit text records
   pub of_records : IsEnded keeps records ended
 
--- what was read is the text of a file, and this is returned for it
+-- whatever text was read is the text of a file, and this is returned for it
 abbrev pub EndsBy : {K : Type 0} → Keeps K → FileReading K → Ended K → Type 0
 EndsBy keeps reading ended = (limit : ℕ) (text : List ℕ) → IsReading keeps reading limit text → IsEndedText keeps limit text ended
 
--- memory ran out at the record of this number: one of these, within the limit, and some file begins
--- with the records up to it
+-- memory ran out at one of these records, the one with this number. It is within the limit, and
+-- some file begins with the records up to it
 pub record WantsMemoryAt (limit : ℕ) (records : Lines) (number : ℕ) : Type 0 where
   pub some : 0 < number
   pub one : number ≤ length records
   pub within : number ≤ limit
   pub sound : BeginsFile (take number records)
 
--- the fault's cause is the cause of the first complete record at fault; or memory ran out at a
--- record whose line feed came, and no record up to it is at fault
+-- this is the cause of the first complete record at fault, and that record's number. If the cause
+-- is None, memory ran out at a complete record, and no record up to it is at fault
 abbrev pub IsToldSoFar : ℕ → List ℕ → ℕ → Option model.FileCause → Type 0
 IsToldSoFar limit text number None = WantsMemoryAt limit (told_lines text) number
 IsToldSoFar limit text number (Some cause) = IsFaultSoFar limit text (record { number = number; cause = cause })
@@ -129,17 +132,17 @@ IsToldSoFar limit text number (Some cause) = IsFaultSoFar limit text (record { n
 abbrev pub IsFaultTold : ℕ → List ℕ → FileFault → Type 0
 IsFaultTold limit text fault = IsToldSoFar limit text fault.number (cause_meant fault.cause)
 
--- the fault is the text's; or memory ran out at one of its records, and no record up to it is at
--- fault
+-- this is the cause of the text's fault, and its record's number. If the cause is None, memory ran
+-- out at one of its records, and no record up to it is at fault
 abbrev pub IsCauseOf : ℕ → List ℕ → ℕ → Option model.FileCause → Type 0
 IsCauseOf limit text number None = WantsMemoryAt limit (lines_of text) number
 IsCauseOf limit text number (Some cause) = IsFileFault limit text (record { number = number; cause = cause })
 
--- the same for the fault that a call returns
+-- like `IsCauseOf`, for a fault that a call returns
 abbrev pub IsRefused : ℕ → List ℕ → FileFault → Type 0
 IsRefused limit text fault = IsCauseOf limit text fault.number (cause_meant fault.cause)
 
--- what a parser keeps
+-- a parser as clauses see it: what it has read, and the fault that it has returned, if any
 pub record ParserState : Type 0 where
   pub reading : FileReading FileSoFar
   pub fault : Option FileFault
@@ -148,81 +151,79 @@ abbrev pub IsReadingOrFault : FileReading FileSoFar → ℕ → List ℕ → Opt
 IsReadingOrFault reading limit text None = IsReading KeepsAll reading limit text
 IsReadingOrFault reading limit text (Some fault) = IsFaultTold limit text fault
 
--- the parser was fed this text, under this limit on records
+-- the parser may have been fed this text, under this limit on records
 abbrev pub HasRead : ParserState → ℕ → List ℕ → Type 0
 HasRead parser limit text = IsReadingOrFault parser.reading limit text parser.fault
 
--- the parser was fed some text, under some limit
+-- there is a text that the parser may have been fed, under some limit
 pub record WasFed (parser : ParserState) : Type 0 where
   pub limit : ℕ
   pub text : List ℕ
   pub read : HasRead parser limit text
 
--- the text is the text of a file of at most this many records, and what was read is made of these
--- records
+-- the text is the text of a file within the limit on records, and this is that file
 pub record IsOfFileText (file : FileRead) (limit : ℕ) (text : List ℕ) : Type 0 where
   pub records : List (List ℕ)
   pub is_text : IsFileText limit text records
   pub of_records : IsOfRecords file records
 
--- the text is the text of a file of at most this many records, and the counts are the counts of the
--- file
+-- the text is the text of a file within the limit on records, and these are that file's counts
 pub record IsCountOfFileText (count : FileCounted) (limit : ℕ) (text : List ℕ) : Type 0 where
   pub records : List (List ℕ)
   pub is_text : IsFileText limit text records
   pub of_records : IsCountOfRecords count records
 
--- the parser returned this fault
+-- the parser has returned this fault
 abbrev pub HasFailed : ParserState → FileFault → Type 0
 HasFailed parser fault = parser.fault ≡ Some fault
 
--- the parser returned no fault
+-- the parser has returned no fault
 abbrev pub HasNotFailed : ParserState → Type 0
 HasNotFailed parser = (fault : FileFault) → ¬ HasFailed parser fault
 
--- no text that was read before completes the record of the fault; and memory ran out only if it may
+-- no text that was read before completes the record at fault. Memory ran out only if it may
 abbrev pub IsLater : {K : Type 0} → Keeps K → Type 0 → FileReading K → FileFault → Type 0
 IsLater keeps wants reading fault =
     (limit : ℕ) (text : List ℕ) → IsReading keeps reading limit text → (lines_told text < fault.number) × (fault.cause ≡ Memory → wants)
 
--- like `IsLater`, for a parser that returned no fault: no text before this call completes the
--- record
+-- for a parser that has returned no fault: no text that it was fed before this call completes the
+-- record at fault
 abbrev pub NamesLater : ParserState → FileFault → Type 0
 NamesLater parser fault = HasNotFailed parser → (limit : ℕ) (text : List ℕ) → HasRead parser limit text → lines_told text < fault.number
 
--- if memory ran out, it ran out at the last record of the text that was read
+-- if memory ran out, it was at the last record of the text that was read
 abbrev pub IsLast : {K : Type 0} → Keeps K → FileReading K → FileFault → Type 0
 IsLast keeps reading fault = fault.cause ≡ Memory → (limit : ℕ) (text : List ℕ) → IsReading keeps reading limit text → fault.number ≡ length (lines_of text)
 
--- like `IsLast`, for a parser that returned no fault
+-- like `IsLast`, for a parser that has returned no fault
 abbrev pub NamesLast : ParserState → FileFault → Type 0
 NamesLast parser fault =
     HasNotFailed parser → fault.cause ≡ Memory → (limit : ℕ) (text : List ℕ) → HasRead parser limit text → fault.number ≡ length (lines_of text)
 
--- ---- for each limit on records and each text that may have been read under it
+-- ---- for each text that may have been read, and each limit on records
 
--- what was read before, followed by these bytes, is what was read after them
+-- if a text was read before, then afterwards that text and these bytes were read
 abbrev pub GoesOn : (ℕ → List ℕ → Type 0) → List ℕ → (ℕ → List ℕ → Type 0) → Type 0
 GoesOn before bytes after = (limit : ℕ) (text : List ℕ) → before limit text → after limit (text ++ bytes)
 
--- the text ends in the rest, and the bytes before the rest were taken
+-- the text ends in the rest, and all bytes before the rest were taken
 pub record TakesUpTo (before : ℕ → List ℕ → Type 0) (text rest : List ℕ) (after : ℕ → List ℕ → Type 0) : Type 0 where
   pub whole : before_rest text rest ++ rest ≡ text
   pub read : GoesOn before (before_rest text rest) after
 
--- with these bytes after it, the text has this fault
+-- the text that was read before, followed by these bytes, has this fault
 abbrev pub TellsFault : (ℕ → List ℕ → Type 0) → List ℕ → FileFault → Type 0
 TellsFault before bytes fault = (limit : ℕ) (text : List ℕ) → before limit text → IsFaultTold limit (text ++ bytes) fault
 
--- with these bytes after it, the text has no fault
+-- the text that was read before, followed by these bytes, has no fault
 abbrev pub TellsNoFault : (ℕ → List ℕ → Type 0) → List ℕ → Type 0
 TellsNoFault before bytes =
     (limit : ℕ) (text : List ℕ) → before limit text → (fault : model.FileFault) → ¬ IsFaultSoFar limit (text ++ bytes) fault
 
--- the text is a file's, and this is the file
+-- the text that was read is a file's, and this is that file
 abbrev pub EndsAs : (ℕ → List ℕ → Type 0) → FileRead → Type 0
 EndsAs read file = (limit : ℕ) (text : List ℕ) → read limit text → IsOfFileText file limit text
 
--- the text has this fault
+-- the text that was read has this fault
 abbrev pub EndsInFault : (ℕ → List ℕ → Type 0) → FileFault → Type 0
 EndsInFault read fault = (limit : ℕ) (text : List ℕ) → read limit text → IsRefused limit text fault

@@ -3,7 +3,6 @@ use Rattle.std.specs.Prelude.{◌≡◌, ℕ, ◌+◌, ◌<◌, true, false, Lis
 use Rattle.docker_model.specs.records.Record.{IsRecord, kind_of}
 use Rattle.docker_model.specs.file.File.{first_record, follows_basic, IsFile, IsSchedule, BeginsSchedule}
 use Rattle.docker_model.specs.file.Change.{changes, schedule_named}
-use Rattle.docker_model.specs.records.Field.{as_new}
 use Rattle.docker_model.specs.file.FileFault as fault
 use Rattle.cif_laws.specs.ScheduleStage.{Stage, stage_of}
 use Rattle.cif_laws.specs.FileStage.{before_header, between_units, in_schedule, after_end, next_place, IsPlaceOf}
@@ -23,18 +22,12 @@ use Rattle.cif_file.specs.KeeperRead.{Keeps}
 abbrev Lines : Type 0
 Lines = List (List ℕ)
 
--- lines with the transaction of the first set to N
-abbrev pub with_new_first : Lines → Lines
-with_new_first [] = []
-with_new_first (basic ∷ others) = as_new basic ∷ others
-
 -- the first record, if there is one
 abbrev pub header_of : Lines → Option (List ℕ)
 header_of [] = None
 header_of (first ∷ records) = Some first
 
--- a schedule is being read; its lines are kept, with the first as new, and the changes of the
--- records before it were made
+-- a schedule is being read; its lines are kept, and the changes of the records before it were made
 pub record IsOpen {K : Type 0} (keeps : Keeps K) (opened : Opened) (keeper : K) (place : law.Place) (records : Lines) : Type 0 where
   pub stage : Stage
   pub lines : Lines
@@ -45,7 +38,7 @@ pub record IsOpen {K : Type 0} (keeps : Keeps K) (opened : Opened) (keeper : K) 
   pub number_is : opened.number ≡ length before + 1
   pub key_is : key_meant (key.Schedule opened.key) ≡ schedule_named (first_record lines)
   pub progress_is : HasLines (progress_meant opened.progress) lines
-  pub kept : keeps keeper (with_new_first lines) (changes before)
+  pub kept : keeps keeper lines (changes before)
 
 -- the stage of the code is the place of the records, and their changes were made
 abbrev pub IsKept : {K : Type 0} → Keeps K → FileStage → K → law.Place → Lines → Type 0
@@ -107,7 +100,7 @@ pub record StandsBefore {K : Type 0} (keeps : Keeps K) (front : Front K) (opened
   pub key_is : key_meant (key.Schedule opened.key) ≡ schedule_named (first_record lines)
   pub progress_is : HasLines (progress_meant opened.progress) (lines ++ line ∷ [])
   pub goes_on : BeginsSchedule (lines ++ line ∷ [])
-  pub kept : keeps front.keeper (with_new_first lines) (changes before)
+  pub kept : keeps front.keeper lines (changes before)
 
 -- the schedule that is being read has the line after its earlier ones
 abbrev pub GoesOnTo : Opened → List ℕ → FileStage → Type 0

@@ -11,6 +11,7 @@ use Rattle.cif_file.specs.declared.fault.FileFault.{FileFault}
 use Rattle.cif_change.specs.Cause.{cause_meant}
 use Rattle.cif_file.specs.FileRead.{FileRead, FileCounted}
 use Rattle.cif_file.specs.KeeperRead.{Keeps}
+use Rattle.cif_file.specs.ThinRead.{ThinRead}
 use Rattle.cif_file.specs.ParserRead.{IsOfFileText, IsCountOfFileText, IsEndedText, WantsMemoryAt}
 
 -- the source held this text, if it can name its bytes
@@ -23,6 +24,13 @@ pub record ReadsText (limit : ℕ) (left : Option (List ℕ)) (file : FileRead) 
   pub text : List ℕ
   pub held : Held left text
   pub of_text : IsOfFileText file limit text
+
+-- the source held the text of a file within the limit on records, of which this was kept for the
+-- place and the day
+pub record ReadsThin (place : List ℕ) (day limit : ℕ) (left : Option (List ℕ)) (thin : ThinRead) : Type 0 where
+  pub reads : ReadsText limit left thin.file
+  pub place_is : thin.place ≡ place
+  pub day_is : thin.day ≡ day
 
 -- the source held the text of a file within the limit on records, and these are its counts
 pub record CountsText (limit : ℕ) (left : Option (List ℕ)) (count : FileCounted) : Type 0 where

@@ -1,5 +1,5 @@
--- Records that begin a unit, after the header or after a whole unit, and the changes of the ones
--- that are units by themselves.
+-- Records that begin a unit, after the header or after a whole unit. Some are a whole unit by
+-- themselves, and make their changes at once.
 use Rattle.std.specs.Prelude.{◌≡◌, ℕ, List}
 use Rattle.docker_model.specs.records.Record.{Kind, HasKind, IsRecord, tiploc_insert, tiploc_amend, tiploc_delete, association, basic_schedule, trailer}
 use Rattle.docker_model.specs.records.Field.{HasGoodFields}
@@ -15,26 +15,26 @@ kind_of_single (TiplocAmend line) = tiploc_amend
 kind_of_single (TiplocDelete line) = tiploc_delete
 kind_of_single (Association line) = association
 
--- its line
+-- the line of a record that is a unit by itself
 abbrev pub line_of_single : Single → List ℕ
 line_of_single (TiplocInsert line) = line
 line_of_single (TiplocAmend line) = line
 line_of_single (TiplocDelete line) = line
 line_of_single (Association line) = line
 
--- this line begins this unit, by its kind
+-- the line begins this unit, by its kind
 abbrev pub IsUnitByKind : List ℕ → Unit → Type 0
 IsUnitByKind line (unit.Single single) = (line_of_single single ≡ line) × HasKind (kind_of_single single) line
 IsUnitByKind line (unit.Schedule view) = (view ≡ line) × HasKind basic_schedule line
 IsUnitByKind line unit.Trailer = HasKind trailer line
 
--- this line begins this unit, and is a record whose checked fields are good
+-- the line begins this unit, and is a record with good checked fields
 pub record IsUnitOf (line : List ℕ) (unit : Unit) : Type 0 where
   pub is : IsRecord line
   pub good_fields : HasGoodFields line
   pub by_kind : IsUnitByKind line unit
 
--- some such line begins this unit
+-- there is such a line
 pub record IsOfSome (unit : Unit) : Type 0 where
   pub line : List ℕ
   pub of : IsUnitOf line unit

@@ -1,4 +1,4 @@
-//! A file that was judged but not kept.
+//! The counts of a file that was judged but not kept.
 ghost use Rattle.std.specs.Prelude.{◌≡◌};
 ghost use Rattle.cif_file.specs.FileRead.{IsCounted};
 
@@ -6,7 +6,7 @@ use crate::header_line::HeaderLine;
 use cif_line::Header;
 use std::marker::Model;
 
-/// What a CIF file has: its header, and how many records and changes there are.
+/// The header of a CIF file, and how many records and changes it has.
 #[derive(Debug, Drop)]
 pub struct FileCount {
     header: HeaderLine,

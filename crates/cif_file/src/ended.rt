@@ -1,7 +1,8 @@
 //! A file whose trailer was read.
 ghost use Rattle.cif_file.specs.FileRead.{IsCounted};
 ghost use Rattle.cif_file.specs.MadeChanges.{ArePartsOfFile};
-ghost use Rattle.cif_file.specs.EndedRead.{file_ended, parts_ended, count_ended};
+ghost use Rattle.cif_file.specs.EndedRead.{file_ended, parts_ended, thin_parts_ended, thin_ended, count_ended};
+ghost use Rattle.cif_file.specs.ThinRead.{AreThinParts};
 
 use crate::count::FileCount;
 use crate::file::CifFile;
@@ -9,7 +10,11 @@ use crate::header_line::HeaderLine;
 use crate::kept::FileSoFar;
 use crate::made::Made;
 use crate::parts::FileParts;
+use crate::place::PlaceDay;
 use crate::tally::Tally;
+use crate::thin_file::ThinFile;
+use crate::thin_kept::ThinSoFar;
+use crate::thinned::Thinned;
 
 /// A file whose trailer was read: its header, the number of its records, and what was kept of them.
 #[derive(Debug, Drop)]
@@ -40,6 +45,38 @@ impl Ended<FileSoFar> {
             notes,
         }
         .into_file()
+    }
+}
+
+impl<P: PlaceDay> Ended<ThinSoFar<P>> {
+    ghost use Rattle.std.specs.Prelude.{◌≡◌};
+
+    /// What was kept of the file.
+    pub(crate) fn into_thin(self) -> ThinFile
+        requires { AreThinParts self.keeper.thinned.place self.keeper.thinned.day
+            self.keeper.told.changes (thin_parts_ended self) }
+        ensures { result ≡ thin_ended self }
+    {
+        let Ended {
+            header,
+            records,
+            keeper,
+        } = self;
+        let (thinned, told) = keeper.into_kept();
+        let Thinned {
+            place,
+            day,
+            made,
+            ..
+        } = thinned;
+        let Made { changes, notes } = made;
+        let parts = FileParts {
+            header,
+            records,
+            changes,
+            notes,
+        };
+        ThinFile::of(place, day, parts, told)
     }
 }
 

@@ -1,4 +1,4 @@
-//! Why a text isn't a file, and why no file was read from a source.
+//! Why a text isn't a file's, and why no file was read from a source.
 ghost use Rattle.std.specs.Prelude.{Some};
 ghost use Rattle.cif_file.specs.FaultText.{fault_text, read_fault_text};
 
@@ -6,7 +6,7 @@ use cif_change::FileCause;
 use std::error::Error;
 use std::fmt;
 
-/// The record at which a text is found not to be a file, or at which memory ran out.
+/// The record that shows that a text isn't a file's, or the one at which memory ran out.
 #[derive(Clone, Copy, PartialEq, Eq, Debug)]
 pub struct FileFault {
     /// The number of the record, from 1.
@@ -30,9 +30,9 @@ impl Error for FileFault {}
 pub enum ReadFault {
     /// The source failed.
     Source,
-    /// What the source holds isn't the text of a file. The cause is never `Memory`.
+    /// The source's text isn't a file's. The cause is never `Memory`.
     File(FileFault),
-    /// A growth was refused: out of memory. No record that was judged before that is at fault.
+    /// Out of memory. None of the records that were judged before is at fault.
     Memory,
 }
 

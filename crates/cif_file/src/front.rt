@@ -296,7 +296,7 @@ impl<K: Keeper> Front<K> {
         ensures wants { OnErr result K.wants }
     {
         let opened = opened_schedule(number, view);
-        self.keeper.add_line(&view.line().as_new())?;
+        self.keeper.begin(view)?;
         self.stage = FileStage::InSchedule(opened);
         Ok(())
     }

@@ -4,7 +4,7 @@ ghost use Rattle.std.specs.Prelude.{◌≡◌};
 use cif_line::{Header, Line};
 use std::marker::Model;
 
-/// A header whose checked fields are good.
+/// The line of a header with good checked fields.
 #[derive(Debug, Drop)]
 pub(crate) struct HeaderLine {
     line: Line,
@@ -23,7 +23,7 @@ impl Model for HeaderLine {
 }
 
 impl HeaderLine {
-    /// The line of a header that was read.
+    /// The line of this header.
     pub(crate) fn of(view: &Header<'_>) -> HeaderLine
         ensures { result ≡ view.now }
     {

@@ -1,4 +1,4 @@
-//! The counts of the file that a source holds.
+//! Reads the file that a source holds, and only counts it.
 ghost use Rattle.std.specs.Prelude.{◌≡◌, ◌-◌, ◌^◌, ◌<◌, ◌≤◌, [], IfOk, IsOk, Err};
 ghost use Rattle.cif_line.specs.Device.{CountsFailure, IsEnd, Reads};
 ghost use Rattle.cif_file.specs.SourceRead.{CountsText, RefusesText, ReadsNoFurther};
@@ -12,8 +12,8 @@ use cif_line::{PIECE, Source};
 use std::alloc::Global;
 
 /// Reads a source to its end, as [`read_file`](crate::read_file) does. Returns how many records and
-/// changes the file has whose text the source held. It keeps none of them, so it can run out of
-/// memory only before it reads.
+/// changes the source's file has. It keeps none of them, so memory can run out only before it
+/// reads.
 pub fn judge_file<S: Source>(
     alloc: Global,
     source: &mut S,

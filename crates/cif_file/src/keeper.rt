@@ -2,12 +2,12 @@
 ghost use Rattle.std.specs.Prelude.{ℕ, List, OnOk, OnErr};
 ghost use Rattle.docker_model.specs.records.Record.{HasKind};
 ghost use Rattle.docker_model.specs.file.Change.{Change};
-ghost use Rattle.cif_file.specs.KeeperRead.{AddsLine, AddsSingle, Closes};
+ghost use Rattle.cif_file.specs.KeeperRead.{Begins, AddsLine, AddsSingle, Closes};
 ghost use Rattle.cif_file.specs.UnitRead.{kind_of_single, line_of_single};
 
 use crate::opened::Opened;
 use crate::single::Single;
-use cif_line::Line;
+use cif_line::{Basic, Line};
 use std::alloc::AllocError;
 
 /// What a reader keeps of a file's records, besides the header and their number. It receives the
@@ -18,6 +18,11 @@ pub(crate) trait Keeper: Drop + Sized {
 
     // it may run out of memory
     ghost wants: { Type 0 };
+
+    /// Begins a schedule, with its basic schedule.
+    fn begin(&mut self, basic: &Basic<'_>) -> Result<(), AllocError>
+        ensures kept { OnOk result (Begins keeps self.old basic.now self.new) }
+        ensures wants { OnErr result wants };
 
     /// Adds a line of the schedule that is being read.
     fn add_line(&mut self, line: &Line) -> Result<(), AllocError>

@@ -5,8 +5,8 @@ ghost use Rattle.cif_file.specs.KeeperRead.{KeepsAll};
 use crate::keeper::Keeper;
 use crate::made::Made;
 use crate::opened::Opened;
-use crate::single::{Single, push_changes};
-use cif_line::Line;
+use crate::single::{Single, changes_of};
+use cif_line::{Basic, Line};
 use std::alloc::{AllocError, Global};
 
 /// What the records of a file so far have made, and the lines of the schedule that is being read.
@@ -45,6 +45,11 @@ impl Keeper for FileSoFar {
 
     ghost wants = { ⊤ };
 
+    fn begin(&mut self, basic: &Basic<'_>) -> Result<(), AllocError> {
+        self.lines.push(basic.line().as_new())?;
+        Ok(())
+    }
+
     fn add_line(&mut self, line: &Line) -> Result<(), AllocError> {
         self.lines.push(*line)?;
         Ok(())
@@ -58,6 +63,6 @@ impl Keeper for FileSoFar {
     }
 
     fn add_single(&mut self, number: u32, single: &Single<'_>) -> Result<(), AllocError> {
-        push_changes(&mut self.made, number, single)
+        self.made.push_all(changes_of(number, single))
     }
 }

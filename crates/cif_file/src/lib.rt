@@ -2,6 +2,7 @@
 //! every other text. Re-exports changes and the reader of a schedule's lines from the crates below.
 #![tactic(auto)]
 
+mod calling;
 mod count;
 mod ended;
 mod fault;
@@ -12,25 +13,35 @@ mod judge;
 mod keeper;
 mod kept;
 mod made;
+mod near;
 mod next_record;
 mod opened;
 mod parser;
 mod parts;
 mod pieces;
+mod place;
 mod read;
 mod records;
 mod single;
 mod tally;
 mod text;
+mod thin_file;
+mod thin_kept;
+mod thinned;
+mod told;
 mod unit;
 
+pub use calling::calls_at;
 pub use cif_change::{Act, AssocKey, Body, Change, FileCause, Journey, Key, Lines, ScheduleKey};
 pub use count::FileCount;
 pub use fault::{FileFault, ReadFault};
 pub use file::CifFile;
 pub use judge::judge_file;
+pub use near::runs_near;
 pub use parser::FileParser;
 pub use parts::FileParts;
 pub use pieces::read_pieces;
-pub use read::read_file;
+pub use place::PlaceDay;
+pub use read::{read_file, read_thin};
 pub use records::MOST_RECORDS;
+pub use thin_file::ThinFile;

@@ -2,7 +2,9 @@
 ghost use Rattle.std.specs.Prelude.{[], ◌∷◌, OnOk};
 ghost use Rattle.cif_change.specs.Meaning.{change_meant};
 ghost use Rattle.cif_file.specs.MadeChanges.{HasMade, Makes};
+ghost use Rattle.cif_file.specs.SingleChanges.{listed};
 
+use crate::single::SingleChanges;
 use cif_change::{Change, Notes};
 use std::alloc::{AllocError, Global};
 
@@ -33,5 +35,16 @@ impl Made {
         }
         self.changes.push(change)?;
         Ok(())
+    }
+
+    /// Appends the changes of a record that is a unit by itself.
+    pub(crate) fn push_all(&mut self, changes: SingleChanges) -> Result<(), AllocError>
+        ensures { OnOk result (Makes self.old (listed changes) self.new) }
+    {
+        let SingleChanges { first, last } = changes;
+        if let Some(change) = first {
+            self.push(change)?;
+        }
+        self.push(last)
     }
 }

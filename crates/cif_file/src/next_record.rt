@@ -12,7 +12,7 @@ use crate::keeper::Keeper;
 use cif_change::FileCause;
 use cif_line::{Line, LineFault};
 
-/// The bytes as a line.
+/// These bytes as a line, or why they aren't a record.
 pub(crate) fn line_of(bytes: &[u8]) -> Result<Line, FileCause>
     ensures ok { IfOk result (λ line. (line ≡ bytes.now) × IsRecord bytes.now) }
     ensures err { (place : Place) →
@@ -26,7 +26,7 @@ pub(crate) fn line_of(bytes: &[u8]) -> Result<Line, FileCause>
     }
 }
 
-/// Takes the next line. Its number is `number`, which is within the limit.
+/// Takes the next line, which is number `number` and within the limit.
 pub(crate) fn take_within<K: Keeper>(
     front: &mut Front<K>,
     number: u32,

@@ -72,7 +72,7 @@ impl Opened {
 }
 
 /// A copy of the lines, in memory of just their size.
-fn body_of(alloc: Global, lines: &[Line]) -> Result<Lines, AllocError>
+pub(crate) fn body_of(alloc: Global, lines: &[Line]) -> Result<Lines, AllocError>
     ensures { IfOk result (λ body. body ≡ lines.now) }
 {
     let mut body = Vec::with_capacity(alloc, lines.len())?;

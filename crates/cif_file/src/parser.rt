@@ -15,17 +15,17 @@ use cif_line::Line;
 use std::alloc::Global;
 use std::marker::Model;
 
-/// The most bytes of an unfinished line that are kept: a record and a carriage return.
+/// The most bytes of an open line that are kept: a record and a carriage return.
 const MOST_PARTIAL: usize = 81;
 
-/// The records of a file so far, and the bytes of a line whose end hasn't come yet.
+/// The records that were read, and the bytes of a line that hasn't ended yet.
 #[derive(Debug, Drop)]
 pub(crate) struct FileReading<K> {
     records: Records<K>,
     partial: ArrayVec<u8, MOST_PARTIAL>,
 }
 
-/// Appends bytes to an open line, if the line then has no more bytes than are kept.
+/// Appends bytes to an open line, unless they don't fit. Returns whether they fit.
 fn extend(partial: &mut ArrayVec<u8, MOST_PARTIAL>, more: &[u8]) -> bool
     ensures fits { IsTrue result ↔ (length partial.old.items + length more.now ≤ 81) }
     ensures items { IsTrue result → partial.new.items ≡ partial.old.items ++ more.now }
@@ -34,7 +34,7 @@ fn extend(partial: &mut ArrayVec<u8, MOST_PARTIAL>, more: &[u8]) -> bool
 }
 
 impl<K: Keeper> FileReading<K> {
-    /// Before the first byte of a file of at most `limit` records.
+    /// A reading before the first byte, of a file with at most `limit` records.
     pub(crate) fn new(keeper: K, limit: u32) -> FileReading<K>
         requires limit { limit ≤ MOST_RECORDS }
         requires none { K.keeps keeper [] [] }
@@ -46,7 +46,7 @@ impl<K: Keeper> FileReading<K> {
         }
     }
 
-    /// Takes the bytes of a line up to its line feed.
+    /// Takes the last bytes of a line, up to its line feed.
     fn end_line(&mut self, front: &[u8]) -> Result<(), FileFault>
         requires { HasNoFeed front.now }
         ensures read { OnOk result
@@ -81,8 +81,8 @@ impl<K: Keeper> FileReading<K> {
         Ok(())
     }
 
-    /// Takes the records at the beginning of the text, each with its line end, and returns the text
-    /// after them. Takes nothing if a line is open, because the text then begins inside that line.
+    /// Takes the whole records at the start of the text, each with its line end, and returns the
+    /// rest. Takes none if a line is open, because the text then continues that line.
     fn take_records<'a>(&mut self, text: &'a [u8]) -> Result<&'a [u8], FileFault>
         ensures read { IfOk result (λ rest. TakesUpTo
             (IsReading K.keeps self.old) text.now rest.now (IsReading K.keeps self.new)) }
@@ -118,7 +118,7 @@ impl<K: Keeper> FileReading<K> {
         self.keep(rest)
     }
 
-    /// The file that the bytes make up.
+    /// The file that the bytes form.
     pub(crate) fn end(self) -> Result<Ended<K>, FileFault>
         ensures ok { IfOk result (EndsBy K.keeps self) }
         ensures err { IfErr result (EndsInFault (IsReading K.keeps self)) }
@@ -140,7 +140,7 @@ impl<K: Keeper> FileReading<K> {
 }
 
 /// A parser of one file, which comes in pieces of any length. It keeps the changes of the records
-/// so far, and the bytes of a line whose end hasn't come yet.
+/// that were read, and the bytes of a line that hasn't ended yet.
 #[derive(Debug, Drop)]
 pub struct FileParser {
     reading: FileReading<FileSoFar>,
@@ -159,7 +159,7 @@ impl Model for FileParser {
 }
 
 impl FileParser {
-    /// A parser of a file of at most `limit` records. The limit is at most [`MOST_RECORDS`].
+    /// A parser of a file with at most `limit` records. The limit is at most [`MOST_RECORDS`].
     pub fn new(alloc: Global, limit: u32) -> FileParser
         requires { limit ≤ MOST_RECORDS }
         ensures { HasRead result limit [] }
@@ -170,10 +170,10 @@ impl FileParser {
         }
     }
 
-    /// Takes the next bytes of the file. Fails as soon as a bad record's line feed or 82nd byte has
-    /// arrived, with that record's fault. Also fails if memory runs out, at the record that needed
-    /// it, and then no record up to it is at fault. No earlier call could have reported that
-    /// record. Each later call returns the same fault and takes nothing.
+    /// Takes the next bytes of the file. Fails with a bad record's fault once its line feed or its
+    /// 82nd byte has arrived. Also fails if memory runs out, at the record that needs it; no record
+    /// up to it is at fault. In both cases no earlier call completes that record. Each later call
+    /// returns the same fault and takes nothing.
     pub fn feed(&mut self, piece: &[u8]) -> Result<(), FileFault>
         ensures read { GoesOn (HasRead self.old) piece.now (HasRead self.new) }
         ensures ok { OnOk result (TellsNoFault (HasRead self.old) piece.now) }
@@ -196,8 +196,8 @@ impl FileParser {
         }
     }
 
-    /// The file that the bytes make up, or their fault. Or out of memory, at the last record, if no
-    /// record is at fault. After a fault of `feed`, returns that fault.
+    /// The file that the bytes form, or their fault. If no record is at fault, memory may still run
+    /// out at the last record. If `feed` has returned a fault, it is returned again.
     pub fn finish(self) -> Result<CifFile, FileFault>
         ensures ok { IfOk result (EndsAs (HasRead self)) }
         ensures err { IfErr result (EndsInFault (HasRead self)) }

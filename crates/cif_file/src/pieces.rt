@@ -9,7 +9,7 @@ use crate::parser::FileParser;
 use crate::records::MOST_RECORDS;
 use std::alloc::Global;
 
-/// The file, of at most `limit` records, that the joined pieces make up.
+/// The file that the joined pieces form, if it has at most `limit` records.
 pub fn read_pieces(alloc: Global, pieces: &[&[u8]], limit: u32) -> Result<CifFile, FileFault>
     requires { limit ≤ MOST_RECORDS }
     ensures ok { IfOk result (λ file.

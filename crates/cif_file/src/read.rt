@@ -3,7 +3,7 @@ ghost use Rattle.std.specs.Prelude.{◌≡◌, ◌≢◌, ℕ, ◌-◌, ◌^◌,
 ghost use Rattle.docker_model.specs.file.Text.{lines_of};
 ghost use Rattle.cif_line.specs.Device.{CountsFailure, IsEnd};
 ghost use Rattle.cif_file.specs.ParserRead.{IsReading, WantsMemoryAt, EndsBy};
-ghost use Rattle.cif_file.specs.SourceRead.{IsFaultOf, ReadsEnded, ReadsText, RefusesText, ReadsNoFurther, WantsMemory, WantsMemoryBy};
+ghost use Rattle.cif_file.specs.SourceRead.{IsFaultOf, ReadsEnded, ReadsText, ReadsThin, RefusesText, ReadsNoFurther, WantsMemory, WantsMemoryBy};
 
 use crate::ended::Ended;
 use crate::fault::{FileFault, ReadFault};
@@ -11,10 +11,14 @@ use crate::file::CifFile;
 use crate::keeper::Keeper;
 use crate::kept::FileSoFar;
 use crate::parser::FileReading;
+use crate::place::PlaceDay;
 use crate::records::MOST_RECORDS;
+use crate::thin_file::ThinFile;
+use crate::thin_kept::ThinSoFar;
 use cif_change::FileCause;
-use cif_line::{FeedFault, PIECE, Source, Taker, feed_all};
+use cif_line::{Day, FeedFault, PIECE, Source, Taker, Tiploc, feed_all};
 use std::alloc::Global;
+use std::marker::Brand;
 
 /// Reads a source to its end, and returns the file whose text it held, of at most `limit` records.
 /// Reading stops after the piece that has the first fault. A piece has at most 65,536 bytes, so an
@@ -34,6 +38,59 @@ pub fn read_file<S: Source>(alloc: Global, source: &mut S, limit: u32) -> Result
 {
     match read_source(alloc, source, FileSoFar::new(alloc), limit) {
         Ok(ended) => Ok(ended.into_file()),
+        Err(fault) => Err(fault),
+    }
+}
+
+/// Reads a source to its end, as `read_file` does. Of the file it keeps only what the docker of
+/// this place on this day needs. Every record is judged, whether it is kept or not.
+pub fn read_thin<S: Source>(
+    alloc: Global,
+    source: &mut S,
+    place: Tiploc,
+    day: Day,
+    limit: u32,
+) -> Result<ThinFile, ReadFault>
+    requires failures { S.failures source.old < 2 ^ 64 - 1 }
+    requires limit { limit ≤ MOST_RECORDS }
+    ensures ok { IfOk result (ReadsThin place day limit (S.left source.old)) }
+    ensures file { (fault : _) → result ≡ Err (ReadFault.File fault) →
+        RefusesText limit (S.left source.old) fault }
+    ensures memory { result ≡ Err ReadFault.Memory →
+        WantsMemory PIECE limit (S.left source.old) (S.left source.new) }
+    ensures end { IsOk result → IsEnd (S.left source.new) }
+    ensures no_further { ReadsNoFurther PIECE limit (S.left source.old) (S.left source.new) }
+    ensures failures { CountsFailure (result ≡ Err ReadFault.Source)
+        (S.failures source.old) (S.failures source.new) }
+{
+    thin_at::<Brand, S>(alloc, source, place, day, limit)
+}
+
+/// Like `read_thin`, for the place and the day that the type stands for.
+fn thin_at<P: PlaceDay, S: Source>(
+    alloc: Global,
+    source: &mut S,
+    place: Tiploc,
+    day: Day,
+    limit: u32,
+) -> Result<ThinFile, ReadFault>
+    requires failures { S.failures source.old < 2 ^ 64 - 1 }
+    requires limit { limit ≤ MOST_RECORDS }
+    requires place { place ≡ P.place }
+    requires day { day ≡ P.day }
+    ensures ok { IfOk result (ReadsThin place day limit (S.left source.old)) }
+    ensures file { (fault : _) → result ≡ Err (ReadFault.File fault) →
+        RefusesText limit (S.left source.old) fault }
+    ensures memory { result ≡ Err ReadFault.Memory →
+        WantsMemory PIECE limit (S.left source.old) (S.left source.new) }
+    ensures end { IsOk result → IsEnd (S.left source.new) }
+    ensures no_further { ReadsNoFurther PIECE limit (S.left source.old) (S.left source.new) }
+    ensures failures { CountsFailure (result ≡ Err ReadFault.Source)
+        (S.failures source.old) (S.failures source.new) }
+{
+    let keeper: ThinSoFar<P> = ThinSoFar::new(alloc, place, day);
+    match read_source(alloc, source, keeper, limit) {
+        Ok(ended) => Ok(ended.into_thin()),
         Err(fault) => Err(fault),
     }
 }

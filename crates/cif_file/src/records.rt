@@ -12,7 +12,7 @@ use cif_line::Line;
 /// The most records that a file may have.
 pub const MOST_RECORDS: u32 = 4_294_967_294;
 
-/// The records of a file so far, the number of the next one, and the most that there may be.
+/// The records that were read, the number of the next one, and the limit.
 #[derive(Debug, Drop)]
 pub(crate) struct Records<K> {
     limit: u32,
@@ -27,7 +27,7 @@ impl<K: Keeper> Records<K> {
     ghost use Rattle.cif_change.specs.Cause.{cause_meant};
     ghost use Rattle.cif_file.specs.ParserRead.{HasCounted, CountsNext, FaultsNext, IsLongNext, IsRefusedNext, EndsCounted, EndsUnended};
 
-    /// Before the first record. There may be at most `limit` records.
+    /// Before the first record of at most `limit`.
     pub(crate) fn new(keeper: K, limit: u32) -> Records<K>
         requires limit { limit ≤ MOST_RECORDS }
         requires none { K.keeps keeper [] [] }
@@ -51,7 +51,7 @@ impl<K: Keeper> Records<K> {
         }
     }
 
-    /// Takes the next line, whose bytes were judged.
+    /// Takes the next line, whose bytes are already judged.
     pub(crate) fn take_line(&mut self, line: &Line) -> Result<(), FileFault>
         ensures read { OnOk result (CountsNext K.keeps self.old line.now self.new) }
         ensures err { IfErr result (FaultsNext K.keeps K.wants self.old line.now) }
@@ -81,8 +81,8 @@ impl<K: Keeper> Records<K> {
         self.refused(FileCause::Length)
     }
 
-    /// The fault of a next line that is no record, for this cause: the limit and the trailer come
-    /// first.
+    /// The fault of a next line that isn't a record. Before this cause come the limit and the
+    /// trailer.
     fn refused(&self, cause: FileCause) -> FileFault
         ensures { (limit : ℕ) (records : List (List ℕ)) →
             HasCounted K.keeps self.now limit records →
@@ -101,7 +101,7 @@ impl<K: Keeper> Records<K> {
         }
     }
 
-    /// The file that the records make up, if they end in a trailer.
+    /// The file that the records form, if they end in a trailer.
     pub(crate) fn finish(self) -> Result<Ended<K>, FileFault>
         ensures ok { IfOk result (EndsCounted K.keeps self) }
         ensures err { IfErr result (EndsUnended K.keeps self) }

@@ -1,16 +1,14 @@
 //! Records that are units by themselves, and the changes that they make.
-ghost use Rattle.std.specs.Prelude.{◌≡◌, ℕ, length, [], true, false, OnOk, MatchOption, if◌then◌else◌};
+ghost use Rattle.std.specs.Prelude.{◌≡◌, ℕ, length, [], None, true, false, MatchOption, if◌then◌else◌};
 ghost use Rattle.docker_model.specs.records.Record.{HasKind, columns, tiploc_amend};
 ghost use Rattle.docker_model.specs.records.Field.{is_deletion, as_new};
 ghost use Rattle.docker_model.specs.file.Change.{changes_of_record, keeps_code, tiploc_key, association_named, tiploc_named, tiploc_details, association_body, delete, put};
 ghost use Rattle.cif_change.specs.Meaning.{change_meant, key_meant};
-ghost use Rattle.cif_file.specs.MadeChanges.{Makes};
+ghost use Rattle.cif_file.specs.SingleChanges.{AreNeverThin, IsNeverThin, listed};
 ghost use Rattle.cif_file.specs.UnitRead.{kind_of_single, line_of_single};
 
-use crate::made::Made;
 use cif_change::{Act, AssocKey, Body, Change, Key};
 use cif_line::{Assoc, Tiploc, TiplocRecord, Transaction};
-use std::alloc::AllocError;
 
 /// A record that is a unit by itself. Its checked fields are good.
 #[derive(Debug, Drop)]
@@ -25,37 +23,52 @@ pub(crate) enum Single<'a> {
     Association(Assoc<'a>),
 }
 
-/// Appends the changes that the record makes.
-pub(crate) fn push_changes(
-    made: &mut Made,
-    number: u32,
-    single: &Single<'_>,
-) -> Result<(), AllocError>
+/// The changes of a record that is a unit by itself.
+#[derive(Debug, Drop)]
+pub(crate) struct SingleChanges {
+    /// The deletion of a TIPLOC's old code, if the record gives it another one.
+    pub first: Option<Change>,
+    /// The only other change.
+    pub last: Change,
+}
+
+/// The changes that the record makes. Each is kept as it is, if it is kept for a place and a day.
+pub(crate) fn changes_of(number: u32, single: &Single<'_>) -> SingleChanges
     requires { HasKind (kind_of_single single.now) (line_of_single single.now) }
-    ensures { OnOk result (Makes made.old
-        (changes_of_record number (line_of_single single.now) []) made.new) }
+    ensures changes { listed result ≡ changes_of_record number (line_of_single single.now) [] }
+    ensures never_thin { AreNeverThin result }
 {
     match single {
-        Single::TiplocInsert(view) => made.push(tiploc_put(number, view.code(), view)),
-        Single::TiplocAmend(view) => push_amended(made, number, view),
-        Single::TiplocDelete(view) => made.push(tiploc_deleted(number, view)),
-        Single::Association(view) => made.push(association_change(number, view)),
+        Single::TiplocInsert(view) => by_itself(tiploc_put(number, view.code(), view)),
+        Single::TiplocAmend(view) => changes_amended(number, view),
+        Single::TiplocDelete(view) => by_itself(tiploc_deleted(number, view)),
+        Single::Association(view) => by_itself(association_change(number, view)),
     }
 }
 
-/// Appends the changes that a TIPLOC amendment makes. If it changes the code, the old code is
-/// deleted first.
-fn push_amended(made: &mut Made, number: u32, view: &TiplocRecord<'_>) -> Result<(), AllocError>
+/// One change.
+fn by_itself(change: Change) -> SingleChanges
+    ensures { result ≡ record { first = None; last = change } }
+{
+    SingleChanges {
+        first: None,
+        last: change,
+    }
+}
+
+/// The changes that a TIPLOC amendment makes. If it changes the code, the old code is deleted
+/// first.
+fn changes_amended(number: u32, view: &TiplocRecord<'_>) -> SingleChanges
     requires { HasKind tiploc_amend view.now }
-    ensures { OnOk result (Makes made.old
-        (changes_of_record number view.now []) made.new) }
+    ensures changes { listed result ≡ changes_of_record number view.now [] }
+    ensures never_thin { AreNeverThin result }
 {
     match other_code(view) {
-        None => made.push(tiploc_put(number, view.code(), view)),
-        Some(code) => {
-            made.push(tiploc_deleted(number, view))?;
-            made.push(tiploc_put(number, code, view))
-        }
+        None => by_itself(tiploc_put(number, view.code(), view)),
+        Some(code) => SingleChanges {
+            first: Some(tiploc_deleted(number, view)),
+            last: tiploc_put(number, code, view),
+        },
     }
 }
 
@@ -100,8 +113,9 @@ fn other_code(view: &TiplocRecord<'_>) -> Option<Tiploc>
 
 /// The change that deletes the TIPLOC of a record.
 fn tiploc_deleted(number: u32, view: &TiplocRecord<'_>) -> Change
-    ensures { change_meant result ≡
+    ensures change { change_meant result ≡
         record { number = number; key = tiploc_named view.now; act = delete } }
+    ensures never_thin { IsNeverThin (change_meant result) }
 {
     Change {
         number,
@@ -112,11 +126,12 @@ fn tiploc_deleted(number: u32, view: &TiplocRecord<'_>) -> Change
 
 /// The change that puts the TIPLOC of a record at this code.
 fn tiploc_put(number: u32, code: Tiploc, view: &TiplocRecord<'_>) -> Change
-    ensures { change_meant result ≡ record {
+    ensures change { change_meant result ≡ record {
       number = number;
       key = tiploc_key code;
       act = put (tiploc_details view.now);
     } }
+    ensures never_thin { IsNeverThin (change_meant result) }
 {
     Change {
         number,
@@ -127,11 +142,12 @@ fn tiploc_put(number: u32, code: Tiploc, view: &TiplocRecord<'_>) -> Change
 
 /// The change of an association.
 fn association_change(number: u32, view: &Assoc<'_>) -> Change
-    ensures { change_meant result ≡ record {
+    ensures change { change_meant result ≡ record {
       number = number;
       key = association_named view.now;
       act = if is_deletion view.now then delete else put (association_body (as_new view.now));
     } }
+    ensures never_thin { IsNeverThin (change_meant result) }
 {
     let act = match view.transaction() {
         Transaction::Delete => Act::Delete,

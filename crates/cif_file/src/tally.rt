@@ -5,7 +5,7 @@ ghost use Rattle.cif_file.specs.KeeperRead.{CountsChanges};
 use crate::keeper::Keeper;
 use crate::opened::Opened;
 use crate::single::{Single, count_changes};
-use cif_line::Line;
+use cif_line::{Basic, Line};
 use std::alloc::AllocError;
 
 /// How many changes a file's records have made so far. The count never overflows, because a record
@@ -35,6 +35,10 @@ impl Keeper for Tally {
     ghost keeps = { CountsChanges };
 
     ghost wants = { ⊥ };
+
+    fn begin(&mut self, _basic: &Basic<'_>) -> Result<(), AllocError> {
+        Ok(())
+    }
 
     fn add_line(&mut self, _line: &Line) -> Result<(), AllocError> {
         Ok(())

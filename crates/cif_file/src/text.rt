@@ -7,7 +7,7 @@ ghost use Rattle.std.specs.Str.Lines.{strip_carriage_return};
 /// How many bytes a record has.
 const RECORD: usize = 80;
 
-/// The piece without the one carriage return at its end, if it has one.
+/// The piece without the carriage return at its end, if there is one. Only one is removed.
 pub(crate) fn without_return(piece: &[u8]) -> &[u8]
     ensures line { result.now ≡ strip_carriage_return piece.now }
 {
@@ -17,7 +17,7 @@ pub(crate) fn without_return(piece: &[u8]) -> &[u8]
     }
 }
 
-/// Where the first line feed is. Searches byte by byte.
+/// The position of the first line feed. Searches byte by byte.
 fn line_feed(text: &[u8]) -> Option<usize>
     ensures place { result ≡ position (λ byte. byte == 10) text.now }
     ensures within { IfSome result (λ at. at < length text.now) }
@@ -34,8 +34,8 @@ pub(crate) fn split_line(text: &[u8]) -> Option<(&[u8], &[u8])>
     Some((&text[..end], &text[end + 1..]))
 }
 
-/// The text after the line end that it begins with: a line feed, or a carriage return and a line
-/// feed. None if it doesn't begin with one.
+/// The text after its first line end, which is a line feed, or a carriage return and a line feed.
+/// None if the text doesn't start with one.
 fn after_line_end(text: &[u8]) -> Option<&[u8]>
     ensures { MatchOption result ((rest : List ℕ) → ¬ BeginsWithEnd text.now rest)
         (λ rest. BeginsWithEnd text.now rest.now) }
@@ -47,8 +47,8 @@ fn after_line_end(text: &[u8]) -> Option<&[u8]>
     }
 }
 
-/// The 80 bytes that the text begins with, and the text after their line end. None if no line end
-/// comes after 80 bytes. Searches for no line feed.
+/// The first 80 bytes of the text, and the text after their line end. None if no line end comes
+/// after 80 bytes. It doesn't search for the line feed.
 pub(crate) fn split_eighty(text: &[u8]) -> Option<(&[u8], &[u8])>
     ensures { MatchOption result
         ((line rest : List ℕ) → ¬ BeginsWithEighty text.now line rest)

@@ -23,8 +23,8 @@ pub(crate) enum Unit<'a> {
     Trailer,
 }
 
-/// What the record begins. Or the cause why it can't stand there: its place, else its leftmost bad
-/// field.
+/// The unit that the record begins. Otherwise why it can't stand there: its place, or its leftmost
+/// bad field.
 pub(crate) fn unit_of(kind: Kind, line: &Line) -> Result<Unit<'_>, FileCause>
     requires record { IsRecord line.now }
     requires kind { HasKind (meaning kind) line.now }

@@ -5,7 +5,7 @@ use Rattle.docker_model.specs.file.Text.{lines_of}
 use Rattle.docker_model.specs.file.FaultSoFar.{lines_told}
 use Rattle.cif_laws.specs.LinesTold.{open_line}
 
--- some file begins with a text's complete lines, they are within the limit, and its unfinished line
--- has at most 81 bytes
+-- bytes that may still become a file within the limit: their complete lines begin some file and are
+-- within the limit, and the unfinished line has at most 81 bytes
 abbrev pub BeginsWithin : ℕ → List ℕ → Type 0
 BeginsWithin limit text = BeginsFile (take (lines_told text) (lines_of text)) × (lines_told text ≤ limit) × (length (open_line text) ≤ 81)

@@ -1,5 +1,5 @@
--- A text as it comes in: the complete lines, whose line feed came, and the unfinished line after
--- the last one.
+-- A text as it comes in: the complete lines, whose line feed has come, and the unfinished line
+-- after them.
 use Rattle.std.specs.Prelude.{◌≡◌, ℕ, List, false, All, [], ◌∷◌, map, ◌==◌, count_by}
 use Rattle.std.specs.List.{slice_split}
 use Rattle.std.specs.Str.Lines.{strip_carriage_return}
@@ -25,14 +25,14 @@ but_last [] = []
 but_last (piece ∷ []) = []
 but_last (piece ∷ next ∷ pieces) = piece ∷ but_last (next ∷ pieces)
 
--- what follows the last line feed
+-- the unfinished line: the bytes after the last line feed
 abbrev pub open_line : List ℕ → List ℕ
 open_line text = last_of (pieces_of text)
 
--- the lines whose line feed came
+-- the complete lines: those whose line feed has come
 abbrev pub told_lines : List ℕ → Lines
 told_lines text = map strip_carriage_return (but_last (pieces_of text))
 
--- the line that a last piece is, if it isn't empty
+-- the last piece as a line, or no line if it is empty
 abbrev pub line_left : List ℕ → Lines
 line_left piece = map strip_carriage_return (last_piece piece)

@@ -1,5 +1,5 @@
--- Why a line doesn't continue a schedule: the cause and its rank, as for a record of a file. The
--- lines are records, so no cause concerns length or bytes.
+-- Why a line can't continue a schedule. The causes have the ranks that they have in a file. The
+-- lines are records, so no cause names a length or a byte.
 use Rattle.std.specs.Prelude.{◌≡◌, ℕ, ◌<◌, ◌≤◌, List, [], ◌∷◌, ◌++◌, None, Some}
 use Rattle.docker_model.specs.records.Record.{kind_of}
 use Rattle.docker_model.specs.records.Field.{leftmost_bad_field}
@@ -7,11 +7,11 @@ use Rattle.docker_model.specs.file.Journey.{midnights}
 use Rattle.docker_model.specs.file.File.{BeginsSchedule}
 use Rattle.docker_model.specs.file.FileFault.{FileCause, bad_kind, bad_place, bad_field, third_midnight, cause_rank}
 
--- no schedule that begins with the earlier lines has a line of this one's kind next
+-- a line of this kind is out of place: no schedule has one after these earlier lines
 abbrev pub IsOutOfSchedule : List (List ℕ) → List ℕ → Type 0
 IsOutOfSchedule earlier line = (next : List ℕ) → kind_of next ≡ kind_of line → ¬ BeginsSchedule (earlier ++ next ∷ [])
 
--- the cause holds for a line of a schedule that follows these earlier lines
+-- the cause holds for a line that follows these lines of a schedule
 abbrev pub HoldsInSchedule : List (List ℕ) → List ℕ → FileCause → Type 0
 HoldsInSchedule earlier line bad_kind = kind_of line ≡ None
 HoldsInSchedule earlier line bad_place = IsOutOfSchedule earlier line
@@ -19,8 +19,7 @@ HoldsInSchedule earlier line (bad_field at) = leftmost_bad_field line ≡ Some a
 HoldsInSchedule earlier line third_midnight = (midnights earlier ≤ 2) × (2 < midnights (earlier ++ line ∷ []))
 HoldsInSchedule earlier line _ = ⊥
 
--- the earlier lines begin a schedule, with this one they don't, and this is the first cause that
--- holds
+-- the fault of a line with which the lines no longer begin a schedule: the first cause that holds
 pub record IsScheduleFault (earlier : List (List ℕ)) (line : List ℕ) (cause : FileCause) : Type 0 where
   pub earlier_begin : BeginsSchedule earlier
   pub here : ¬ BeginsSchedule (earlier ++ line ∷ [])

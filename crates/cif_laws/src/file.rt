@@ -13,14 +13,13 @@ ghost use Rattle.docker_model.specs.state.State.{IsBodyOf};
 ghost use Rattle.docker_model.specs.file.File.{IsFile, IsSchedule, BeginsFile, BeginsSchedule, most_records};
 ghost use Rattle.cif_laws.specs.LawTerms.{BeginsWithin};
 
-/// For records, being a text of them is the same as being split into them.
+/// Records are the lines of a text exactly if the text consists of them and their line ends.
 pub fn text_of_records()
     ensures { (records : List (List ℕ)) (text : List ℕ) → All IsRecord records
         → IsTextOf records text ↔ (lines_of text ≡ records) }
 {}
 
-/// A text has at most one fault under a limit, and none if it is the text of a file within the
-/// limit.
+/// A text has at most one fault. The text of a file has none, if the file is within the limit.
 pub fn one_file_fault()
     ensures one { (limit : ℕ) (text : List ℕ) (first second : FileFault)
         → IsFileFault limit text first → IsFileFault limit text second → first ≡ second }
@@ -28,13 +27,14 @@ pub fn one_file_fault()
         → IsFileText limit text file → ¬ IsFileFault limit text fault }
 {}
 
-/// Every text is the text of a file within the limit, or it has a fault under the limit.
+/// Every text is a file's within the limit, or has a fault.
 pub fn file_or_fault()
     ensures { (limit : ℕ) (text : List ℕ) → ((file : List (List ℕ)) × IsFileText limit text file)
         ⊎ ((fault : FileFault) × IsFileFault limit text fault) }
 {}
 
-/// The lines that a change of a file keeps are a schedule, and what it puts agrees with its key.
+/// If a change of a file puts a schedule's body, the body's lines are a schedule. Any body that a
+/// change puts fits the change's key.
 pub fn schedule_body_is_schedule()
     ensures schedule { (file : List (List ℕ)) (change : Change) (lines : List (List ℕ))
         → IsFile file → length file ≤ most_records → Contains (changes file) change
@@ -44,8 +44,8 @@ pub fn schedule_body_is_schedule()
         → change.act ≡ put body → IsBodyOf change.key body }
 {}
 
-/// The changes of a file are the changes of its units in order. They are numbered by records, from
-/// 2. A schedule makes one change, with all its lines.
+/// The units of a file, in order, make its changes. Each change has the number of its unit's first
+/// record, from 2 on. A schedule makes one change, with all its lines.
 pub fn changes_by_units()
     ensures units { (file : List (List ℕ)) (is : IsFile file)
         → changes file ≡ changes_of_units 2 is.units }
@@ -54,8 +54,8 @@ pub fn changes_by_units()
         → changes_of_unit number (basic ∷ others) ≡ change_of_schedule number basic others ∷ [] }
 {}
 
-/// Two changes of one record have different keys. This holds for a record by itself, whatever
-/// follows it, and for a record in a file.
+/// Two changes of one record have different keys. This holds for a single record, whatever follows
+/// it, and for each record of a file.
 pub fn keys_of_record_differ()
     ensures record { (number : ℕ) (line : List ℕ) (following : List (List ℕ))
         → AllPairs (λ (first second : Change). ¬ (first.key ≡ second.key))
@@ -65,8 +65,8 @@ pub fn keys_of_record_differ()
         → ¬ (first.key ≡ second.key)) (changes file) }
 {}
 
-/// It is decided whether some file begins with some records, and whether some schedule begins with
-/// some lines. It is also decided whether the records are a file, and the lines a schedule.
+/// For any records it is decided whether they begin some file, and whether they are a file. For any
+/// lines it is decided whether they begin some schedule, and whether they are a schedule.
 pub fn begins_or_not()
     ensures file { (records : List (List ℕ)) → BeginsFile records ⊎ ¬ BeginsFile records }
     ensures schedule { (lines : List (List ℕ)) → BeginsSchedule lines ⊎ ¬ BeginsSchedule lines }
@@ -74,8 +74,8 @@ pub fn begins_or_not()
     ensures whole_schedule { (lines : List (List ℕ)) → IsSchedule lines ⊎ ¬ IsSchedule lines }
 {}
 
-/// After lines with which a schedule begins, a record continues some schedule, or it is at fault,
-/// but not both. A record at fault has one cause.
+/// After lines that begin a schedule, a record either continues some schedule or is at fault, never
+/// both. A record at fault has one cause.
 pub fn schedule_goes_on_or_fault()
     ensures either { (earlier : List (List ℕ)) (line : List ℕ)
         → BeginsSchedule earlier → IsRecord line → BeginsSchedule (earlier ++ line ∷ [])
@@ -87,7 +87,7 @@ pub fn schedule_goes_on_or_fault()
         → BeginsSchedule (earlier ++ line ∷ []) → ¬ IsScheduleFault earlier line cause }
 {}
 
-/// A fault that a text shows before its end stays the fault of every longer text. A text shows at
+/// A fault that the bytes so far show is the fault of every longer text. The bytes so far show at
 /// most one fault.
 pub fn told_fault_stays()
     ensures so_far { (limit : ℕ) (text more : List ℕ) (fault : FileFault)
@@ -98,9 +98,8 @@ pub fn told_fault_stays()
         → IsFaultSoFar limit text first → IsFaultSoFar limit text second → first ≡ second }
 {}
 
-/// Every text either shows a fault or passes so far, and never both. It passes if some file begins
-/// with its complete lines, they are within the limit, and at most 81 bytes follow the last line
-/// feed.
+/// Bytes either show a fault or pass so far, never both. They pass if their complete lines begin
+/// some file and are within the limit, and at most 81 bytes follow the last line feed.
 pub fn no_fault_among_told()
     ensures either { (limit : ℕ) (text : List ℕ)
         → ((fault : FileFault) × IsFaultSoFar limit text fault) ⊎ BeginsWithin limit text }
@@ -108,8 +107,7 @@ pub fn no_fault_among_told()
         → BeginsWithin limit text → ¬ IsFaultSoFar limit text fault }
 {}
 
-/// A text that shows no fault is short: it has at most 82 bytes for each record that the limit
-/// allows, and 81 more.
+/// Bytes that show no fault are few: at most 82 for each record that the limit allows, and 81 more.
 pub fn text_without_fault_is_bounded()
     ensures { (limit : ℕ) (text : List ℕ) → ((fault : FileFault) → ¬ IsFaultSoFar limit text fault)
         → length text ≤ 82 * limit + 81 }

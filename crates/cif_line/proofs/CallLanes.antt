@@ -1,4 +1,4 @@
--- The lanes of an intermediate location's times: one field a lane, each judged and read as its
+-- The times of an intermediate location, each in a lane of a vector: each is judged and read as the
 -- definitions say.
 use Rattle.std.proofs.Common.{◌≡◌, ℕ, zero, suc, ◌+◌, ◌-◌, ◌*◌, ◌%◌, ◌^◌, ◌<◌, ◌≤◌, nat_eq, nat_lt, Bool, true, false, cond, ◌&&◌, List, [], ◌∷◌, ◌++◌, length, get_or, replicate, bit_and, bit_or, Fits, w8, refl, sym, ap, subst, ◌∙◌, arith}
 use Rattle.std.specs.Prelude.{◌==◌, ◌||◌, nat_le}
@@ -12,7 +12,7 @@ use Rattle.cif_line.specs.CallRead.{half_minutes_told}
 
 -- ---- masks
 
--- a lane of a mask
+-- the lane of a mask: all bits set, or none
 abbrev mask : Bool → ℕ
 mask b = cond b 65535 0
 
@@ -32,9 +32,9 @@ mask_set : (p : Bool) → top 15 (mask p) ≡ p
 mask_set true = refl
 mask_set false = refl
 
--- ---- one lane, by its five bytes
+-- ---- one lane, from its five bytes
 
--- what a byte is above the code of 0, in 16 bits
+-- how far a byte is above the code of `0`, in 16 bits
 abbrev above : ℕ → ℕ
 above b = (b + 65488) % 65536
 
@@ -42,7 +42,7 @@ above b = (b + 65488) % 65536
 abbrev spells : ℕ → ℕ → ℕ
 spells a b = ((above a * 10) % 65536 + above b) % 65536
 
--- the tests of a lane, by its bytes
+-- the tests of one lane, from its bytes
 abbrev time_test : ℕ → ℕ → ℕ → ℕ → ℕ → Bool
 time_test a b c d e =
     (((((nat_le (above a) 9 && nat_le (above b) 9) && nat_le (above c) 9) && nat_le (above d) 9) && nat_lt (spells a b) 24) && nat_lt (spells c d) 60)
@@ -52,7 +52,7 @@ abbrev blank_test : ℕ → ℕ → ℕ → ℕ → ℕ → Bool
 blank_test a b c d e =
     (((nat_eq (above a) 65520 && nat_eq (above b) 65520) && nat_eq (above c) 65520) && nat_eq (above d) 65520) && nat_eq e 32
 
--- the same as masks
+-- the tests of one lane, as masks
 abbrev time_mask : ℕ → ℕ → ℕ → ℕ → ℕ → ℕ
 time_mask a b c d e =
     bit_and
@@ -69,7 +69,7 @@ blank_mask a b c d e =
     (mask (nat_eq (above d) 65520)))
     (mask (nat_eq e 32))
 
--- the half minutes of a lane, in 16 bits
+-- the half minutes of one lane, in 16 bits
 abbrev lane_half_minutes : ℕ → ℕ → ℕ → ℕ → ℕ → ℕ
 lane_half_minutes a b c d e = (((spells a b * 120) % 65536 + (spells c d * 2) % 65536) % 65536 + cond (top 15 (mask (e == 72))) 1 0) % 65536
 
@@ -99,7 +99,7 @@ blank_masked : (a b c d e : ℕ) → blank_mask a b c d e ≡ mask (blank_test a
 blank_masked a b c d e =
     five_and (nat_eq (above a) 65520) (nat_eq (above b) 65520) (nat_eq (above c) 65520) (nat_eq (above d) 65520) (nat_eq e 32)
 
--- ---- the tests, as the definitions have them
+-- ---- the tests, as they stand in the definitions
 
 digit_test : (b : ℕ) → b < 256 → nat_le (above b) 9 ≡ is_ascii_digit b
 digit_test b low = agree_below_at (λ x. nat_le (above x) 9) is_ascii_digit 256 b refl low
@@ -116,14 +116,14 @@ digit_high b is = leb-true b 57 (both (nat_le 48 b) (nat_le b 57) is).1
 above_is : (b : ℕ) → is_ascii_digit b ≡ true → above b ≡ b - 48
 above_is b is = omega (arith, digit_low b is, digit_high b is)
 
--- two digits spell their number
+-- the number that two digits spell
 spells_is : (a b : ℕ) → is_ascii_digit a ≡ true → is_ascii_digit b ≡ true → spells a b ≡ 10 * (a - 48) + (b - 48)
 spells_is a b ha hb =
     (λ i. ((above_is a ha i * 10) % 65536 + above_is b hb i) % 65536)
     ∙ omega (arith, digit_low a ha, digit_high a ha, digit_low b hb, digit_high b hb)
 
--- the tests of a time in the order of the lanes and of the definition; the hour and the minute need
--- to agree only for digits
+-- the lanes make the tests of a time in another order than the definition. Whether the hour and the
+-- minute are in range matters only for digits
 in_order : (a b c d h m : Bool) (x y z : Bool) → (a ≡ true → b ≡ true → h ≡ x) → (c ≡ true → d ≡ true → m ≡ y)
     → ((((((a && b) && c) && d) && h) && m) && z) ≡ ((((a && (b && (c && (d && true)))) && x) && y) && z)
 in_order true true true true h m x y z hour minute = λ i. (hour refl refl i && minute refl refl i) && z
@@ -207,7 +207,7 @@ module _ (a b c d e : ℕ) (la : a < 256) (lb : b < 256) (lc : c < 256) (ld : d 
       by true is = (λ i. cond (is_present_time (a ∷ b ∷ c ∷ d ∷ e ∷ [])) (value_is is i) 65535)
       by false is = (λ i. cond (is i) (lane_half_minutes a b c d e) 65535) ∙ (λ i. cond (sym is i) (half_minutes (a ∷ b ∷ c ∷ d ∷ e ∷ [])) 65535)
 
--- a public time is a scheduled one that ends in a space
+-- a public time is a scheduled time once a space follows it
 public_lane : (a b c d : ℕ) → is_scheduled_time (a ∷ b ∷ c ∷ d ∷ 32 ∷ []) ≡ is_public_time (a ∷ b ∷ c ∷ d ∷ [])
 public_lane a b c d = by (a == 32) (b == 32) (c == 32) (d == 32) (is_clock (a ∷ b ∷ c ∷ d ∷ []))
   where
@@ -225,7 +225,7 @@ public_lane a b c d = by (a == 32) (b == 32) (c == 32) (d == 32) (is_clock (a �
 
 -- ---- eight lanes
 
--- eight lanes of which the last three have the first again
+-- eight lanes, of which the last three repeat the first
 pub eight : (a d p m n : Bool) → nat_eq (mask_l (a ∷ d ∷ p ∷ m ∷ n ∷ a ∷ a ∷ a ∷ []) % 2 ^ 64) 255 ≡ ((((a && d) && p) && m) && n)
 eight true true true true true = refl
 eight true true true true false = refl
@@ -262,7 +262,7 @@ eight false false false false false = refl
 
 -- ---- the lanes of a line
 
--- a list of a known length, each of its elements written out
+-- a list of known length, written out element by element
 abbrev head_of : List ℕ → ℕ
 head_of [] = 0
 head_of (x ∷ xs) = x
@@ -281,21 +281,21 @@ cells_are zero (x ∷ xs) size = absurd (omega arith)
 cells_are (suc n) [] size = absurd (omega arith)
 cells_are (suc n) (x ∷ xs) size = ap (λ rest. x ∷ rest) (cells_are n xs (omega arith))
 
--- the bytes that the lanes are picked from: of the scheduled times and the public ones, and of the
--- scheduled times and spaces
+-- the bytes from which lanes are picked: scheduled times and public ones, or scheduled times and
+-- spaces
 abbrev pub picked : List ℕ → ℕ → ℕ
 picked line k = get_or (chunk 10 16 line ++ chunk 25 16 line) k 0
 
 abbrev pub end_picked : List ℕ → ℕ → ℕ
 end_picked line k = get_or (chunk 10 16 line ++ replicate 16 32) k 0
 
--- what a lane gives, by the places that it was picked from
+-- what a lane gives, from the indexes of its bytes
 abbrev pub tells : List ℕ → ℕ → ℕ → ℕ → ℕ → ℕ → ℕ
 tells line a b c d e =
     cond (top 15 (time_mask (picked line a) (picked line b) (picked line c) (picked line d) (end_picked line e)))
     (lane_half_minutes (picked line a) (picked line b) (picked line c) (picked line d) (end_picked line e)) 65535
 
--- whether a lane is set
+-- whether a lane is set, from the indexes of its bytes
 abbrev pub set_lane : List ℕ → ℕ → ℕ → ℕ → ℕ → ℕ → Bool
 set_lane line a b c d e =
     top 15

@@ -1,4 +1,4 @@
--- Each day number up to the last is the number of one day of the calendar.
+-- Each day number up to the last belongs to one day of the calendar.
 use Rattle.std.proofs.Common.{◌≡◌, ℕ, ℤ, zero, suc, ◌+◌, ◌<◌, ◌≤◌, ◌⊎◌, refl, ap, subst, pos, negsuc, ◌+ℤ◌, ◌<ℤ◌, arith, inl, inr}
 use Rattle.std.specs.Prelude.{unsigned_abs}
 use Rattle.std.proofs.lemmas.Bool.{cases_order}
@@ -13,14 +13,14 @@ use Rattle.docker_model.specs.records.Date.{day_number, last_day}
 use Rattle.docker_model.specs.records.PrintedTime.{day_text, date_text}
 use Rattle.cif_laws.proofs.records.Dates.{day_number-day_count, day_text-day_number}
 
--- a day of the years 1960 to 2059
+-- a day of the years 1960 to 2059, and its day number
 pub record IsDayOf (number year month day : ℕ) : Type 0 where
   pub low : 1960 ≤ year
   pub high : year ≤ 2059
   pub is_civil : IsCivilDate (pos year) month day
   pub count : day_count (pos year) month day ≡ number + 4_368_300
 
--- the day counts of 1 January 1960, 31 December 2059 and 1 January 2060
+-- the calendar's counts of days for 1 January 1960, 31 December 2059 and 1 January 2060
 start_of_1960 : day_count (pos 1960) 1 1 ≡ 4_368_300
 unfolding day_count days_of_years days_of_months
 start_of_1960 = refl
@@ -33,18 +33,18 @@ start_of_2060 : day_count (pos 2060) 1 1 ≡ 4_404_825
 unfolding day_count days_of_years days_of_months
 start_of_2060 = refl
 
--- the day number of such a day is its number
+-- the day number of such a day
 pub number_is : (number year month day : ℕ) → IsDayOf number year month day → day_number year month day ≡ number
 number_is number year month day h =
     let there = day_number-day_count year month day h.low (omega (arith, h.high)) h.is_civil.1.0 h.is_civil.2.0 in
     omega (arith, h.count)
 
--- the text of its number is the date
+-- the text of such a day's number is its date
 pub text_is : (number year month day : ℕ) → IsDayOf number year month day → day_text number ≡ date_text year month day
 text_is number year month day h =
     subst (λ n. day_text n ≡ date_text year month day) (number_is number year month day h) (day_text-day_number year month day h.low h.high h.is_civil)
 
--- a date from the first day to the last is in these years
+-- a date from the first day to the last has a year from 1960 to 2059
 years_between : (year : ℤ) (month day : ℕ) → IsCivilDate year month day → 4_368_300 ≤ day_count year month day → day_count year month day ≤ 4_404_824
     → IsBetween (pos 1960) (pos 2059) year
 years_between year month day is_civil low high =
@@ -54,13 +54,13 @@ years_between year month day is_civil low high =
     let last : (pos 2059 <ℤ year) → ⊥ = λ lt. absurd (omega (arith, end_of_2059, day_count-lt_year (pos 2059) 12 31 year month day last_is is_civil.2.0 lt)) in
     (by_lt_z year (pos 1960) (λ lt. absurd (first lt)) (λ ge. ge), by_lt_z (pos 2059) year (λ lt. absurd (last lt)) (λ ge. ge))
 
--- the day count of a date, computed from its days since -9999-01-01
+-- the calendar's count of days for a date, from its days since -9999-01-01
 count_of : (date : Date) (days : ℕ) → epoch_day date +ℤ pos 4_371_587 ≡ pos days → day_count date.year date.month date.day ≡ days + 366
 count_of date days since =
     let count = days_from_civil-day_count date.year date.month date.day in
     omega (arith, signed_arith)
 
--- a date in these years is a day
+-- a date in these years is such a day
 pub day_of_date : (date : Date) (number : ℕ) → number ≤ last_day → epoch_day date +ℤ pos 4_371_587 ≡ pos (4_367_934 + number)
     → IsBetween (pos 1960) (pos 2059) date.year × IsDayOf number (unsigned_abs date.year) date.month date.day
 day_of_date date number low since =
@@ -75,7 +75,7 @@ day_of_date date number low since =
         record { low = omega (arith, signed_arith, years.0); high = omega (arith, signed_arith, years.1); is_civil = is_civil; count = omega arith }
     by (negsuc year) is_civil count years = absurd (omega (arith, signed_arith, years.0))
 
--- a year that ends before the last day is not the last
+-- a year that ends before the last day isn't 2059
 before_2059 : (number year : ℕ) → suc number ≤ last_day → year ≤ 2059 → day_count (pos year) 12 31 ≡ number + 4_368_300 → year < 2059
 before_2059 number year low high count = by (cases_order year 2059)
   where
@@ -84,7 +84,7 @@ before_2059 number year low high count = by (cases_order year 2059)
     by (inr (inl lt)) = lt
     by (inr (inr gt)) = absurd (omega arith)
 
--- one number is below another or not
+-- one number is below another, or it isn't
 by_lt : {P : Type 0} (a b : ℕ) → (a < b → P) → (b ≤ a → P) → P
 by_lt {P = P} a b below above = by (cases_order a b)
   where
@@ -93,7 +93,7 @@ by_lt {P = P} a b below above = by (cases_order a b)
     by (inr (inl lt)) = below lt
     by (inr (inr gt)) = above (omega arith)
 
--- the day that follows, in the month, in the year or in the next year
+-- the next day, in the same month, in the next month or in the next year
 module _ (number year month day : ℕ) (low : suc number ≤ last_day) (h : IsDayOf number year month day) where
   next_day : day < days_in_month (pos year) month → IsDayOf (suc number) year month (day + 1)
   next_day lt =
@@ -130,7 +130,7 @@ module _ (number year month day : ℕ) (low : suc number ≤ last_day) (h : IsDa
             count = omega arith;
           }
 
--- each number up to the last is the number of a day
+-- each number up to the last belongs to a day
 pub day_at : (number : ℕ) → number ≤ last_day → (year : ℕ) × (month : ℕ) × (day : ℕ) × IsDayOf number year month day
 day_at zero low = (
   1960,

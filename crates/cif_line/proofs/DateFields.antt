@@ -1,4 +1,4 @@
--- The digits of a day's text, read back.
+-- The digits of a day's text are read back as that day.
 use Rattle.std.proofs.Common.{◌≡◌, ℕ, ◌+◌, ◌-◌, ◌*◌, ◌/◌, ◌%◌, ◌<◌, ◌≤◌, List, [], ◌∷◌, ◌++◌, true, ◌&&◌, ap, sym, subst, slice_index, ◌∙◌, pos, arith}
 use Rattle.std.specs.List.{list_all}
 use Rattle.std.specs.Char.{is_ascii_digit}
@@ -15,7 +15,7 @@ use Rattle.cif_line.proofs.CivilDays.{IsDayOf, number_is, text_is, day_at}
 is_digit : (n : ℕ) → n < 10 → is_ascii_digit (48 + n) ≡ true
 is_digit n low = grind (arith, nat_tests)
 
--- six such digits
+-- six digits
 are_digits : (a b c d e f : ℕ) → a < 10 → b < 10 → c < 10 → d < 10 → e < 10 → f < 10
     → list_all is_ascii_digit ((48 + a) ∷ (48 + b) ∷ (48 + c) ∷ (48 + d) ∷ (48 + e) ∷ (48 + f) ∷ []) ≡ true
 are_digits a b c d e f ha hb hc hd he hf =
@@ -25,15 +25,15 @@ are_digits a b c d e f ha hb hc hd he hf =
 year_is : (year : ℕ) → 1960 ≤ year → year ≤ 2059 → full_year (year % 100) ≡ year
 year_is year low high = grind (arith, nat_tests)
 
--- two digits spell their number
+-- the number that its two digits spell
 digits_are : (n : ℕ) → 10 * ((48 + n / 10) - 48) + ((48 + n % 10) - 48) ≡ n
 digits_are n = omega arith
 
--- a day's digits without the century, year first
+-- the digits YYMMDD of a day
 abbrev pub six_digits : ℕ → ℕ → ℕ → List ℕ
 six_digits year month day = two_digit_text (year % 100) ++ two_digit_text month ++ two_digit_text day
 
--- six digits of a day are a date, whose number is the day's
+-- the digits YYMMDD of a day are a date with that day's number
 module _ (number year month day : ℕ) (h : IsDayOf number year month day) where
   on_calendar : is_calendar_day year month day ≡ true
   on_calendar =
@@ -47,7 +47,7 @@ module _ (number year month day : ℕ) (h : IsDayOf number year month day) where
   year_read : full_year (two_digits (six_digits year month day) 0) ≡ year
   year_read = ap full_year (digits_are (year % 100)) ∙ year_is year h.low h.high
 
-  -- six digits of a day in the range are a date
+  -- the digits YYMMDD of a day pass the test of being a date
   pub six_digits-is_date : is_date (six_digits year month day) ≡ true
   six_digits-is_date =
       let digits : list_all is_ascii_digit (six_digits year month day) ≡ true =
@@ -59,11 +59,11 @@ module _ (number year month day : ℕ) (h : IsDayOf number year month day) where
   pub six_digits-date_number : date_number (six_digits year month day) ≡ number
   six_digits-date_number = (λ i. day_number (year_read i) (digits_are month i) (digits_are day i)) ∙ number_is number year month day h
 
--- the digits of a text, without the century
+-- the digits YYMMDD in a text YYYY-MM-DD
 abbrev pub digits_in : List ℕ → List ℕ
 digits_in text = slice_index text 2 ∷ slice_index text 3 ∷ slice_index text 5 ∷ slice_index text 6 ∷ slice_index text 8 ∷ slice_index text 9 ∷ []
 
--- the digits of a day's text are a date, whose number is the day
+-- in a day's text these digits are a date, whose number is the day's
 pub digits_in-day_text : (number : ℕ) → number ≤ last_day → (text : List ℕ) → text ≡ day_text number
     → (is_date (digits_in text) ≡ true) × (date_number (digits_in text) ≡ number)
 digits_in-day_text number low text same = let at = day_at number low in by at.0 at.1 at.2 at.3

@@ -8,7 +8,7 @@ use Rattle.docker_model.specs.records.Field.{CheckedField, checked, checked_fiel
 use Rattle.cif_laws.proofs.records.Columns.{good_fields, IsGoodIn, one_column}
 use Rattle.cif_line.specs.View.{IsGood, IsGoodTiploc, IsTiplocRecord, new_code_of}
 
--- each checked field of a record with good fields is good
+-- in a record with good fields, each checked field is good
 each_good : (kind : Kind) (line : List ℕ) → IsGood kind line → AllByRecursion (IsGoodIn line) (checked_fields kind line)
 each_good kind line good = good_fields kind line good.has_kind good.good_fields
 
@@ -24,7 +24,7 @@ header_minute line good = (each_good header line good).1.0
 pub header_extract : (line : List ℕ) → IsGood header line → is_update_indicator (column 47 line ∷ []) ≡ true
 header_extract line good = subst (λ b. is_update_indicator (b ∷ []) ≡ true) (one_column line 47 (omega arith)) (each_good header line good).1.1.0
 
--- the checked fields of a header
+-- all checked fields of a header
 pub ruleset header_fields = (header_day, header_minute, header_extract)
 
 -- the TIPLOC, columns 3 to 9, is a TIPLOC
@@ -35,7 +35,7 @@ origin_tiploc line good = (each_good origin_location line good).0
 pub origin_public : (line : List ℕ) → IsGood origin_location line → is_public_time (columns 16 19 line) ≡ true
 origin_public line good = (each_good origin_location line good).1.1.0
 
--- the checked fields of an origin location
+-- all checked fields of an origin
 pub ruleset origin_fields = (origin_tiploc, origin_public)
 
 -- the TIPLOC, columns 3 to 9, is a TIPLOC
@@ -46,7 +46,7 @@ terminus_tiploc line good = (each_good terminating_location line good).0
 pub terminus_public : (line : List ℕ) → IsGood terminating_location line → is_public_time (columns 16 19 line) ≡ true
 terminus_public line good = (each_good terminating_location line good).1.1.0
 
--- the checked fields of a terminating location
+-- all checked fields of a terminus
 pub ruleset terminus_fields = (terminus_tiploc, terminus_public)
 
 -- the transaction, column 3, is N, D or R
@@ -57,11 +57,11 @@ basic_transaction line good = subst (λ b. is_transaction (b ∷ []) ≡ true) (
 pub basic_runs_from : (line : List ℕ) → IsGood basic_schedule line → is_date (columns 10 15 line) ≡ true
 basic_runs_from line good = (each_good basic_schedule line good).1.0
 
--- the fields of a basic schedule after its first date
+-- the checked fields of a basic schedule after its first date
 later_fields : Bool → List CheckedField
 later_fields deletion = cond deletion [] (checked 16 21 is_end_date ∷ checked 22 28 is_days ∷ []) ++ checked 80 80 is_stp_indicator ∷ []
 
--- these fields are good in a good basic schedule
+-- in a good basic schedule they are good
 later_good : (line : List ℕ) → IsGood basic_schedule line → (deletion : Bool) → is_deletion line ≡ deletion
     → AllByRecursion (IsGoodIn line) (later_fields deletion)
 unfolding later_fields
@@ -86,7 +86,7 @@ basic_stp line good = subst (λ b. is_stp_letter b ≡ true) (one_column line 80
     by true all = (all true refl).0
     by false all = (all false refl).1.1.0
 
--- the checked fields of a basic schedule
+-- all checked fields of a basic schedule
 pub ruleset basic_fields = (basic_transaction, basic_runs_from, basic_runs_to, basic_days, basic_stp)
 
 -- the transaction, column 3, is N, D or R
@@ -97,12 +97,12 @@ assoc_transaction line good = subst (λ b. is_transaction (b ∷ []) ≡ true) (
 pub assoc_start : (line : List ℕ) → IsGood association line → is_date (columns 16 21 line) ≡ true
 assoc_start line good = (each_good association line good).1.0
 
--- the fields of an association after its first date
+-- the checked fields of an association after its first date
 assoc_fields_behind : Bool → List CheckedField
 assoc_fields_behind deletion =
     cond deletion [] (checked 22 27 is_end_date ∷ checked 28 34 is_days ∷ []) ++ checked 38 44 is_tiploc ∷ checked 80 80 is_stp_indicator ∷ []
 
--- these fields are good in a good association
+-- in a good association they are good
 assoc_behind_good : (line : List ℕ) → IsGood association line → (deletion : Bool) → is_deletion line ≡ deletion
     → AllByRecursion (IsGoodIn line) (assoc_fields_behind deletion)
 unfolding assoc_fields_behind
@@ -118,7 +118,7 @@ pub assoc_days : (line : List ℕ) → IsGood association line → is_deletion l
 unfolding assoc_fields_behind
 assoc_days line good kept = (assoc_behind_good line good false kept).1.0
 
--- the two fields that count in a deletion too
+-- the two fields that are checked in a deletion too
 assoc_last : (line : List ℕ) → IsGood association line → (is_tiploc (columns 38 44 line) ≡ true) × (is_stp_indicator (columns 80 80 line) ≡ true)
 unfolding assoc_fields_behind
 assoc_last line good = by (is_deletion line) (assoc_behind_good line good)
@@ -136,7 +136,7 @@ assoc_location line good = (assoc_last line good).0
 pub assoc_stp : (line : List ℕ) → IsGood association line → is_stp_letter (column 80 line) ≡ true
 assoc_stp line good = subst (λ b. is_stp_letter b ≡ true) (one_column line 80 (omega arith)) (assoc_last line good).1
 
--- the checked fields of an association
+-- all checked fields of an association
 pub ruleset assoc_fields = (assoc_transaction, assoc_start, assoc_end, assoc_days, assoc_location, assoc_stp)
 
 -- the TIPLOC, columns 3 to 9, is a TIPLOC
@@ -151,7 +151,7 @@ call_public_arrival line good = (each_good intermediate_location line good).1.1.
 pub call_public_departure : (line : List ℕ) → IsGood intermediate_location line → is_public_time (columns 30 33 line) ≡ true
 call_public_departure line good = (each_good intermediate_location line good).1.1.1.1.1.0
 
--- the checked fields of an intermediate location
+-- all checked fields of an intermediate location
 pub ruleset call_fields = (call_tiploc, call_public_arrival, call_public_departure)
 
 -- the code, columns 3 to 9, is a TIPLOC
@@ -181,10 +181,10 @@ no_new_code line never = by (kind_of line) never
     by (Some change_en_route) other = refl
     by (Some trailer) other = refl
 
--- the checked fields of a TIPLOC record
+-- all checked fields of a TIPLOC record
 pub ruleset tiploc_fields = (tiploc_code, tiploc_new_code, no_new_code)
 
--- a TIPLOC record whose checked fields are good
+-- in a TIPLOC record with good fields, the code and the new code are good
 pub is_good_tiploc : (line : List ℕ) → IsTiplocRecord line → HasGoodFields line → IsGoodTiploc line
 is_good_tiploc line (inl inserts) good = record {
   code = (good_fields tiploc_insert line inserts good).0;

@@ -1,4 +1,4 @@
--- From the lanes of a block of bytes to a test of each byte.
+-- From the lanes of a block of bytes to the test of each byte.
 use Rattle.std.proofs.Common.{◌≡◌, ℕ, ◌+◌, ◌*◌, ◌%◌, ◌^◌, ◌≤◌, nat_eq, Bool, true, false, cond, not, ◌&&◌, List, [], ◌∷◌, map, length, take, drop, replicate, Fits, w8, refl, sym, ap, ◌∙◌, arith}
 use Rattle.std.proofs.lemmas.Bool.{agree_below, agree_below_at}
 use Rattle.std.proofs.lemmas.Bool.Decides.{nat_tests}
@@ -16,7 +16,7 @@ one_set m = grind (arith, nat_tests)
 twice : (m : ℕ) → nat_eq (0 + 2 * m) 0 ≡ nat_eq m 0
 twice m = grind (arith, nat_tests)
 
--- the mask is 0 if and only if no lane is set
+-- a mask is 0 if and only if no lane is set
 mask_zero : (p : ℕ → Bool) (xs : List ℕ) → nat_eq (mask_l (map p xs)) 0 ≡ list_all (λ x. not (p x)) xs
 mask_zero p [] = refl
 mask_zero p (x ∷ xs) = by (p x) (mask_zero p xs)
@@ -26,13 +26,13 @@ mask_zero p (x ∷ xs) = by (p x) (mask_zero p xs)
     by true rest = one_set (mask_l (map p xs))
     by false rest = twice (mask_l (map p xs)) ∙ rest
 
--- two tests that agree on bytes agree on a list of them
+-- if two tests agree on each byte, they agree on lists of bytes
 agree_all : (f g : ℕ → Bool) → agree_below f g 256 ≡ true → (xs : List ℕ) → Each1 (Fits w8) xs → list_all f xs ≡ list_all g xs
 agree_all f g agree [] fits = refl
 agree_all f g agree (x ∷ xs) fits = λ i. agree_below_at f g 256 x agree fits.0.fits i && agree_all f g agree xs fits.1 i
 
--- No lane is set if and only if each byte passes the test, provided that a byte's lane is clear if
--- and only if the byte passes. Each lane is made from a byte by two operations with splats
+-- No lane is set if and only if each byte passes the test. For that, a byte's lane has to be clear
+-- if and only if the byte passes. A lane is made from its byte by two operations with constants.
 pub no_lane_set : (q : ℕ → Bool) (bytes : List ℕ) (n : ℕ) (f g : ℕ → ℕ → ℕ) (a b : ℕ) → length bytes ≡ n → n ≤ 64 → Each1 (Fits w8) bytes
     → agree_below (λ x. not (top 7 (f a (g x b)))) q 256 ≡ true
     → nat_eq (mask_l (map (top 7) (zip2 f (replicate n a) (zip2 g bytes (replicate n b)))) % 2 ^ 64) 0 ≡ list_all q bytes
@@ -45,9 +45,9 @@ no_lane_set q bytes n f g a b long few fits agree =
     ∙ mask_zero (λ x. top 7 (lane x)) bytes
     ∙ agree_all (λ x. not (top 7 (lane x))) q agree bytes fits
 
--- ---- a line of 80 bytes, by its five blocks
+-- ---- a line of 80 bytes, in five blocks
 
--- five tests, grouped to the left and to the right
+-- five tests, grouped from the left or from the right
 five : (a b c d e : Bool) → ((((a && b) && c) && d) && e) ≡ (a && (b && (c && (d && (e && true)))))
 five true true true true true = refl
 five true true true true false = refl
@@ -56,19 +56,19 @@ five true true false d e = refl
 five true false c d e = refl
 five false b c d e = refl
 
--- the sixteen bytes from a place on pass
+-- whether the sixteen bytes from this index on pass
 abbrev pub block_passes : (ℕ → Bool) → List ℕ → ℕ → Bool
 block_passes q bytes at = list_all q (take 16 (drop at bytes))
 
--- the bytes from a place on pass if and only if the first block and the rest do
+-- the bytes from an index on pass if and only if the first block and the rest do
 block_and_rest : (q : ℕ → Bool) (bytes : List ℕ) (at : ℕ) → list_all q (drop at bytes) ≡ (block_passes q bytes at && list_all q (drop (at + 16) bytes))
 block_and_rest q bytes at = ap (list_all q) (chunk-drop at 16 bytes) ∙ list_all-append q (take 16 (drop at bytes)) (drop (at + 16) bytes)
 
--- after the last column nothing is left
+-- after 80 bytes nothing is left
 nothing_left : (q : ℕ → Bool) (bytes : List ℕ) → length bytes ≡ 80 → list_all q (drop 80 bytes) ≡ true
 nothing_left q bytes size = ap (list_all q) (drop_all 80 bytes (let long : length bytes ≤ 80 = omega arith in long))
 
--- all five blocks pass if and only if the line does
+-- the line passes if and only if all five blocks do
 pub five_blocks : (q : ℕ → Bool) (bytes : List ℕ) → length bytes ≡ 80 →
     ((((block_passes q bytes 0 && block_passes q bytes 16) && block_passes q bytes 32) && block_passes q bytes 48) && block_passes q bytes 64)
     ≡ list_all q bytes

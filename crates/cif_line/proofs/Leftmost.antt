@@ -1,5 +1,5 @@
--- The leftmost bad field of a header, a TIPLOC record, an association and a basic schedule, by the
--- fields to its left.
+-- The leftmost bad field of a header, a TIPLOC record, an association or a basic schedule. It is
+-- the field that is bad while those to its left are good.
 use Rattle.std.proofs.Common.{◌≡◌, ℕ, List, true, false, cond, [], ◌∷◌, ◌++◌, Bool, Some, None, ap, ◌∙◌, inl, inr}
 use Rattle.std.specs.Prelude.{not, option_map, find, Option}
 use Rattle.std.specs.List.{AllByRecursion}
@@ -10,16 +10,16 @@ use Rattle.docker_model.specs.records.Field.{CheckedField, checked, checked_fiel
 use Rattle.cif_laws.proofs.records.Columns.{IsGoodIn, fields_good}
 use Rattle.cif_line.specs.View.{IsTiplocRecord}
 
--- the first column of the first of some fields that isn't good
+-- the first column of the first field that isn't good
 unfoldable pub first_bad : List ℕ → List CheckedField → Option ℕ
 first_bad line fields = option_map (λ (field : CheckedField). field.first) (find (λ field. not (field.is_good (columns field.first field.last line))) fields)
 
--- the leftmost bad field is the first bad one among the checked fields of the kind
+-- the leftmost bad field is the first bad one of the kind's checked fields
 by_kind : (kind : Kind) (line : List ℕ) → HasKind kind line → leftmost_bad_field line ≡ first_bad line (checked_fields kind line)
 unfolding first_bad
 by_kind kind line is = ap (λ k. first_bad line (fields_of k line)) is
 
--- a bad field after good ones
+-- a bad field that follows good ones
 pub behind_good : (line : List ℕ) (before : List CheckedField) (field : CheckedField) (after : List CheckedField)
     → AllByRecursion (IsGoodIn line) before → field.is_good (columns field.first field.last line) ≡ false
     → first_bad line (before ++ field ∷ after) ≡ Some field.first
@@ -31,16 +31,16 @@ behind_good line (one ∷ before) field after good bad =
     (cond (not (good.0 i)) (Some one) (find (λ f. not (f.is_good (columns f.first f.last line))) (before ++ field ∷ after))))
     ∙ behind_good line before field after good.1 bad
 
--- a header's date of extract, if it is bad: column 23
+-- a header's date of extract is bad: column 23
 pub header_bad_day : (line : List ℕ) → HasKind header line → is_date_day_first (columns 23 28 line) ≡ false → leftmost_bad_field line ≡ Some 23
 header_bad_day line is bad = by_kind header line is ∙ behind_good line [] (checked 23 28 is_date_day_first) _ tt bad
 
--- a header's time of extract, the first bad field after a good date: column 29
+-- a header's time of extract is bad, and its date is good: column 29
 pub header_bad_minute : (line : List ℕ) → HasKind header line → is_date_day_first (columns 23 28 line) ≡ true → is_clock (columns 29 32 line) ≡ false
     → leftmost_bad_field line ≡ Some 29
 header_bad_minute line is day bad = by_kind header line is ∙ behind_good line (checked 23 28 is_date_day_first ∷ []) (checked 29 32 is_clock) _ (day, tt) bad
 
--- a header's update indicator, the first bad field after good ones: column 47
+-- a header's update indicator is bad, and the fields before are good: column 47
 pub header_bad_indicator : (line : List ℕ) → HasKind header line → is_date_day_first (columns 23 28 line) ≡ true → is_clock (columns 29 32 line) ≡ true
     → is_update_indicator (columns 47 47 line) ≡ false → leftmost_bad_field line ≡ Some 47
 header_bad_indicator line is day minute bad = by_kind header line is
@@ -62,7 +62,7 @@ of_basic : (line : List ℕ) (deletion : Bool) → HasKind basic_schedule line �
 unfolding basic_checked
 of_basic line deletion is deletes = by_kind basic_schedule line is ∙ ap (λ b. first_bad line (basic_checked b)) deletes
 
--- the end date of a basic schedule that isn't a deletion, if it is the first bad field: column 16
+-- the end date of a basic schedule is the first bad field, and it isn't a deletion: column 16
 pub basic_bad_end : (line : List ℕ) → HasKind basic_schedule line → is_transaction (columns 3 3 line) ≡ true → is_date (columns 10 15 line) ≡ true
     → is_deletion line ≡ false → is_end_date (columns 16 21 line) ≡ false → leftmost_bad_field line ≡ Some 16
 unfolding basic_checked
@@ -70,7 +70,7 @@ basic_bad_end line is transaction day kept bad = of_basic line false is kept
     ∙ behind_good line (checked 3 3 is_transaction ∷ checked 10 15 is_date ∷ []) (checked 16 21 is_end_date)
     (checked 22 28 is_days ∷ checked 80 80 is_stp_indicator ∷ []) (transaction, (day, tt)) bad
 
--- its days run, the first bad field after good ones: column 22
+-- the days run of a basic schedule are the first bad field, and it isn't a deletion: column 22
 pub basic_bad_days : (line : List ℕ) → HasKind basic_schedule line → is_transaction (columns 3 3 line) ≡ true → is_date (columns 10 15 line) ≡ true
     → is_deletion line ≡ false → is_end_date (columns 16 21 line) ≡ true → is_days (columns 22 28 line) ≡ false → leftmost_bad_field line ≡ Some 22
 unfolding basic_checked
@@ -78,7 +78,7 @@ basic_bad_days line is transaction day kept end bad = of_basic line false is kep
     ∙ behind_good line (checked 3 3 is_transaction ∷ checked 10 15 is_date ∷ checked 16 21 is_end_date ∷ []) (checked 22 28 is_days)
     (checked 80 80 is_stp_indicator ∷ []) (transaction, (day, (end, tt))) bad
 
--- its STP indicator, the first bad field after good ones: column 80
+-- the STP indicator of a basic schedule is the first bad field, and it isn't a deletion: column 80
 pub basic_bad_stp_kept : (line : List ℕ) → HasKind basic_schedule line → is_transaction (columns 3 3 line) ≡ true → is_date (columns 10 15 line) ≡ true
     → is_deletion line ≡ false → is_end_date (columns 16 21 line) ≡ true → is_days (columns 22 28 line) ≡ true
     → is_stp_indicator (columns 80 80 line) ≡ false → leftmost_bad_field line ≡ Some 80
@@ -87,7 +87,7 @@ basic_bad_stp_kept line is transaction day kept end days bad = of_basic line fal
     ∙ behind_good line (checked 3 3 is_transaction ∷ checked 10 15 is_date ∷ checked 16 21 is_end_date ∷ checked 22 28 is_days ∷ [])
     (checked 80 80 is_stp_indicator) [] (transaction, (day, (end, (days, tt)))) bad
 
--- a deletion's STP indicator, since its end date and days run don't count: column 80
+-- the STP indicator of a deletion, whose end date and days run aren't checked: column 80
 pub basic_bad_stp_deleted : (line : List ℕ) → HasKind basic_schedule line → is_transaction (columns 3 3 line) ≡ true → is_date (columns 10 15 line) ≡ true
     → is_deletion line ≡ true → is_stp_indicator (columns 80 80 line) ≡ false → leftmost_bad_field line ≡ Some 80
 unfolding basic_checked
@@ -110,7 +110,7 @@ of_assoc : (line : List ℕ) (deletion : Bool) → HasKind association line → 
 unfolding assoc_checked
 of_assoc line deletion is deletes = by_kind association line is ∙ ap (λ b. first_bad line (assoc_checked b)) deletes
 
--- the end date of an association that isn't a deletion, if it is the first bad field: column 22
+-- the end date of an association is the first bad field, and it isn't a deletion: column 22
 pub assoc_bad_end : (line : List ℕ) → HasKind association line → is_transaction (columns 3 3 line) ≡ true → is_date (columns 16 21 line) ≡ true
     → is_deletion line ≡ false → is_end_date (columns 22 27 line) ≡ false → leftmost_bad_field line ≡ Some 22
 unfolding assoc_checked
@@ -118,7 +118,7 @@ assoc_bad_end line is transaction day kept bad = of_assoc line false is kept
     ∙ behind_good line (checked 3 3 is_transaction ∷ checked 16 21 is_date ∷ []) (checked 22 27 is_end_date)
     (checked 28 34 is_days ∷ checked 38 44 is_tiploc ∷ checked 80 80 is_stp_indicator ∷ []) (transaction, (day, tt)) bad
 
--- its days run, the first bad field after good ones: column 28
+-- the days run of an association are the first bad field, and it isn't a deletion: column 28
 pub assoc_bad_days : (line : List ℕ) → HasKind association line → is_transaction (columns 3 3 line) ≡ true → is_date (columns 16 21 line) ≡ true
     → is_deletion line ≡ false → is_end_date (columns 22 27 line) ≡ true → is_days (columns 28 34 line) ≡ false → leftmost_bad_field line ≡ Some 28
 unfolding assoc_checked
@@ -126,7 +126,7 @@ assoc_bad_days line is transaction day kept end bad = of_assoc line false is kep
     ∙ behind_good line (checked 3 3 is_transaction ∷ checked 16 21 is_date ∷ checked 22 27 is_end_date ∷ []) (checked 28 34 is_days)
     (checked 38 44 is_tiploc ∷ checked 80 80 is_stp_indicator ∷ []) (transaction, (day, (end, tt))) bad
 
--- its TIPLOC, the first bad field after good ones: column 38
+-- the TIPLOC of an association is the first bad field, and it isn't a deletion: column 38
 pub assoc_bad_place_kept : (line : List ℕ) → HasKind association line → is_transaction (columns 3 3 line) ≡ true → is_date (columns 16 21 line) ≡ true
     → is_deletion line ≡ false → is_end_date (columns 22 27 line) ≡ true → is_days (columns 28 34 line) ≡ true → is_tiploc (columns 38 44 line) ≡ false
     → leftmost_bad_field line ≡ Some 38
@@ -135,7 +135,7 @@ assoc_bad_place_kept line is transaction day kept end days bad = of_assoc line f
     ∙ behind_good line (checked 3 3 is_transaction ∷ checked 16 21 is_date ∷ checked 22 27 is_end_date ∷ checked 28 34 is_days ∷ [])
     (checked 38 44 is_tiploc) (checked 80 80 is_stp_indicator ∷ []) (transaction, (day, (end, (days, tt)))) bad
 
--- a deletion's TIPLOC, since its end date and days run don't count: column 38
+-- the TIPLOC of a deletion, whose end date and days run aren't checked: column 38
 pub assoc_bad_place_deleted : (line : List ℕ) → HasKind association line → is_transaction (columns 3 3 line) ≡ true → is_date (columns 16 21 line) ≡ true
     → is_deletion line ≡ true → is_tiploc (columns 38 44 line) ≡ false → leftmost_bad_field line ≡ Some 38
 unfolding assoc_checked
@@ -143,8 +143,7 @@ assoc_bad_place_deleted line is transaction day deleted bad = of_assoc line true
     ∙ behind_good line (checked 3 3 is_transaction ∷ checked 16 21 is_date ∷ []) (checked 38 44 is_tiploc) (checked 80 80 is_stp_indicator ∷ [])
     (transaction, (day, tt)) bad
 
--- the STP indicator of an association that isn't a deletion, the first bad field after good ones:
--- column 80
+-- the STP indicator of an association is the first bad field, and it isn't a deletion: column 80
 pub assoc_bad_stp_kept : (line : List ℕ) → HasKind association line → is_transaction (columns 3 3 line) ≡ true → is_date (columns 16 21 line) ≡ true
     → is_deletion line ≡ false → is_end_date (columns 22 27 line) ≡ true → is_days (columns 28 34 line) ≡ true → is_tiploc (columns 38 44 line) ≡ true
     → is_stp_indicator (columns 80 80 line) ≡ false → leftmost_bad_field line ≡ Some 80
@@ -154,7 +153,7 @@ assoc_bad_stp_kept line is transaction day kept end days place bad = of_assoc li
     (checked 3 3 is_transaction ∷ checked 16 21 is_date ∷ checked 22 27 is_end_date ∷ checked 28 34 is_days ∷ checked 38 44 is_tiploc ∷ [])
     (checked 80 80 is_stp_indicator) [] (transaction, (day, (end, (days, (place, tt))))) bad
 
--- the STP indicator of a deletion: column 80
+-- the STP indicator of a deletion is the first bad field: column 80
 pub assoc_bad_stp_deleted : (line : List ℕ) → HasKind association line → is_transaction (columns 3 3 line) ≡ true → is_date (columns 16 21 line) ≡ true
     → is_deletion line ≡ true → is_tiploc (columns 38 44 line) ≡ true → is_stp_indicator (columns 80 80 line) ≡ false → leftmost_bad_field line ≡ Some 80
 unfolding assoc_checked
@@ -165,14 +164,14 @@ assoc_bad_stp_deleted line is transaction day deleted place bad = of_assoc line 
 -- the leftmost bad field of an association
 pub ruleset assoc_faults = (assoc_bad_end, assoc_bad_days, assoc_bad_place_kept, assoc_bad_place_deleted, assoc_bad_stp_kept, assoc_bad_stp_deleted)
 
--- the code of a TIPLOC record, if it is bad: column 3
+-- the code of a TIPLOC record is bad: column 3
 pub tiploc_bad_code : (line : List ℕ) → IsTiplocRecord line → is_tiploc (columns 3 9 line) ≡ false → leftmost_bad_field line ≡ Some 3
 tiploc_bad_code line (inl inserts) bad = by_kind tiploc_insert line inserts ∙ behind_good line [] (checked 3 9 is_tiploc) [] tt bad
 tiploc_bad_code line (inr (inl amends)) bad = by_kind tiploc_amend line amends
     ∙ behind_good line [] (checked 3 9 is_tiploc) (checked 73 79 is_new_tiploc ∷ []) tt bad
 tiploc_bad_code line (inr (inr deletes)) bad = by_kind tiploc_delete line deletes ∙ behind_good line [] (checked 3 9 is_tiploc) [] tt bad
 
--- the new code of an amendment, if it is the first bad field: column 73
+-- the new code of an amendment is bad, and the code is good: column 73
 pub tiploc_bad_new_code : (line : List ℕ) → HasKind tiploc_amend line → is_tiploc (columns 3 9 line) ≡ true → is_new_tiploc (columns 73 79 line) ≡ false
     → leftmost_bad_field line ≡ Some 73
 tiploc_bad_new_code line amends code bad = by_kind tiploc_amend line amends
@@ -183,7 +182,7 @@ pub tiploc_amended : (line : List ℕ) → HasKind tiploc_amend line → is_tipl
     → leftmost_bad_field line ≡ None
 tiploc_amended line amends code new = fields_good tiploc_amend line amends (code, (new, tt))
 
--- an insert or a delete whose code is good has no bad field
+-- an insert or a deletion whose code is good has no bad field
 pub tiploc_not_amended : (line : List ℕ) → IsTiplocRecord line → ¬ HasKind tiploc_amend line → is_tiploc (columns 3 9 line) ≡ true
     → leftmost_bad_field line ≡ None
 tiploc_not_amended line (inl inserts) never code = fields_good tiploc_insert line inserts (code, tt)

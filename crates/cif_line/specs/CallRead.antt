@@ -1,4 +1,4 @@
--- What is read from an intermediate location.
+-- What is read from the times of an intermediate location.
 use Rattle.std.specs.Prelude.{◌≡◌, ℕ, List, if◌then◌else◌}
 use Rattle.docker_model.specs.records.Record.{columns}
 use Rattle.docker_model.specs.records.Clock.{is_present_time, half_minutes, scheduled_time}
@@ -10,6 +10,6 @@ pub record AreTimesOf (line : List ℕ) (times : CallTimes) : Type 0 where
   pub departure : times.departure ≡ scheduled_time (columns 16 20 line)
   pub pass : times.pass ≡ scheduled_time (columns 21 25 line)
 
--- the half minutes of a field, or 65535 if it is no time
+-- the half minutes that are read from a field, or 65535 if it isn't a time
 abbrev pub half_minutes_told : List ℕ → ℕ
 half_minutes_told field = if is_present_time field then half_minutes field else 65535

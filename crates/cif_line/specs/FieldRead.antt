@@ -1,4 +1,4 @@
--- What the fields of a line say, each by its first column and its width.
+-- What is read from the fields of a line, each named by its first column and its width.
 use Rattle.std.specs.Prelude.{ℕ, ◌+◌, ◌-◌, ◌*◌, List, take, Option, Some, None, option_map, if◌then◌else◌}
 use Rattle.std.specs.Option.{option_map_or}
 use Rattle.docker_model.specs.records.Record.{columns}
@@ -6,18 +6,19 @@ use Rattle.docker_model.specs.records.Clock.{public_time}
 use Rattle.docker_model.specs.records.Field.{is_deletion}
 use Rattle.docker_model.specs.records.PrintedTime.{spaces, time_text}
 
--- the bytes in this many columns of a line, from the first one on
+-- this many columns of a line, from the first one on
 abbrev pub field_at : ℕ → ℕ → List ℕ → List ℕ
 field_at first width line = columns first (first - 1 + width) line
 
--- what a field of an association or a basic schedule says, unless the transaction is a deletion
+-- a field that is read only if the transaction of the association or basic schedule isn't a
+-- deletion
 abbrev pub unless_deleted : {A : Type 0} → List ℕ → A → Option A
 unless_deleted line told = if is_deletion line then None else Some told
 
--- the half minutes of a public time of four bytes, where 0000 and blank are none
+-- a public time of four bytes, in half minutes; none if it is 0000 or blank
 abbrev pub public_half_minutes : List ℕ → Option ℕ
 public_half_minutes field = option_map (λ minute. 2 * minute) (public_time field)
 
--- a public time as a docker shows it: HHMM, or four spaces where there is none
+-- a public time as a docker prints it: HHMM, or four spaces if there is none
 abbrev pub public_text : Option ℕ → List ℕ
 public_text time = option_map_or (λ half_minutes. take 4 (time_text half_minutes)) time (spaces 4)

@@ -1,4 +1,4 @@
--- The letters of one-letter fields.
+-- The letters in fields of one letter.
 use Rattle.std.specs.Prelude.{ℕ}
 use Rattle.cif_line.specs.declared.letter.Extract.{Extract}
 use Rattle.cif_line.specs.declared.letter.Extract.TheVariants as extract

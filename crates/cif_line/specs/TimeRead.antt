@@ -3,7 +3,7 @@ use Rattle.std.specs.Prelude.{◌≡◌, ℕ, List, true}
 use Rattle.docker_model.specs.records.Clock.{is_blank, is_present_time, half_minutes}
 use Rattle.cif_line.specs.declared.time_field.TimeField.{TimeField}
 
--- this was read from the field. It has the half minutes only if the field is a time
+-- this is read from the field. Its half minutes count only if the field is a time
 pub record ReadsTime (field : List ℕ) (read : TimeField) : Type 0 where
   pub blank : read.is_blank ≡ is_blank field
   pub time : read.is_time ≡ is_present_time field

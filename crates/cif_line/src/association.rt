@@ -1,4 +1,4 @@
-//! An association of two trains, a record AA.
+//! An association of two trains: a record AA.
 ghost use Rattle.std.specs.Prelude.{◌≡◌};
 ghost use Rattle.docker_model.specs.records.Record.{association, columns, column, IsTextOfLength};
 ghost use Rattle.docker_model.specs.records.Date.{date_number, end_number};
@@ -15,8 +15,8 @@ use crate::uid::Uid;
 use crate::until::Until;
 use std::marker::Model;
 
-/// A view of an association (AA) whose checked fields are good. A deletion's end date and days are
-/// not checked.
+/// A view of an association (AA) whose checked fields are good. A deletion's end date and days run
+/// aren't checked.
 #[derive(Debug, Drop)]
 pub struct Assoc<'a> {
     line: &'a Line,
@@ -36,7 +36,7 @@ impl<'a> Model for Assoc<'a> {
 
 #[tactic(auto, using(crate::proofs::GoodFields::assoc_fields))]
 impl<'a> Assoc<'a> {
-    /// A view of a line whose fields were checked.
+    /// A view of a line whose fields have been checked.
     pub(crate) fn of(line: &'a Line) -> Assoc<'a>
         requires good { IsGood association line.now }
         ensures line { result ≡ line.entry.now }
@@ -73,30 +73,30 @@ impl<'a> Assoc<'a> {
         self.line.uid(10)
     }
 
-    /// The first of the base train's start days for which it holds: columns 16 to 21.
+    /// The first start day of the base train on which the association holds: columns 16 to 21.
     pub fn start(&self) -> Day
         ensures { result ≡ date_number (columns 16 21 self.now) }
     {
         self.line.day(16)
     }
 
-    /// The last of the base train's start days for which it holds, none in a deletion: columns 22
-    /// to 27.
+    /// The last start day of the base train on which the association holds: columns 22 to 27. None
+    /// in a deletion.
     pub fn end(&self) -> Option<Until>
         ensures { result ≡ unless_deleted self.now (end_number (columns 22 27 self.now)) }
     {
         self.line.end_unless_deleted(22)
     }
 
-    /// The weekdays of the base train's start days for which it holds, none in a deletion: columns
-    /// 28 to 34.
+    /// The weekdays of the base train's start days on which the association holds: columns 28 to
+    /// 34. None in a deletion.
     pub fn days(&self) -> Option<Days>
         ensures { result ≡ unless_deleted self.now (columns 28 34 self.now) }
     {
         self.line.days_unless_deleted(28)
     }
 
-    /// The association category, as `JJ`, `VV` or `NP`: columns 35 and 36.
+    /// The association category, such as `JJ`, `VV` or `NP`: columns 35 and 36.
     pub fn category(&self) -> &'a [u8; 2]
         ensures value { result.now ≡ columns 35 36 self.now }
         ensures text { IsTextOfLength 2 result.now }
@@ -104,14 +104,14 @@ impl<'a> Assoc<'a> {
         self.line.field(35)
     }
 
-    /// The date indicator, as `S`, `N` or `P`: column 37.
+    /// The date indicator, such as `S`, `N` or `P`: column 37.
     pub fn date_indicator(&self) -> u8
         ensures { result ≡ column 37 self.now }
     {
         self.line.column(37)
     }
 
-    /// The TIPLOC of the timing point at which the trains are associated: columns 38 to 44.
+    /// The TIPLOC at which the trains are associated: columns 38 to 44.
     pub fn location(&self) -> Tiploc
         ensures { result ≡ columns 38 44 self.now }
     {

@@ -1,4 +1,5 @@
-//! The five times of an intermediate location (LI), judged and read at once, one field a lane.
+//! The five times of an intermediate location (LI), judged and read at once, each in a lane of a
+//! vector.
 ghost use Rattle.std.specs.Prelude.{◌≡◌, ◌&&◌, length};
 ghost use Rattle.docker_model.specs.records.Record.{columns};
 ghost use Rattle.docker_model.specs.records.Clock.{is_scheduled_time, is_public_time};
@@ -6,7 +7,7 @@ ghost use Rattle.cif_line.specs.CallRead.{half_minutes_told};
 
 use std::simd::prelude::*;
 
-/// The code of `0`.
+/// The code of the character `0`.
 const ZERO: u16 = 48;
 
 /// The code of a space, which ends a whole minute.
@@ -15,15 +16,15 @@ const SPACE: u16 = 32;
 /// The code of `H`, which ends half a minute.
 const HALF: u16 = 72;
 
-/// What stands for no time, in place of half minutes.
+/// The value that stands for no time, instead of half minutes.
 const NO_TIME: u16 = 65535;
 
-/// What the fields of an intermediate location's times give.
+/// What is read from the five times of an intermediate location.
 #[derive(Clone, Copy, PartialEq, Eq, Debug)]
 pub(crate) struct CallFields {
-    /// Whether each of the five times is good.
+    /// Whether all five times are good.
     pub are_good: bool,
-    /// The half minutes of the scheduled arrival, or 65535 if there are none.
+    /// The scheduled arrival in half minutes, or 65535 if there is none.
     pub arrival: u16,
     /// The half minutes of the scheduled departure, or 65535 if there are none.
     pub departure: u16,
@@ -33,8 +34,8 @@ pub(crate) struct CallFields {
 
 impl CallFields {
     /// Reads the fields of a line. Lanes 0 to 4 have the scheduled arrival, departure and pass, and
-    /// the public arrival and departure; the others have the first again. A public time ends in a
-    /// space, like a whole minute.
+    /// the public arrival and departure; the other lanes repeat the first. A public time is read as
+    /// if a space followed it, like a whole minute.
     pub(crate) fn read(line: &[u8]) -> CallFields
         requires { length line.now ≡ 80 }
         ensures good { result.are_good ≡ ((((is_scheduled_time (columns 11 15 line.now)

@@ -1,4 +1,4 @@
-//! A change en route of a schedule, a record CR.
+//! A change en route of a schedule: a record CR.
 ghost use Rattle.std.specs.Prelude.{◌≡◌};
 ghost use Rattle.docker_model.specs.records.Record.{change_en_route, columns, IsTextOfLength};
 ghost use Rattle.cif_line.specs.View.{IsGood};
@@ -6,7 +6,7 @@ ghost use Rattle.cif_line.specs.View.{IsGood};
 use crate::line::Line;
 use std::marker::Model;
 
-/// A view of a change en route (CR), which has no checked field.
+/// A view of a change en route (CR). It has no checked field.
 #[derive(Debug, Drop)]
 pub struct ChangeEnRoute<'a> {
     line: &'a Line,
@@ -25,7 +25,7 @@ impl<'a> Model for ChangeEnRoute<'a> {
 }
 
 impl<'a> ChangeEnRoute<'a> {
-    /// A view of a line that is known to be a change en route.
+    /// A view of a line that is a change en route.
     pub(crate) fn of(line: &'a Line) -> ChangeEnRoute<'a>
         requires good { IsGood change_en_route line.now }
         ensures line { result ≡ line.entry.now }

@@ -1,5 +1,4 @@
-//! Tests of the checked fields, except the tests of times, and the fault of the leftmost field that
-//! fails.
+//! Tests of the checked fields, except of times, and the fault that names the leftmost bad field.
 ghost use Rattle.std.specs.Prelude.{◌≡◌};
 ghost use Rattle.docker_model.specs.records.Date.{is_date, is_date_day_first, is_end_date, is_days};
 ghost use Rattle.docker_model.specs.records.Clock.{is_blank};
@@ -11,27 +10,26 @@ use crate::letter::{Extract, Stp, Transaction};
 use crate::until::Until;
 use thiserror::Error;
 
-/// A record has a checked field that is not good: the first column of the leftmost such field, from
-/// 1.
+/// A checked field of a record isn't good: the first column, from 1, of the leftmost such field.
 #[derive(Clone, Copy, PartialEq, Eq, Debug, Error)]
 #[error("Field {0}")]
 pub struct FieldFault(pub u8);
 
-/// Whether a field is a date, day first.
+/// Whether a field is a date with the day first.
 pub(crate) fn is_date_day_first(field: &[u8; 6]) -> bool
     ensures { result ≡ is_date_day_first field.now }
 {
     Day::from_ddmmyy(field).is_some()
 }
 
-/// Whether a field is a date, year first.
+/// Whether a field is a date with the year first.
 pub(crate) fn is_date(field: &[u8; 6]) -> bool
     ensures { result ≡ is_date field.now }
 {
     Day::from_yymmdd(field).is_some()
 }
 
-/// Whether a field is an end date: a date, year first, or `999999`.
+/// Whether a field is an end date: a date with the year first, or `999999`.
 pub(crate) fn is_end_date(field: &[u8; 6]) -> bool
     ensures { result ≡ is_end_date field.now }
 {

@@ -1,4 +1,4 @@
-//! Days of the calendar, by their number from 1 January 1960.
+//! Days of the calendar, as numbers counted from 1 January 1960.
 ghost use Rattle.std.specs.Prelude.{◌≡◌, ℕ, ◌+◌, ◌<◌, ◌≤◌, ◌↔◌, pos, ◌+ℤ◌, IsTrue, IsSome, IfSome, Some, unsigned_abs};
 ghost use Rattle.std.specs.Int.{IsInRange};
 ghost use Rattle.std.specs.Option.{SomeIff};
@@ -13,13 +13,14 @@ use jiff_core::civil;
 use std::marker::Model;
 use std::{fmt, str};
 
-/// The number of days from -9999-01-01, where the calendar begins, to 1960-01-01.
+/// How many days there are from -9999-01-01, where the library's calendar begins, to 1960-01-01.
 const FIRST: u32 = 4_367_934;
 
-/// The number of 2059-12-31.
+/// The day number of 2059-12-31.
 const LAST: u16 = 36524;
 
-/// A day from 1960-01-01 to 2059-12-31, as the number of days since 1960-01-01: 0 to 36524.
+/// A day from 1960-01-01 to 2059-12-31, as its day number: the days since 1960-01-01, from 0 to
+/// 36524.
 #[derive(Clone, Copy, PartialEq, Eq, PartialOrd, Ord, Debug)]
 pub struct Day {
     number: u16,
@@ -36,9 +37,9 @@ impl Model for Day {
 }
 
 impl Day {
-    /// The day of six digits YYMMDD, as in a basic schedule (BS): the years 60 to 99 are 1960 to
-    /// 1999, and 00 to 59 are 2000 to 2059. None if a byte is no digit or the calendar has no such
-    /// day.
+    /// The day that six digits YYMMDD give, as in a basic schedule (BS). Years 60 to 99 are 1960 to
+    /// 1999, and 00 to 59 are 2000 to 2059. None if a byte isn't a digit or the calendar has no
+    /// such day.
     pub fn from_yymmdd(field: &[u8; 6]) -> Option<Day>
         ensures some { IsSome result ↔ IsTrue (is_date field.now) }
         ensures value { IfSome result (λ day. day ≡ date_number field.now) }
@@ -50,8 +51,8 @@ impl Day {
         day_of(year, two_digits(field, 2), two_digits(field, 4))
     }
 
-    /// The day of six digits DDMMYY, as a header (HD) gives its date of extract, with the same
-    /// years. None if a byte is no digit or the calendar has no such day.
+    /// The day that six digits DDMMYY give, as in a header (HD). Years are as in `from_yymmdd`.
+    /// None if a byte isn't a digit or the calendar has no such day.
     pub fn from_ddmmyy(field: &[u8; 6]) -> Option<Day>
         ensures some { IsSome result ↔ IsTrue (is_date_day_first field.now) }
         ensures value { IfSome result (λ day. day ≡ date_number_day_first field.now) }
@@ -63,7 +64,7 @@ impl Day {
         day_of(year, two_digits(field, 2), two_digits(field, 0))
     }
 
-    /// The day of a text YYYY-MM-DD, the form that `iso` writes. None for any other text.
+    /// The day that a text YYYY-MM-DD gives, as `iso` writes it. None for any other text.
     pub fn from_iso(text: &str) -> Option<Day>
         ensures value { IfSome result (λ day. text.now ≡ day_text day) }
         ensures read { (day : ℕ) → day ≤ last_day → text.now ≡ day_text day → result ≡ Some day }
@@ -79,7 +80,7 @@ impl Day {
         }
     }
 
-    /// The day with this number: days after 1960-01-01. None above 36524.
+    /// The day with this number. None above 36524.
     pub fn from_number(number: u16) -> Option<Day>
         ensures { SomeIff result (number ≤ last_day) number }
     {
@@ -111,7 +112,7 @@ impl Day {
         ]
     }
 
-    /// The days since 1960-01-01: 0 to 36524.
+    /// The day number, from 0 to 36524.
     pub fn number(&self) -> u16
         ensures value { result ≡ self.now }
         ensures bound { result ≤ last_day }
@@ -128,8 +129,8 @@ impl Day {
         ((self.number + 4) % 7) as u8
     }
 
-    /// The day this many days later, or earlier if `days` is negative. None before 1960-01-01 and
-    /// after 2059-12-31.
+    /// The day that is this many days later, or earlier if `days` is negative. None if that is
+    /// before 1960-01-01 or after 2059-12-31.
     pub fn plus(&self, days: i32) -> Option<Day>
         ensures some { IsSome result ↔ IsBetween (pos 0) (pos last_day) (pos self.now +ℤ days) }
         ensures value { IfSome result (λ day. pos day ≡ pos self.now +ℤ days) }
@@ -164,7 +165,8 @@ impl fmt::Display for Day {
     }
 }
 
-/// The day of a year from 1960 to 2059, if the calendar has it.
+/// The day with this year, month and day, for a year from 1960 to 2059. None if the calendar has no
+/// such day.
 fn day_of(year: u16, month: u16, day: u16) -> Option<Day>
     requires year_in { IsInRange 1960 2059 year }
     requires month_in { month < 100 }
@@ -180,7 +182,7 @@ fn day_of(year: u16, month: u16, day: u16) -> Option<Day>
     }
 }
 
-/// The year that two digits of a year mean.
+/// The year that a year of two digits means.
 fn full_year(year: u16) -> u16
     requires { year < 100 }
     ensures value { result ≡ full_year_of year }
@@ -189,7 +191,7 @@ fn full_year(year: u16) -> u16
     if year >= 60 { 1900 + year } else { 2000 + year }
 }
 
-/// A number below 10 as its digit in ASCII.
+/// A digit below 10, in ASCII.
 fn digit(n: u16) -> u8
     requires { n < 10 }
     ensures value { result ≡ 48 + n }

@@ -1,11 +1,11 @@
-//! The days run of a basic schedule (BS), or of an association (AA).
+//! The days run of a basic schedule (BS) or of an association (AA).
 ghost use Rattle.std.specs.Prelude.{◌≡◌, ℕ, ◌<◌, ◌↔◌, List, IsTrue, IsSome, IfSome};
 ghost use Rattle.docker_model.specs.records.Date.{is_days, runs_on_weekday};
 
 use std::marker::Model;
 
-/// The weekdays on which something runs: seven marks, Monday's first, `1` if it runs on that day
-/// and `0` if not.
+/// The weekdays on which a schedule or an association runs: seven marks, Monday first. A mark is
+/// `1` if it runs on that day, and otherwise `0`.
 #[derive(Clone, Copy, PartialEq, Eq, Debug)]
 pub struct Days {
     marks: [u8; 7],
@@ -25,7 +25,7 @@ impl Model for Days {
 }
 
 impl Days {
-    /// The weekdays of seven marks. None if a byte is neither `0` nor `1`.
+    /// The weekdays that seven marks give. None if a byte is neither `0` nor `1`.
     pub fn from_field(field: &[u8; 7]) -> Option<Days>
         ensures some { IsSome result ↔ IsTrue (is_days field.now) }
         ensures value { IfSome result (λ days. days ≡ field.now) }

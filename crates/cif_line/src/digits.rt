@@ -1,4 +1,4 @@
-//! Fields of digits, and the numbers that two of them spell.
+//! Digits of a field, and the numbers that two of them spell.
 ghost use Rattle.std.specs.Prelude.{◌≡◌, ◌+◌, ◌<◌, length, true};
 ghost use Rattle.std.specs.List.{list_all};
 ghost use Rattle.std.specs.Char.{is_ascii_digit};
@@ -11,8 +11,8 @@ pub(crate) fn are_digits(field: &[u8]) -> bool
     field.iter().all(|byte| byte.is_ascii_digit())
 }
 
-/// The number that two digits of a field spell, from a place on, counted from 0. It is below 100 if
-/// they are digits.
+/// The number that two digits of a field spell, from this place on, counted from 0. If they are
+/// digits, it is below 100.
 pub(crate) fn two_digits(field: &[u8], at: usize) -> u16
     requires { at + 1 < length field.now }
     ensures value { result ≡ two_digits field.now at }

@@ -1,5 +1,5 @@
-//! Fields that several kinds of record share, each read in one place, from a line whose field in
-//! these columns is good.
+//! Fields that several kinds of record share. Each is read in one place, from a line whose bytes in
+//! these columns are good.
 ghost use Rattle.std.specs.Prelude.{◌≡◌, ◌<◌, ◌≤◌, [], ◌∷◌, true, false};
 ghost use Rattle.docker_model.specs.records.Record.{column};
 ghost use Rattle.docker_model.specs.records.Date.{is_date, date_number, is_end_date, end_number, is_days};
@@ -19,7 +19,7 @@ use crate::uid::Uid;
 use crate::until::Until;
 
 impl Line {
-    /// The TIPLOC in the seven columns from one on.
+    /// The TIPLOC in seven columns, from this one on.
     pub fn tiploc(&self, first: usize) -> Tiploc
         requires from { 0 < first }
         requires within { first ≤ 74 }
@@ -32,7 +32,7 @@ impl Line {
         }
     }
 
-    /// The scheduled time in the five columns from one on.
+    /// The scheduled time in five columns, from this one on.
     pub fn present_time(&self, first: usize) -> Time
         requires from { 0 < first }
         requires within { first ≤ 76 }
@@ -42,7 +42,7 @@ impl Line {
         Time::from_present(self.field(first))
     }
 
-    /// The scheduled time in the five columns from one on, none if they are blank.
+    /// The scheduled time in five columns, from this one on. None if they are blank.
     pub fn scheduled_time(&self, first: usize) -> Option<Time>
         requires from { 0 < first }
         requires within { first ≤ 76 }
@@ -52,7 +52,7 @@ impl Line {
         Time::from_scheduled(self.field(first))
     }
 
-    /// The public time in the four columns from one on, a whole minute, none if they are blank or
+    /// The public time in four columns, from this one on: a whole minute. None if they are blank or
     /// `0000`.
     pub fn public_time(&self, first: usize) -> Option<Time>
         requires from { 0 < first }
@@ -64,7 +64,7 @@ impl Line {
         Time::from_public(self.field(first))
     }
 
-    /// The UID in the six columns from one on.
+    /// The UID in six columns, from this one on.
     pub fn uid(&self, first: usize) -> Uid
         requires from { 0 < first }
         requires within { first ≤ 75 }
@@ -76,7 +76,7 @@ impl Line {
         }
     }
 
-    /// The day in the six columns from one on, year first.
+    /// The day in six columns, from this one on, with the year first.
     pub fn day(&self, first: usize) -> Day
         requires from { 0 < first }
         requires within { first ≤ 75 }
@@ -89,7 +89,7 @@ impl Line {
         }
     }
 
-    /// The end date in the six columns from one on, none if the transaction is a deletion.
+    /// The end date in six columns, from this one on. None if the transaction is a deletion.
     pub fn end_unless_deleted(&self, first: usize) -> Option<Until>
         requires from { 0 < first }
         requires within { first ≤ 75 }
@@ -103,7 +103,7 @@ impl Line {
         Until::from_field(self.field(first))
     }
 
-    /// The days run in the seven columns from one on, none if the transaction is a deletion.
+    /// The days run in seven columns, from this one on. None if the transaction is a deletion.
     pub fn days_unless_deleted(&self, first: usize) -> Option<Days>
         requires from { 0 < first }
         requires within { first ≤ 74 }

@@ -1,4 +1,4 @@
-//! The header of a file, a record HD.
+//! The header of a file: a record HD.
 ghost use Rattle.std.specs.Prelude.{◌≡◌, ◌<◌};
 ghost use Rattle.docker_model.specs.records.Record.{header, columns, column, IsTextOfLength};
 ghost use Rattle.docker_model.specs.records.Date.{date_number_day_first};
@@ -32,7 +32,7 @@ impl<'a> Model for Header<'a> {
 
 #[tactic(auto, using(crate::proofs::GoodFields::header_fields))]
 impl<'a> Header<'a> {
-    /// A view of a line whose fields were checked.
+    /// A view of a line whose fields have been checked.
     pub fn of(line: &'a Line) -> Header<'a>
         requires good { IsGood header line.now }
         ensures line { result ≡ line.entry.now }
@@ -58,7 +58,7 @@ impl<'a> Header<'a> {
         }
     }
 
-    /// The time of extract, in minutes from midnight, 0 to 1439: columns 29 to 32.
+    /// The time of extract, as the minute of the day from 0 to 1439: columns 29 to 32.
     pub fn minute(&self) -> u16
         ensures value { result ≡ minute_of (columns 29 32 self.now) }
         ensures bound { result < 1440 }

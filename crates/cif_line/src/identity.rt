@@ -1,4 +1,4 @@
-//! The identity of a record, in its columns 1 and 2.
+//! The record identity, in columns 1 and 2 of a record.
 ghost use Rattle.std.specs.Prelude.{◌≡◌, ◌↔◌, IsTrue, option_map};
 ghost use Rattle.docker_model.specs.records.Record.{tiploc_amend, HasKind, kind_of};
 ghost use Rattle.cif_line.specs.Kind.{meaning};
@@ -6,8 +6,8 @@ ghost use Rattle.cif_line.specs.Kind.{meaning};
 use crate::kind_of_record::Kind;
 use crate::line::Line;
 
-/// The kind of a record, by its identity in columns 1 and 2. None if no kind has this identity, for
-/// example `LN`.
+/// The kind of a record, by its identity in columns 1 and 2. None if no kind has that identity;
+/// `LN` is an example.
 pub fn kind(line: &Line) -> Option<Kind>
     ensures { option_map meaning result ≡ kind_of line.now }
 {

@@ -1,4 +1,4 @@
-//! An intermediate location of a schedule, a record LI.
+//! An intermediate location of a schedule: a record LI.
 ghost use Rattle.std.specs.Prelude.{◌≡◌};
 ghost use Rattle.docker_model.specs.records.Record.{intermediate_location, columns, column, IsTextOfLength};
 ghost use Rattle.docker_model.specs.records.Clock.{scheduled_time};
@@ -11,7 +11,7 @@ use crate::time::Time;
 use crate::tiploc_code::Tiploc;
 use std::marker::Model;
 
-/// The scheduled times of an intermediate location. A time is none if its field is blank.
+/// The scheduled times of an intermediate location. A time whose field is blank is None.
 #[derive(Clone, Copy, PartialEq, Eq, Debug)]
 pub(crate) struct CallTimes {
     pub arrival: Option<Time>,
@@ -20,7 +20,7 @@ pub(crate) struct CallTimes {
 }
 
 /// A view of an intermediate location (LI) whose checked fields are good. Its scheduled times are
-/// read when they are checked.
+/// read while they are checked.
 #[derive(Debug, Drop)]
 pub struct Call<'a> {
     line: &'a Line,
@@ -45,7 +45,7 @@ impl<'a> Model for Call<'a> {
 impl<'a> Call<'a> {
     ghost use Rattle.cif_line.specs.CallRead.{AreTimesOf};
 
-    /// A view of a line whose fields were checked, with these scheduled times.
+    /// A view of a line whose fields have been checked, with its scheduled times.
     pub(crate) fn of(line: &'a Line, times: CallTimes) -> Call<'a>
         requires good { IsGood intermediate_location line.now }
         requires times { AreTimesOf line.now times }
@@ -68,28 +68,28 @@ impl<'a> Call<'a> {
         self.line.column(10)
     }
 
-    /// The scheduled arrival, in half minutes, none if it is blank: columns 11 to 15.
+    /// The scheduled arrival in half minutes: columns 11 to 15. None if it is blank.
     pub fn arrival(&self) -> Option<Time>
         ensures { result ≡ scheduled_time (columns 11 15 self.now) }
     {
         self.times.arrival
     }
 
-    /// The scheduled departure, in half minutes, none if it is blank: columns 16 to 20.
+    /// The scheduled departure in half minutes: columns 16 to 20. None if it is blank.
     pub fn departure(&self) -> Option<Time>
         ensures { result ≡ scheduled_time (columns 16 20 self.now) }
     {
         self.times.departure
     }
 
-    /// The scheduled pass, in half minutes, none if it is blank: columns 21 to 25.
+    /// The scheduled pass in half minutes: columns 21 to 25. None if it is blank.
     pub fn pass(&self) -> Option<Time>
         ensures { result ≡ scheduled_time (columns 21 25 self.now) }
     {
         self.times.pass
     }
 
-    /// The public arrival, a whole minute, none if it is blank or `0000`: columns 26 to 29.
+    /// The public arrival, a whole minute: columns 26 to 29. None if it is blank or `0000`.
     pub fn public_arrival(&self) -> Option<Time>
         ensures value { result ≡ public_half_minutes (columns 26 29 self.now) }
         ensures shown { shown_public (columns 26 29 self.now) ≡ public_text result }
@@ -97,7 +97,7 @@ impl<'a> Call<'a> {
         self.line.public_time(26)
     }
 
-    /// The public departure, a whole minute, none if it is blank or `0000`: columns 30 to 33.
+    /// The public departure, a whole minute: columns 30 to 33. None if it is blank or `0000`.
     pub fn public_departure(&self) -> Option<Time>
         ensures value { result ≡ public_half_minutes (columns 30 33 self.now) }
         ensures shown { shown_public (columns 30 33 self.now) ≡ public_text result }

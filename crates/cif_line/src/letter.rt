@@ -1,9 +1,9 @@
-//! Fields of one letter, of a header (HD), a basic schedule (BS) and an association (AA).
+//! Fields of one letter in a header (HD), a basic schedule (BS) or an association (AA).
 ghost use Rattle.std.specs.Prelude.{◌≡◌, ◌↔◌, IsSome, IfSome, IsTrue, [], ◌∷◌};
 ghost use Rattle.docker_model.specs.records.Field.{is_update_indicator, is_transaction, is_stp_letter};
 ghost use Rattle.cif_line.specs.Letter.{extract_letter, transaction_letter, stp_letter};
 
-/// The update indicator of a header (HD): what an extract holds.
+/// What an extract holds, by the update indicator of its header (HD).
 #[derive(Clone, Copy, PartialEq, Eq, Debug)]
 pub enum Extract {
     /// F, a full extract.
@@ -13,7 +13,7 @@ pub enum Extract {
 }
 
 impl Extract {
-    /// The extract that `F` or `U` stands for. None for any other byte.
+    /// The extract for `F` or `U`. None for any other byte.
     pub fn from_letter(letter: u8) -> Option<Extract>
         ensures some { IsSome result ↔ IsTrue (is_update_indicator (letter ∷ [])) }
         ensures value { IfSome result (λ extract. extract_letter extract ≡ letter) }
@@ -25,7 +25,7 @@ impl Extract {
         }
     }
 
-    /// Its letter, `F` or `U`.
+    /// The letter, `F` or `U`.
     pub fn letter(&self) -> u8
         ensures { result ≡ extract_letter self.now }
     {
@@ -36,8 +36,8 @@ impl Extract {
     }
 }
 
-/// The transaction type of a basic schedule (BS) or an association (AA): what the record does with
-/// its key.
+/// The transaction of a basic schedule (BS) or an association (AA): what the record does with its
+/// key.
 #[derive(Clone, Copy, PartialEq, Eq, Debug)]
 pub enum Transaction {
     /// N, new.
@@ -49,7 +49,7 @@ pub enum Transaction {
 }
 
 impl Transaction {
-    /// The transaction that `N`, `D` or `R` stands for. None for any other byte.
+    /// The transaction for `N`, `D` or `R`. None for any other byte.
     pub fn from_letter(letter: u8) -> Option<Transaction>
         ensures some { IsSome result ↔ IsTrue (is_transaction (letter ∷ [])) }
         ensures value { IfSome result (λ transaction. transaction_letter transaction ≡ letter) }
@@ -62,7 +62,7 @@ impl Transaction {
         }
     }
 
-    /// Its letter, `N`, `D` or `R`.
+    /// The letter, `N`, `D` or `R`.
     pub fn letter(&self) -> u8
         ensures { result ≡ transaction_letter self.now }
     {
@@ -74,13 +74,13 @@ impl Transaction {
     }
 }
 
-/// The STP (short term planning) indicator of a basic schedule (BS) or an association (AA), in the
-/// order of its letters. If several run on a day, the least is chosen.
+/// The STP indicator (short term plan) of a basic schedule (BS) or an association (AA), in the
+/// order of the letters. If several run on a day, the lowest is chosen.
 #[derive(Clone, Copy, PartialEq, Eq, PartialOrd, Ord, Debug)]
 pub enum Stp {
     /// C, a cancellation.
     Cancellation,
-    /// N, a new schedule of short term planning.
+    /// N, a schedule that is new in the short term plan.
     New,
     /// O, an overlay.
     Overlay,
@@ -89,7 +89,7 @@ pub enum Stp {
 }
 
 impl Stp {
-    /// The STP indicator that `C`, `N`, `O` or `P` stands for. None for any other byte.
+    /// The STP indicator for `C`, `N`, `O` or `P`. None for any other byte.
     pub fn from_letter(letter: u8) -> Option<Stp>
         ensures some { IsSome result ↔ IsTrue (is_stp_letter letter) }
         ensures value { IfSome result (λ stp. stp_letter stp ≡ letter) }
@@ -103,7 +103,7 @@ impl Stp {
         }
     }
 
-    /// Its letter, `C`, `N`, `O` or `P`.
+    /// The letter, `C`, `N`, `O` or `P`.
     pub fn letter(&self) -> u8
         ensures { result ≡ stp_letter self.now }
     {

@@ -1,6 +1,6 @@
-//! The line of a CIF extract, the fields in its columns, and views of its records, as the CIF End
-//! User Specification lays them out. The crate re-exports the devices that bytes come from and
-//! go to.
+//! Lines of a CIF extract, the fields in their columns, and views of their records, as the CIF End
+//! User Specification describes them. The crate re-exports the devices that bytes come from and go
+//! to.
 #![tactic(auto)]
 
 mod association;

@@ -28,20 +28,20 @@ impl Model for Line {
     ghost inverse = { λ bytes. record { bytes = bytes } };
 }
 
-/// Why bytes are not a line. The length is judged before any byte.
+/// Why bytes aren't a line. The length is checked first.
 #[derive(Clone, Copy, PartialEq, Eq, Debug, Error)]
 pub enum LineFault {
-    /// There are not 80 bytes.
+    /// There aren't 80 bytes.
     #[error("Length")]
     Length,
-    /// A byte is not printable: the column, from 1, of the leftmost such byte.
+    /// A byte isn't printable: the column, from 1, of the leftmost such byte.
     #[error("Byte {0}")]
     Byte(u8),
 }
 
 impl Line {
-    /// A line of these bytes. `Length` if they are not 80, and otherwise `Byte` with the leftmost
-    /// column whose byte is not printable.
+    /// The line that these bytes are. `Length` if they aren't 80, and otherwise `Byte` if one isn't
+    /// printable.
     pub fn new(bytes: &[u8]) -> Result<Line, LineFault>
         ensures ok { IsOk result ↔ IsRecord bytes.now }
         ensures value { IfOk result (λ line. line ≡ bytes.now) }
@@ -58,7 +58,7 @@ impl Line {
         }
     }
 
-    /// The `N` bytes from a column on, counted from 1.
+    /// `N` bytes of the line, from this column on, counted from 1.
     pub fn field<const N: usize>(&self, first: usize) -> &[u8; N]
         requires from { 0 < first }
         requires within { first - 1 + N ≤ 80 }
@@ -81,7 +81,7 @@ impl Line {
         self.bytes[n - 1]
     }
 
-    /// The line with its transaction, column 3, set to `N`: for a basic schedule (BS) or an
+    /// The line with its transaction, in column 3, set to `N`. For a basic schedule (BS) or an
     /// association (AA).
     pub fn as_new(mut self) -> Line
         ensures { result ≡ as_new self }
@@ -106,7 +106,7 @@ pub fn is_printable(byte: u8) -> bool
     b' ' <= byte && byte <= b'~'
 }
 
-/// The index of the leftmost byte that is not printable.
+/// The index of the leftmost byte that isn't printable.
 fn first_bad_index(bytes: &[u8]) -> Option<usize>
     ensures value { result ≡ position (λ b. not (is_printable b)) bytes.now }
     ensures within { IfSome result (λ index. index < length bytes.now) }
@@ -115,8 +115,8 @@ fn first_bad_index(bytes: &[u8]) -> Option<usize>
     bytes.iter().position(|byte| !is_printable(*byte))
 }
 
-/// The leftmost column, from 1, whose byte is not printable. It is searched for only once it is
-/// known to exist.
+/// The column, from 1, of the leftmost byte that isn't printable. A search for it starts only if
+/// there is one.
 #[tactic(auto, using(cif_laws::proofs::records::RecordTests::no_bad_byte))]
 fn bad_column(bytes: &[u8; 80]) -> Option<u8>
     ensures value { result ≡ leftmost_bad_byte bytes.now }
@@ -128,7 +128,7 @@ fn bad_column(bytes: &[u8; 80]) -> Option<u8>
     first_bad_column(bytes)
 }
 
-/// The leftmost column, from 1, whose byte is not printable, found byte by byte.
+/// The column, from 1, of the leftmost byte that isn't printable, found byte by byte.
 fn first_bad_column(bytes: &[u8; 80]) -> Option<u8>
     ensures value { result ≡ leftmost_bad_byte bytes.now }
     ensures none { IsNone result ↔ AllPass is_printable bytes.now }
@@ -137,7 +137,7 @@ fn first_bad_column(bytes: &[u8; 80]) -> Option<u8>
     Some(index as u8 + 1)
 }
 
-/// Whether each byte is one that a line may hold.
+/// Whether a line may hold each of the bytes.
 pub(crate) fn are_printable(bytes: &[u8]) -> bool
     ensures { IsTrue result ↔ AllPass is_printable bytes.now }
 {

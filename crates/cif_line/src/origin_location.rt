@@ -1,4 +1,4 @@
-//! The origin location of a schedule, a record LO.
+//! The origin of a schedule: a record LO.
 ghost use Rattle.std.specs.Prelude.{◌≡◌};
 ghost use Rattle.docker_model.specs.records.Record.{origin_location, columns, column, IsTextOfLength};
 ghost use Rattle.docker_model.specs.records.Clock.{half_minutes};
@@ -11,8 +11,8 @@ use crate::time::Time;
 use crate::tiploc_code::Tiploc;
 use std::marker::Model;
 
-/// A view of an origin location (LO) whose checked fields are good. Its scheduled time is read when
-/// it is checked.
+/// A view of an origin (LO) whose checked fields are good. Its scheduled time is read while it is
+/// checked.
 #[derive(Debug, Drop)]
 pub struct Origin<'a> {
     line: &'a Line,
@@ -35,7 +35,7 @@ impl<'a> Model for Origin<'a> {
 
 #[tactic(auto, using(crate::proofs::GoodFields::origin_fields))]
 impl<'a> Origin<'a> {
-    /// A view of a line whose fields were checked, with this scheduled time.
+    /// A view of a line whose fields have been checked, with its scheduled time.
     pub(crate) fn of(line: &'a Line, departure: Time) -> Origin<'a>
         requires good { IsGood origin_location line.now }
         requires time { departure ≡ half_minutes (columns 11 15 line.now) }
@@ -65,7 +65,7 @@ impl<'a> Origin<'a> {
         self.departure
     }
 
-    /// The public departure, a whole minute, none if it is blank or `0000`: columns 16 to 19.
+    /// The public departure, a whole minute: columns 16 to 19. None if it is blank or `0000`.
     pub fn public_departure(&self) -> Option<Time>
         ensures value { result ≡ public_half_minutes (columns 16 19 self.now) }
         ensures shown { shown_public (columns 16 19 self.now) ≡ public_text result }

@@ -1,4 +1,4 @@
-//! Bytes that a line may hold, judged sixteen at a time.
+//! Tests of bytes that a line may hold, sixteen at a time.
 ghost use Rattle.std.specs.Prelude.{◌≡◌, ◌↔◌, ◌+◌, ◌≤◌, IsTrue, length, take, drop};
 ghost use Rattle.std.specs.List.{AllPass, list_all};
 ghost use Rattle.docker_model.specs.records.Record.{is_printable};
@@ -8,7 +8,7 @@ use std::simd::prelude::*;
 /// How many bytes are judged at once.
 const BLOCK: usize = 16;
 
-/// Whether each of the sixteen bytes from a place on, counted from 0, is one that a line may hold.
+/// Whether a line may hold each of the sixteen bytes from this index on.
 #[inline(always)]
 fn is_printable_block(bytes: &[u8], at: usize) -> bool
     requires { at + BLOCK ≤ length bytes.now }
@@ -18,7 +18,7 @@ fn is_printable_block(bytes: &[u8], at: usize) -> bool
     above_space.simd_gt(u8x16::splat(b'~' - b' ')).to_bitmask() == 0
 }
 
-/// Whether each of the 80 bytes is one that a line may hold. No byte has a branch of its own.
+/// Whether a line may hold each of the 80 bytes, without a branch per byte.
 pub(crate) fn is_printable_line(bytes: &[u8; 80]) -> bool
     ensures { IsTrue result ↔ AllPass is_printable bytes.now }
 {

@@ -1,4 +1,4 @@
-//! The terminating location of a schedule, a record LT.
+//! The terminus of a schedule: a record LT.
 ghost use Rattle.std.specs.Prelude.{◌≡◌};
 ghost use Rattle.docker_model.specs.records.Record.{terminating_location, columns, column, IsTextOfLength};
 ghost use Rattle.docker_model.specs.records.Clock.{half_minutes};
@@ -11,8 +11,8 @@ use crate::time::Time;
 use crate::tiploc_code::Tiploc;
 use std::marker::Model;
 
-/// A view of a terminating location (LT) whose checked fields are good. Its scheduled time is read
-/// when it is checked.
+/// A view of a terminus (LT) whose checked fields are good. Its scheduled time is read while it is
+/// checked.
 #[derive(Debug, Drop)]
 pub struct Terminus<'a> {
     line: &'a Line,
@@ -35,7 +35,7 @@ impl<'a> Model for Terminus<'a> {
 
 #[tactic(auto, using(crate::proofs::GoodFields::terminus_fields))]
 impl<'a> Terminus<'a> {
-    /// A view of a line whose fields were checked, with this scheduled time.
+    /// A view of a line whose fields have been checked, with its scheduled time.
     pub(crate) fn of(line: &'a Line, arrival: Time) -> Terminus<'a>
         requires good { IsGood terminating_location line.now }
         requires time { arrival ≡ half_minutes (columns 11 15 line.now) }
@@ -65,7 +65,7 @@ impl<'a> Terminus<'a> {
         self.arrival
     }
 
-    /// The public arrival, a whole minute, none if it is blank or `0000`: columns 16 to 19.
+    /// The public arrival, a whole minute: columns 16 to 19. None if it is blank or `0000`.
     pub fn public_arrival(&self) -> Option<Time>
         ensures value { result ≡ public_half_minutes (columns 16 19 self.now) }
         ensures shown { shown_public (columns 16 19 self.now) ≡ public_text result }

@@ -1,4 +1,4 @@
-//! Times of day, as location records (LO, LI and LT) have them.
+//! Times of day in location records (LO, LI and LT).
 ghost use Rattle.std.specs.Prelude.{◌≡◌, ◌↔◌, ◌≤◌, ◌<◌, ◌+◌, length, IsSome, is_some, IfSome, IsTrue, ◌*◌, true, nat_lt, Some, None, if◌then◌else◌};
 ghost use Rattle.docker_model.specs.records.Date.{two_digits};
 ghost use Rattle.docker_model.specs.records.Clock.{is_clock, minute_of, is_present_time, half_minutes, is_scheduled_time, scheduled_time, is_public_time};
@@ -9,7 +9,7 @@ use crate::digits::two_digits;
 use crate::time_field::{ClockField, TimeField, is_blank_public_time, is_blank_time};
 use std::marker::Model;
 
-/// A scheduled time of day, in half minutes from midnight: 0 to 2879.
+/// A scheduled time of day, in half minutes since midnight, from 0 to 2879.
 #[derive(Clone, Copy, PartialEq, Eq, PartialOrd, Ord, Debug)]
 pub struct Time {
     half_minutes: u16,
@@ -28,7 +28,7 @@ impl Model for Time {
 }
 
 impl Time {
-    /// The time of this many half minutes from midnight. None from 2880 on.
+    /// The time that is this many half minutes after midnight. None from 2880 on.
     pub(crate) fn from_half_minutes(half_minutes: u16) -> Option<Time>
         ensures { result ≡ (if nat_lt half_minutes 2880 then Some half_minutes else None) }
     {
@@ -39,8 +39,8 @@ impl Time {
         }
     }
 
-    /// The scheduled time of a field HHMM, from `0000` to `2359`, followed by `H` for half a minute
-    /// or a space. None for any other field, including a blank one.
+    /// The scheduled time in a field HHMM from `0000` to `2359`, followed by `H` for half a minute
+    /// or by a space. None for any other field, also for a blank one.
     pub fn from_field(field: &[u8; 5]) -> Option<Time>
         ensures some { IsSome result ↔ IsTrue (is_present_time field.now) }
         ensures value { IfSome result (λ time. time ≡ half_minutes field.now) }
@@ -48,8 +48,8 @@ impl Time {
         TimeField::read(field).time()
     }
 
-    /// The scheduled time of a field: `Some(None)` if it is blank, None if it is neither blank nor
-    /// a time.
+    /// The scheduled time in a field: `Some(None)` if it is blank, and None if it is neither blank
+    /// nor a time.
     #[tactic(auto, using(crate::proofs::Times::scheduled_times))]
     pub fn scheduled(field: &[u8; 5]) -> Option<Option<Time>>
         ensures some { is_some result ≡ is_scheduled_time field.now }
@@ -63,7 +63,7 @@ impl Time {
         }
     }
 
-    /// The scheduled time of a field, none if it is blank.
+    /// The scheduled time in a field. None if it is blank.
     #[tactic(auto, using(crate::proofs::Times::scheduled_times))]
     pub(crate) fn from_scheduled(field: &[u8; 5]) -> Option<Time>
         requires good { is_scheduled_time field.now ≡ true }
@@ -75,7 +75,7 @@ impl Time {
         Some(Time::from_present(field))
     }
 
-    /// The scheduled time of a field that is known to be one.
+    /// The scheduled time in a field that is known to have one.
     #[tactic(auto, using(crate::proofs::Times::clock_bounds))]
     pub(crate) fn from_present(field: &[u8; 5]) -> Time
         requires good { is_present_time field.now ≡ true }
@@ -87,8 +87,7 @@ impl Time {
         }
     }
 
-    /// The public time of a field HHMM, which is a whole minute; none if the field is blank or
-    /// `0000`.
+    /// The public time in a field HHMM, a whole minute. None if it is blank or `0000`.
     pub(crate) fn from_public(field: &[u8; 4]) -> Option<Time>
         requires good { is_public_time field.now ≡ true }
         ensures value { result ≡ public_half_minutes field.now }
@@ -103,7 +102,7 @@ impl Time {
         })
     }
 
-    /// The half minutes from midnight: 0 to 2879.
+    /// The half minutes since midnight, from 0 to 2879.
     pub fn half_minutes(&self) -> u16
         ensures value { result ≡ self.now }
         ensures bound { self.now < 2880 }
@@ -133,8 +132,8 @@ impl Time {
     }
 }
 
-/// The minute of the day, 0 to 1439, in a field that begins HHMM. None if its first four bytes are
-/// no time from `0000` to `2359`.
+/// The minute of the day, from 0 to 1439, in a field that begins HHMM. None if its first four bytes
+/// aren't a time from `0000` to `2359`.
 pub fn clock(field: &[u8]) -> Option<u16>
     requires { 4 ≤ length field.now }
     ensures some { IsSome result ↔ IsTrue (is_clock field.now) }
@@ -149,7 +148,7 @@ pub fn clock(field: &[u8]) -> Option<u16>
     }
 }
 
-/// The minute of the day, from a field that is known to begin HHMM.
+/// The minute of the day, in a field that begins with a good HHMM.
 #[tactic(auto, using(crate::proofs::Times::clock_bounds))]
 fn minute_in(field: &[u8; 5]) -> u16
     requires good { is_clock field.now ≡ true }
@@ -166,7 +165,7 @@ pub fn is_clock(field: &[u8; 4]) -> bool
     ClockField::read(field).is_good
 }
 
-/// Whether a field is a public time: HHMM, or blank.
+/// Whether a field is a public time: HHMM or blank.
 pub fn is_public_time(field: &[u8; 4]) -> bool
     ensures { result ≡ is_public_time field.now }
 {

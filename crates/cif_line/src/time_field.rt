@@ -1,5 +1,5 @@
-//! Fields of times as they are read, good or not. No byte of a field has a branch of its own, so
-//! that the tests of a record's fields can be joined.
+//! Fields of times, read whether or not they are good. A field is read without a branch per byte,
+//! so that all tests of a record can be joined.
 ghost use Rattle.std.specs.Prelude.{◌≡◌, ◌+◌, ◌-◌, ◌*◌, ◌≤◌, ◌<◌, ◌||◌, length, true, take, Some, None, if◌then◌else◌};
 ghost use Rattle.std.specs.List.{list_all};
 ghost use Rattle.std.specs.Char.{is_ascii_digit};
@@ -8,12 +8,12 @@ ghost use Rattle.docker_model.specs.records.Clock.{is_blank, is_clock, minute_of
 use crate::time::Time;
 use std::simd::prelude::*;
 
-/// What the first four bytes of a field give as HHMM.
+/// What the first four bytes of a field give, read as HHMM.
 #[derive(Clone, Copy, PartialEq, Eq, Debug)]
 pub(crate) struct ClockField {
     /// Whether the bytes are a time from `0000` to `2359`.
     pub is_good: bool,
-    /// The minute of the day, if they are.
+    /// The minute of the day, if the bytes are a time.
     pub minute: u16,
 }
 
@@ -34,12 +34,12 @@ impl ClockField {
     }
 }
 
-/// What the field of a scheduled time gives.
+/// What is read from the field of a scheduled time.
 #[derive(Clone, Copy, PartialEq, Eq, Debug)]
 pub(crate) struct TimeField {
     /// Whether the field is all spaces.
     pub is_blank: bool,
-    /// Whether it is a time.
+    /// Whether the field is a time.
     pub is_time: bool,
     half_minutes: u16,
     ghost bound: { is_time ≡ true → half_minutes < 2880 },
@@ -73,7 +73,7 @@ impl TimeField {
         self.is_blank | self.is_time
     }
 
-    /// The time, none if the field is not one.
+    /// The time. None if the field isn't one.
     #[inline(always)]
     pub(crate) fn time(self) -> Option<Time>
         ensures { result ≡ (if self.is_time then Some self.half_minutes else None) }
@@ -86,7 +86,7 @@ impl TimeField {
     }
 }
 
-/// The number that two bytes spell if they are digits.
+/// The number that two bytes spell, if they are digits.
 #[inline(always)]
 fn spelled(tens: u8, units: u8) -> u16
     ensures { 48 ≤ tens → 48 ≤ units → result ≡ 10 * (tens - 48) + (units - 48) }
@@ -94,7 +94,7 @@ fn spelled(tens: u8, units: u8) -> u16
     (10 * u16::from(tens) + u16::from(units)).wrapping_sub(11 * u16::from(b'0'))
 }
 
-/// Whether the first four bytes of a field are digits, all judged at once.
+/// Whether the first four bytes of a field are digits, tested at once.
 #[inline(always)]
 fn are_four_digits(field: &[u8]) -> bool
     requires { 4 ≤ length field.now }

@@ -1,5 +1,4 @@
-//! Codes of timing points, as the TIPLOC records (TI, TA and TD) and the location records have
-//! them.
+//! Codes of timing points, as in TIPLOC records (TI, TA and TD) and location records.
 ghost use Rattle.std.specs.Prelude.{◌≡◌, ◌↔◌, ◌-◌, ◌++◌, length, IsSome, IfSome};
 ghost use Rattle.docker_model.specs.records.Field.{IsTiploc};
 ghost use Rattle.docker_model.specs.records.PrintedTime.{spaces};
@@ -8,7 +7,7 @@ ghost use Rattle.cif_line.specs.Tiploc.{IsTiplocText};
 use crate::line::are_printable;
 use std::marker::Model;
 
-/// A TIPLOC: the code of a timing point, padded with spaces to seven bytes. Its first byte is not a
+/// A TIPLOC: the code of a timing point, padded with spaces to seven bytes. Its first byte isn't a
 /// space.
 #[derive(Clone, Copy, PartialEq, Eq, PartialOrd, Ord, Debug)]
 pub struct Tiploc {
@@ -29,8 +28,8 @@ impl Model for Tiploc {
 }
 
 impl Tiploc {
-    /// The TIPLOC of a text of one to seven bytes, each printable and not a space, padded with
-    /// spaces to seven. None for any other text.
+    /// The TIPLOC of a text of one to seven bytes, each printable and not a space. It is padded
+    /// with spaces to seven bytes. None for any other text.
     pub fn from_text(text: &str) -> Option<Tiploc>
         ensures some { IsSome result ↔ IsTiplocText text.now }
         ensures value { IfSome result (λ tiploc.
@@ -45,7 +44,7 @@ impl Tiploc {
         Some(Tiploc { bytes })
     }
 
-    /// The TIPLOC of a field. None if its first byte is a space, or a byte is not printable.
+    /// The TIPLOC in a field. None if its first byte is a space or a byte isn't printable.
     pub fn from_field(field: &[u8; 7]) -> Option<Tiploc>
         ensures some { IsSome result ↔ IsTiploc field.now }
         ensures value { IfSome result (λ tiploc. tiploc ≡ field.now) }
@@ -56,7 +55,7 @@ impl Tiploc {
         Some(Tiploc { bytes: *field })
     }
 
-    /// The seven bytes of the code, with the spaces at its end.
+    /// The seven bytes of the code, with any spaces at its end.
     pub fn bytes(&self) -> &[u8; 7]
         ensures bytes { result.now ≡ self.now }
         ensures tiploc { IsTiploc self.now }

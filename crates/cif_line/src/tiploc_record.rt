@@ -1,4 +1,4 @@
-//! A timing point's code, a record TI, TA or TD.
+//! The code of a timing point: a record TI, TA or TD.
 ghost use Rattle.std.specs.Prelude.{◌≡◌};
 ghost use Rattle.docker_model.specs.records.Record.{kind_of, columns, IsTextOfLength};
 ghost use Rattle.cif_line.specs.View.{IsGoodTiploc, new_code_of};
@@ -8,7 +8,7 @@ use crate::line::Line;
 use crate::tiploc_code::Tiploc;
 use std::marker::Model;
 
-/// A view of a TIPLOC insert (TI), amend (TA) or delete (TD) whose checked fields are good.
+/// A view of a TIPLOC insert (TI), amendment (TA) or deletion (TD) whose checked fields are good.
 #[derive(Debug, Drop)]
 pub struct TiplocRecord<'a> {
     line: &'a Line,
@@ -27,7 +27,7 @@ impl<'a> Model for TiplocRecord<'a> {
 
 #[tactic(auto, using(crate::proofs::GoodFields::tiploc_fields))]
 impl<'a> TiplocRecord<'a> {
-    /// A view of a line whose fields were checked.
+    /// A view of a line whose fields have been checked.
     pub(crate) fn of(line: &'a Line) -> TiplocRecord<'a>
         requires good { IsGoodTiploc line.now }
         ensures line { result ≡ line.entry.now }
@@ -42,7 +42,7 @@ impl<'a> TiplocRecord<'a> {
         self.line.tiploc(3)
     }
 
-    /// What the record says about the timing point: columns 10 to 72.
+    /// The details of the timing point: columns 10 to 72.
     pub fn details(&self) -> &'a [u8; 63]
         ensures value { result.now ≡ columns 10 72 self.now }
         ensures text { IsTextOfLength 63 result.now }
@@ -58,8 +58,8 @@ impl<'a> TiplocRecord<'a> {
         self.line.field(19)
     }
 
-    /// The new code of an amendment (TA), none if it is blank, and none in any other record:
-    /// columns 73 to 79.
+    /// The new code in an amendment (TA): columns 73 to 79. None if it is blank, and None in any
+    /// other record.
     pub fn new_code(&self) -> Option<Tiploc>
         ensures { result ≡ new_code_of (kind_of self.now) self.now }
     {

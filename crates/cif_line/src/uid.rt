@@ -1,4 +1,4 @@
-//! Train UIDs, as a basic schedule (BS) and an association (AA) have them.
+//! Train UIDs, as in a basic schedule (BS) and an association (AA).
 ghost use Rattle.std.specs.Prelude.{◌≡◌, ◌↔◌, IsSome, IfSome};
 ghost use Rattle.docker_model.specs.records.Record.{IsTextOfLength};
 
@@ -25,7 +25,7 @@ impl Model for Uid {
 }
 
 impl Uid {
-    /// The UID of a field. None if a byte is not printable.
+    /// The UID in a field. None if a byte isn't printable.
     pub fn from_field(field: &[u8; 6]) -> Option<Uid>
         ensures some { IsSome result ↔ IsTextOfLength 6 field.now }
         ensures value { IfSome result (λ uid. uid ≡ field.now) }

@@ -1,15 +1,15 @@
-//! The end date of a basic schedule (BS), or of an association (AA).
+//! The end date of a basic schedule (BS) or of an association (AA).
 ghost use Rattle.std.specs.Prelude.{◌≡◌, ℕ, ◌≤◌, ◌⊎◌, ◌↔◌, IsTrue, IsSome, IfSome};
 ghost use Rattle.docker_model.specs.records.Date.{is_end_date, end_number, last_day, no_end_number};
 
 use crate::Day;
 use std::marker::Model;
 
-/// The end number for no end. It is greater than the number of each day.
+/// The end number that stands for no end. It is greater than the number of any day.
 pub const NO_END: u16 = 65535;
 
-/// The last day on which something runs, or no end, which is later than each day: the number of the
-/// day, or 65535.
+/// An end date, as its end number: the number of the last day, or 65535 for no end, which is later
+/// than any day.
 #[derive(Clone, Copy, PartialEq, Eq, PartialOrd, Ord, Debug)]
 pub struct Until {
     number: u16,
@@ -26,8 +26,7 @@ impl Model for Until {
 }
 
 impl Until {
-    /// The end date of six digits: `999999` for no end, and otherwise a day YYMMDD. None if it is
-    /// neither.
+    /// The end date in six digits: `999999` for no end, or a day YYMMDD. None if it is neither.
     pub fn from_field(field: &[u8; 6]) -> Option<Until>
         ensures some { IsSome result ↔ IsTrue (is_end_date field.now) }
         ensures value { IfSome result (λ end. end ≡ end_number field.now) }
@@ -41,7 +40,7 @@ impl Until {
         })
     }
 
-    /// The number of the last day, counted from 1960-01-01, or 65535 for no end.
+    /// The end number: the day number of the last day, or 65535 for no end.
     pub fn number(&self) -> u16
         ensures value { result ≡ self.now }
         ensures range { (result ≤ last_day) ⊎ (result ≡ no_end_number) }

@@ -1,4 +1,4 @@
-//! Worked rows for dockers: lines and their order, the choice of schedules, midnights,
+//! Worked examples of dockers: lines and their order, the choice of schedules, midnights,
 //! associations, horizons, stamps, texts, and running out of memory. This crate holds only tests.
 #![tactic(auto)]
 

@@ -1,29 +1,22 @@
-//! Worked dockers of small states.
+//! Worked dockers, from small states.
 mod associations;
 mod choice;
+mod compare;
 mod horizons;
-mod lines;
 mod memory;
 mod midnights;
-mod records;
 mod stamps;
 mod texts;
 mod trains;
 
+use self::compare::same;
 use cif_file::read_pieces;
 use cif_line::{Day, Kept, Tiploc};
 use docker_day::{Docker, docker, write_docker};
 use docker_state::{Merge, State};
 use std::alloc::Global;
-use std::fmt::Debug;
 use std::process::Abort;
-
-// Tests compare values with these functions, which end the test if they differ. An assertion in its
-// own function is proved once for all rows.
-
-fn same<T: PartialEq + Debug + Drop>(rt: &impl Abort, got: T, wanted: T) {
-    assert_eq!(rt; got, wanted);
-}
+use test_records::text;
 
 fn day(rt: &impl Abort, text: &str) -> Day {
     Day::from_iso(text).expect(rt, "a day")
@@ -33,19 +26,9 @@ fn place(rt: &impl Abort, text: &str) -> Tiploc {
     Tiploc::from_text(text).expect(rt, "a place")
 }
 
-/// The text of these lines.
-fn text(alloc: Global, lines: &[&[u8]]) -> Option<Vec<u8>> {
-    let mut text = Vec::new(alloc);
-    for line in lines {
-        text.extend_from_slice(line).ok()?;
-        text.push(b'\n').ok()?;
-    }
-    Some(text)
-}
-
-/// The state of a file of these records, if there is memory for it.
+/// The state of a file of these records, unless memory runs out.
 fn state_of(alloc: Global, records: &[&[u8]]) -> Option<State> {
-    let text = text(alloc, records)?;
+    let text = text(alloc, records, b"\n").ok()?;
     let file = read_pieces(alloc, &[text.as_slice()], 1000).ok()?;
     State::of_file(alloc, file).ok()
 }
@@ -91,18 +74,18 @@ fn printed(rt: &impl Abort, alloc: Global, state: &State, at: &str, on: &str) ->
     written(alloc, &docker).expect(rt, "a text")
 }
 
-/// Asserts that a docker has these lines between its heading and its last line.
+/// Asserts that a docker has exactly these lines between its heading and its last line.
 fn lines_are(rt: &impl Abort, alloc: Global, state: &State, at: &str, on: &str, wanted: &[&[u8]]) {
     let kept = printed(rt, alloc, state, at, on);
     let bytes = kept.bytes();
     let lines = bytes
         .get(57..bytes.len().saturating_sub(57))
         .expect(rt, "a heading and a last line");
-    let wanted = text(alloc, wanted).expect(rt, "a text");
+    let wanted = text(alloc, wanted, b"\n").expect(rt, "a text");
     same(rt, lines, wanted.as_slice());
 }
 
-/// Asserts that a docker has these lines in the state of these files, joined in either order.
+/// Asserts that a docker of these files, joined in either order, has exactly these lines.
 fn shows(rt: &impl Abort, alloc: Global, files: &[&[&[u8]]], at: &str, on: &str, wanted: &[&[u8]]) {
     lines_are(rt, alloc, &joined(rt, alloc, files), at, on, wanted);
     lines_are(rt, alloc, &joined_back(rt, alloc, files), at, on, wanted);

@@ -1,8 +1,7 @@
 //! A session on the real devices.
 use docker_desk::serve;
-use docker_program::{
-    Fault, Folder, InputDevice, JobFault, OutputDevice, hold_standard, own_words, tell,
-};
+use docker_host::{Host, InputDevice, OutputDevice, RealFolder, hold_standard};
+use docker_program::{Fault, JobFault, own_words, tell};
 use std::process::ExitCode;
 
 /// Serves a desk with the program's words, standard input, output and error, and returns its exit
@@ -30,13 +29,11 @@ fn serve_strings(rt: &HostRuntime, words: &[String]) -> Result<u8, JobFault> {
 
 /// Serves a desk with these words instead of the program's own.
 fn serve_words(rt: &HostRuntime, words: &[&str]) -> u8 {
-    serve(
-        rt.alloc(),
-        words,
-        &mut InputDevice::stdin(rt),
-        &mut InputDevice::without_file(rt),
-        &mut Folder::new(rt),
-        &mut OutputDevice::stdout(rt),
-        &mut OutputDevice::stderr(rt),
-    )
+    let mut host = Host {
+        input: InputDevice::stdin(rt),
+        folder: RealFolder::new(rt),
+        output: OutputDevice::stdout(rt),
+        faults: OutputDevice::stderr(rt),
+    };
+    serve(rt.alloc(), words, &mut host)
 }

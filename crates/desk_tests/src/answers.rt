@@ -142,10 +142,10 @@ fn an_output_that_fails_within_an_answer(rt: HostRuntime) {
     let alloc = rt.alloc();
     stops_at(&rt, alloc, 1, "");
     stops_at(&rt, alloc, 3, "2 ");
-    stops_at(&rt, alloc, 8, "2 1 176");
-    stops_at(&rt, alloc, 9, "2 1 176\n");
-    stops_at(&rt, alloc, 14, "2 1 176\ndesk:");
-    let (done, sink) = broken_at(&rt, alloc, 185);
+    stops_at(&rt, alloc, 8, "2 1 193");
+    stops_at(&rt, alloc, 9, "2 1 193\n");
+    stops_at(&rt, alloc, 14, "2 1 193\ndesk:");
+    let (done, sink) = broken_at(&rt, alloc, 202);
     same(&rt, done, Ok(()));
     same(&rt, sink.device().bytes(), USAGE.as_bytes());
 }

@@ -1,12 +1,15 @@
 //! Sessions that can't begin.
 
+ghost use Rattle.std.specs.Prelude.{◌≡◌};
+
 use crate::compare::{same, same_in};
 use crate::expected::DEVICE;
-use crate::files::{Named, Shelf};
 use crate::records::*;
-use crate::session_parts::{READING, Texts, WRITING, room, store_of_morning};
+use crate::session_parts::{READING, WRITING, room};
+use crate::shelves::{shelf_of, shelf_with, text_of};
 use cif_line::Bytes;
 use docker_desk::serve;
+use docker_host::{Host, Shelf};
 use std::alloc::Global;
 use std::process::Abort;
 
@@ -16,37 +19,40 @@ const INPUT: &[u8] = b"files\nsave\n";
 /// The line of words that are no session's.
 const USAGE_LINE: &str = "\
 desk: usage: [--write] STATE, and then a line for each request: print TIPLOC DATE \
-| train UID DATE | files | renew | with --write take FILE | merge OTHER | horizon DATE | save
+| train UID DATE | files | places | known | renew | with --write take FILE | merge OTHER \
+| horizon DATE | save
 ";
 
-/// Asserts the status of a session over these files, and its line of faults. It reads nothing of
-/// its input, answers nothing, and writes no file.
+/// Asserts the status of a session over this folder, and its line of faults. It reads nothing of its
+/// input, answers nothing, and leaves the text of the file `S`, which is this one.
 fn can_t_begin(
     rt: &impl Abort,
     alloc: Global,
     words: &[&str],
-    files: &[Named<'_>],
-    status: u8,
-    line: &str,
-) {
-    let mut stdin = Bytes::new(INPUT, 1);
-    let mut store = store_of_morning(rt, alloc);
-    let (mut output, mut faults) = (room(rt, alloc, 1000), room(rt, alloc, 1000));
-    let mut shelf = Shelf::of(files);
-    let ended = serve(
-        alloc,
-        words,
-        &mut stdin,
-        &mut shelf,
-        &mut store,
-        &mut output,
-        &mut faults,
-    );
+    folder: Shelf,
+    end: (u8, &str, &[u8]),
+)
+    requires { folder.failures ≡ 0 }
+{
+    let (status, line, text) = end;
+    let mut host = Host {
+        input: Bytes::new(INPUT, 1),
+        folder,
+        output: room(rt, alloc, 1000),
+        faults: room(rt, alloc, 1000),
+    };
+    let ended = serve(alloc, words, &mut host);
     same(rt, ended, status);
-    same_in(rt, line, faults.bytes(), line.as_bytes());
-    same(rt, (output.bytes(), stdin.left()), (b"".as_slice(), INPUT));
-    let kept = state_text(rt, alloc, MORNING_STATE);
-    same(rt, store.text(), kept.as_slice());
+    same_in(rt, line, host.faults.bytes(), line.as_bytes());
+    let silent = (b"".as_slice(), INPUT);
+    same(rt, (host.output.bytes(), host.input.left()), silent);
+    same(rt, text_of(&host.folder), text);
+}
+
+/// Asserts how a session can't begin whose state's file has this text.
+fn refuses_text(rt: &impl Abort, alloc: Global, words: &[&str], text: &[u8], line: &str) {
+    let folder = shelf_with(rt, alloc, "S", text);
+    can_t_begin(rt, alloc, words, folder, (1, line, text));
 }
 
 /// Words that are no session's.
@@ -68,26 +74,28 @@ const OTHER_WORDS: &[&[&str]] = &[
 
 #[test]
 fn words_of_no_session(rt: HostRuntime) {
-    let texts = Texts::new(&rt, rt.alloc());
-    let files = texts.named();
+    let alloc = rt.alloc();
+    let text = state_text(&rt, alloc, MORNING_STATE);
     for words in OTHER_WORDS {
-        can_t_begin(&rt, rt.alloc(), words, &files, 2, USAGE_LINE);
+        let folder = shelf_of(&rt, alloc, MORNING_STATE);
+        can_t_begin(&rt, alloc, words, folder, (2, USAGE_LINE, text.as_slice()));
     }
 }
 
 #[test]
 fn a_state_that_can_t_be_read(rt: HostRuntime) {
     let alloc = rt.alloc();
-    can_t_begin(&rt, alloc, READING, &[], 4, DEVICE);
-    can_t_begin(&rt, alloc, WRITING, &[("S2", b"")], 4, DEVICE);
+    let missing = (4, DEVICE, b"".as_slice());
+    can_t_begin(&rt, alloc, READING, Shelf::new(alloc, 0), missing);
+    let others = shelf_with(&rt, alloc, "S2", b"");
+    can_t_begin(&rt, alloc, WRITING, others, missing);
     let empty = "docker: state refused: offset 0: Short\n";
-    can_t_begin(&rt, alloc, READING, &[("S", b"")], 1, empty);
+    refuses_text(&rt, alloc, READING, b"", empty);
     let file = file_text(&rt, alloc, MORNING);
-    let files = [("S", file.as_slice())];
     let mark = "docker: state refused: offset 0: Mark\n";
-    can_t_begin(&rt, alloc, WRITING, &files, 1, mark);
+    refuses_text(&rt, alloc, WRITING, file.as_slice(), mark);
     let text = state_text(&rt, alloc, MORNING_STATE);
     let cut = text.as_slice().get(..310).expect(&rt, "310 bytes");
     let short = "docker: state refused: offset 41: Short\n";
-    can_t_begin(&rt, alloc, WRITING, &[("S", cut)], 1, short);
+    refuses_text(&rt, alloc, WRITING, cut, short);
 }

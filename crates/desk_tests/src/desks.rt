@@ -4,11 +4,11 @@ use crate::answers::answers;
 use crate::compare::same;
 use crate::expected::{ANSWER_18_JUNE, ANSWER_0900, DAY_REFUSED};
 use crate::records::*;
-use crate::store::Drawer;
+use crate::shelves::{shelf_with, text_of};
 use cif_line::{Bytes, Day, Tiploc};
 use docker_desk::Desk;
+use docker_host::Folder;
 use docker_office::Office;
-use docker_program::Stores;
 use std::alloc::Global;
 use std::process::Abort;
 
@@ -36,11 +36,11 @@ pub(crate) fn prints(rt: &impl Abort, alloc: Global, desk: &Desk, date: &str, wa
 /// had something to save.
 pub(crate) fn ends(rt: &impl Abort, alloc: Global, mut desk: Desk, unsaved: bool, state: Parts) {
     same(rt, desk.is_unsaved(), unsaved);
-    let mut store = Drawer::of(alloc, Vec::new(alloc));
-    let mut seen = store.look("S").seen;
-    desk.save("S", &mut seen, &mut store).expect(rt, "room");
+    let mut folder = shelf_with(rt, alloc, "S", b"");
+    let mut seen = folder.look("S");
+    desk.save("S", &mut seen, &mut folder).expect(rt, "room");
     let wanted = state_text(rt, alloc, state);
-    same(rt, store.text(), wanted.as_slice());
+    same(rt, text_of(&folder), wanted.as_slice());
 }
 
 #[test]
@@ -72,5 +72,5 @@ fn days_and_the_horizon(rt: HostRuntime) {
     prints(&rt, alloc, &desk, "2024-06-18", ANSWER_18_JUNE);
     desk.set_horizon(day_of(&rt, "2024-06-10"));
     prints(&rt, alloc, &desk, "2024-06-17", DAY_REFUSED);
-    ends(&rt, alloc, desk, false, LAPSED_STATE);
+    ends(&rt, alloc, desk, true, LAPSED_STATE);
 }

@@ -1,10 +1,11 @@
 //! The answers, and the lines of faults, that the rows expect, worked out by hand.
 
-/// The line that answers a line that asks for nothing: 176 bytes.
+/// The line that answers a line that asks for nothing: 193 bytes.
 pub(crate) const USAGE: &str = "\
-2 1 176
+2 1 193
 desk: usage: [--write] STATE, and then a line for each request: print TIPLOC DATE \
-| train UID DATE | files | renew | with --write take FILE | merge OTHER | horizon DATE | save
+| train UID DATE | files | places | known | renew | with --write take FILE | merge OTHER \
+| horizon DATE | save
 ";
 
 /// The answer of the desk that knows the morning train, for Ashfeld on 10 June.
@@ -47,6 +48,9 @@ pub(crate) const DEVICE: &str = "docker: device failed\n";
 
 /// The line of a session that ends with changes that weren't saved.
 pub(crate) const UNSAVED: &str = "desk: changes not saved\n";
+
+/// The lines of a session whose own device fails while changes aren't saved.
+pub(crate) const DEVICE_UNSAVED: &str = "docker: device failed\ndesk: changes not saved\n";
 
 /// The answer to `files`, if the morning train is known.
 pub(crate) const FILES: &str = "0 1 34\n2024-06-09 2100 DFROC1A U DFROC1Z\n";

@@ -2,37 +2,33 @@
 ghost use Rattle.std.specs.Prelude.{◌<◌};
 
 use crate::compare::same;
-use crate::expected::{ANSWER_0900, ANSWER_0905, DEVICE, DONE, FAILED, FILES, UNSAVED};
-use crate::files::Shelf;
+use crate::expected::{
+    ANSWER_0900, ANSWER_0905, DEVICE, DEVICE_UNSAVED, DONE, FAILED, FILES, UNSAVED,
+};
 use crate::records::*;
-use crate::session_parts::{READING, Texts, WRITING, joined, room, store_of_morning};
-use crate::store::Fails;
+use crate::session_parts::{READING, WRITING, joined, room};
+use crate::shelves::{shelf_of_morning, text_of};
 use cif_line::{Bytes, Fuse, Source};
 use docker_desk::serve;
+use docker_host::{Fails, Host};
 use std::alloc::Global;
 use std::process::Abort;
 
 /// Asserts that the output has a beginning of the answers to two requests, of this many bytes, if
 /// it has room for no more, and that then nothing more is read.
 fn output_has_room_for(rt: &impl Abort, alloc: Global, bytes: usize) {
-    let texts = Texts::new(rt, alloc);
-    let mut stdin = Bytes::new(b"files\nprint ASHFELD 2024-06-10\nfiles\n", 1);
-    let (mut output, mut faults) = (room(rt, alloc, bytes), room(rt, alloc, 100));
-    let files = texts.named();
-    let ended = serve(
-        alloc,
-        READING,
-        &mut stdin,
-        &mut Shelf::of(&files),
-        &mut store_of_morning(rt, alloc),
-        &mut output,
-        &mut faults,
-    );
+    let mut host = Host {
+        input: Bytes::new(b"files\nprint ASHFELD 2024-06-10\nfiles\n", 1),
+        folder: shelf_of_morning(rt, alloc),
+        output: room(rt, alloc, bytes),
+        faults: room(rt, alloc, 100),
+    };
+    let ended = serve(alloc, READING, &mut host);
     let answers = joined(rt, alloc, &[FILES, ANSWER_0900]);
     let front = answers.as_slice().get(..bytes).expect(rt, "answers");
-    same(rt, (ended, output.bytes()), (4, front));
-    same(rt, faults.bytes(), DEVICE.as_bytes());
-    same(rt, stdin.left(), b"files\n".as_slice());
+    same(rt, (ended, host.output.bytes()), (4, front));
+    same(rt, host.faults.bytes(), DEVICE.as_bytes());
+    same(rt, host.input.left(), b"files\n".as_slice());
 }
 
 #[test]
@@ -44,27 +40,21 @@ fn an_output_that_fails(rt: HostRuntime) {
     output_has_room_for(&rt, rt.alloc(), 219);
 }
 
-/// Asserts the status, the answers and the line of faults of a session that may write, whose input
+/// Asserts the status, the answers and the lines of faults of a session that may write, whose input
 /// gives one byte per read and fails at only this read.
 fn input_fails_at(rt: &impl Abort, alloc: Global, read: u64, answers: &[&str], end: (u8, &str))
     requires { 0 < read }
 {
-    let texts = Texts::new(rt, alloc);
-    let mut stdin = Fuse::new(Bytes::new(b"take F2\nfiles\n", 1), read);
-    let (mut output, mut faults) = (room(rt, alloc, 1000), room(rt, alloc, 100));
-    let files = texts.named();
-    let ended = serve(
-        alloc,
-        WRITING,
-        &mut stdin,
-        &mut Shelf::of(&files),
-        &mut store_of_morning(rt, alloc),
-        &mut output,
-        &mut faults,
-    );
+    let mut host = Host {
+        input: Fuse::new(Bytes::new(b"take F2\nfiles\n", 1), read),
+        folder: shelf_of_morning(rt, alloc),
+        output: room(rt, alloc, 1000),
+        faults: room(rt, alloc, 100),
+    };
+    let ended = serve(alloc, WRITING, &mut host);
     let wanted = joined(rt, alloc, answers);
-    same(rt, (ended, output.bytes()), (end.0, wanted.as_slice()));
-    same(rt, faults.bytes(), end.1.as_bytes());
+    same(rt, (ended, host.output.bytes()), (end.0, wanted.as_slice()));
+    same(rt, host.faults.bytes(), end.1.as_bytes());
 }
 
 #[test]
@@ -72,43 +62,33 @@ fn an_input_that_fails(rt: HostRuntime) {
     let both = "0 2 68\n2024-06-09 2100 DFROC1A U DFROC1Z\n2024-06-10 2100 DFROC1B U DFROC1A\n";
     input_fails_at(&rt, rt.alloc(), 1, &[], (4, DEVICE));
     input_fails_at(&rt, rt.alloc(), 8, &[], (4, DEVICE));
-    input_fails_at(&rt, rt.alloc(), 9, &[DONE], (4, DEVICE));
-    input_fails_at(&rt, rt.alloc(), 14, &[DONE], (4, DEVICE));
-    input_fails_at(&rt, rt.alloc(), 15, &[DONE, both], (4, DEVICE));
+    input_fails_at(&rt, rt.alloc(), 9, &[DONE], (4, DEVICE_UNSAVED));
+    input_fails_at(&rt, rt.alloc(), 14, &[DONE], (4, DEVICE_UNSAVED));
+    input_fails_at(&rt, rt.alloc(), 15, &[DONE, both], (4, DEVICE_UNSAVED));
     input_fails_at(&rt, rt.alloc(), 16, &[DONE, both], (1, UNSAVED));
 }
 
 /// Asserts that a session goes on whose store fails at this call whenever it saves.
 fn store_fails(rt: &impl Abort, alloc: Global, fails: Fails) {
-    let texts = Texts::new(rt, alloc);
-    let mut stdin = Bytes::new(b"take F2\nsave\nprint ASHFELD 2024-06-10\n", 4096);
-    let (mut output, mut faults) = (room(rt, alloc, 1000), room(rt, alloc, 100));
-    let files = texts.named();
-    let mut store = store_of_morning(rt, alloc);
-    store.fail(fails);
-    let ended = serve(
-        alloc,
-        WRITING,
-        &mut stdin,
-        &mut Shelf::of(&files),
-        &mut store,
-        &mut output,
-        &mut faults,
-    );
+    let mut folder = shelf_of_morning(rt, alloc);
+    folder.fail(fails);
+    let mut host = Host {
+        input: Bytes::new(b"take F2\nsave\nprint ASHFELD 2024-06-10\n", 4096),
+        folder,
+        output: room(rt, alloc, 1000),
+        faults: room(rt, alloc, 100),
+    };
+    let ended = serve(alloc, WRITING, &mut host);
     let wanted = joined(rt, alloc, &[DONE, FAILED, ANSWER_0905]);
-    same(rt, (ended, output.bytes()), (1, wanted.as_slice()));
-    same(rt, faults.bytes(), UNSAVED.as_bytes());
+    same(rt, (ended, host.output.bytes()), (1, wanted.as_slice()));
+    same(rt, host.faults.bytes(), UNSAVED.as_bytes());
     let kept = state_text(rt, alloc, MORNING_STATE);
-    same(
-        rt,
-        (store.text(), store.has_draft()),
-        (kept.as_slice(), false),
-    );
+    same(rt, text_of(&host.folder), kept.as_slice());
 }
 
 #[test]
 fn a_store_that_fails(rt: HostRuntime) {
     store_fails(&rt, rt.alloc(), Fails::AtCreate);
-    store_fails(&rt, rt.alloc(), Fails::AtWrite);
+    store_fails(&rt, rt.alloc(), Fails::AfterWriting(100));
     store_fails(&rt, rt.alloc(), Fails::AtComplete);
 }

@@ -15,9 +15,11 @@ mod expected;
 #[cfg(test)]
 mod failures;
 #[cfg(test)]
-mod files;
-#[cfg(test)]
 mod lines;
+#[cfg(test)]
+mod lists;
+#[cfg(test)]
+mod marked;
 #[cfg(test)]
 mod records;
 #[cfg(test)]
@@ -29,7 +31,7 @@ mod session_parts;
 #[cfg(test)]
 mod sessions;
 #[cfg(test)]
-mod store;
+mod shelves;
 #[cfg(test)]
 mod taking;
 #[cfg(test)]

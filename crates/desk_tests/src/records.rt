@@ -49,12 +49,14 @@ const MARK: &str = "DKS2\0\0";
 /// The mark, and the horizon of 15 June 2024.
 const MARK_15: &str = "DKS2\x5b\u{f6}";
 
-/// How many items or entries there are: zero, one or two.
+/// How many items or entries there are: zero, one, two or four.
 const NONE: &str = "\0\0\0\0\0\0\0\0";
 
 const ONE: &str = "\0\0\0\0\0\0\0\x01";
 
 const TWO: &str = "\0\0\0\0\0\0\0\x02";
+
+const FOUR: &str = "\0\0\0\0\0\0\0\x04";
 
 /// The ledger items of the two files.
 const ITEM: &str = "\x5b\u{f0}\x04\u{ec}DFROC1AUDFROC1Z";
@@ -106,6 +108,43 @@ pub(crate) const BOTH_STATE: Parts = &[
 
 /// The state that knows the morning train, under a horizon after its last day: 67 bytes.
 pub(crate) const LAPSED_STATE: Parts = &[MARK_15, ONE, ITEM, ONE, ENTRY, LAPSED];
+
+/// The ledger item of a full extract of 9 June 2024, 21:00.
+const ITEM_FULL: &str = "\x5b\u{f0}\x04\u{ec}DFROC1AFDFROC1Z";
+
+/// The entries of three timing points in that file, up to their ops.
+const ASHFELD: &str = "\x01ASHFELD\x5b\u{f0}\x04\u{ec}DFROC1A\0\0\0\x02";
+
+const BRAYTON: &str = "\x01BRAYTON\x5b\u{f0}\x04\u{ec}DFROC1A\0\0\0\x03";
+
+const CORHAM: &str = "\x01CORHAM \x5b\u{f0}\x04\u{ec}DFROC1A\0\0\0\x04";
+
+/// The op of a timing point that is put, and columns 10 to 72 of its record: with CRS and STANOX,
+/// and without. The op of one that is deleted.
+const WITH_CODES: &str = "\x0100123400AASHFELD JUNCTION          877010000ASFASHFELD         ";
+
+const WITHOUT_CODES: &str = "\x01         CORHAM EXCHANGE                                       ";
+
+const DELETED: &str = "\0";
+
+/// The state that knows these timing points, of which Brayton is deleted, and the morning train.
+pub(crate) const PLACES_STATE: Parts = &[
+    MARK,
+    ONE,
+    ITEM_FULL,
+    FOUR,
+    ASHFELD,
+    WITH_CODES,
+    BRAYTON,
+    DELETED,
+    CORHAM,
+    WITHOUT_CODES,
+    ENTRY,
+    THREE_LINES,
+    BS,
+    LO,
+    LT,
+];
 
 /// The docker of Ashfeld on 10 June for the morning train.
 pub(crate) const ASHFELD_0900: &str = "\

@@ -3,11 +3,13 @@ ghost use Rattle.std.specs.Prelude.{◌<◌};
 
 use crate::compare::same_in;
 use crate::expected::*;
-use crate::files::Shelf;
+use crate::marked::Marked;
 use crate::records::*;
-use crate::session_parts::{READING, Texts, WRITING, joined, room, store_of_morning};
+use crate::session_parts::{READING, WRITING, joined, room};
+use crate::shelves::{shelf_of_morning, text_of};
 use cif_line::Bytes;
 use docker_desk::serve;
+use docker_host::Host;
 use std::alloc::Global;
 use std::process::Abort;
 
@@ -27,27 +29,19 @@ fn goes_in_pieces(rt: &impl Abort, alloc: Global, row: &Row, step: usize)
     requires { 0 < step }
 {
     let (words, input, answers, line, status, state) = *row;
-    let texts = Texts::new(rt, alloc);
-    let mut stdin = Bytes::new(input.as_bytes(), step);
-    let mut store = store_of_morning(rt, alloc);
-    let (mut output, mut faults) = (room(rt, alloc, 1000), room(rt, alloc, 1000));
-    let files = texts.named();
-    let mut shelf = Shelf::of(&files);
-    let ended = serve(
-        alloc,
-        words,
-        &mut stdin,
-        &mut shelf,
-        &mut store,
-        &mut output,
-        &mut faults,
-    );
+    let mut host = Host {
+        input: Bytes::new(input.as_bytes(), step),
+        folder: shelf_of_morning(rt, alloc),
+        output: room(rt, alloc, 1000),
+        faults: room(rt, alloc, 1000),
+    };
+    let ended = serve(alloc, words, &mut host);
     same_in(rt, input, ended, status);
     let wanted = joined(rt, alloc, answers);
-    same_in(rt, input, output.bytes(), wanted.as_slice());
-    same_in(rt, input, faults.bytes(), line.as_bytes());
+    same_in(rt, input, host.output.bytes(), wanted.as_slice());
+    same_in(rt, input, host.faults.bytes(), line.as_bytes());
     let kept = state_text(rt, alloc, state);
-    same_in(rt, input, store.text(), kept.as_slice());
+    same_in(rt, input, text_of(&host.folder), kept.as_slice());
 }
 
 /// Asserts what each of these sessions does.
@@ -204,21 +198,15 @@ fn sessions_that_write(rt: HostRuntime) {
 
 /// Asserts that a session reads this input to its end, and never again after that.
 fn is_read_once(rt: &impl Abort, alloc: Global, input: &str) {
-    let texts = Texts::new(rt, alloc);
-    let mut stdin = Shelf::opened(input.as_bytes());
-    let (mut output, mut faults) = (room(rt, alloc, 1000), room(rt, alloc, 100));
-    let files = texts.named();
-    let ended = serve(
-        alloc,
-        READING,
-        &mut stdin,
-        &mut Shelf::of(&files),
-        &mut store_of_morning(rt, alloc),
-        &mut output,
-        &mut faults,
-    );
+    let mut host = Host {
+        input: Marked::new(input.as_bytes()),
+        folder: shelf_of_morning(rt, alloc),
+        output: room(rt, alloc, 1000),
+        faults: room(rt, alloc, 100),
+    };
+    let ended = serve(alloc, READING, &mut host);
     same_in(rt, input, ended, 0);
-    same_in(rt, input, stdin.is_read_past(), (true, false));
+    same_in(rt, input, host.input.is_read_past(), (true, false));
 }
 
 #[test]

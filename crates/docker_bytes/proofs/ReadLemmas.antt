@@ -1,6 +1,6 @@
 -- Reading a source: what the parser was fed is what the source had.
 use Rattle.std.proofs.Common.{◌≡◌, ◌≢◌, ℕ, ◌<◌, List, [], ◌∷◌, ◌++◌, length, take, drop, refl, ap, sym, ◌∙◌, subst, inl, inr, ◌⊎◌, arith, append_assoc, append-nil, length-drop, Some, None, Err, Result}
-use Rattle.std.specs.Prelude.{Option, Ok, IfOk, IfErr, IsOk, OnOk, ◌^◌}
+use Rattle.std.specs.Prelude.{Option, Ok, IfErr, IsOk, OnOk, ◌^◌}
 use Rattle.std.proofs.lemmas.List.{take-append-drop}
 use Rattle.cif_line.specs.Device.{Reads, IsEnd}
 use Rattle.cif_line.specs.Taken.{BehindEach, HasFed, HasRefused, LosesOnePieceMore}

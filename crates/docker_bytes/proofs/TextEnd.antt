@@ -1,4 +1,4 @@
--- A reading at the end of a state has read the state's text. No other reading has.
+-- A reading with no next part has read the text of a whole state. No other reading has.
 use Rattle.std.proofs.Common.{◌≡◌, ℕ, ◌<◌, ◌≤◌, List, [], ◌++◌, length, refl, ap, sym, ◌∙◌, subst, inl, inr, ◌⊎◌, arith, append-nil, length-append, None}
 use Rattle.docker_model.specs.state.State.{State}
 use Rattle.docker_model.specs.state.StateText.{Format, state_text}
@@ -29,7 +29,7 @@ state_at_end (stage.Body count key stamp) parts state lines is = cc
 state_at_end (stage.Line count key stamp n) parts state lines is = cc
 state_at_end stage.End parts state lines is = cc
 
--- if no part is next, all parts were read
+-- if there is no next part, all parts were read
 at_its_end : {K : Type 0} (reading : StateReading K) → IsReading reading → width (before_of reading) ≡ 0 → before_of reading ≡ at_end reading.parts
 at_its_end reading is none = by (end_or_part (format_of reading) (before_of reading) is.ready.good)
   where
@@ -37,7 +37,7 @@ at_its_end reading is none = by (end_or_part (format_of reading) (before_of read
     by (inr some) = absurd (omega arith)
     by (inl told) = told.1 ∙ ap at_end (state_at_end reading.stage reading.parts told.0 reading.lines told.1)
 
--- if no part is next, the text is the text of the parts
+-- if there is no next part, the text is a whole state's
 pub whole_text : {K : Type 0} (reading : StateReading K) → IsReading reading → width (before_of reading) ≡ 0
     → IsStateText (format_of reading) reading.limit (text_of reading) reading.parts
 whole_text reading is none = record {
@@ -55,14 +55,14 @@ whole_text reading is none = record {
     empty : length reading.partial.items ≡ 0
     empty = let short = is.short in omega arith
 
--- the end of the text is where the next item would begin
+-- if there is no next part, the end of the text is where the next item would begin
 pub wanting_at_end : {K : Type 0} (reading : StateReading K) → IsReading reading → width (before_of reading) ≡ 0
     → IsToldAtEnd (format_of reading) reading.limit (text_of reading) reading.item_at None
 wanting_at_end reading is none =
     let whole = whole_text reading is none in
     ((reading.parts, whole), is.item_is ∙ ap length (ap (items_before (format_of reading)) (at_its_end reading is none) ∙ sym whole.is))
 
--- if a part is next, the text is too short, and the fault is at the part's item
+-- if there is a next part, the text is too short, with the fault at that part's item
 pub short_at_end : {K : Type 0} (reading : StateReading K) → IsReading reading → 0 < width (before_of reading)
     → IsShort (format_of reading) reading.limit (text_of reading) (record { at = reading.item_at; cause = too_short })
 short_at_end reading is some = record {
@@ -77,7 +77,7 @@ short_at_end reading is some = record {
   item_at = is.item_is;
 }
 
--- if a part is next, the text is open
+-- if there is a next part, the text is open
 pub open_reading : {K : Type 0} (reading : StateReading K) → IsReading reading → 0 < width (before_of reading) → IsOpen (format_of reading) reading.limit (text_of reading)
 open_reading reading is some = (
   record { at = length (items_before (format_of reading) (before_of reading)); cause = too_short },
@@ -94,11 +94,11 @@ open_reading reading is some = (
   },
 )
 
--- an open text is not whole
+-- an open text isn't whole
 pub not_both : (format : Format) (limit : ℕ) (text : List ℕ) → IsOpen format limit text → ¬ IsWhole format limit text
 not_both format limit text open_one whole = no_fault_of_state format limit text whole.0 open_one.0 whole.1 (inr (inr (inl open_one.1)))
 
--- what a parser has read is not at fault
+-- what a parser has read is open or whole, and so without a fault
 pub sound_text : {K : Type 0} (parser : ParserState K) (format : Format) (limit : ℕ) (text : List ℕ) → HasRead parser format limit text
     → IsOpen format limit text ⊎ IsWhole format limit text
 sound_text parser format limit text has =
@@ -113,7 +113,7 @@ sound_text parser format limit text has =
     by (inl some) = inl (open_reading parser.reading has.sound some)
     by (inr none) = inr (parser.reading.parts, whole_text parser.reading has.sound (omega arith))
 
--- if a part is next, what a parser has read is not complete
+-- if there is a next part, what a parser has read isn't whole
 pub not_whole_yet : {K : Type 0} (parser : ParserState K) (reading : StateReading K) (format : Format) (limit : ℕ) (text : List ℕ) → parser.reading ≡ reading
     → HasRead parser format limit text → ¬ (width (before_of reading) ≡ 0) → ¬ IsWhole format limit text
 not_whole_yet parser reading format limit text same has some whole =

@@ -3,6 +3,6 @@ use Rattle.std.specs.Prelude.{ℕ, List, ◌++◌, codes, decimal}
 use Rattle.docker_bytes.specs.declared.fault.StateFault.{StateFault}
 pub use Rattle.state_text.specs.CauseText.{cause_text}
 
--- a fault by its offset and its cause
+-- the text of a fault: its offset and its cause
 abbrev pub fault_text : StateFault → List ℕ
 fault_text fault = codes "offset " ++ decimal fault.at ++ codes ": " ++ cause_text fault.cause

@@ -5,16 +5,16 @@ use Rattle.docker_bytes.specs.declared.fault.StateFault.{StateFault}
 use Rattle.docker_bytes.specs.declared.reading.StateReading.{StateReading}
 use Rattle.docker_bytes.specs.StateReading.{format_of, text_of, IsReading}
 
--- what a parser keeps
+-- a parser as clauses see it: what it has read, and the fault that it has returned, if any
 pub record ParserState (K : Type 0) : Type 0 where
   pub reading : StateReading K
   pub fault : Option StateFault
 
--- as long as no fault was returned, what was read is sound
+-- unless a fault was returned, the reading is right
 abbrev pub IsSound : {K : Type 0} → StateReading K → Option StateFault → Type 0
 IsSound reading fault = fault ≡ None → IsReading reading
 
--- the parser of a format has used exactly these bytes, under this limit, and returned no fault
+-- the parser, which has this format and limit, has used exactly these bytes and returned no fault
 pub record HasRead {K : Type 0} (parser : ParserState K) (format : Format) (limit : ℕ) (text : List ℕ) : Type 0 where
   pub no_fault : parser.fault ≡ None
   pub sound : IsReading parser.reading
@@ -22,10 +22,10 @@ pub record HasRead {K : Type 0} (parser : ParserState K) (format : Format) (limi
   pub limit_is : parser.reading.limit ≡ limit
   pub text_is : text_of parser.reading ≡ text
 
--- the parser returned this fault
+-- the parser has returned this fault
 abbrev pub HasFailed : {K : Type 0} → ParserState K → StateFault → Type 0
 HasFailed parser fault = parser.fault ≡ Some fault
 
--- a parser that has read nothing, and returned no fault
+-- the parser has read nothing, and returned no fault
 abbrev pub IsUnread : {K : Type 0} → ParserState K → Type 0
 IsUnread parser = HasRead parser (format_of parser.reading) parser.reading.limit []

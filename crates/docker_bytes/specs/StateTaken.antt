@@ -1,4 +1,4 @@
--- What a parser of a state's text has taken of it, and what a fault says of a piece.
+-- What a parser of a state's text has taken, and what its fault says about the next piece.
 use Rattle.std.specs.Prelude.{◌≡◌, ◌≢◌, ℕ, ◌^◌, ◌<◌, List, ◌++◌, length}
 use Rattle.std.proofs.Common.{arith, ap, length-append}
 use Rattle.docker_model.specs.state.StateText.{Format}
@@ -10,12 +10,12 @@ use Rattle.docker_bytes.specs.ParserRead.{ParserState, HasRead}
 use Rattle.docker_bytes.specs.StateReading.{before_of, format_of, IsWanting}
 use Rattle.docker_bytes.specs.SourceRead.{IsFaultOf}
 
--- what stays as it is while a parser takes a text: the format, and the limit on its bytes
+-- the terms of a parser, which don't change: the format, and the limit on the text's bytes
 pub record StateTerms : Type 0 where
   pub format : Format
   pub limit : ℕ
 
--- the parser has read this text and returned no fault, under a limit of 64 bits
+-- the parser has read this text and returned no fault, and its limit fits in 64 bits
 pub record TakesState {K : Type 0} (parser : ParserState K) (terms : StateTerms) (text : List ℕ) : Type 0 where
   pub read : HasRead parser terms.format terms.limit text
   pub small : terms.limit < 2 ^ 64
@@ -32,8 +32,8 @@ taken_is_bounded parser terms text has =
     let small = has.small in
     omega (arith, same, sum, reached, within, limit, small)
 
--- each text that begins with the text and the piece has the fault; or memory ran out for a part
--- that ends in the piece; the parser may be any
+-- the fault belongs to each text that begins with the text and the piece. If it is out of memory,
+-- memory ran out for a part that ends in the piece
 pub record RefusesPart {K : Type 0} (parser : ParserState K) (terms : StateTerms) (text piece : List ℕ) (told : ReadFault) : Type 0 where
   pub state : (found : StateFault) → told ≡ fault.State found → (rest : List ℕ) → IsFaultOf terms.format terms.limit ((text ++ piece) ++ rest) found
   pub memory : told ≡ fault.Memory → (at : ℕ) × IsWanting terms.format terms.limit text piece at

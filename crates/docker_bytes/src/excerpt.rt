@@ -1,5 +1,5 @@
-//! Reads a state for a command that writes none: what the docker of a place and a day is made of,
-//! or the ledger.
+//! Reads a state for a command that writes none: it keeps only what the docker of a place and a day
+//! needs, or the ledger.
 ghost use Rattle.std.specs.Prelude.{◌≡◌, ◌-◌, ◌^◌, ◌<◌};
 ghost use Rattle.docker_model.specs.state.StateText.{dks_2};
 ghost use Rattle.docker_bytes.specs.Excerpts.{IsExcerptAt};
@@ -13,9 +13,9 @@ use state_text::format::Format;
 use std::alloc::Global;
 use std::marker::Brand;
 
-/// Reads a source as `read_state` does. Returns what the docker of a place and a day is made of,
-/// from the state whose text the source held. Each part is judged, whether it is kept or not. An
-/// excerpt is no state: it is never written, joined or sent.
+/// Reads a source as `read_state` does. Returns an excerpt of its state: what the docker of a place
+/// and a day is made from. All parts are judged, whether they are kept or not. An excerpt isn't a
+/// state: it is never written, joined or sent.
 pub fn read_excerpt<S: Source>(
     alloc: Global,
     source: &mut S,
@@ -30,7 +30,7 @@ pub fn read_excerpt<S: Source>(
     excerpt_at::<Brand, S>(alloc, source, place, day, limit)
 }
 
-/// Like `read_excerpt`, for the place and the day that the type names.
+/// Like `read_excerpt`, for the place and the day that the type stands for.
 fn excerpt_at<P: PlaceDay, S: Source>(
     alloc: Global,
     source: &mut S,
@@ -48,9 +48,8 @@ fn excerpt_at<P: PlaceDay, S: Source>(
     read_format(alloc, Format::Dks2, keeper, source, limit)
 }
 
-/// Reads a source as `read_state` does. Returns the ledger of the state whose text the source held.
-/// Each part is judged, and no entry is kept: memory is taken for the ledger and for the lines of
-/// one schedule.
+/// Reads a source as `read_state` does. Returns the ledger of its state. All parts are judged, but
+/// no entry is kept: memory is needed only for the ledger and for one schedule's lines.
 pub fn read_ledger<S: Source>(
     alloc: Global,
     source: &mut S,

@@ -1,4 +1,4 @@
-//! Where bytes are not the text of a state, and how far a text has come.
+//! Where bytes aren't the text of a state, and whether a text is complete.
 ghost use Rattle.std.specs.Prelude.{Some};
 ghost use Rattle.docker_bytes.specs.FaultText.{fault_text};
 
@@ -6,10 +6,11 @@ use state_text::StateCause;
 use std::error::Error;
 use std::fmt;
 
-/// Where bytes were found not to be the text of a state, or where memory ran out.
+/// Where bytes turned out not to be the text of a state, or where memory ran out.
 #[derive(Clone, Copy, PartialEq, Eq, Debug)]
 pub struct StateFault {
-    /// The offset, from 0: of the item at fault, of the first byte after the state, or the limit.
+    /// The offset, from 0: the start of the item at fault, the first byte after the state, or the
+    /// limit.
     pub at: u64,
     /// What is wrong there.
     pub cause: StateCause,
@@ -28,8 +29,8 @@ impl Error for StateFault {}
 /// Whether the text of a state is complete.
 #[derive(Clone, Copy, PartialEq, Eq, Debug)]
 pub enum Step {
-    /// The last byte of the state has come.
+    /// The state's last byte has come.
     Done,
-    /// More bytes are to come.
+    /// More bytes have to come.
     More,
 }

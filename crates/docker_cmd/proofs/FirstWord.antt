@@ -1,4 +1,4 @@
--- What `clap` makes of the first word, which names a subcommand, and of the words after it.
+-- How `clap` reads the first word, which names a subcommand, and the words after it.
 use Rattle.std.proofs.Common.{◌≡◌, ◌∙◌, ◌++◌, cond, true, false, refl, sym, ap, ap₂, List, [], ◌∷◌, Some, None, is_some, codes, option_map}
 use Rattle.std.specs.List.{find, fold}
 use Rattle.std.specs.Option.{option_map_or}
@@ -14,26 +14,26 @@ use Rattle.docker_cmd.specs.Words.{is_plain_word}
 use Rattle.docker_cmd.proofs.PlainWords.{plain_walk_fault}
 use Rattle.docker_cmd.proofs.RequiredWords.{built_top}
 
--- the program with these subcommands once it is built
+-- the program with these subcommands, once `clap` has built it
 abbrev pub built_with : List Shape → App
 built_with subs = record { top = built_top; subs = subs }
 
--- the walk after a subcommand
+-- the walk once it has met a subcommand, whose words these are
 abbrev after_name : Text → List Text → Walk
 after_name name words = record (walk_from nothing_held) { stopped = Some (name, words) }
 
--- no word after a subcommand is a fault of the program's own level
+-- after a subcommand, no word is a fault of the program's own level
 no_later_fault : (names : Names) (name : Text) (seen words : List Text) → walk_fault built_top names (after_name name seen) words ≡ []
 unfolding walk_fault walked
 no_later_fault names name seen [] = refl
 no_later_fault names name seen (word ∷ words) = no_later_fault names name (seen ++ word ∷ []) words
 
--- nothing follows a fault
+-- a fault with nothing after it stays as it is
 or_else_none : (kinds : Kinds) → or_else kinds [] ≡ kinds
 or_else_none [] = refl
 or_else_none (k ∷ kinds) = refl
 
--- the faults of the program, from the faults of the walk and from the place at which it ends
+-- the program's faults, from the faults of the walk and from where it ended
 abbrev faults_at : List Shape → Kinds → Walk → Kinds
 faults_at subs kinds w = or_else kinds
     (or_else (entered_fault (built_with subs) w.stopped)
@@ -41,12 +41,12 @@ faults_at subs kinds w = or_else kinds
     (or_else (defaults_fault (settled [] w.held).rows [])
     (check_fault built_top (finished [] w.held) (is_some (entered (built_with subs) w.stopped))))))
 
--- no word at all
+-- there is no word
 pub no_word : (subs : List Shape) → built_fault (built_with subs) nothing_held [] ≡ kind.MissingSubcommand ∷ []
 unfolding walk_fault defaults_fault
 no_word subs = refl
 
--- a first word that names no subcommand
+-- the first word names no subcommand
 pub unnamed_fault : (subs : List Shape) (word : Text) (words : List Text) → is_plain_word word ≡ true
     → subcommand_met (names_of (built_with subs)) idle word ≡ None
     → built_fault (built_with subs) nothing_held (word ∷ words) ≡ kind.UnknownArgument ∷ kind.InvalidSubcommand ∷ []
@@ -64,7 +64,7 @@ module _ (subs : List Shape) (s : Shape) (name : Text) (words : List Text)
   named_met : word_met [] names false idle 1 name nothing_held ≡ (nothing_held, subcommand name)
   named_met = ap (λ o. subcommand_or_other [] o idle 1 name nothing_held) met
 
-  -- the walk stops at it
+  -- the walk stops at the name
   named_walked : walked [] names (walk_from nothing_held) name ≡ after_name name []
   unfolding walked
   named_walked = ap (λ (p : Held × Step). after_step [] name (walk_from nothing_held) p.0 p.1) named_met
@@ -73,19 +73,19 @@ module _ (subs : List Shape) (s : Shape) (name : Text) (words : List Text)
   named_walk : walk [] names nothing_held (name ∷ words) ≡ after_name name words
   named_walk = ap (λ w. fold (walked [] names) w words) named_walked ∙ sym (walk_stopped [] names (walk_from nothing_held) name [] words)
 
-  -- the name has no fault
+  -- the name itself has no fault
   named_turn : turn_fault built_top names (walk_from nothing_held) name ≡ []
   named_turn =
       let word_part = ap (λ o. other_fault built_top o name nothing_held) met
       ∙ ap (λ b. cond b (kind.DisplayHelp ∷ kind.InvalidSubcommand ∷ []) []) (and-false (bytes_eq name (codes "help"))) in
       λ i. or_else (word_part i) (step_fault built_top 1 (named_met i).0 (named_met i).1)
 
-  -- nor has the walk
+  -- the walk has no fault
   named_walk_fault : walk_fault built_top names (walk_from nothing_held) (name ∷ words) ≡ []
   unfolding walk_fault
   named_walk_fault = ap₂ or_else named_turn (ap (λ w. walk_fault built_top names w words) named_walked ∙ no_later_fault names name [] words)
 
-  -- the faults are the subcommand's
+  -- after its name, the faults are the subcommand's
   pub named_fault : built_fault (built_with subs) nothing_held (name ∷ words) ≡ level_fault s [] nothing_held words false []
   unfolding defaults_fault
   named_fault =
@@ -94,7 +94,7 @@ module _ (subs : List Shape) (s : Shape) (name : Text) (words : List Text)
       (check_fault built_top [] (is_some (option_map (λ x. rows_at x words) found)))) under
       ∙ or_else_none (level_fault s [] nothing_held words false [])
 
-  -- so are the matches
+  -- after its name, the matches are the subcommand's
   pub named_rows : entered (built_with subs) (walk [] names nothing_held (name ∷ words)).stopped ≡ Some (rows_at s words)
   named_rows =
       ap (λ (w : Walk). entered (built_with subs) w.stopped) named_walk ∙ ap (option_map (λ x. rows_at x words)) under

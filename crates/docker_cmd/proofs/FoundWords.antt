@@ -1,4 +1,4 @@
--- The words at some ids, one after the other.
+-- The words that are found at some ids, one after the other.
 use Rattle.std.proofs.Common.{◌≡◌, ◌∙◌, ◌<◌, ◌+◌, ℕ, List, [], ◌∷◌, ◌++◌, length, drop, Some, None, option_map, refl, sym, ap, append_assoc, slice_index_or}
 use Rattle.std.specs.Prelude.{Option, option_and_then}
 use Rattle.std.specs.Borrow.{Bor}
@@ -7,11 +7,12 @@ use Rattle.clap.specs.Walk.{Row, first_of}
 use Rattle.docker_cmd.specs.Words.{Text, texts}
 use Rattle.docker_cmd.specs.Grammar.{found_words}
 
--- the words of all ids are the words so far, followed by the words of the ids from this one on
+-- all ids together have the words that were found before id `i`, and then the words of the ids from
+-- it on
 abbrev pub HasFound : List (Bor Text) → List Row → ℕ → List Text → Type 0
 HasFound ids rows i found = found_words (texts ids) rows ≡ option_map (λ rest. found ++ rest) (found_words (texts (drop i ids)) rows)
 
--- before the first id there is no word
+-- before the first id no word is found
 pub none_yet : (ids : List (Bor Text)) (rows : List Row) → HasFound ids rows 0 []
 none_yet ids rows = by (found_words (texts ids) rows)
   where
@@ -19,18 +20,18 @@ none_yet ids rows = by (found_words (texts ids) rows)
     by None = refl
     by (Some words) = refl
 
--- some words, a word that may be missing, and then the words of the ids after this one
+-- the words that were found, then this id's word, if it has one, and then the words of later ids
 abbrev with_word : List (Bor Text) → List Row → ℕ → List Text → Option Text → Option (List Text)
 with_word ids rows i found here = option_map (λ rest. found ++ rest)
     (option_and_then (λ word. option_map (λ words. word ∷ words) (found_words (texts (drop (i + 1) ids)) rows)) here)
 
--- the word of one id, and then the words after it
+-- one step: the word of this id, and then the words of later ids
 one_on : (ids : List (Bor Text)) (rows : List Row) (i : ℕ) (d : Bor Text) (found : List Text) → i < length ids → HasFound ids rows i found
     → found_words (texts ids) rows ≡ with_word ids rows i found (first_of (slice_index_or ids i d).now rows)
 one_on ids rows i d found within has =
     has ∙ ap (λ left. option_map (λ rest. found ++ rest) (found_words (texts left) rows)) (drop_more ids i d within)
 
--- one more word
+-- the id has a word
 pub one_more : (ids : List (Bor Text)) (rows : List Row) (i : ℕ) (d : Bor Text) (found : List Text) (word : Text) → i < length ids
     → first_of (slice_index_or ids i d).now rows ≡ Some word → HasFound ids rows i found → HasFound ids rows (i + 1) (found ++ word ∷ [])
 one_more ids rows i d found word within here has =
@@ -41,7 +42,7 @@ one_more ids rows i d found word within here has =
     by None = refl
     by (Some words) = ap Some (sym (append_assoc found (word ∷ []) words))
 
--- no word at an id
+-- the id has no word
 pub none_here : (ids : List (Bor Text)) (rows : List Row) (i : ℕ) (d : Bor Text) (found : List Text) → i < length ids
     → first_of (slice_index_or ids i d).now rows ≡ None → HasFound ids rows i found → found_words (texts ids) rows ≡ None
 none_here ids rows i d found within never has = one_on ids rows i d found within has ∙ ap (with_word ids rows i found) never

@@ -1,4 +1,4 @@
--- What `clap` answers about the program.
+-- What `clap` returns for the program.
 use Rattle.std.proofs.Common.{◌≡◌, true, refl, subst, List, IfOk, Result}
 use Rattle.std.proofs.lemmas.Result.{IfOk-weaker}
 use Rattle.clap.specs.Words.{App, FailsBy, Text, fault_of, is_simple_and_free, subcommand_of, subcommand_rows_of}
@@ -7,11 +7,11 @@ use Rattle.clap.specs.declared.error.Error.{Error}
 use Rattle.clap.specs.declared.parser.matches.ArgMatches.{ArgMatches}
 use Rattle.docker_cmd.specs.Grammar.{docker_app}
 
--- the program is simple
+-- the program is one of those whose matches are known
 simple : is_simple docker_app ≡ true
 simple = refl
 
--- and its faults are known
+-- the program is one of those whose faults are known
 free : is_simple_and_free docker_app ≡ true
 free = refl
 
@@ -22,7 +22,7 @@ rows_are app words result is has =
     IfOk-weaker result (HasMatchesOf docker_app words) (λ m. subcommand_rows_of m ≡ subcommand_of docker_app words) (λ m found. (found simple).1)
     (subst (λ a. IfOk result (HasMatchesOf a words)) is has)
 
--- how they are refused
+-- how words are refused
 pub fails_by : (app : App) (words : List Text) (result : Result ArgMatches Error) → app ≡ docker_app
     → (is_simple_and_free app ≡ true → FailsBy (fault_of app words) result) → FailsBy (fault_of docker_app words) result
 fails_by app words result is fails = subst (λ a. is_simple_and_free a ≡ true → FailsBy (fault_of a words) result) is fails free

@@ -18,33 +18,33 @@ job_subcommand words job is = record { plain = is.plain; whole = is.whole; count
 pub no_subcommand : (words : List Text) → NameNoSubcommand words → NameNoJob words
 no_subcommand words none = λ job is. none (subcommand_of job.task) job.words (job_subcommand words job is)
 
--- words of a subcommand that ask for nothing
+-- words that name a subcommand which asks for nothing with them name no job
 pub asks_nothing : (words : List Text) (s : Subcommand) (behind : List Text) → NamesSubcommand words s behind → IsTaskOf s behind None → NameNoJob words
 asks_nothing words s behind names nothing = λ job is.
     let same = sym names.whole ∙ is.whole in
     let one = same_subcommand s (subcommand_of job.task) (ap first_word same) in
     nothing job.task (sym one) (subst (AreWordsOf job.task) (sym (ap other_words same)) is.required)
 
--- ---- words that `clap` isn't given
+-- ---- words that `clap` doesn't get to see
 
--- words that aren't all plain
+-- a word isn't plain
 pub no_plain_job : (words : List Text) → list_all is_plain_word words ≡ false → NameNoJob words
 no_plain_job words never = λ job is. true≢false (sym is.plain ∙ never)
 
--- too many or too few words
+-- there are too many words, or too few
 pub miscounted : (s : Subcommand) (words ids : List (Bor Text)) → texts ids ≡ ids_of s → (length words ≡ length ids → ⊥) → AskNothing s (texts words)
 miscounted s words ids are never = λ task same is.
     let required = words_counted task (texts words) is ∙ ap (λ (t : Subcommand). length (ids_of t)) same in
     never (sym (length-map words (λ word. word.now)) ∙ required ∙ ap length (sym are) ∙ length-map ids (λ id. id.now))
 
--- words whose first word names no subcommand
+-- the first word names no subcommand
 pub unnamed_job : (words : List (Bor Text)) (d : Bor Text) → 1 ≤ length words → None ≡ subcommand_named (slice_index_or words 0 d).now → NameNoJob (texts words)
 unnamed_job [] d some none = absurd (omega (arith, some))
 unnamed_job (word ∷ words) d some none = λ job is.
     let never : None ≡ Some (subcommand_of job.task) = none ∙ ap subcommand_named (ap first_word is.whole) ∙ named_back (subcommand_of job.task) in
     cc
 
--- plain words whose first word names a subcommand
+-- the words are plain, and the first one names a subcommand
 pub behind_asks : (words : List (Bor Text)) (d : Bor Text) (s : Subcommand) (test : Bool) → 1 ≤ length words
     → Some s ≡ subcommand_named (slice_index_or words 0 d).now → list_all is_plain_word (texts words) ≡ true
     → ((test ≡ false) ↔ AskNothing s (texts (take (length words - 1) (drop 1 words)))) → (test ≡ false) ↔ NameNoJob (texts words)

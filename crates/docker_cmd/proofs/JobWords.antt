@@ -1,5 +1,5 @@
--- `clap` accepts the words that name a subcommand and no others, and finds that subcommand and its
--- words.
+-- `clap` accepts just the words that name a subcommand, and finds the subcommand and the words
+-- after it.
 use Rattle.std.proofs.Common.{◌≡◌, ◌∙◌, ◌⊎◌, ◌||◌, inl, inr, Bool, cond, true, false, refl, sym, ap, subst, List, [], ◌∷◌, length, map, Some, None, option_map, true≢false, arith}
 use Rattle.std.specs.Prelude.{option_and_then}
 use Rattle.std.specs.List.{find, list_all}
@@ -18,12 +18,12 @@ use Rattle.docker_cmd.proofs.RequiredWords.{count_fault, leaf_fault, paired, row
 use Rattle.docker_cmd.proofs.Rows.{known, leaf_of, leaves, named_back}
 use Rattle.docker_cmd.proofs.TaskWords.{first_word, other_words, same_subcommand}
 
--- the words are the name of a subcommand, followed by as many words as it requires
+-- the words are a subcommand's name, and then as many words as it requires
 pub record AreRequired (words : List Text) (s : Subcommand) (behind : List Text) : Type 0 where
   pub whole : words ≡ name_of s ∷ behind
   pub count : length behind ≡ length (ids_of s)
 
--- `clap` finds that subcommand and these words
+-- `clap` finds that subcommand and the words after it
 pub record Takes (words : List Text) : Type 0 where
   pub subcommand : Subcommand
   pub behind : List Text
@@ -36,18 +36,18 @@ pub record Refuses (words : List Text) : Type 0 where
   pub fault : fault_of docker_app words ≡ [] → ⊥
   pub names_none : (s : Subcommand) (behind : List Text) → ¬ AreRequired words s behind
 
--- the words are accepted or refused
+-- `clap` either accepts the words or refuses them
 abbrev pub Judged : List Text → Type 0
 Judged words = Takes words ⊎ Refuses words
 
--- ---- the number of words
+-- ---- how many words there are
 
--- there are as many words as required, or there are too many or too few
+-- there are as many words as required, or else a fault for their number
 abbrev IsCounted : List Text → List Text → Type 0
 IsCounted ids words = ((length words ≡ length ids) × (count_fault ids words ≡ []))
     ⊎ ((length words ≡ length ids → ⊥) × (is_empty (count_fault ids words) ≡ false))
 
--- this is always so
+-- either the words are as many as required, or there is a fault for their number
 counted : (ids words : List Text) → IsCounted ids words
 counted [] [] = inl (refl, refl)
 counted [] (word ∷ words) = inr ((λ same. omega (arith, same)), refl)
@@ -59,26 +59,26 @@ counted (id ∷ ids) (word ∷ words) = by (counted ids words)
     by (inr never) = inr ((λ same. never.0 (omega (arith, same))), never.1)
 
 module _ (s : Subcommand) (words : List Text) (plain : list_all is_plain_word words ≡ true) where
-  -- the faults at its name are the faults of the number of words
+  -- after a name, the only faults are for the number of words
   fault_at_name : fault_of docker_app (name_of s ∷ words) ≡ count_fault (ids_of s) words
   fault_at_name =
       let k = known s in
       named_fault leaves (leaf_of s) (name_of s) words k.met k.under ∙ leaf_fault (name_of s) (ids_of s) words k.fits k.fresh plain
 
-  -- at its name the words are found with their ids
+  -- after a name, the words are found at their ids
   found_at_name : found_in (subcommand_of docker_app (name_of s ∷ words)) ≡ found_at (name_of s) (paired (ids_of s) words)
   found_at_name =
       let k = known s in
       ap found_in (named_rows leaves (leaf_of s) (name_of s) words k.met k.under)
       ∙ ap (found_at (name_of s)) (rows_found (name_of s) (ids_of s) words k.fits k.fresh plain)
 
-  -- and the words are found
+  -- if they are as many as required, all of them are found
   words_at_name : length words ≡ length (ids_of s) → found_at (name_of s) (paired (ids_of s) words) ≡ Some (pair_of s words)
   words_at_name count =
       ap (option_and_then (λ t. option_map (pair_of t) (found_words (ids_of t) (paired (ids_of s) words)))) (named_back s)
       ∙ ap (option_map (pair_of s)) ((known s).found words count)
 
-  -- the words after a name are judged by their number
+  -- after a name, the words are judged by their number
   named_judged : Judged (name_of s ∷ words)
   named_judged = elim (counted (ids_of s) words) [
     | inl is ↦ inl (record {
@@ -96,33 +96,33 @@ module _ (s : Subcommand) (words : List Text) (plain : list_all is_plain_word wo
     })
   ]
 
--- ---- any words
+-- ---- words of any kind
 
--- the word isn't the name of one of these subcommands
+-- the word isn't the name of any of these subcommands
 abbrev IsNoneOf : Text → List Subcommand → Type 0
 IsNoneOf word [] = Unit {0}
 IsNoneOf word (s ∷ ss) = (bytes_eq (name_of s) word ≡ false) × IsNoneOf word ss
 
--- no subcommand has this name
+-- no subcommand answers to such a word
 none_answers : (word : Text) (ss : List Subcommand) → IsNoneOf word ss → find (answers_to word) (map label_of (map leaf_of ss)) ≡ None
 none_answers word [] none = refl
 none_answers word (s ∷ ss) none =
     ap (λ b. cond (b || false) (Some (name_of s, [])) (find (answers_to word) (map label_of (map leaf_of ss)))) none.0
     ∙ none_answers word ss none.1
 
--- none of them is found by it
+-- no subcommand is found for such a word
 none_found : (word : Text) (ss : List Subcommand) → IsNoneOf word ss → find (λ s. bytes_eq (name_of s) word) ss ≡ None
 none_found word [] none = refl
 none_found word (s ∷ ss) none = ap (λ b. cond b (Some s) (find (λ t. bytes_eq (name_of t) word) ss)) none.0 ∙ none_found word ss none.1
 
--- a word that is the name of none of them
+-- if a word isn't in the table of subcommands, it isn't a subcommand's name
 no_name : (word : Text) (s : Subcommand) → IsNoneOf word subcommands → word ≡ name_of s → ⊥
 unfolding subcommand_named
 no_name word s none is =
     let never : None ≡ Some s = sym (none_found word subcommands none) ∙ ap subcommand_named is ∙ named_back s in
     cc
 
--- a word that names no subcommand
+-- plain words are refused if the first one names no subcommand
 unnamed_judged : (word : Text) (words : List Text) → list_all is_plain_word (word ∷ words) ≡ true → IsNoneOf word subcommands → Judged (word ∷ words)
 unnamed_judged word words plain none =
     let fault = unnamed_fault leaves word words (both _ _ plain).0 (ap (option_map (λ (s : Text × List Text). s.0)) (none_answers word subcommands none)) in
@@ -131,7 +131,7 @@ unnamed_judged word words plain none =
       names_none = λ s behind are. no_name word s none (ap first_word are.whole);
     })
 
--- the word is the name of one of these subcommands, or it isn't
+-- plain words are judged, whether the first one names one of these subcommands or not
 by_name : (word : Text) (words : List Text) → list_all is_plain_word words ≡ true → (ss : List Subcommand) → (IsNoneOf word ss → Judged (word ∷ words))
     → Judged (word ∷ words)
 by_name word words plain [] unnamed = unnamed tt
@@ -141,7 +141,7 @@ by_name word words plain (s ∷ ss) unnamed = by (bytes_eq (name_of s) word) ref
     by true same rest = subst (λ w. Judged (w ∷ words)) ((bytes_eq-Decides (name_of s) word).0 same) (named_judged s words plain)
     by false differ rest = rest differ
 
--- each list of plain words is accepted or refused
+-- plain words are either accepted or refused
 pub judged : (words : List Text) → list_all is_plain_word words ≡ true → Judged words
 judged [] plain = inr (record {
   fault = λ empty. true≢false (sym (ap is_empty (sym (no_word leaves) ∙ empty)));

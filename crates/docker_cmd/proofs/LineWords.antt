@@ -1,4 +1,4 @@
--- The words of a line, piece by piece.
+-- Splitting a line into words, piece by piece.
 use Rattle.std.proofs.Common.{◌≡◌, ℕ, ◌+◌, ◌<◌, List, [], ◌∷◌, ◌++◌, length, ap, ◌∙◌, refl, Bool, true, false, cond, suc, arith, append-nil}
 use Rattle.std.specs.Prelude.{◌==◌, not, filter}
 use Rattle.std.specs.List.{slice_split, position_or_len, before_first, after_first, AllByRecursion}
@@ -6,7 +6,7 @@ use Rattle.std.proofs.lemmas.List.Elements.{All-from_recursion}
 use Rattle.std.proofs.lemmas.List.Splits.{slice_split_first, slice_split_none}
 use Rattle.docker_cmd.specs.JobLine.{is_space, word_or_none, words_in}
 
--- the words of pieces, with the first piece apart
+-- the words among some pieces: first the first piece, if it is a word
 first_apart : (piece : List ℕ) (pieces : List (List ℕ))
     → filter (λ word. not (length word == 0)) (piece ∷ pieces) ≡ word_or_none piece ++ filter (λ word. not (length word == 0)) pieces
 first_apart piece pieces = by (length piece == 0)
@@ -16,14 +16,14 @@ first_apart piece pieces = by (length piece == 0)
     by true = refl
     by false = refl
 
--- the words of a line with a space: the piece before it, and then the words after it
+-- a line with a space has the piece before it, if that is a word, and then the words after it
 pub words_at_space : (text : List ℕ) → position_or_len is_space text < length text
     → words_in text ≡ word_or_none (before_first is_space text) ++ words_in (after_first is_space text)
 words_at_space text here =
     ap (filter (λ word. not (length word == 0))) (slice_split_first is_space text 0 here)
     ∙ first_apart (before_first is_space text) (slice_split is_space (after_first is_space text))
 
--- no byte is a space if the first space would stand at the end
+-- if the first space would come at the end, there is none
 no_space : (text : List ℕ) → position_or_len is_space text ≡ length text → AllByRecursion (λ b. is_space b ≡ false) text
 no_space [] none = tt
 no_space (b ∷ text) none = by (is_space b) refl none (no_space text)
@@ -34,7 +34,7 @@ no_space (b ∷ text) none = by (is_space b) refl none (no_space text)
     by true here at_end rest = absurd (omega arith)
     by false here at_end rest = (here, rest (omega arith))
 
--- the words of a line without a space
+-- a line without a space is one word, or none if it is empty
 pub words_without_space : (text : List ℕ) → position_or_len is_space text ≡ length text → words_in text ≡ word_or_none text
 words_without_space text none =
     ap (filter (λ word. not (length word == 0))) (slice_split_none is_space text (All-from_recursion _ text (no_space text none)))

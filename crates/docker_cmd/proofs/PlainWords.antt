@@ -1,4 +1,4 @@
--- What `clap` makes of a plain word: it is a value, or the name of a subcommand.
+-- How `clap` reads a plain word: as a value, or as the name of a subcommand.
 use Rattle.std.proofs.Common.{◌≡◌, ◌∙◌, ℕ, cond, true, false, refl, ap, List, [], ◌∷◌, Some, None}
 use Rattle.std.specs.List.{fold}
 use Rattle.std.specs.Option.{option_and_then}
@@ -11,24 +11,24 @@ use Rattle.clap.specs.Kinds.{or_else}
 use Rattle.clap.proofs.SimpleLemmas.{is_false}
 use Rattle.docker_cmd.specs.Words.{is_plain_word}
 
--- between two words, where nothing is pending
+-- the walk between two words, when nothing is pending
 abbrev pub at : Held → ℕ → Walk
 at h position = record (walk_from h) { position = position }
 
--- a plain word has no leading hyphen to strip
+-- a plain word has no leading hyphen
 no_hyphen : (word : Text) → is_plain_word word ≡ true → strip_byte 45 word ≡ None
 no_hyphen [] plain = refl
 no_hyphen (byte ∷ bytes) plain = ap (λ b. cond b (Some bytes) None) (is_false _ plain)
 
--- it is no long option
+-- a plain word isn't a long option
 no_long : (word : Text) → is_plain_word word ≡ true → long_of word ≡ None
 no_long word plain = ap (λ rest. option_and_then long_of_rest (option_and_then (strip_byte 45) rest)) (no_hyphen word plain)
 
--- it is no bundle of short options
+-- a plain word isn't a bundle of short options
 no_short : (word : Text) → is_plain_word word ≡ true → short_of word ≡ None
 no_short word plain = ap (option_and_then short_of_rest) (no_hyphen word plain)
 
--- it is not `--`
+-- a plain word isn't a double hyphen
 no_double_hyphen : (word : Text) → is_plain_word word ≡ true → bytes_eq word (45 ∷ 45 ∷ []) ≡ false
 no_double_hyphen [] plain = refl
 no_double_hyphen (byte ∷ bytes) plain = rw (is_false _ plain) refl
@@ -42,7 +42,7 @@ plain_met c names position word h plain none =
     ∙ ap (λ long. long_or_other c idle word long h) (no_long word plain)
     ∙ ap (λ flags. short_or_plain c idle word flags h) (no_short word plain)
 
--- it has no fault of its own
+-- a plain word that names no subcommand has no fault by itself
 pub plain_fault : (s : Shape) (names : Names) (word : Text) (h : Held) → is_plain_word word ≡ true → subcommand_met names idle word ≡ None
     → word_fault s names false idle word h ≡ []
 plain_fault s names word h plain none =
@@ -52,14 +52,14 @@ plain_fault s names word h plain none =
     ∙ ap (λ flags. Rattle.std.specs.Option.option_map_or (λ fs. Rattle.clap.specs.Faults.bundle_fault s.rules s.args_override_self fs h) flags [])
     (no_short word plain)
 
--- the walk after it: the word goes to the positional
+-- the walk takes a plain word that names no subcommand as the positional value of its place
 pub plain_walked : (c : List Rule) (names : Names) (position : ℕ) (word : Text) (h : Held) → is_plain_word word ≡ true → subcommand_met names idle word ≡ None
     → walked c names (at h position) word ≡ to_positional c (arg_by_index c position) word (at h position) h
 unfolding walked
 plain_walked c names position word h plain none =
     ap (λ (met : Held × Step). after_step c word (at h position) met.0 met.1) (plain_met c names position word h plain none)
 
--- its fault is the fault of its place
+-- the fault of a plain word that names no subcommand is the one that its place gives
 pub plain_turn : (s : Shape) (names : Names) (position : ℕ) (word : Text) (h : Held) → is_plain_word word ≡ true → subcommand_met names idle word ≡ None
     → turn_fault s names (at h position) word ≡ step_fault s position h value
 plain_turn s names position word h plain none =
@@ -67,7 +67,7 @@ plain_turn s names position word h plain none =
     let fault = plain_fault s names word h plain none in
     λ i. or_else (fault i) (step_fault s position (met i).0 (met i).1)
 
--- the faults of a walk: the word's fault, and then the faults of the rest
+-- the faults of a walk that starts with a plain word: the word's own, and then the others
 pub plain_walk_fault : (s : Shape) (names : Names) (position : ℕ) (word : Text) (rest : List Text) (h : Held) → is_plain_word word ≡ true
     → subcommand_met names idle word ≡ None
     → walk_fault s names (at h position) (word ∷ rest)

@@ -1,4 +1,4 @@
--- What `clap` makes of the words after a subcommand that requires some.
+-- How `clap` reads the words after a subcommand that requires some.
 use Rattle.std.proofs.Common.{◌≡◌, ◌∙◌, ◌+◌, ◌&&◌, ◌||◌, ℕ, Bool, cond, true, false, not, min, map, refl, sym, ap, subst, true≢false, List, [], ◌∷◌, ◌++◌, Some, None, append_assoc, append-nil}
 use Rattle.std.specs.List.{find, fold, list_all, list_any}
 use Rattle.std.specs.Str.{bytes_eq}
@@ -19,37 +19,37 @@ use Rattle.docker_cmd.specs.Words.{is_plain_word}
 use Rattle.docker_cmd.specs.Grammar.{docker_shape, required_rule, words_shape}
 use Rattle.docker_cmd.proofs.PlainWords.{at, plain_turn, plain_walked}
 
--- the program's own level once it is built
+-- the program's own level, once `clap` has built it
 abbrev pub built_top : Shape
 built_top = record docker_shape { is_leaf = false; is_built = true }
 
--- a subcommand of the program once it is built
+-- one of the program's subcommands, once `clap` has built it
 abbrev pub leaf : Text → List Text → Shape
 leaf name ids = built_leaf (inherited built_top (words_shape name ids))
 
--- a required word once its command is built
+-- the rule of a required word, once its subcommand is built
 abbrev pub placed : ℕ → Text → Rule
 placed position id = with_index position (filled (required_rule id))
 
--- the position after one
+-- the next position
 abbrev pub next : ℕ → ℕ
 next position = min (position + 1) usize_max
 
--- the rules have the ids at these positions and no more
+-- from this position on, the rules have just these ids
 abbrev pub Fits : List Rule → ℕ → List Text → Type 0
 Fits c position [] = arg_by_index c position ≡ None
 Fits c position (id ∷ ids) = (arg_by_index c position ≡ Some (placed position id)) × (arg_by_id c id ≡ Some (placed position id)) × Fits c (next position) ids
 
--- what was found for a required word
+-- the row of a required word that was found
 abbrev pub row : Text → Text → Row
 row id word = record { id = id; values = word ∷ []; count = None; source = Some CommandLine; reading = reading_by (new_rule id) }
 
--- no id has a row yet, nor has any id before it
+-- none of these ids has a row yet, and they differ
 abbrev pub Fresh : List Row → List Text → Type 0
 Fresh rows [] = Unit {0}
 Fresh rows (id ∷ ids) = (has_row id rows ≡ false) × ((word : Text) → Fresh (rows ++ row id word ∷ []) ids)
 
--- each word with its id
+-- the rows of these words, each with its id
 abbrev pub paired : List Text → List Text → List Row
 paired [] words = []
 paired (id ∷ ids) [] = []
@@ -57,30 +57,30 @@ paired (id ∷ ids) (word ∷ words) = row id word ∷ paired ids words
 
 -- ---- one required word
 
--- neither of two tests passes
+-- if neither of two tests passes, each fails
 neither : (a b : Bool) → (a || b) ≡ false → (a ≡ false) × (b ≡ false)
 neither true b e = absurd (true≢false e)
 neither false b e = (refl, e)
 
--- a change at an id without a row adds to the end
+-- a change at an id that has no row adds one at the end
 at_new : (id : Text) (change : Row → List Row) (missing rows : List Row) → has_row id rows ≡ false → at_row id change missing rows ≡ rows ++ missing
 at_new id change missing [] fresh = refl
 at_new id change missing (r ∷ rows) fresh =
     let parts = neither _ _ fresh in
     ap (λ b. cond b (change r ++ rows) (r ∷ at_row id change missing rows)) parts.0 ∙ ap (λ rest. r ∷ rest) (at_new id change missing rows parts.1)
 
--- a first use of a required word adds its row
+-- the first use of a required word adds its row
 used_new : (position : ℕ) (id word : Text) (rows : List Row) → has_row id rows ≡ false → used (placed position id) (word ∷ []) rows ≡ rows ++ row id word ∷ []
 used_new position id word rows fresh =
     ap (with_values id (reading_by (new_rule id)) CommandLine (word ∷ [])) (at_new id (λ _. []) [] rows fresh ∙ append-nil rows)
     ∙ at_new id (more_values CommandLine (word ∷ [])) (row id word ∷ []) rows fresh
 
--- what is held counts as these rows, and passes
+-- what is held settles to these rows, without a fault
 record Settles (s : Shape) (h : Held) (rows : List Row) : Type 0 where
   rows_are : settled_rows s.rules h.pending h.rows ≡ rows
   no_fault : settle_fault s.rules s.args_override_self h ≡ []
 
--- a required word that is held
+-- a required word is held
 abbrev holding : List Row → Text → Text → ℕ → Held
 holding rows id word skip = record { rows = rows; pending = Some (id, word ∷ []); skip = skip }
 
@@ -94,13 +94,13 @@ settles_new s position id word rows skip found fresh = record {
       ∙ ap (λ b. or_else (cond (b && not s.args_override_self) (kind.ArgumentConflict ∷ []) []) []) fresh;
 }
 
--- the walk over it
+-- the walk takes a required word as the value of its place
 at_positional : (c : List Rule) (position : ℕ) (id word : Text) (h : Held)
     → to_positional c (Some (placed position id)) word (at h position) h ≡ at (holding (settled_rows c h.pending h.rows) id word h.skip) (next position)
 at_positional c position id word h =
     ap (λ b. at (pushed id word (cond b h (settled c h))) (next position)) (and-false (is_pending (placed position id) h.pending))
 
--- the walk over a required word holds it
+-- after that the walk holds this word
 placed_walked : (s : Shape) (position : ℕ) (id word : Text) (h : Held) (rows : List Row) → arg_by_index s.rules position ≡ Some (placed position id)
     → Settles s h rows → is_plain_word word ≡ true → walked s.rules [] (at h position) word ≡ at (holding rows id word h.skip) (next position)
 placed_walked s position id word h rows found settles plain =
@@ -122,22 +122,22 @@ placed_fault s position id word rest h rows found settles plain =
     let after = placed_walked s position id word h rows found settles plain in
     λ i. or_else (turn i) (walk_fault s [] (after i) rest)
 
--- ---- all the words
+-- ---- all words of a subcommand
 
--- one word more than required
+-- the fault if there are more words than are required
 abbrev surplus_fault : List Text → List Text → Kinds
 surplus_fault [] [] = []
 surplus_fault [] (word ∷ words) = kind.UnknownArgument ∷ []
 surplus_fault (id ∷ ids) [] = []
 surplus_fault (id ∷ ids) (word ∷ words) = surplus_fault ids words
 
--- fewer words than are required
+-- there are fewer words than are required
 abbrev is_short : List Text → List Text → Bool
 is_short [] words = false
 is_short (id ∷ ids) [] = true
 is_short (id ∷ ids) (word ∷ words) = is_short ids words
 
--- the walk over all words fails only if there is one too many
+-- the walk over the words has a fault only if there are too many
 words_fault : (s : Shape) (position : ℕ) (ids words : List Text) (h : Held) (rows : List Row) → stray_fault s ≡ kind.UnknownArgument ∷ []
     → Fits s.rules position ids → Fresh rows ids
     → Settles s h rows → list_all is_plain_word words ≡ true → walk_fault s [] (at h position) words ≡ surplus_fault ids words
@@ -153,7 +153,7 @@ words_fault s position (id ∷ ids) (word ∷ words) h rows stray fits fresh set
     ∙ words_fault s (next position) ids words (holding rows id word h.skip) (rows ++ row id word ∷ []) stray fits.2 (fresh.1 word)
     (settles_new s position id word rows h.skip fits.1 fresh.0) (both _ _ plain).1
 
--- what is held at its end settles to the words with their ids
+-- what it holds at the end settles to all words, each with its id
 words_held : (s : Shape) (position : ℕ) (ids words : List Text) (h : Held) (rows : List Row) → Fits s.rules position ids → Fresh rows ids
     → Settles s h rows → list_all is_plain_word words ≡ true → Settles s (fold (walked s.rules []) (at h position) words).held (rows ++ paired ids words)
 words_held s position [] [] h rows fits fresh settles plain = subst (Settles s h) (sym (append-nil rows)) settles
@@ -171,9 +171,9 @@ words_held s position (id ∷ ids) (word ∷ words) h rows fits fresh settles pl
     (subst (Settles s (fold (walked s.rules []) (at (holding rows id word h.skip) (next position)) words).held)
     (append_assoc rows (row id word ∷ []) (paired ids words)) rest)
 
--- ---- after the walk
+-- ---- the end of the walk
 
--- a choice between equal rows
+-- a choice between equal rows doesn't matter
 same_rows : (id : Text) (rows : List Row) → cond (has_row id rows) rows rows ≡ rows
 same_rows id rows = go (has_row id rows)
   where
@@ -181,7 +181,7 @@ same_rows id rows = go (has_row id rows)
     go true = refl
     go false = refl
 
--- no required word has a default
+-- a required word has no default
 no_defaults : (position : ℕ) (ids : List Text) (rows : List Row) → fold with_default rows (filled_from position (map required_rule ids)) ≡ rows
 no_defaults position [] rows = refl
 no_defaults position (id ∷ ids) rows =
@@ -195,7 +195,7 @@ no_default_fault position (id ∷ ids) rows =
     ap (λ b. or_else (cond b [] []) (defaults_fault (with_default rows (placed position id)) rest)) (or-true (has_row id rows))
     ∙ ap (λ rs. defaults_fault rs rest) (same_rows id rows) ∙ no_default_fault (next position) ids rows
 
--- an id without a row is given only by the rows after it
+-- an id without a row among the first rows is given only by the others
 not_given : (id : Text) (rows rest : List Row) → has_row id rows ≡ false → is_given id (rows ++ rest) ≡ is_given id rest
 not_given id [] rest fresh = refl
 not_given id (r ∷ rows) rest fresh =
@@ -203,13 +203,13 @@ not_given id (r ∷ rows) rest fresh =
     ap (λ b. option_map_or (λ (x : Row). explicit_source x.source) (cond b (Some r) (find (λ x. bytes_eq x.id id) (rows ++ rest))) false) parts.0
     ∙ not_given id rows rest parts.1
 
--- an id is given by its row
+-- an id is given by its own row
 given_here : (id word : Text) (rest : List Row) → is_given id (row id word ∷ rest) ≡ true
 given_here id word rest =
     ap (λ b. option_map_or (λ (x : Row). explicit_source x.source) (cond b (Some (row id word)) (find (λ x. bytes_eq x.id id) rest)) false)
     ((bytes_eq-Decides id id).1 refl)
 
--- a required word is missing if there are fewer words
+-- a required word is missing if and only if there are fewer words than are required
 missing : (position : ℕ) (ids words : List Text) (rows : List Row) → Fresh rows ids
     → list_any (λ a. a.required && not (is_given a.id (rows ++ paired ids words))) (filled_from position (map required_rule ids)) ≡ is_short ids words
 missing position [] words rows fresh = refl
@@ -224,9 +224,9 @@ missing position (id ∷ ids) (word ∷ words) rows fresh =
     ∙ ap (λ rs. list_any (λ a. a.required && not (is_given a.id rs)) tail) (sym (append_assoc rows (row id word ∷ []) after))
     ∙ missing (next position) ids words (rows ++ row id word ∷ []) (fresh.1 word)
 
--- ---- a subcommand
+-- ---- a whole subcommand
 
--- what a subcommand makes of the words after it
+-- the faults for the number of words
 abbrev pub count_fault : List Text → List Text → Kinds
 count_fault ids words = or_else (surplus_fault ids words) (cond (is_short ids words) (kind.MissingRequiredArgument ∷ []) [])
 
@@ -236,17 +236,17 @@ module _ (name : Text) (ids words : List Text) (fits : Fits (leaf name ids).rule
   end : Held
   end = (walk (leaf name ids).rules [] nothing_held words).held
 
-  -- it settles to the words with their ids
+  -- what is held at the end settles to the words, each with its id
   settles_end : Settles (leaf name ids) end (paired ids words)
   unfolding end
   settles_end = words_held (leaf name ids) 1 ids words nothing_held [] fits fresh (record { rows_are = refl; no_fault = refl }) plain
 
-  -- the matches are the words with their ids
+  -- the matches are the words, each with its id
   pub rows_found : rows_after (leaf name ids).rules [] words ≡ paired ids words
   unfolding end
   rows_found = ap (λ rows. fold with_default rows (leaf name ids).rules) settles_end.rows_are ∙ no_defaults 1 ids (paired ids words)
 
-  -- the faults are the faults of their number
+  -- the only faults are for the number of words
   pub leaf_fault : level_fault (leaf name ids) [] nothing_held words false [] ≡ count_fault ids words
   unfolding end
   leaf_fault =

@@ -1,4 +1,4 @@
--- What is known of each row of the table of subcommands: a line for each.
+-- The rows of the table of subcommands: what holds for each.
 use Rattle.std.proofs.Common.{◌≡◌, ℕ, List, [], ◌∷◌, length, map, Some, refl, codes, arith}
 use Rattle.std.specs.Prelude.{⊤}
 use Rattle.std.specs.List.{find}
@@ -25,22 +25,22 @@ named_back Files = refl
 named_back Horizon = refl
 named_back Migrate = refl
 
--- ---- counts
+-- ---- the number of words
 
--- one word
+-- one word is one
 one_counted : (Holds : Text → Type 0) (words : List Text) → OfOne Holds words → length words ≡ 1
 one_counted Holds [] is = absurd is
 one_counted Holds (a ∷ []) is = refl
 one_counted Holds (a ∷ b ∷ words) is = absurd is
 
--- two words
+-- two words are two
 two_counted : (Holds : Text → Text → Type 0) (words : List Text) → OfTwo Holds words → length words ≡ 2
 two_counted Holds [] is = absurd is
 two_counted Holds (a ∷ []) is = absurd is
 two_counted Holds (a ∷ b ∷ []) is = refl
 two_counted Holds (a ∷ b ∷ c ∷ words) is = absurd is
 
--- three words
+-- three words are three
 three_counted : (Holds : Text → Text → Text → Type 0) (words : List Text) → OfThree Holds words → length words ≡ 3
 three_counted Holds [] is = absurd is
 three_counted Holds (a ∷ []) is = absurd is
@@ -60,22 +60,22 @@ words_counted files_task words is = one_counted _ words is
 words_counted (horizon_task day) words is = two_counted _ words is
 words_counted migrate_task words is = one_counted _ words is
 
--- ---- the words of a subcommand, for any of its tasks
+-- ---- what a subcommand's words have to be, whatever its task
 
--- a timing point and a day that two words name
+-- these two words name a timing point and a day
 pub record NameBoth (tiploc date : Text) : Type 0 where
   pub place : List ℕ
   pub day : ℕ
   pub place_is : NamesPlace tiploc place
   pub day_is : NamesDay date day
 
--- a state that can be written anew, and a day, that two words name
+-- these two words name a state that can be written anew, and a day
 pub record NameHorizon (state date : Text) : Type 0 where
   pub stored : NamesStored state
   pub day : ℕ
   pub day_is : NamesDay date day
 
--- they are the words of some task of this subcommand
+-- these are the words of one of the subcommand's tasks
 abbrev pub Suit : Subcommand → List Text → Type 0
 Suit New = OfOne (λ state. NamesStored state)
 Suit Check = OfOne (λ file. ⊤)
@@ -87,14 +87,14 @@ Suit Files = OfOne (λ state. ⊤)
 Suit Horizon = OfTwo (λ state date. NameHorizon state date)
 Suit Migrate = OfOne (λ state. NamesStored state)
 
--- two words, from a stronger fact
+-- a property of two words, from a stronger one
 two_weaker : (P Q : Text → Text → Type 0) → ((a b : Text) → P a b → Q a b) → (words : List Text) → OfTwo P words → OfTwo Q words
 two_weaker P Q so [] is = is
 two_weaker P Q so (a ∷ []) is = is
 two_weaker P Q so (a ∷ b ∷ []) is = so a b is
 two_weaker P Q so (a ∷ b ∷ c ∷ words) is = is
 
--- three words, from a stronger fact
+-- a property of three words, from a stronger one
 three_weaker : (P Q : Text → Text → Text → Type 0) → ((a b c : Text) → P a b c → Q a b c) → (words : List Text) → OfThree P words → OfThree Q words
 three_weaker P Q so [] is = is
 three_weaker P Q so (a ∷ []) is = is
@@ -116,16 +116,16 @@ suit files_task words is = is
 suit (horizon_task day) words is = two_weaker _ _ (λ a b named. record { stored = named.0; day = day; day_is = named.1 }) words is
 suit migrate_task words is = is
 
--- ---- what is found at the ids
+-- ---- the words that are found at the ids
 
--- one word
+-- one word is found at its id
 one_found : (a : Text) → ((x : Text) → found_words (a ∷ []) (paired (a ∷ []) (x ∷ [])) ≡ Some (x ∷ []))
     → (words : List Text) → length words ≡ 1 → found_words (a ∷ []) (paired (a ∷ []) words) ≡ Some words
 one_found a found [] one = absurd (omega (arith, one))
 one_found a found (x ∷ []) one = found x
 one_found a found (x ∷ y ∷ words) one = absurd (omega (arith, one))
 
--- two words
+-- two words are found at their ids
 two_found : (a b : Text) → ((x y : Text) → found_words (a ∷ b ∷ []) (paired (a ∷ b ∷ []) (x ∷ y ∷ [])) ≡ Some (x ∷ y ∷ []))
     → (words : List Text) → length words ≡ 2 → found_words (a ∷ b ∷ []) (paired (a ∷ b ∷ []) words) ≡ Some words
 two_found a b found [] two = absurd (omega (arith, two))
@@ -133,7 +133,7 @@ two_found a b found (x ∷ []) two = absurd (omega (arith, two))
 two_found a b found (x ∷ y ∷ []) two = found x y
 two_found a b found (x ∷ y ∷ z ∷ words) two = absurd (omega (arith, two))
 
--- three words
+-- three words are found at their ids
 three_found : (a b c : Text) → ((x y z : Text) → found_words (a ∷ b ∷ c ∷ []) (paired (a ∷ b ∷ c ∷ []) (x ∷ y ∷ z ∷ [])) ≡ Some (x ∷ y ∷ z ∷ []))
     → (words : List Text) → length words ≡ 3 → found_words (a ∷ b ∷ c ∷ []) (paired (a ∷ b ∷ c ∷ []) words) ≡ Some words
 three_found a b c found [] three = absurd (omega (arith, three))
@@ -142,17 +142,17 @@ three_found a b c found (x ∷ y ∷ []) three = absurd (omega (arith, three))
 three_found a b c found (x ∷ y ∷ z ∷ []) three = found x y z
 three_found a b c found (x ∷ y ∷ z ∷ w ∷ words) three = absurd (omega (arith, three))
 
--- ---- what `clap` knows
+-- ---- the subcommands as `clap` has them
 
--- the program's subcommands once they are built
+-- a subcommand, once `clap` has built it
 abbrev pub leaf_of : Subcommand → Shape
 leaf_of s = leaf (name_of s) (ids_of s)
 
 abbrev pub leaves : List Shape
 leaves = map leaf_of subcommands
 
--- what is known of each subcommand of the program: its ids have their places and differ, its name
--- is met, and its words are found
+-- for a subcommand: its ids have their positions and differ, its name is met, and its words are
+-- found
 pub record IsKnown (s : Subcommand) : Type 0 where
   pub fits : Fits (leaf_of s).rules 1 (ids_of s)
   pub fresh : Fresh [] (ids_of s)
@@ -160,7 +160,7 @@ pub record IsKnown (s : Subcommand) : Type 0 where
   pub under : find (λ x. answers_to (name_of s) (label_of x)) leaves ≡ Some (leaf_of s)
   pub found : (words : List Text) → length words ≡ length (ids_of s) → found_words (ids_of s) (paired (ids_of s) words) ≡ Some words
 
--- it is known of all of them
+-- each subcommand has these properties
 pub known : (s : Subcommand) → IsKnown s
 known New = record { fits = (refl, refl, refl); fresh = (refl, λ a. tt); met = refl; under = refl; found = one_found (codes "STATE") (λ x. refl) }
 known Check = record { fits = (refl, refl, refl); fresh = (refl, λ a. tt); met = refl; under = refl; found = one_found (codes "FILE") (λ x. refl) }

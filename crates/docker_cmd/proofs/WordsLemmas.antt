@@ -1,4 +1,4 @@
--- From what `clap` returns to what `read_words` returns.
+-- From the result of `clap` to the result of `read_words`.
 use Rattle.std.proofs.Common.{◌≡◌, ◌≢◌, ◌∙◌, ◌⊎◌, inl, inr, Bool, true, sym, ap, subst, List, [], Option, Some, None, Result, Err, IfOk, option_map, false, true≢false}
 use Rattle.std.specs.List.{list_all}
 use Rattle.std.specs.Option.{ok_or}
@@ -17,22 +17,22 @@ use Rattle.docker_cmd.specs.Job.{NameNoSubcommand, NamesSubcommand}
 use Rattle.docker_cmd.specs.Grammar.{docker_app, found_in, pair_of}
 use Rattle.docker_cmd.proofs.JobWords.{judged}
 
--- the test of each word is the test of its text
+-- a test of all words is the test of all their texts
 pub plain_texts : (words : List (Bor Text)) (b : Bool) → b ≡ list_all (λ word. is_plain_word word.now) words → list_all is_plain_word (texts words) ≡ b
 plain_texts words b is = list_all-map is_plain_word (λ (word : Bor Text). word.now) words ∙ sym is
 
--- words that aren't all plain name no subcommand
+-- if a word isn't plain, the words name no subcommand
 pub not_plain : (words : List Text) → list_all is_plain_word words ≡ false → NameNoSubcommand words
 not_plain words never = λ s behind names. absurd (true≢false (sym names.plain ∙ never))
 
--- a subcommand and its words, as they were found
+-- this subcommand and these words are what was found
 pub record IsFound (words : List Text) (found : Option (Subcommand × List Text)) : Type 0 where
   pub subcommand : Subcommand
   pub behind : List Text
   pub is : found ≡ Some (pair_of subcommand behind)
   pub names : NamesSubcommand words subcommand behind
 
--- what is found if `clap` accepts the words
+-- what is found, if `clap` accepts the words
 pub words_found : (words : List Text) → list_all is_plain_word words ≡ true → fault_of docker_app words ≡ []
     → IsFound words (found_in (subcommand_of docker_app words))
 words_found words plain none = elim (judged words plain) [
@@ -45,7 +45,7 @@ words_found words plain none = elim (judged words plain) [
   | inr refuses ↦ absurd (refuses.fault none)
 ]
 
--- `clap` refuses them, and not because it is out of memory
+-- the words name no subcommand, if `clap` refuses them for another reason than memory
 pub words_refused : (words : List Text) (kind : ErrorKind) → list_all is_plain_word words ≡ true
     → (kind ≡ OutOfMemory) ⊎ IsAmong kind (fault_of docker_app words) → kind ≢ OutOfMemory → NameNoSubcommand words
 words_refused words kind plain (inl memory) other = absurd (other memory)
@@ -54,7 +54,7 @@ words_refused words kind plain (inr among) other = elim (judged words plain) [
   | inr refuses ↦ λ s behind names. refuses.names_none s behind (record { whole = names.whole; count = names.count })
 ]
 
--- what `read_words` returns, if `held` gives the words after a subcommand
+-- the result of `read_words`, where `held` gives the words after the subcommand
 abbrev pub IsRead : {B : Type 0} → (B → List Text) → List Text → Result (Subcommand × B) JobFault → Type 0
 IsRead held words result = IfOk result (λ read. NamesSubcommand words read.0 (held read.1)) × ((result ≡ Err Usage) → NameNoSubcommand words)
 

@@ -10,7 +10,7 @@ use Rattle.docker_office.specs.declared.fault.OfficeFault.TheVariants as office
 use Rattle.docker_cmd.specs.declared.fault.Fault.{Fault}
 use Rattle.docker_cmd.specs.declared.fault.Fault.TheVariants.{Job, Office}
 
--- 1 refused input, 2 usage, 3 out of memory, 4 a device
+-- the exit status: 1 for refused input, 2 for usage, 3 for out of memory, 4 for a failed device
 abbrev pub status_of : Fault → ℕ
 status_of (Job job.Usage) = 2
 status_of (Job job.Memory) = 3
@@ -22,16 +22,16 @@ status_of (Office office.Source) = 4
 status_of (Office office.Sink) = 4
 status_of (Office office.Memory) = 3
 
--- the line of a refused file
+-- the line for a refused file
 abbrev pub file_line : FileFault → List ℕ
 file_line fault = codes "docker: file refused: record " ++ decimal fault.number ++ codes ": " ++ cause_text fault.cause ++ codes "\n"
 
--- the line of a refused state
+-- the line for a refused state
 abbrev pub state_line : StateFault → List ℕ
 state_line fault =
     codes "docker: state refused: offset " ++ decimal fault.at ++ codes ": " ++ state_text.cause_text fault.cause ++ codes "\n"
 
--- the line of a day before the horizon plus three days
+-- the line for a day that is refused: it is less than three days after the horizon
 abbrev pub day_line : List ℕ
 day_line = codes "docker: day refused: before horizon plus three days\n"
 
@@ -39,11 +39,11 @@ day_line = codes "docker: day refused: before horizon plus three days\n"
 abbrev pub memory_line : List ℕ
 memory_line = codes "docker: want of memory\n"
 
--- the line of a device that failed
+-- the line for a failed device
 abbrev pub device_line : List ℕ
 device_line = codes "docker: device failed\n"
 
--- the line of a fault
+-- the line for this fault
 abbrev pub fault_line : Fault → List ℕ
 fault_line (Job job.Usage) = usage_line
 fault_line (Job job.Memory) = memory_line

@@ -5,13 +5,13 @@ use Rattle.docker_cmd.specs.declared.tasks.Subcommand.{Subcommand}
 use Rattle.docker_cmd.specs.Tasks.{AreWordsOf, TaskView, ids_of, name_of, subcommand_of}
 use Rattle.docker_cmd.specs.Words.{Text, is_plain_word}
 
--- a job: what it asks for, and the words after the subcommand
+-- a job: its task, and the words after the subcommand
 pub record JobView : Type 0 where
   pub task : TaskView
   pub words : List Text
 
--- the words name this job: its subcommand, and then the words of its task. None is empty or begins
--- with a hyphen
+-- the words name this job: they are its subcommand, and then the words of its task. None of them is
+-- empty or begins with a hyphen
 pub record IsJobOf (words : List Text) (job : JobView) : Type 0 where
   pub plain : IsTrue (list_all is_plain_word words)
   pub whole : words ≡ name_of (subcommand_of job.task) ∷ job.words
@@ -21,16 +21,16 @@ pub record IsJobOf (words : List Text) (job : JobView) : Type 0 where
 abbrev pub NameNoJob : List Text → Type 0
 NameNoJob words = (job : JobView) → ¬ IsJobOf words job
 
--- a subcommand asks for nothing with these words
+-- the subcommand has no task with these words
 abbrev pub AskNothing : Subcommand → List Text → Type 0
 AskNothing subcommand words = (task : TaskView) → subcommand_of task ≡ subcommand → ¬ AreWordsOf task words
 
--- what it asks for: this task, or nothing
+-- the subcommand's task with these words, or None if it has none
 abbrev pub IsTaskOf : Subcommand → List Text → Option TaskView → Type 0
 IsTaskOf subcommand words (Some task) = (subcommand_of task ≡ subcommand) × AreWordsOf task words
 IsTaskOf subcommand words None = AskNothing subcommand words
 
--- plain words name this subcommand, followed by as many words as it requires
+-- the words are plain: this subcommand's name, and then as many words as it requires
 pub record NamesSubcommand (words : List Text) (subcommand : Subcommand) (behind : List Text) : Type 0 where
   pub plain : IsTrue (list_all is_plain_word words)
   pub whole : words ≡ name_of subcommand ∷ behind

@@ -1,10 +1,10 @@
--- What a task reads.
+-- The sources of a task.
 use Rattle.docker_model.specs.state.StateText.{Format, dks_1, dks_2}
 use Rattle.docker_cmd.specs.declared.reads.Sources as declared
 use Rattle.docker_cmd.specs.declared.reads.Sources.TheVariants as code
 
--- the sources of a task, in the order of its words: none, a file that is only checked, or a file
--- that an office takes; or a state in a format, a state and then a file, or two states
+-- what a task reads, in the order of its words. A file is only checked, or an office takes it; one
+-- state is in some format; a state may come before a file or another state
 pub data Sources : Type 0 where
   no_source : Sources
   checked_file : Sources
@@ -13,7 +13,7 @@ pub data Sources : Type 0 where
   state_and_file : Sources
   two_states : Sources
 
--- what the code's sources mean
+-- sources as the definitions have them
 abbrev pub sources_meant : declared.Sources → Sources
 sources_meant code.None = no_source
 sources_meant code.CheckedFile = checked_file

@@ -1,4 +1,4 @@
--- The table of subcommands, with a row for each, and the task that each names.
+-- The table of subcommands, with a row for each, and their tasks.
 use Rattle.std.specs.Prelude.{ℕ, List, [], ◌∷◌, ◌++◌, Option, Some, None, codes, map, ⊤}
 use Rattle.std.specs.List.{find}
 use Rattle.std.specs.Str.{bytes_eq}
@@ -12,21 +12,21 @@ use Rattle.docker_cmd.specs.declared.tasks.Subcommand.TheVariants.{New, Check, D
 use Rattle.docker_cmd.specs.declared.tasks.Task.{Task}
 use Rattle.docker_cmd.specs.declared.tasks.Task.TheVariants as task
 
--- a row: the name of a subcommand, the names of the words after it, and what is read
+-- a row: a subcommand's name, the ids of the words after it, and what it reads
 pub record Row : Type 0 where
   pub name : Text
   pub ids : List Text
   pub reads : Sources
 
--- a row with these columns
+-- the row with these columns
 abbrev pub row : Text → List Text → Sources → Row
 row name ids reads = record { name = name; ids = ids; reads = reads }
 
--- the row that a row of the code's type means
+-- a row of the code as the definitions have it
 abbrev pub row_meant : code.Row → Row
 row_meant given = row given.name.now (map (λ id. id.now) given.ids.now) (sources_meant given.reads)
 
--- the table
+-- the table of subcommands
 abbrev pub row_of : Subcommand → Row
 row_of New = row (codes "new") (codes "STATE" ∷ []) no_source
 row_of Check = row (codes "check") (codes "FILE" ∷ []) checked_file
@@ -46,19 +46,19 @@ subcommands = New ∷ Check ∷ Day ∷ Take ∷ Merge ∷ Print ∷ Files ∷ H
 abbrev pub name_of : Subcommand → Text
 name_of subcommand = (row_of subcommand).name
 
--- the names of the words after it
+-- the ids of the words after it, as a usage line has them
 abbrev pub ids_of : Subcommand → List Text
 ids_of subcommand = (row_of subcommand).ids
 
--- the subcommand with a name
+-- the subcommand with this name
 unfoldable pub subcommand_named : Text → Option Subcommand
 subcommand_named name = find (λ subcommand. bytes_eq (name_of subcommand) name) subcommands
 
--- the one usage line
+-- the usage line
 abbrev pub usage_line : Text
 usage_line = codes "docker: usage: " ++ with_bars (map (λ subcommand. usage_with (name_of subcommand) (ids_of subcommand)) subcommands) ++ codes "\n"
 
--- what a job asks for: the subcommand, with the timing point and the day number that its words name
+-- a task: what a job is to do, with the timing point and the day number that its words name
 pub data TaskView : Type 0 where
   new_task : TaskView
   check_task : TaskView
@@ -70,7 +70,7 @@ pub data TaskView : Type 0 where
   horizon_task : (day : ℕ) → TaskView
   migrate_task : TaskView
 
--- what the code's task means
+-- a task as the definitions have it
 abbrev pub task_meant : Task → TaskView
 task_meant task.New = new_task
 task_meant task.Check = check_task
@@ -82,7 +82,7 @@ task_meant task.Files = files_task
 task_meant (task.Horizon day) = horizon_task day
 task_meant task.Migrate = migrate_task
 
--- its subcommand
+-- the subcommand of a task
 abbrev pub subcommand_of : TaskView → Subcommand
 subcommand_of new_task = New
 subcommand_of check_task = Check
@@ -94,20 +94,20 @@ subcommand_of files_task = Files
 subcommand_of (horizon_task day) = Horizon
 subcommand_of migrate_task = Migrate
 
--- its timing point, if it has one
+-- the timing point of a task, if it has one
 abbrev pub tiploc_of : TaskView → Option (List ℕ)
 tiploc_of (day_task place day) = Some place
 tiploc_of (print_task place day) = Some place
 tiploc_of _ = None
 
--- its day, if it has one
+-- the day of a task, if it has one
 abbrev pub day_of : TaskView → Option ℕ
 day_of (day_task place day) = Some day
 day_of (print_task place day) = Some day
 day_of (horizon_task day) = Some day
 day_of _ = None
 
--- the words after the subcommand that belong to it
+-- these words, after the subcommand, name this task
 abbrev pub AreWordsOf : TaskView → List Text → Type 0
 AreWordsOf new_task = OfOne (λ state. NamesStored state)
 AreWordsOf check_task = OfOne (λ file. ⊤)
@@ -119,11 +119,11 @@ AreWordsOf files_task = OfOne (λ state. ⊤)
 AreWordsOf (horizon_task day) = OfTwo (λ state date. NamesStored state × NamesDay date day)
 AreWordsOf migrate_task = OfOne (λ state. NamesStored state)
 
--- what it reads
+-- what this task reads
 abbrev pub sources_of : TaskView → Sources
 sources_of task = (row_of (subcommand_of task)).reads
 
--- what it writes
+-- what this task writes
 abbrev pub output_of : TaskView → Output
 output_of new_task = state_written
 output_of check_task = counts_written
@@ -135,7 +135,7 @@ output_of files_task = files_written
 output_of (horizon_task day) = state_written
 output_of migrate_task = state_written
 
--- the horizon that it sets on the state that it reads, if it sets one
+-- the horizon that this task sets on the state that it reads, if it sets one
 abbrev pub horizon_of : TaskView → Option ℕ
 horizon_of (horizon_task day) = Some day
 horizon_of _ = None

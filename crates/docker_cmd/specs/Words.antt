@@ -1,4 +1,4 @@
--- Words, and what a word may name. A word is a text, as its bytes.
+-- Words, and what they can name. A word is the bytes of a text.
 use Rattle.std.specs.Prelude.{◌≡◌, ◌≢◌, ℕ, ◌==◌, ◌≤◌, ◌-◌, ◌++◌, Bool, false, not, List, [], ◌∷◌, length, codes, map}
 use Rattle.std.specs.Borrow.{Bor}
 use Rattle.std.specs.List.{flat_map}
@@ -6,6 +6,7 @@ use Rattle.docker_model.specs.records.Date.{last_day}
 use Rattle.docker_model.specs.records.PrintedTime.{spaces, day_text}
 use Rattle.cif_line.specs.Tiploc.{IsTiplocText}
 
+-- the bytes of a word, or of a file's name
 abbrev pub Text : Type 0
 Text = List ℕ
 
@@ -18,40 +19,40 @@ abbrev pub is_plain_word : Text → Bool
 is_plain_word [] = false
 is_plain_word (byte ∷ bytes) = not (byte == 45)
 
--- the word names a file that can be written anew: standard input can't
+-- the word names a file that can be written anew, so it isn't standard input
 abbrev pub NamesStored : Text → Type 0
 NamesStored word = word ≢ codes "stdin"
 
--- the word names this timing point: it is its code, without the trailing spaces
+-- the word names this timing point: it is the code without trailing spaces
 pub record NamesPlace (word : Text) (place : List ℕ) : Type 0 where
   pub code : IsTiplocText word
   pub padded : place ≡ word ++ spaces (7 - length word)
 
--- the word names this day: it is its date
+-- the word names this day: it is the date
 pub record NamesDay (word : Text) (day : ℕ) : Type 0 where
   pub within : day ≤ last_day
   pub written : word ≡ day_text day
 
--- there is one word, and this holds of it
+-- there is one word, for which this holds
 abbrev pub OfOne : (Text → Type 0) → List Text → Type 0
 OfOne Holds (first ∷ []) = Holds first
 OfOne Holds _ = ⊥
 
--- there are two words, and this holds of them
+-- there are two words, for which this holds
 abbrev pub OfTwo : (Text → Text → Type 0) → List Text → Type 0
 OfTwo Holds (first ∷ second ∷ []) = Holds first second
 OfTwo Holds _ = ⊥
 
--- there are three words, and this holds of them
+-- there are three words, for which this holds
 abbrev pub OfThree : (Text → Text → Text → Type 0) → List Text → Type 0
 OfThree Holds (first ∷ second ∷ third ∷ []) = Holds first second third
 OfThree Holds _ = ⊥
 
--- a name and the names of the words after it, as a usage line has them
+-- a subcommand's name and the ids of its words, as a usage line has them
 abbrev pub usage_with : Text → List Text → Text
 usage_with name ids = name ++ flat_map (λ id. 32 ∷ id) ids
 
--- texts with a bar between each two
+-- these texts, with a bar between every two
 abbrev pub with_bars : List Text → Text
 with_bars [] = []
 with_bars (last ∷ []) = last

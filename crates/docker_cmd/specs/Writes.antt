@@ -1,17 +1,16 @@
--- What a task writes.
+-- The output of a task.
 use Rattle.std.specs.Prelude.{ℕ, List}
 use Rattle.docker_cmd.specs.declared.writes.Output as declared
 use Rattle.docker_cmd.specs.declared.writes.Output.TheVariants as code
 
--- what a task writes: the counts of a file, the docker of a timing point and a day, the files of a
--- ledger, or a state
+-- what a task writes: a file's counts, a docker, a list of files, or a state
 pub data Output : Type 0 where
   counts_written : Output
   docker_written : (place : List ℕ) (day : ℕ) → Output
   files_written : Output
   state_written : Output
 
--- what the code's output means
+-- an output as the definitions have it
 abbrev pub output_meant : declared.Output → Output
 output_meant code.Counts = counts_written
 output_meant (code.Docker place day) = docker_written place day

@@ -6,10 +6,10 @@ use arrayvec::ArrayVec;
 use fixed_text::put;
 use itoa::Buffer;
 
-/// The line, with its line feed. It has room for any two counts.
+/// Such a line, with its line feed. It has room for any two counts.
 pub(crate) type CheckText = ArrayVec<u8, 64>;
 
-/// The line of a file with `records` records, header and trailer included, and `changes` changes.
+/// The line for a file with `records` records, including header and trailer, and `changes` changes.
 pub(crate) fn check_line(records: u32, changes: u64) -> CheckText
     ensures { result.items ≡ count_line records changes }
 {

@@ -1,16 +1,16 @@
-//! Why the program ends before it is done.
+//! Why the program ends without having done its job.
 use crate::job_fault::JobFault;
 use docker_office::OfficeFault;
 use thiserror::Error;
 
-/// Whatever ends the program before it is done. It is displayed as the fault in it; `fault_text` is
-/// the line on standard error.
+/// A fault that ends the program. It is displayed as the fault that it holds; `fault_text` gives
+/// its line on standard error.
 #[derive(Clone, Copy, PartialEq, Eq, Debug, Error)]
 pub enum Fault {
-    /// There is no job.
+    /// There is no job, for this reason.
     #[error("{0}")]
     Job(JobFault),
-    /// The job is refused.
+    /// The job is refused, for this reason.
     #[error("{0}")]
     Office(OfficeFault),
 }

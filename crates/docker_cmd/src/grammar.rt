@@ -1,4 +1,4 @@
-//! What `clap` knows of the command line.
+//! The command line, as `clap` is given it.
 ghost use Rattle.std.specs.Prelude.{◌≡◌, IfOk, [], false, map};
 ghost use Rattle.clap.specs.Words.{FailsBy, app_of, fault_of, rule_of, subcommand_of, subcommand_rows_of};
 ghost use Rattle.clap.specs.declared.builder.Command.TheViews.{out-Command as fields_of};
@@ -8,7 +8,7 @@ use crate::tasks::Subcommand;
 use clap::{Arg, ArgMatches, Command, Error};
 use std::alloc::{AllocError, Global};
 
-/// A word that has to follow a subcommand.
+/// A word that has to come after a subcommand.
 fn required_word<'a>(alloc: Global, id: &'a str) -> Arg<'a>
     ensures rule { rule_of result ≡ required_rule id.entry.now }
     ensures local { result.global ≡ false }
@@ -29,7 +29,8 @@ fn command_of<'a>(alloc: Global, subcommand: Subcommand) -> Result<Command<'a>, 
     Ok(command)
 }
 
-/// The program: no word asks for help or for a version, and a subcommand has to come first.
+/// The program without its subcommands: no word asks for help or the version, and a subcommand is
+/// required.
 fn top<'a>(alloc: Global) -> Command<'a>
     ensures { app_of result ≡ record { top = docker_shape; subs = [] } }
 {
@@ -52,7 +53,7 @@ fn docker<'a>(alloc: Global) -> Result<Command<'a>, AllocError>
     Ok(docker)
 }
 
-/// What `clap` makes of the words.
+/// The result of `clap` for these words.
 pub(crate) fn matches<'a>(alloc: Global, words: &'a [&'a str]) -> Result<ArgMatches<'a>, Error>
     ensures subcommand { IfOk result (λ m.
         subcommand_rows_of m ≡ subcommand_of docker_app (map (λ w. w.now) words.entry.now)) }

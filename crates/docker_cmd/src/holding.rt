@@ -1,5 +1,5 @@
-//! What a job holds of what it has read: `print` and `files` hold no more of a state than they
-//! write.
+//! What a job holds of what it has read: `day`, `print` and `files` hold no more of a file or a
+//! state than they write.
 ghost use Rattle.std.specs.Prelude.{◌≡◌, ◌-◌, ◌^◌, ◌<◌, ◌⊎◌, IfOk};
 ghost use Rattle.docker_cmd.specs.Holding.{IsWrittenFrom, held_meant};
 ghost use Rattle.docker_cmd.specs.Prepared.{CountsSources, HasNoSource, HasSecondSource, HoldsSomeState, ReadsTask, output_of, sources_of};
@@ -7,6 +7,7 @@ ghost use Rattle.docker_cmd.specs.Prepared.{CountsSources, HasNoSource, HasSecon
 use crate::jobs::Job;
 use crate::sources::{Content, MOST_BYTES, read_content};
 use crate::tasks::Task;
+use cif_file::MOST_RECORDS;
 use cif_line::Source;
 use docker_office::{LedgerOffice, OfficeFault, PlaceOffice};
 use std::alloc::Global;
@@ -43,6 +44,10 @@ pub(crate) fn hold<S: Source, T: Source>(
     match job.task() {
         Task::Print { place, day } => {
             let office = PlaceOffice::read(alloc, place, day, first, MOST_BYTES)?;
+            Ok(Holding::Place(office))
+        }
+        Task::Day { place, day } => {
+            let office = PlaceOffice::take(alloc, place, day, first, MOST_RECORDS)?;
             Ok(Holding::Place(office))
         }
         Task::Files => {

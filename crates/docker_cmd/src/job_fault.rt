@@ -1,14 +1,14 @@
-//! Why there is no job.
+//! Why words give no job.
 use std::alloc::AllocError;
 use thiserror::Error;
 
-/// Why words or a line give no job.
+/// Why words, or a line with words, give no job.
 #[derive(Clone, Copy, PartialEq, Eq, Debug, Error)]
 pub enum JobFault {
-    /// They name no subcommand with the words that it requires.
+    /// They aren't a subcommand and the words that it requires.
     #[error("usage")]
     Usage,
-    /// A growth was refused.
+    /// Out of memory: the allocator refused to grow.
     #[error("want of memory")]
     Memory,
     /// The source of the line failed.

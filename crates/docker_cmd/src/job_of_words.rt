@@ -9,8 +9,8 @@ use crate::tasks::Subcommand;
 use crate::words::{are_plain, read_words};
 use std::alloc::{AllocError, Global};
 
-/// The job that the words name. It returns `Usage` if they name none, and `Memory` only if they
-/// name one.
+/// The job that the words name. Fails with `Usage` if they name none, and with `Memory` only if
+/// they name one.
 pub fn job(alloc: Global, words: &[&str]) -> Result<Job, JobFault>
     ensures job { IfOk result (λ job. IsJobOf (texts words.now) job) }
     ensures usage { (result ≡ Err JobFault.Usage) ↔ NameNoJob (texts words.now) }
@@ -23,7 +23,7 @@ pub fn job(alloc: Global, words: &[&str]) -> Result<Job, JobFault>
     }
 }
 
-/// The job that `clap` finds in the words. Memory may run out before it is known whether they name
+/// The job that `clap` finds in the words. Memory may run out before it is clear whether they name
 /// one.
 fn found_job(alloc: Global, words: &[&str]) -> Result<Job, JobFault>
     ensures job { IfOk result (λ job. IsJobOf (texts words.now) job) }
@@ -37,7 +37,7 @@ fn found_job(alloc: Global, words: &[&str]) -> Result<Job, JobFault>
     }
 }
 
-/// Whether the words name a job. It needs no memory.
+/// Whether the words name a job. It allocates nothing.
 fn names_job(words: &[&str]) -> bool
     ensures { (result ≡ false) ↔ NameNoJob (texts words.now) }
 {
@@ -50,7 +50,7 @@ fn names_job(words: &[&str]) -> bool
     }
 }
 
-/// Whether a subcommand asks for something with these words.
+/// Whether a subcommand has a task with these words.
 fn asks(subcommand: Subcommand, words: &[&str]) -> bool
     ensures { (result ≡ false) ↔ AskNothing subcommand (texts words.now) }
 {
@@ -60,7 +60,7 @@ fn asks(subcommand: Subcommand, words: &[&str]) -> bool
     subcommand.task(words).is_some()
 }
 
-/// Copies of the words, which outlive them.
+/// Copies of the words, which may outlive the originals.
 fn owned_words(alloc: Global, words: &[&str]) -> Result<Vec<String>, AllocError>
     ensures { IfOk result (λ owned. map (λ word. string_bytes word) owned.items ≡ texts words.now) }
 {

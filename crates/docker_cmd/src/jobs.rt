@@ -6,7 +6,7 @@ use crate::tasks::{Subcommand, Task};
 use cif_line::{Day, Tiploc};
 use std::marker::Model;
 
-/// What the program is to do.
+/// A job: its task, and the words that name it.
 #[derive(Debug, Drop)]
 pub struct Job {
     task: Task,
@@ -30,7 +30,7 @@ impl Model for Job {
 }
 
 impl Job {
-    /// The job of a task with the words that name it.
+    /// The job with this task and the words that name it.
     pub(crate) fn new(task: Task, words: Vec<String>) -> Job
         requires { length words.items ≡ length (ids_of (subcommand_of (task_meant task))) }
         ensures task { result.task ≡ task_meant task }
@@ -39,14 +39,14 @@ impl Job {
         Job { task, words }
     }
 
-    /// What it asks for.
+    /// The job's task.
     pub fn task(&self) -> Task
         ensures { task_meant result ≡ self.now.task }
     {
         self.task
     }
 
-    /// The subcommand.
+    /// The job's subcommand.
     pub fn subcommand(&self) -> Subcommand
         ensures { result ≡ subcommand_of self.now.task }
     {
@@ -61,14 +61,14 @@ impl Job {
         self.words.as_slice()
     }
 
-    /// The timing point that a word names, if the subcommand has one.
+    /// The timing point that the words name, if the subcommand has one.
     pub fn tiploc(&self) -> Option<Tiploc>
         ensures { result ≡ tiploc_of self.now.task }
     {
         self.task.tiploc()
     }
 
-    /// The day that a word names, if the subcommand has one.
+    /// The day that the words name, if the subcommand has one.
     pub fn day(&self) -> Option<Day>
         ensures { result ≡ day_of self.now.task }
     {

@@ -1,4 +1,5 @@
-//! The program's commands: which job words name, what it reads and writes, and the texts of faults.
+//! The program's commands: the jobs that words name, what a job reads and writes, and the texts of
+//! faults.
 #![tactic(auto)]
 
 mod check_line;

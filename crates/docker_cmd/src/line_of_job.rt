@@ -1,4 +1,4 @@
-//! The job line: a program without words reads them from the first line of its standard input.
+//! The job line. A program without words reads them from the first line of its standard input.
 ghost use Rattle.std.specs.Prelude.{◌≡◌, ◌+◌, ◌*◌, ◌-◌, ◌^◌, ◌<◌, ◌≤◌, ◌↔◌, ◌≢◌, ◌++◌, length, Some, IfOk, IsErr, OnErr, Err, MatchOption, IfSome};
 ghost use Rattle.std.specs.List.{position_or_len, before_first, after_first};
 ghost use Rattle.cif_line.specs.Device.{CountsFailure};
@@ -15,21 +15,21 @@ use cif_line::{Source, is_printable};
 use std::alloc::Global;
 use std::str;
 
-/// The most bytes that a job line has before its line feed.
+/// The most bytes of a job line, without its line feed.
 const LONGEST: usize = 255;
 
 /// A job line without its line feed.
 type JobLine = ArrayVec<u8, LONGEST>;
 
-/// The most words that a line has, with a space between two.
+/// The most words of a line, with a space between every two.
 const MOST_WORDS: usize = 128;
 
 /// The words of a job line.
 type LineWords<'a> = ArrayVec<&'a str, MOST_WORDS>;
 
-/// The job that the first line of a source names. The source is left after that line's feed. It
-/// returns `Usage` if the source has no such line, or if the line names no job, and `Memory` only
-/// if it names one. It reads at most 256 bytes of a source.
+/// The job that a source's first line names. The source is left after the line feed. Fails with
+/// `Usage` if there is no such line or it names no job, and with `Memory` only if it names one. At
+/// most 256 bytes are read.
 pub fn job_line<S: Source>(alloc: Global, source: &mut S) -> Result<Job, JobFault>
     requires { S.failures source.old < 2 ^ 64 - 1 }
     ensures job { IfOk result (λ job. ReadsJob (S.left source.old) job (S.left source.new)) }
@@ -55,7 +55,7 @@ fn job_of_line(alloc: Global, line: &[u8]) -> Result<Job, JobFault>
     job(alloc, words.as_slice())
 }
 
-/// A line as text.
+/// A job line as text.
 pub fn text_of(line: &[u8]) -> &str
     requires { IsLineText line.now }
     ensures { result.now ≡ line.now }
@@ -66,7 +66,7 @@ pub fn text_of(line: &[u8]) -> &str
     }
 }
 
-/// Reads one byte: None at the end of the source.
+/// Reads one byte. None at the end of the source.
 fn read_byte<S: Source>(source: &mut S) -> Result<Option<u8>, JobFault>
     requires { S.failures source.old < 2 ^ 64 - 1 }
     ensures byte { IfOk result (λ byte. ReadsByte (S.left source.old) byte (S.left source.new)) }
@@ -83,7 +83,7 @@ fn read_byte<S: Source>(source: &mut S) -> Result<Option<u8>, JobFault>
     }
 }
 
-/// The piece before the first space, and the text after it. None if there is no space.
+/// The piece before the first space, and the text after that space. None if there is no space.
 pub fn split_at_space(text: &str) -> Option<(&str, &str)>
     ensures pieces { MatchOption result (position_or_len is_space text.now
         ≡ length text.now) (λ parts.
@@ -96,7 +96,7 @@ pub fn split_at_space(text: &str) -> Option<(&str, &str)>
     text.split_once(' ')
 }
 
-/// Appends a piece, if it is a word.
+/// Appends a piece, unless it is empty and so no word.
 fn push_word<'a>(words: &mut LineWords<'a>, piece: &'a str)
     requires { 0 < length piece.now → array_vec_len words.old < 128 }
     ensures word { texts words.new.items ≡ texts words.old.items ++ word_or_none piece.now }
@@ -125,8 +125,8 @@ fn words_in(line: &str) -> LineWords<'_>
     words
 }
 
-/// Reads the first line of a source, and leaves the source after its line feed. It returns `Usage`
-/// if the line is too long, has a byte that isn't printable or has no line feed.
+/// Reads a source's first line, and leaves the source after its line feed. Fails with `Usage` if
+/// the line is too long, has a byte that isn't printable, or has no line feed.
 fn read_line<S: Source>(source: &mut S) -> Result<JobLine, JobFault>
     requires { S.failures source.old < 2 ^ 64 - 1 }
     ensures line { IfOk result (λ line. ReadsLine (S.left source.old) line.items

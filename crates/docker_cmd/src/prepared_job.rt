@@ -1,4 +1,4 @@
-//! What a job has read.
+//! A job with what it has read.
 ghost use Rattle.std.specs.Prelude.{◌≡◌, ◌-◌, ◌^◌, ◌<◌, ◌⊎◌, IfOk};
 ghost use Rattle.docker_cmd.specs.Holding.{IsWrittenFrom, held_meant};
 ghost use Rattle.docker_cmd.specs.Prepared.{CountsSources, HasNoSource, HasSecondSource, HoldsSomeState, IsOfOneFile, ReadsInOrder, output_of, sources_of, taken_file};
@@ -10,7 +10,7 @@ use docker_office::OfficeFault;
 use std::alloc::Global;
 use std::marker::Model;
 
-/// A job and what it has read.
+/// A job with what it has read.
 #[derive(Debug, Drop)]
 pub struct Prepared<'a> {
     job: &'a Job,
@@ -40,8 +40,8 @@ impl<'a> Prepared<'a> {
         self.job
     }
 
-    /// What it holds of what was read: for `check` the counts of a file, for any other job an
-    /// office, or the part of one that is written.
+    /// What it holds of what it has read: for `check` a file's counts, and for any other job an
+    /// office. An office may hold only the part that is written.
     pub(crate) fn held(&self) -> &Holding
         ensures held { self.now.read ≡ held_meant result.now }
         ensures written { IsWrittenFrom (output_of self.now.job.task) result.now }
@@ -50,15 +50,15 @@ impl<'a> Prepared<'a> {
     }
 }
 
-/// Reads what the job reads, in the order of its words. It returns the job, with the file's counts
-/// or the office that it has made. `new` reads nothing. `check` and `day` read FILE from the first
+/// Reads a job's sources, in the order of its words. Returns the job with a file's counts, or with
+/// the office that was made. `new` reads nothing. `check` and `day` read FILE from the first
 /// source; `print`, `files`, `horizon` and `migrate` read STATE from it. `take` and `merge` read
-/// STATE from the first source, and then FILE or OTHER from the second, but nothing of the second
-/// unless the first held a state. A source is read to its end, or to the piece of at most 65,536
-/// bytes that decides.
+/// STATE from the first source and then FILE or OTHER from the second, unless the first holds no
+/// state. A source is read to its end, or to the piece that decides, which has at most 65,536
+/// bytes.
 ///
-/// `File` and `State` say why a source holds no text of a file or of a state, and `Source` that one
-/// failed. `Memory` says that a growth was refused: nothing that was judged before is bad.
+/// Fails with `File` or `State` if a source doesn't hold a file or a state, with `Source` if one
+/// failed, and with `Memory` if memory ran out. Then nothing that was judged before is bad.
 pub fn prepare<'a, S: Source, T: Source>(
     alloc: Global,
     job: &'a Job,

@@ -1,13 +1,13 @@
-//! What a task reads.
+//! The sources of a task.
 
-/// The sources of a task, in the order of its words.
+/// What a task reads, in the order of its words.
 #[derive(Clone, Copy, PartialEq, Eq, Debug)]
 pub enum Sources {
-    /// None.
+    /// Nothing.
     None,
-    /// A file, which is only checked.
+    /// A file that is only checked.
     CheckedFile,
-    /// A file, which an office takes.
+    /// A file that an office takes.
     TakenFile,
     /// A state.
     State,
@@ -15,6 +15,6 @@ pub enum Sources {
     OlderState,
     /// A state, and then a file.
     StateAndFile,
-    /// A state, and then another.
+    /// Two states, one after the other.
     TwoStates,
 }

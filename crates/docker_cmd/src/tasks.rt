@@ -1,4 +1,4 @@
-//! The table of subcommands, with a row for each, and the task that each names.
+//! The table of subcommands, with a row for each, and their tasks.
 ghost use Rattle.std.specs.Prelude.{◌≡◌, IfSome, IsNone, None, Some, codes, find, if◌then◌else◌, length, map, option_map};
 ghost use Rattle.std.specs.Option.{option_copied};
 ghost use Rattle.std.specs.Str.{bytes_eq};
@@ -15,23 +15,23 @@ use cif_line::{Day, Tiploc};
 /// The subcommands.
 #[derive(Clone, Copy, PartialEq, Eq, Debug)]
 pub enum Subcommand {
-    /// An empty state.
+    /// Makes an empty state.
     New,
-    /// Whether a file is whole, and how many records and changes it has.
+    /// Checks a file, and counts its records and changes.
     Check,
-    /// The docker of a timing point on a day, from an office that took one file.
+    /// Prints the docker of a timing point on a day, from one file.
     Day,
-    /// The state of an office after it takes one more file.
+    /// Takes one more file into a state.
     Take,
-    /// The state of an office after it receives another state.
+    /// Joins a state with another.
     Merge,
-    /// The docker of a timing point on a day.
+    /// Prints the docker of a timing point on a day, from a state.
     Print,
-    /// The files that a state lists.
+    /// Lists the files that a state knows.
     Files,
-    /// The state under a horizon that may be later.
+    /// Raises the horizon of a state.
     Horizon,
-    /// The state whose text is in the older format.
+    /// Reads a state in the older format, and writes it in the present one.
     Migrate,
 }
 
@@ -40,9 +40,9 @@ pub enum Subcommand {
 pub(crate) struct Row<'a> {
     /// The name.
     name: &'a str,
-    /// The names of the words after it. Each of them is required.
+    /// The ids of the words after it, all of them required.
     ids: &'a [&'a str],
-    /// What is read, in the order of the words.
+    /// What it reads, in the order of the words.
     reads: Sources,
 }
 
@@ -58,7 +58,7 @@ impl<'a> Row<'a> {
 }
 
 impl Subcommand {
-    /// All of them, in the order of the usage line.
+    /// All subcommands, in the order of the usage line.
     pub(crate) fn all<'a>() -> &'a [Subcommand]
         ensures { result.now ≡ subcommands }
     {
@@ -75,7 +75,7 @@ impl Subcommand {
         ]
     }
 
-    /// Its row of the table.
+    /// Its row in the table.
     pub(crate) fn row<'a>(self) -> Row<'a>
         ensures { row_meant result ≡ row_of self }
     {
@@ -92,14 +92,14 @@ impl Subcommand {
         }
     }
 
-    /// Its name, the first of the words.
+    /// Its name, which is the first word.
     pub fn name<'a>(self) -> &'a str
         ensures { result.now ≡ name_of self }
     {
         self.row().name
     }
 
-    /// The names of the words after it.
+    /// The ids of the words after it.
     pub(crate) fn ids<'a>(self) -> &'a [&'a str]
         ensures { map (λ id. id.now) result.now ≡ ids_of self }
     {
@@ -113,7 +113,7 @@ impl Subcommand {
         self.name() == name
     }
 
-    /// The subcommand of this name.
+    /// The subcommand with this name.
     #[tactic(auto, unfolding(crate::specs::Tasks::subcommand_named))]
     pub(crate) fn of_name(name: &str) -> Option<Subcommand>
         ensures { result ≡ subcommand_named name.now }
@@ -121,8 +121,8 @@ impl Subcommand {
         first_named(Subcommand::all(), name).copied()
     }
 
-    /// The task that it names with these words, which are as many as it requires. None if the
-    /// state is `stdin` and has to be written anew, or if a word names no timing point or no day.
+    /// Its task with these words, which are as many as it requires. None if a state that has to be
+    /// written anew is `stdin`, or if a word doesn't name a timing point or a day as it should.
     pub(crate) fn task(self, words: &[&str]) -> Option<Task>
         requires { length words.now ≡ length (ids_of self) }
         ensures { IsTaskOf self (texts words.now) (option_map task_meant result) }
@@ -150,14 +150,14 @@ impl Subcommand {
     }
 }
 
-/// The usage line: the names and the words of the table.
+/// The usage line: the names and ids of the table.
 pub(crate) fn usage<'a>() -> &'a [u8]
     ensures { result.now ≡ usage_line }
 {
     b"docker: usage: new STATE | check FILE | day FILE TIPLOC DATE | take STATE FILE | merge STATE OTHER | print STATE TIPLOC DATE | files STATE | horizon STATE DATE | migrate STATE\n"
 }
 
-/// The first of some subcommands that has this name.
+/// The first of these subcommands that has this name.
 fn first_named<'a>(subcommands: &'a [Subcommand], name: &str) -> Option<&'a Subcommand>
     ensures { option_copied result
         ≡ find (λ subcommand. bytes_eq (name_of subcommand) name.now) subcommands.now }
@@ -167,14 +167,14 @@ fn first_named<'a>(subcommands: &'a [Subcommand], name: &str) -> Option<&'a Subc
         .find(|subcommand| subcommand.is_named(name))
 }
 
-/// The task, if its state can be written anew: standard input can't.
+/// The task, unless its state is standard input, which can't be written anew.
 fn unless_stdin(state: &str, task: Task) -> Option<Task>
     ensures { result ≡ if bytes_eq state.now (codes "stdin") then None else Some task }
 {
     if state == "stdin" { None } else { Some(task) }
 }
 
-/// The timing point and the day that two words name.
+/// The timing point and the day that these words name.
 fn place_and_day(tiploc: &str, date: &str) -> Option<(Tiploc, Day)>
     ensures pair { IfSome result (λ pair. NamesPlace tiploc.now pair.0 × NamesDay date.now pair.1) }
     ensures none { IsNone result → (place : _) (day : _) → NamesPlace tiploc.now place
@@ -185,7 +185,7 @@ fn place_and_day(tiploc: &str, date: &str) -> Option<(Tiploc, Day)>
     Some((place, day))
 }
 
-/// What a job asks for: its subcommand, with the timing point and the day that its words name.
+/// A task: what a job is to do, with the timing point and the day that its words name.
 #[derive(Clone, Copy, PartialEq, Eq, Debug)]
 pub enum Task {
     /// `new`.
@@ -266,7 +266,7 @@ impl Task {
         self.subcommand().row().reads
     }
 
-    /// What it writes after reading.
+    /// What it writes after that.
     pub fn writes(self) -> Output
         ensures { output_meant result ≡ output_of (task_meant self) }
     {
@@ -280,7 +280,7 @@ impl Task {
         }
     }
 
-    /// The horizon that it sets on the state that it reads, if it sets one.
+    /// The horizon that it sets on the state that it has read, if it sets one.
     pub fn horizon(self) -> Option<Day>
         ensures { result ≡ horizon_of (task_meant self) }
     {

@@ -1,10 +1,10 @@
-//! What a task writes.
+//! The output of a task.
 use cif_line::{Day, Tiploc};
 
-/// What a task writes of what it has read.
+/// What a task writes.
 #[derive(Clone, Copy, PartialEq, Eq, Debug)]
 pub enum Output {
-    /// The counts of a file.
+    /// A file's counts.
     Counts,
     /// The docker of a timing point on a day.
     Docker {
@@ -13,8 +13,8 @@ pub enum Output {
         /// The day.
         day: Day,
     },
-    /// The files that a state lists.
+    /// The list of the files that a state knows.
     Files,
-    /// The text of a state, in the file that the first word names.
+    /// A state's text, to the file that the first word names.
     State,
 }

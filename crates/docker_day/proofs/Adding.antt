@@ -1,19 +1,19 @@
--- Lines that are added to the lines so far.
+-- Lines that are added to those so far.
 use Rattle.std.proofs.Common.{◌≡◌, Bool, true, false, cond, List, [], ◌++◌, sym, ◌∙◌, append-nil}
 use Rattle.docker_model.specs.docker.DockerLine.{DockerLine}
 
--- a test that holds lets lines in
+-- if the test passes, these lines are added
 pub added_if : (test : Bool) (more before after : List DockerLine) → test ≡ true → after ≡ before ++ more → after ≡ before ++ cond test more []
 added_if test more before after is same = same ∙ (λ i. before ++ cond (sym is i) more [])
 
--- a test that doesn't hold keeps them out
+-- if it doesn't, none is added
 pub not_added : (test : Bool) (more before : List DockerLine) → test ≡ false → before ≡ before ++ cond test more []
 not_added test more before is = sym (append-nil before) ∙ (λ i. before ++ cond (sym is i) more [])
 
--- if a test holds, the lines are these
+-- if the test passes, these are the lines
 pub told_if : (test : Bool) (told lines : List DockerLine) → test ≡ true → lines ≡ told → lines ≡ cond test told []
 told_if test told lines is same = same ∙ (λ i. cond (sym is i) told [])
 
--- if it doesn't, there are none
+-- if it doesn't, there is none
 pub untold : (test : Bool) (told : List DockerLine) → test ≡ false → [] ≡ cond test told []
 untold test told is = λ i. cond (sym is i) told []

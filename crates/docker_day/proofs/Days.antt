@@ -19,11 +19,12 @@ same_test a b c d forth back = by (a == b) refl (c == d) refl
         let holds : (a == b) ≡ true = ap (λ (n : ℕ). a == n) (sym (back (eqb-true c d g))) ∙ number_itself a in
         sym h ∙ holds
 
--- an event is on a day if as many midnights lie before it as days between the start and the day
+-- an event is on the day if the train passes midnight before it as often as there are days from the
+-- start day to the day
 pub today_is : (day start falls : ℕ) → start ≤ day → (falls == day - start) ≡ (start + falls == day)
 today_is day start falls low = same_test falls (day - start) (start + falls) day (λ same. omega arith) (λ same. omega arith)
 
--- the lines of the start days, one by one
+-- the lines for the start days, one day after the other
 pub starts_split : {A : Type 0} (piece : ℕ → List A) (day : ℕ) → flat_map piece (start_days day)
     ≡ cond (nat_le 0 day) (piece (day - 0)) [] ++ (cond (nat_le 1 day) (piece (day - 1)) [] ++ (cond (nat_le 2 day) (piece (day - 2)) [] ++ []))
 starts_split {A} piece day = along (0 ∷ 1 ∷ 2 ∷ [])

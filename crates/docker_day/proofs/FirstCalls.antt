@@ -1,4 +1,4 @@
--- The first calls of base trains at a place, as they are kept.
+-- The calls of base trains at a place, each with its first event, and how they are kept.
 use Rattle.std.proofs.Common.{◌≡◌, ℕ, ◌==◌, Bool, true, false, cond, List, refl, ap, sym, ◌∙◌, subst, Some, None, eqb-true}
 use Rattle.std.specs.Prelude.{Option, ◌&&◌, IfSome, IfOk, option_map, Result, Ok, Err}
 use Rattle.std.specs.BTreeMap.{BTreeMap, get, Updates}
@@ -25,12 +25,12 @@ use Rattle.docker_day.specs.declared.base_calls.BaseCalls.{BaseCalls}
 use Rattle.docker_day.specs.Bases.{first_call, meant_if, AreKnownCalls, kept_or, HasCall, HasEvent}
 use Rattle.docker_day.specs.Lines.{is_here, listed, link_line_at, link_line_by, link_line_with}
 
--- what is answered for a call
+-- this is the first event of the call
 abbrev pub IsFirstCall : Table → List ℕ → ℕ → List ℕ → ℕ → Option Occurrence → Type 0
 IsFirstCall live place day uid suffix event =
     (rows : List Row) → AreRowsOf live rows → meant_if event ≡ first_call (train_in rows uid day) place suffix
 
--- the kept calls give the answer for their UID
+-- from the kept calls of a UID, the call's first event is right
 pub known_calls : (live : Table) (place : List ℕ) (day : ℕ) (known : BaseCalls) (uid : List ℕ) (suffix : ℕ) (answer : Option (Option Occurrence))
     → AreKnownCalls live place day (Some known) → option_map meant_if answer ≡ cond (bytes_eq known.uid uid) (Some (get nat_cmp known.calls suffix)) None
     → IfSome answer (IsFirstCall live place day uid suffix)
@@ -47,12 +47,12 @@ known_calls live place day known uid suffix (Some event) are is = by (bytes_eq k
         ∙ ap (λ u. first_call (train_in rows u day) place suffix) ((bytes_eq-Decides known.uid uid).0 same)
     by false other told = cc
 
--- what is kept, if no event comes later
+-- the kept event, if none comes later
 pub kept_alone : (event : Option events.Occurrence) → kept_or event None ≡ event
 kept_alone None = refl
 kept_alone (Some event) = refl
 
--- an event of a suffix that has one changes nothing
+-- an event whose suffix has one already changes nothing
 pub there_before : (own : ℕ) (event : events.Occurrence) (calls : BTreeMap ℕ events.Occurrence) → is_some (get nat_cmp calls own) ≡ true
     → HasCall own calls event calls
 there_before own event calls is = λ suffix.
@@ -63,7 +63,7 @@ there_before own event calls is = λ suffix.
     by (Some kept) true is = refl
     by None true is = let bad : false ≡ true = is refl in cc
 
--- the first of its suffix is kept
+-- the first event of a suffix is kept
 pub first_of_suffix : (own : ℕ) (event : events.Occurrence) (before after : BTreeMap ℕ events.Occurrence) → is_some (get nat_cmp before own) ≡ false
     → Updates nat_cmp before after own (Some event) → HasCall own before event after
 first_of_suffix own event before after unkept updates = λ suffix.
@@ -82,7 +82,7 @@ module _ (place : List ℕ) (event : events.Occurrence) where
   elsewhere calls away = λ suffix later. λ i.
       kept_or (get nat_cmp calls suffix) (cond (sym away i && (column 10 event.line == suffix)) (Some event) later)
 
-  -- an event at the place is taken
+  -- an event at the place is kept if its suffix has none
   pub taken_here : (before after : BTreeMap ℕ events.Occurrence) → is_here place event ≡ true → HasCall (column 10 event.line) before event after
       → HasEvent place before event after
   taken_here before after here has = λ suffix later.
@@ -96,15 +96,15 @@ module _ (place : List ℕ) (event : events.Occurrence) where
       by None later false = refl
       by (Some kept) later false = refl
 
--- ---- the line at a call
+-- ---- the docker line at a call
 
--- the train of a UID has the UID
+-- a UID's train has that UID
 pub uid_of_train : (live : Table) (rows : List Row) (uid : List ℕ) (day : ℕ) (train : Train) → AreRowsOf live rows → train_in rows uid day ≡ Some train
     → train.key.uid ≡ uid
 uid_of_train live rows uid day train are is = (subst (IsTrainOn live uid day) is (trains_tell live rows are uid day)).chosen.running.uid_is
 
 module _ (trains : List ℕ → ℕ → Option Train) (day start : ℕ) (link : Link) (occasion : Occasion) where
-  -- the line at the first event of the call
+  -- the docker line at the first event of the call
   pub line_at_call : (base : Option Train) (event : events.Occurrence) (lines : List DockerLine)
       → Some event ≡ first_call base link.key.location link.key.suffix → ((train : Train) → base ≡ Some train → train.key.uid ≡ link.key.base)
       → ((key : ScheduleKey) → key.uid ≡ link.key.base → lines ≡ link_line_at trains day start link occasion key event)
@@ -113,25 +113,25 @@ module _ (trains : List ℕ → ℕ → Option Train) (day start : ℕ) (link : 
   line_at_call (Some train) event lines is uid_is line =
       line train.key (uid_is train refl) ∙ ap (link_line_by trains day start link occasion train.key) is
 
-  -- without a call there is no line
+  -- without a call there is no docker line
   pub no_line_there : (base : Option Train) → None ≡ first_call base link.key.location link.key.suffix
       → listed None ≡ link_line_with trains day start link (Some occasion) base
   no_line_there None is = refl
   no_line_there (Some train) is = ap (link_line_by trains day start link occasion train.key) is
 
--- the line, if there is one, is the association's line at the event, for any base train of its UID
+-- the line, if there is one, is the association's at this event, for any base train of its UID
 abbrev pub IsAtEvent : Link → Occasion → events.Occurrence → Visit → Option DockerLine → Type 0
 IsAtEvent link occasion event visit line =
     (rows : List Row) → AreRowsOf (live_table visit.state) rows → (base : ScheduleKey) → base.uid ≡ link.key.base
     → listed line ≡ link_line_at (train_in rows) visit.day visit.start link occasion base event
 
--- the line, if there is one, is the association's line with its base train
+-- the line, if there is one, is the association's with its base train
 abbrev pub IsWithBase : Link → Occasion → Visit → Option DockerLine → Type 0
 IsWithBase link occasion visit line =
     (rows : List Row) → AreRowsOf (live_table visit.state) rows
     → listed line ≡ link_line_with (train_in rows) visit.day visit.start link (Some occasion) (train_in rows link.key.base visit.start)
 
--- a line at the first event of the call is the line with the base train
+-- the line at the first event of the call is the line with the base train
 pub with_base : {Fault : Type 0} (link : Link) (occasion : Occasion) (event : events.Occurrence) (visit again : Visit) (result : Result (Option DockerLine) Fault) → again ≡ visit
     → ((rows : List Row) → AreRowsOf (live_table visit.state) rows
     → Some event ≡ first_call (train_in rows link.key.base visit.start) link.key.location link.key.suffix)

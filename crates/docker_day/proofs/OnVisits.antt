@@ -1,4 +1,4 @@
--- The lines of a row on all visits are its lines.
+-- The lines of a row for all visits are its lines.
 use Rattle.std.proofs.Common.{◌≡◌, ℕ, ◌-◌, Bool, true, false, cond, List, [], ◌++◌, refl, ap, sym, ◌∙◌, subst, Some, None, append-nil, arith}
 use Rattle.std.specs.Prelude.{Option, nat_le}
 use Rattle.std.proofs.Math.Dec.{leb-zero}
@@ -19,7 +19,7 @@ module _ (there : PlaceDay) (view : RowView) where
   abbrev AddsBack : ℕ → List DockerLine → List DockerLine → Type 0
   AddsBack back before after = Adds (live_table there.state) (λ trains links. row_back trains links there.place there.day view back) before after
 
-  -- what a visit adds is what the row has `back` days before the day
+  -- the lines that a visit adds are the row's for the start day `back` days before
   adds_back : (back : ℕ) (visit : Option Visit) (before after : List DockerLine) → visit ≡ visit_back there back → AddsIf visit view before after
       → AddsBack back before after
   adds_back back visit before after is adds = by (nat_le back there.day) refl (subst (λ (v : Option Visit). AddsIf v view before after) is adds)
@@ -40,18 +40,18 @@ module _ (there : PlaceDay) (view : RowView) where
       (λ i. cond (leb-zero there.day i) (Some (record { state = there.state; place = there.place; day = there.day; start = there.day - 0 })) None)
       ∙ (λ i. Some (record { state = there.state; place = there.place; day = there.day; start = same i }))
 
-  -- the visit of the day itself adds what the row has on that day
+  -- the lines that the day's own visit adds are the row's for that day
   adds_today : (today : Visit) (before after : List DockerLine)
       → today ≡ record { state = there.state; place = there.place; day = there.day; start = there.day } → AddsAt today view before after
       → AddsBack 0 before after
   adds_today today before after is adds = adds_back 0 (Some today) before after (ap Some is ∙ sym today_is_back) adds
 
-  -- the lines of the row were added
+  -- all lines of the row were added
   abbrev AddsRow : List DockerLine → List DockerLine → Type 0
   AddsRow before after = Adds (live_table there.state) (λ trains links. view_lines trains links there.place there.day view) before after
 
 module _ (there again : PlaceDay) (view : RowView) (today : Visit) (day_before two_before : Option Visit) where
-  -- so all visits together add the lines of the row
+  -- all visits together add the lines of the row
   pub adds_on_visits : (first second third last : List DockerLine) → there ≡ again
       → AreVisits there today day_before two_before → AddsAt today view first second → AddsIf day_before view second third
       → AddsIf two_before view third last → AddsRow again view first last
@@ -60,8 +60,7 @@ module _ (there again : PlaceDay) (view : RowView) (today : Visit) (day_before t
       (three_backs there.place there.day view (live_table there.state) first second third last (adds_today there view today first second are.today_is one)
       (adds_back there view 1 day_before second third are.day_before_is two) (adds_back there view 2 two_before third last are.two_before_is three))
 
-  -- if the row's train isn't under way since one of the two days before, the visit of the day adds
-  -- them all
+  -- if the row's train can't be there after its start day, the day's own visit adds all lines
   pub adds_today_alone : (first second : List DockerLine) → there ≡ again → AreVisits there today day_before two_before
       → IsLiveView (live_table again.state) view → row_under_way again.place view again.day ≡ false → AddsAt today view first second
       → AddsRow again view first second
@@ -69,7 +68,7 @@ module _ (there again : PlaceDay) (view : RowView) (today : Visit) (day_before t
       first_back_alone again.place again.day view (live_table again.state) first second is_live idle
       (subst (λ (p : PlaceDay). AddsBack p view 0 first second) same (adds_today there view today first second are.today_is one))
 
--- the lines of a walk that were added at a place were added at an equal place
+-- lines that were added for one place are also added for an equal one
 pub gathered_at : (there again : PlaceDay) (walk : List Row) (before after : List DockerLine) → again ≡ there
     → Adds (live_table again.state) (λ trains links. gathered trains links again.place again.day walk) before after
     → Adds (live_table there.state) (λ trains links. gathered trains links there.place there.day walk) before after

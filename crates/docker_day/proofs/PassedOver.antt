@@ -1,4 +1,4 @@
--- What is passed over without a search has no line.
+-- Rows that are passed over without a search have no lines.
 use Rattle.std.proofs.Common.{◌≡◌, ℕ, ◌+◌, ◌-◌, ◌<◌, ◌==◌, ◌⊎◌, inl, inr, Bool, true, false, cond, List, [], ◌∷◌, ◌++◌, refl, ap, sym, ◌∙◌, append-nil, Some, None, arith, eqb-true}
 use Rattle.std.specs.Prelude.{Option, ◌&&◌, ◌||◌, not, nat_le, codes}
 use Rattle.std.specs.Ordering.{is_eq}
@@ -37,14 +37,14 @@ use Rattle.docker_day.proofs.TrainLines.{event_lines_are}
 use Rattle.docker_day.proofs.UpToLast.{lines_to_last}
 use Rattle.docker_day.proofs.LinkLines.{three_backs}
 
--- no line
+-- no lines
 abbrev no_line : List DockerLine
 no_line = []
 
 true_false : true ≡ false → ⊥
 true_false bad = cc
 
--- if a live schedule doesn't run on a day, its train doesn't run by it then
+-- if a live schedule doesn't run on a day, no train runs by it then
 pub runs_not : (live : Table) (rows : List Row) (train : choices.Train) (start : ℕ) → AreRowsOf live rows → IsLiveTrain live train
     → schedule_runs (first_record train.lines) start ≡ false → runs_by (train_in rows train.key.uid start) train.key ≡ false
 runs_not live rows train start are is_live idle = by (train_in rows train.key.uid start) (trains_tell live rows are train.key.uid start)
@@ -60,7 +60,7 @@ runs_not live rows train start are is_live idle = by (train_in rows train.key.ui
             let lines = one_schedule live other.key train.key other.lines train.lines same runs.chosen.running.is_live is_live in
             absurd (true_false (sym runs.chosen.running.runs_then ∙ ap (λ (ls : List (List ℕ)). schedule_runs (first_record ls) start) lines ∙ idle))
 
--- if a live association doesn't run on a start day, it isn't the one that counts in its group
+-- if a live association doesn't run on a start day, it isn't chosen in its group
 pub counts_not : (live : Table) (rows : List Row) (link : live_rows.Link) (start : ℕ) → AreRowsOf live rows → IsLiveLink live link
     → association_runs link.line start ≡ false → counts_as (link_in rows (group_of link.key) start) link.key ≡ false
 counts_not live rows link start are is_live idle = by (link_in rows (group_of link.key) start) (links_tell live rows are (group_of link.key) start)
@@ -84,7 +84,7 @@ not_not : (b : Bool) → not b ≡ false → b ≡ true
 not_not true h = refl
 not_not false h = absurd (true_false h)
 
--- if no event is after a midnight, none is on a day after the start
+-- if no midnight is passed before any event, no event is on a day after the start
 none_late : (place : List ℕ) (day start : ℕ) (key : ScheduleKey) (detail : Detail) (events : List Occurrence) → start < day → some_late events ≡ false
     → lines_there place day start key detail events ≡ []
 none_late place day start key detail [] before none = refl
@@ -107,7 +107,7 @@ none_late place day start key detail (event ∷ events) before none =
         let none_behind : some_late events ≡ false = (λ i. sym h i || some_late events) ∙ none in
         (λ i. cond (elsewhere h i) (line_at_event key start detail event ∷ []) [] ++ rest none_behind i)
 
--- so the schedule has no line there
+-- if a schedule doesn't pass midnight, it has no docker line on a day after the start
 no_lines_then : (place : List ℕ) (day start : ℕ) (key : ScheduleKey) (lines : List (List ℕ)) → start < day
     → some_late (occurrences_to place lines) ≡ false → event_lines place day start key lines ≡ []
 no_lines_then place day start key lines before none =
@@ -115,14 +115,14 @@ no_lines_then place day start key lines before none =
     sym (event_lines_are place day start key lines) ∙ sym (lines_to_last place day start key detail lines)
     ∙ none_late place day start key detail (occurrences_to place lines) before none
 
--- neither of two tests holds, or the third doesn't
+-- if two tests don't pass with a third, either neither of the two passes or the third doesn't
 none_of_both : (a b c : Bool) → ((a || b) && c) ≡ false → ((a ≡ false) × (b ≡ false)) ⊎ (c ≡ false)
 none_of_both a b false h = inr refl
 none_of_both false false true h = inl (refl, refl)
 none_of_both true b true h = absurd (true_false h)
 none_of_both false true true h = absurd (true_false h)
 
--- none of three tests holds
+-- if not even one of three tests passes, each fails
 none_of_three : (a b c : Bool) → (a || b || c) ≡ false → (a ≡ false) × (b ≡ false) × (c ≡ false)
 none_of_three false false false h = (refl, refl, refl)
 none_of_three true b c h = absurd (true_false h)
@@ -133,7 +133,7 @@ module _ (live : Table) (rows : List Row) (are : AreRowsOf live rows) (place : L
   abbrev lines_back : RowView → ℕ → List DockerLine
   lines_back view back = row_back (train_in rows) (link_in rows) place day view back
 
-  -- a schedule that doesn't run on a day has no line of a train that started then
+  -- if a schedule doesn't run on a day, it has no docker line of a train that starts then
   idle_back : (train : choices.Train) (back : ℕ) → IsLiveTrain live train → runs_back train.lines day back ≡ false
       → lines_back (Train train) back ≡ []
   idle_back train back is_live idle = by (nat_le back day) refl
@@ -144,7 +144,7 @@ module _ (live : Table) (rows : List Row) (are : AreRowsOf live rows) (place : L
           (λ i. cond (runs_not live rows train (day - back) are is_live ((λ j. sym h j && schedule_runs (first_record train.lines) (day - back)) ∙ idle) i)
           (event_lines place day (day - back) train.key train.lines) [])
 
-  -- a schedule that passes no midnight has no line on a day after its start
+  -- if a schedule doesn't pass midnight, it has no docker line on a day after the start
   early_back : (train : choices.Train) (back : ℕ) → 0 < back → some_late (occurrences_to place train.lines) ≡ false
       → lines_back (Train train) back ≡ []
   early_back train back some early = by (nat_le back day) refl
@@ -162,7 +162,8 @@ module _ (live : Table) (rows : List Row) (are : AreRowsOf live rows) (place : L
           (no_lines_then place day (day - back) train.key train.lines before early)
           ∙ none_either (runs_by (train_in rows train.key.uid (day - back)) train.key)
 
-  -- a row whose train isn't under way has no line of a train that started before the day
+  -- a row whose train can't be there after its start day has no line of a train that started
+  -- earlier
   pub none_back : (view : RowView) → IsLiveView live view → row_under_way place view day ≡ false
       → (lines_back view 1 ≡ []) × (lines_back view 2 ≡ [])
   none_back (Train train) is_live not_so =
@@ -175,7 +176,7 @@ module _ (live : Table) (rows : List Row) (are : AreRowsOf live rows) (place : L
   none_back (Link link) is_live not_so = absurd (true_false not_so)
   none_back Other is_live not_so = absurd (true_false not_so)
 
-  -- a row whose schedule runs on none of the three days has no line
+  -- a row whose schedule doesn't run on any of the three days has no line
   none_lately : (view : RowView) → IsLiveView live view → row_lately view day ≡ false
       → (lines_back view 0 ≡ []) × (lines_back view 1 ≡ []) × (lines_back view 2 ≡ [])
   none_lately (Train train) is_live not_so =
@@ -184,11 +185,12 @@ module _ (live : Table) (rows : List Row) (are : AreRowsOf live rows) (place : L
   none_lately (Link link) is_live not_so = absurd (true_false not_so)
   none_lately Other is_live not_so = absurd (true_false not_so)
 
--- adding no lines changes nothing
+-- if no lines are added, nothing changes
 nothing : (before : List DockerLine) {more : List DockerLine} → more ≡ [] → before ≡ before ++ more
 nothing before none = sym (append-nil before) ∙ ap (λ out. before ++ out) (sym none)
 
--- so its lines are the lines of the train that starts on the day
+-- a row whose train can't be there after its start day has only the lines of the train that starts
+-- on the day
 pub first_back_alone : (place : List ℕ) (day : ℕ) (view : RowView) (live : Table) (first second : List DockerLine) → IsLiveView live view
     → row_under_way place view day ≡ false → Adds live (λ trains links. row_back trains links place day view 0) first second
     → Adds live (λ trains links. view_lines trains links place day view) first second
@@ -197,7 +199,7 @@ first_back_alone place day view live first second is_live not_so one =
     (λ rows are. nothing second (none_back live rows are place day view is_live not_so).0)
     (λ rows are. nothing second (none_back live rows are place day view is_live not_so).1)
 
--- a row has no lines if it runs on none of the three days
+-- a row that doesn't run on any of the three days adds nothing
 pub not_lately : (place : List ℕ) (day : ℕ) (view : RowView) (live : Table) (first : List DockerLine) → IsLiveView live view
     → row_lately view day ≡ false → Adds live (λ trains links. view_lines trains links place day view) first first
 not_lately place day view live first is_live not_so =
@@ -206,7 +208,7 @@ not_lately place day view live first is_live not_so =
     (λ rows are. nothing first (none_lately live rows are place day view is_live not_so).1)
     (λ rows are. nothing first (none_lately live rows are place day view is_live not_so).2)
 
--- a schedule that hasn't begun, or is marked on none of the three days, runs on none
+-- a schedule that hasn't begun, or marks none of the three days, doesn't run on any
 pub row_idle : (key : Key) (body : Body) (day : ℕ) → IsBodyOf key body → row_may_run (view_of key body) day ≡ false
     → row_lately (view_of key body) day ≡ false
 row_idle (schedule_key key) (schedule_body lines) day of never = let idle = idle_lately key lines day of never in (λ i. idle.0 i || idle.1 i || idle.2 i)
@@ -217,7 +219,7 @@ row_idle (association_key key) (association_body line) day of never = absurd (tr
 row_idle (association_key key) (tiploc_body bytes) day of never = absurd (true_false never)
 row_idle (association_key key) (schedule_body lines) day of never = absurd (true_false never)
 
--- an association that doesn't run on a start day isn't in force then
+-- an association that doesn't run on a start day isn't in force
 pub not_in_force : (live : Table) (rows : List Row) (link : live_rows.Link) (start : ℕ) → AreRowsOf live rows → IsLiveLink live link
     → association_runs link.line start ≡ false → false ≡ is_in_force (link_in rows) start link.key link.line
 not_in_force live rows link start are is_live idle =

@@ -1,4 +1,4 @@
--- The rows of a walk, as they are opened.
+-- The rows of a walk, as typed views.
 use Rattle.std.proofs.Common.{◌≡◌, ℕ, List, [], ◌∷◌, ◌++◌, refl, Some}
 use Rattle.std.specs.Prelude.{Option}
 use Rattle.docker_model.specs.file.Change.{Key, tiploc_key, association_key, schedule_key, Body, tiploc_body, association_body, schedule_body}
@@ -12,7 +12,7 @@ use Rattle.docker_model.specs.state.Table.{Table}
 use Rattle.train_choice.specs.Along.{AreLive}
 use Rattle.docker_day.specs.RowViews.{AreLiveViews, IsLiveView, lines_of, view_lines, view_of, views_of}
 
--- a live row is live as it is opened
+-- the view of a live row is live
 pub live_view : (live : Table) (key : Key) (body : Body) → live key ≡ Some body → IsLiveView live (view_of key body)
 live_view live (schedule_key key) (schedule_body lines) is = is
 live_view live (schedule_key key) (tiploc_body bytes) is = tt
@@ -22,13 +22,13 @@ live_view live (association_key key) (tiploc_body bytes) is = tt
 live_view live (association_key key) (schedule_body lines) is = tt
 live_view live (tiploc_key code) body is = tt
 
--- so are live rows
+-- the views of live rows are live
 pub live_views : (live : Table) (rows : List Row) → AreLive live rows → AreLiveViews live (views_of rows)
 live_views live [] are = tt
 live_views live (row ∷ rows) are = (live_view live row.0 row.1 are.0, live_views live rows are.1)
 
 module _ (trains : List ℕ → ℕ → Option choices.Train) (links : Group → ℕ → Option live_rows.Link) (place : List ℕ) (day : ℕ) where
-  -- a row has its lines as it is opened
+  -- a view has the docker lines of its row
   pub lines_viewed : (key : Key) (body : Body) → view_lines trains links place day (view_of key body) ≡ row_lines trains links place day key body
   lines_viewed (schedule_key key) (schedule_body lines) = refl
   lines_viewed (schedule_key key) (tiploc_body bytes) = refl
@@ -38,7 +38,7 @@ module _ (trains : List ℕ → ℕ → Option choices.Train) (links : Group →
   lines_viewed (association_key key) (schedule_body lines) = refl
   lines_viewed (tiploc_key code) body = refl
 
-  -- so have rows
+  -- views have the docker lines of their rows
   pub gathered_viewed : (rows : List Row) → lines_of trains links place day (views_of rows) ≡ gathered trains links place day rows
   gathered_viewed [] = refl
   gathered_viewed (row ∷ rows) = λ i. lines_viewed row.0 row.1 i ++ gathered_viewed rows i

@@ -1,4 +1,4 @@
--- What a docker shows of a location record, by its kind and what happens there.
+-- What a docker prints of a location record, by its kind and the occasion.
 use Rattle.std.proofs.Common.{◌≡◌, ℕ, List, refl, sym, Some, None}
 use Rattle.std.specs.Prelude.{Option}
 use Rattle.docker_model.specs.records.Record.{Kind, header, tiploc_insert, tiploc_amend, tiploc_delete, association, basic_schedule, extra_details, origin_location, intermediate_location, terminating_location, change_en_route, trailer}
@@ -29,7 +29,7 @@ no_other (Some terminating_location) line = record { passing = refl; join = refl
 no_other (Some change_en_route) line = record { passing = refl; join = refl; divide = refl; next = refl }
 no_other (Some trailer) line = record { passing = refl; join = refl; divide = refl; next = refl }
 
--- the public time of an occasion is what is shown of the record
+-- the public time for an occasion is the one printed of the record
 pub public_is : (occasion : Occasion) (kind : Option Kind) (line : List ℕ) → public_at occasion (location_by_kind kind line) ≡ public_by_kind kind occasion line
 public_is arrival kind line = refl
 public_is departure kind line = refl

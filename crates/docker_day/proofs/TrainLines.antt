@@ -1,4 +1,4 @@
--- The lines of a train's events, gathered by a walk.
+-- The docker lines of a train's events, gathered by a walk.
 use Rattle.std.proofs.Common.{◌≡◌, ℕ, ◌==◌, Bool, true, false, cond, List, [], ◌∷◌, ◌++◌, map, refl, ap, sym, ◌∙◌, append-nil}
 use Rattle.std.specs.Prelude.{◌&&◌, filter, codes}
 use Rattle.std.specs.Str.{bytes_eq}
@@ -10,7 +10,7 @@ use Rattle.docker_laws.specs.Gathering.{event_lines}
 use Rattle.train_choice.specs.Occurrences.{occurrence_of, occurrences}
 use Rattle.docker_day.specs.Lines.{lines_there}
 
--- ---- the lines along the events
+-- ---- the docker lines, event by event
 
 module _ (place : List ℕ) (day start : ℕ) (key : ScheduleKey) (lines : List (List ℕ)) where
   abbrev detail : Detail
@@ -30,11 +30,11 @@ module _ (place : List ℕ) (day start : ℕ) (key : ScheduleKey) (lines : List 
       by true rest = ap (λ more. line_of_event key start lines event ∷ more) rest
       by false rest = rest
 
-  -- they are the lines of the events
+  -- the docker lines found event by event are those that a schedule has
   pub event_lines_are : lines_there place day start key detail (occurrences lines) ≡ event_lines place day start key lines
   event_lines_are = along (events_of lines)
 
--- a schedule without events has no line
+-- a schedule without events has no docker line
 pub no_event_lines : (place : List ℕ) (day start : ℕ) (key : ScheduleKey) (lines : List (List ℕ)) (out : List DockerLine) → occurrences lines ≡ []
     → out ≡ out ++ event_lines place day start key lines
 no_event_lines place day start key lines out none =

@@ -1,4 +1,4 @@
--- A text that is written part by part.
+-- A text written part by part.
 use Rattle.std.proofs.Common.{◌≡◌, ℕ, suc, ◌+◌, ◌<◌, ◌≤◌, List, [], ◌∷◌, ◌++◌, length, take, drop, get_or, refl, ap, sym, ◌∙◌, subst, Some, None, Ok, Err, arith, append_assoc, append-nil, length-append}
 use Rattle.std.specs.Prelude.{◌≢◌, true, false, Option, option_map, Result, IsErr, IsErrAnd, OnOk, OnErr, ⊤}
 use Rattle.std.specs.List.{flat_map}
@@ -9,21 +9,21 @@ use Rattle.std.proofs.lemmas.Result.{on_ok_weaker, on_err_weaker}
 use Rattle.cif_device.proofs.DeviceLemmas.{counts_error}
 use Rattle.cif_line.specs.Device.{CountsFailure, Takes, TakesPart}
 
--- two parts, both taken
+-- if two parts are taken one after the other, both are taken
 pub both_taken : (first second third : Option (List ℕ)) (front back : List ℕ) → Takes first front second → Takes second back third
     → Takes first (front ++ back) third
 both_taken None second third front back one two = two ∙ ap (option_map (λ taken. taken ++ back)) one
 both_taken (Some taken) second third front back one two =
     two ∙ ap (option_map (λ out. out ++ back)) one ∙ ap Some (append_assoc taken front back)
 
--- a beginning of the first part is a beginning of both
+-- a first part of the front is a first part of both
 pub part_of_front : (first second : Option (List ℕ)) (front back : List ℕ) → TakesPart first front second → TakesPart first (front ++ back) second
 part_of_front first second front back (n, short, taken) =
     let long = length-append front back in
     let same : take n (front ++ back) ≡ take n front = take-append-le n front back (omega arith) in
     (n, omega arith, subst (λ bytes. Takes first bytes second) (sym same) taken)
 
--- the first part and a beginning of the second are a beginning of both
+-- the front and a first part of the back are a first part of both
 pub part_of_back : (first second third : Option (List ℕ)) (front back : List ℕ) → Takes first front second → TakesPart second back third
     → TakesPart first (front ++ back) third
 part_of_back first second third front back one (n, short, taken) =
@@ -34,31 +34,31 @@ part_of_back first second third front back one (n, short, taken) =
           (both_taken first second third front (take n back) one taken),
     )
 
--- what is true is true if a result is an error
+-- a true fact holds also if a result is an error
 pub on_any_err : {A E : Type 0} (result : Result A E) {P : Type 0} → P → OnErr result P
 on_any_err (Ok a) holds = tt
 on_any_err (Err e) holds = holds
 
--- ---- how often the sink failed
+-- ---- how often the sink has failed
 
 no_error : false ≢ true
 no_error is = cc
 
--- as often as before, if nothing failed
+-- without a failure the count is the same
 pub as_often : (before after : ℕ) → CountsFailure (false ≡ true) before after → after ≡ before
 as_often before after counted = counted.1 no_error
 
--- nothing failed
+-- if the count is the same, nothing has failed
 pub none_failed : (before after : ℕ) → after ≡ before → CountsFailure (false ≡ true) before after
 none_failed before after same = counts_error {A = ⊤} {E = ⊤} (Ok tt) before after same tt
 
--- one write failed
+-- one write has failed
 pub one_failed : {A E : Type 0} (Q : E → Type 0) (result : Result A E) (before after : ℕ) → IsErrAnd result Q → after ≡ before + 1
     → CountsFailure (IsErr result) before after
 one_failed {A} {E} Q (Ok value) before after is more = absurd is
 one_failed {A} {E} Q (Err fault) before after is more = counts_error {A = A} {E = E} (Err fault) before after tt more
 
--- nothing failed before the last write
+-- nothing has failed before the last write
 pub last_failed : {A E : Type 0} (result : Result A E) (before between after : ℕ) → between ≡ before → OnOk result (after ≡ between)
     → OnErr result (after ≡ between + 1) → CountsFailure (IsErr result) before after
 last_failed result before between after none same more =
@@ -66,36 +66,35 @@ last_failed result before between after none same more =
 
 -- three parts, each equal to what it should be
 module _ (first second third last : Option (List ℕ)) (a b c front middle back : List ℕ) (a_is : a ≡ front) (b_is : b ≡ middle) (c_is : c ≡ back) where
-  -- all were taken
+  -- all three are taken
   pub all_taken : Takes first a second → Takes second b third → Takes third c last → Takes first (front ++ middle ++ back) last
   all_taken one two three =
       both_taken first third last (front ++ middle) back
       (both_taken first second third front middle (subst (λ bytes. Takes first bytes second) a_is one) (subst (λ bytes. Takes second bytes third) b_is two))
       (subst (λ bytes. Takes third bytes last) c_is three)
 
-  -- the first failed
+  -- the first write fails
   pub part_of_first : TakesPart first a second → TakesPart first (front ++ middle ++ back) second
   part_of_first one =
       part_of_front first second (front ++ middle) back (part_of_front first second front middle (subst (λ bytes. TakesPart first bytes second) a_is one))
 
-  -- the second failed
+  -- the second write fails
   pub part_of_second : Takes first a second → TakesPart second b third → TakesPart first (front ++ middle ++ back) third
   part_of_second one two =
       part_of_front first third (front ++ middle) back
       (part_of_back first second third front middle (subst (λ bytes. Takes first bytes second) a_is one)
       (subst (λ bytes. TakesPart second bytes third) b_is two))
 
-  -- the third failed
+  -- the third write fails
   pub part_of_third : Takes first a second → Takes second b third → TakesPart third c last → TakesPart first (front ++ middle ++ back) last
   part_of_third one two three =
       part_of_back first third last (front ++ middle) back
       (both_taken first second third front middle (subst (λ bytes. Takes first bytes second) a_is one) (subst (λ bytes. Takes second bytes third) b_is two))
       (subst (λ bytes. TakesPart third bytes last) c_is three)
 
--- ---- lines one by one
+-- ---- line by line
 
--- the lines still to be written lead from the sink now to a later one, as all lines do from the
--- first sink
+-- if the lines that are left lead from here to some sink, all lines lead there from the first sink
 pub record Leads {A : Type 0} (bytes : A → List ℕ) (lines rest : List A) (first now : Option (List ℕ)) : Type 0 where
   pub whole : (last : Option (List ℕ)) → Takes now (flat_map bytes rest) last → Takes first (flat_map bytes lines) last
   pub part : (last : Option (List ℕ)) → TakesPart now (flat_map bytes rest) last → TakesPart first (flat_map bytes lines) last
@@ -106,7 +105,7 @@ drop_next i xs x below at = drop-cons xs i x below ∙ (λ j. sym at j ∷ drop 
     one_more : suc i ≡ i + 1
     one_more = omega arith
 
--- before the first line
+-- at the first line
 pub leads_first : {A : Type 0} (bytes : A → List ℕ) (lines : List A) (first : Option (List ℕ)) → Leads bytes lines (drop 0 lines) first first
 leads_first bytes lines first = record { whole = λ last taken. taken; part = λ last taken. taken }
 
@@ -127,7 +126,7 @@ leads_on bytes lines i line text first now next below at is leads taken = record
     joined : bytes line ++ flat_map bytes (drop (i + 1) lines) ≡ flat_map bytes (drop i lines)
     joined = ap (flat_map bytes) (sym (drop_next i lines line below at))
 
--- after a beginning of one more line
+-- after a first part of one more line
 pub leads_part : {A : Type 0} (bytes : A → List ℕ) (lines : List A) (i : ℕ) (line : A) (text : List ℕ) (first now next : Option (List ℕ))
     → i < length lines → line ≡ get_or lines i line
     → text ≡ bytes line → Leads bytes lines (drop i lines) first now → TakesPart now text next → TakesPart first (flat_map bytes lines) next

@@ -1,4 +1,4 @@
--- What a docker is: its heading's timing point, day and description, and its lines.
+-- A docker: its timing point, its day, the timing point's description, and its lines.
 use Rattle.std.specs.Prelude.{ℕ, List, ◌++◌, codes}
 use Rattle.std.specs.List.{flat_map}
 use Rattle.docker_model.specs.docker.DockerLine.{DockerLine}
@@ -11,10 +11,10 @@ pub record Docker : Type 0 where
   pub description : List ℕ
   pub lines : List DockerLine
 
--- a heading
+-- the text of a heading
 unfoldable pub head : List ℕ → ℕ → List ℕ → List ℕ
 head place day description = codes "DOCKER " ++ place ++ spaces 1 ++ day_text day ++ spaces 1 ++ description ++ spaces 4
 
--- its text
+-- the text of a docker
 abbrev pub text_of : Docker → List ℕ
 text_of docker = ended (head docker.place docker.day docker.description) ++ flat_map (λ line. ended (line_text line)) docker.lines ++ ended last_line

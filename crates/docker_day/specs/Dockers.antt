@@ -10,15 +10,14 @@ use Rattle.docker_laws.specs.Gathering.{IsWalk, gathered}
 use Rattle.docker_day.specs.Lines.{Adds}
 use Rattle.docker_day.specs.DockerValue.{Docker}
 
--- it has the place and the day, the description of the place if the place is live, and the docker
--- list
+-- this is the docker: it has the place, the day, the description of the place, and the docker list
 pub record IsDockerOf (live : Table) (place : List ℕ) (day : ℕ) (docker : Docker) : Type 0 where
   pub place_is : docker.place ≡ place
   pub day_is : docker.day ≡ day
   pub described : docker.description ≡ description_in (live (tiploc_key place))
   pub list : IsDockerList live place day docker.lines
 
--- the lines of the rows of some walk were added; the walk leaves out no row of the place
+-- the lines of all rows of some walk were added. The walk leaves out no row of the place
 abbrev pub HasGathered : Table → List ℕ → ℕ → List DockerLine → List DockerLine → Type 0
 HasGathered live place day before after =
     (rows : List Row) × IsWalk live place rows × Adds live (λ trains links. gathered trains links place day rows) before after

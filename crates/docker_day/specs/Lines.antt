@@ -1,4 +1,4 @@
--- The lines of a docker, from the events that a walk meets.
+-- The lines of a docker, made from the events that a walk meets.
 use Rattle.std.specs.Prelude.{◌≡◌, ℕ, ◌+◌, Bool, ◌&&◌, ◌||◌, ◌==◌, if◌then◌else◌, find, List, [], ◌∷◌, ◌++◌, Option, Some, None}
 use Rattle.std.specs.Str.{bytes_eq}
 use Rattle.docker_model.specs.records.Record.{kind_of, columns, column}
@@ -21,7 +21,7 @@ use Rattle.train_choice.specs.Midnights.{some_late}
 use Rattle.train_choice.specs.UpTo.{occurrences_to}
 use Rattle.train_choice.specs.Lately.{runs_back}
 
--- the line of an event of the schedule with this key, on a start day and with these ends
+-- the docker line of an event, for the schedule with this key, on this start day, with these ends
 abbrev pub line_at_event : ScheduleKey → ℕ → Detail → Occurrence → DockerLine
 line_at_event key start detail event = record {
   time = event.time;
@@ -39,7 +39,7 @@ line_at_event key start detail event = record {
   detail = detail;
 }
 
--- the line of an association at an event of the base train
+-- the docker line of an association at an event of the base train
 abbrev pub line_of_link : Occasion → AssociationKey → ScheduleKey → ℕ → Occurrence → List ℕ → DockerLine
 line_of_link occasion key base start event identity = record {
   time = event.time;
@@ -57,74 +57,74 @@ line_of_link occasion key base start event identity = record {
   detail = partner key.associated identity;
 }
 
--- the event is at the place
+-- whether the event is at the place
 abbrev pub is_here : List ℕ → Occurrence → Bool
 is_here place event = bytes_eq (columns 3 9 event.line) place
 
--- the event is on the day, if its train starts on the start day
+-- whether the event is on the day, if its train starts on this day
 abbrev pub is_today : ℕ → ℕ → Occurrence → Bool
 is_today day start event = start + event.falls == day
 
--- the lines of the events that are at the place on the day
+-- the docker lines of those events that are at the place on the day
 abbrev pub lines_there : List ℕ → ℕ → ℕ → ScheduleKey → Detail → List Occurrence → List DockerLine
 lines_there place day start key detail [] = []
 lines_there place day start key detail (event ∷ events) =
     (if is_here place event && is_today day start event then line_at_event key start detail event ∷ [] else [])
     ++ lines_there place day start key detail events
 
--- the schedule with these lines runs on the day or on one of the two days before it
+-- the schedule runs on the day or on one of the two days before
 abbrev pub is_lately : List (List ℕ) → ℕ → Bool
 is_lately lines day = runs_back lines day 0 || runs_back lines day 1 || runs_back lines day 2
 
--- the train of the schedule may be under way on the day, up to its last event at the place, since
--- one of the two days before
+-- the schedule's train may be there on the day, after starting earlier. The schedule runs on one of
+-- the two days before, and passes midnight by its last event at the place
 abbrev pub is_under_way : List ℕ → List (List ℕ) → ℕ → Bool
 is_under_way place lines day = (runs_back lines day 1 || runs_back lines day 2) && some_late (occurrences_to place lines)
 
--- the event is of a call at the place with the suffix
+-- the event is of a call at the place, with this suffix
 abbrev pub is_call : List ℕ → ℕ → Occurrence → Bool
 is_call place suffix event = is_at place suffix event.line
 
--- these lines were added; the trains and associations that they need are the table's
+-- these lines were added, with the trains and the chosen associations of the table
 abbrev pub Adds : Table → ((List ℕ → ℕ → Option Train) → (Group → ℕ → Option Link) → List DockerLine) → List DockerLine → List DockerLine → Type 0
 Adds live more before after = (rows : List Row) → AreRowsOf live rows → after ≡ before ++ more (train_in rows) (link_in rows)
 
--- a list with the line, if there is one
+-- the line, if there is one, as a list
 abbrev pub listed : Option DockerLine → List DockerLine
 listed None = []
 listed (Some line) = line ∷ []
 
--- the lines of a schedule on a start day, if its train runs by it then
+-- the docker lines of a schedule for a start day, if its train runs by it then
 abbrev pub schedule_piece : (List ℕ → ℕ → Option Train) → List ℕ → ℕ → ScheduleKey → List (List ℕ) → ℕ → List DockerLine
 schedule_piece trains place day key lines start = if runs_by (trains key.uid start) key then event_lines place day start key lines else []
 
--- the line of an association at an event of the base train, if the event is on the day
+-- the docker line of an association at an event of the base train, if the event is on the day
 abbrev pub link_line_at : (List ℕ → ℕ → Option Train) → ℕ → ℕ → Link → Occasion → ScheduleKey → Occurrence → List DockerLine
 link_line_at trains day start link occasion base event =
     if is_today day start event
     then line_of_link occasion link.key base start event (partner_identity trains link.key.associated (partner_start (column 37 link.line) start)) ∷ []
     else []
 
--- like `link_line_at`, for an event that there may not be
+-- like `link_line_at`; none if there is no event
 abbrev pub link_line_by : (List ℕ → ℕ → Option Train) → ℕ → ℕ → Link → Occasion → ScheduleKey → Option Occurrence → List DockerLine
 link_line_by trains day start link occasion base None = []
 link_line_by trains day start link occasion base (Some event) = link_line_at trains day start link occasion base event
 
--- the line of an association with its base train, if there is an occasion and a base train
+-- the docker line of an association, if its category gives one and there is a base train
 abbrev pub link_line_with : (List ℕ → ℕ → Option Train) → ℕ → ℕ → Link → Option Occasion → Option Train → List DockerLine
 link_line_with trains day start link None base = []
 link_line_with trains day start link (Some occasion) None = []
 link_line_with trains day start link (Some occasion) (Some base) =
     link_line_by trains day start link occasion base.key (find (is_call link.key.location link.key.suffix) (occurrences base.lines))
 
--- the line of an association on a start day of its base train
+-- the docker line of an association for a start day of its base train
 abbrev pub link_piece : (List ℕ → ℕ → Option Train) → (Group → ℕ → Option Link) → ℕ → Link → ℕ → List DockerLine
 link_piece trains links day link start =
     if is_in_force links start link.key link.line
     then link_line_with trains day start link (category_occasion (columns 35 36 link.line)) (trains link.key.base start)
     else []
 
--- like `link_piece`, if the association is at the place
+-- like `link_piece`; none if the association isn't at the place
 abbrev pub link_here : (List ℕ → ℕ → Option Train) → (Group → ℕ → Option Link) → List ℕ → ℕ → Link → ℕ → List DockerLine
 link_here trains links place day link start = if bytes_eq link.key.location place then link_piece trains links day link start else []
 

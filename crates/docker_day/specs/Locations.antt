@@ -1,4 +1,4 @@
--- What a docker shows of a location record.
+-- What a docker prints of a location record.
 use Rattle.std.specs.Prelude.{ℕ, List, Option}
 use Rattle.docker_model.specs.records.Record.{Kind}
 use Rattle.docker_model.specs.file.Journey.{Occasion, arrival, pass, joining, dividing, next_working, departure}
@@ -6,7 +6,7 @@ use Rattle.docker_model.specs.docker.DockerLine.{platform_by_kind, track_by_kind
 use Rattle.docker_model.specs.records.PrintedTime.{spaces}
 use Rattle.docker_day.specs.declared.location.Location.{Location}
 
--- what is shown: platform, line, path, and the public times of arrival and departure
+-- what is printed: platform, line, path, and the public times of arrival and departure
 pub record Shown : Type 0 where
   pub platform : List ℕ
   pub track : List ℕ
@@ -14,7 +14,7 @@ pub record Shown : Type 0 where
   pub arrival : List ℕ
   pub departure : List ℕ
 
--- what the code shows
+-- what the code prints, in the definitions
 abbrev pub location_meant : Location → Shown
 location_meant location = record {
   platform = location.platform.now;
@@ -24,7 +24,7 @@ location_meant location = record {
   departure = location.departure.now;
 }
 
--- what is shown of a record of this kind
+-- what is printed of a record of this kind
 abbrev pub location_by_kind : Option Kind → List ℕ → Shown
 location_by_kind kind line = record {
   platform = platform_by_kind kind line;
@@ -34,7 +34,7 @@ location_by_kind kind line = record {
   departure = public_by_kind kind departure line;
 }
 
--- the public time of an occasion
+-- the public time for an occasion
 abbrev pub public_at : Occasion → Shown → List ℕ
 public_at arrival shown = shown.arrival
 public_at departure shown = shown.departure

@@ -1,4 +1,4 @@
--- The rows of a walk, taken some at a time.
+-- The rows of a walk, read a portion at a time.
 use Rattle.std.specs.Prelude.{◌≡◌, ℕ, List, ◌++◌}
 use Rattle.docker_laws.specs.Row.{Row, AreRowsOf}
 use Rattle.docker_model.specs.state.State.{live_table}
@@ -11,23 +11,23 @@ use Rattle.train_choice.specs.Known.{PlaceDay}
 use Rattle.docker_day.specs.RowViews.{views_in, views_of}
 use Rattle.docker_day.specs.declared.row_view.RowView.{RowView}
 
--- the rows that are left of some rows; they are good and live if all were
+-- the rows after are what is left of the rows before: they are good and live if those were
 pub record AreLeft (before after : List Row) : Type 0 where
   pub good : AreGoodRows before → AreGoodRows after
   pub live : (live : Table) → AreLive live before → AreLive live after
 
--- rows were opened: what is open and what is left are together what they were
+-- rows were read: the portion and the rows that are left are, together, the same as before
 abbrev pub AreOpened : List Row → List Row → List (ℕ × RowView) → List (ℕ × RowView) → Type 0
 AreOpened before after portion more = views_in more ++ views_of after ≡ views_in portion ++ views_of before
 
--- the rows left out have no line: at any place on the day, the rows before and the rows after
--- gather the same lines
+-- the rows passed over have no lines. At any place on the day, the rows before and the rows after
+-- give the same lines
 abbrev pub ArePassedOver : ℕ → List Row → List Row → Type 0
 ArePassedOver day before after = (place : List ℕ) (live : Table) → AreLive live before → (rows : List Row) → AreRowsOf live rows
     → gathered (train_in rows) (link_in rows) place day before ≡ gathered (train_in rows) (link_in rows) place day after
 
--- a walk has moved on: the lines so far and the lines of the remaining rows are together what they
--- were
+-- a walk has gone on: the lines so far and the lines of the rows to come are, together, the same as
+-- before
 abbrev pub HaveMoved : PlaceDay → List Row → List Row → List DockerLine → List DockerLine → Type 0
 HaveMoved there before after lines more = (rows : List Row) → AreRowsOf (live_table there.state) rows
     → more ++ gathered (train_in rows) (link_in rows) there.place there.day after

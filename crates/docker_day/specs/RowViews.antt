@@ -1,4 +1,4 @@
--- What a docker makes of a row: of a schedule, of an association, or of another row.
+-- A row as a docker reads it: a schedule, an association, or neither.
 use Rattle.std.specs.Prelude.{ℕ, ◌-◌, Bool, true, nat_le, if◌then◌else◌, List, [], ◌∷◌, map, Option, ⊤}
 use Rattle.std.specs.List.{flat_map}
 use Rattle.docker_model.specs.file.Change.{Key, association_key, schedule_key, Body, association_body, schedule_body}
@@ -15,67 +15,67 @@ use Rattle.docker_day.specs.Lines.{is_lately, is_under_way, link_here, schedule_
 use Rattle.docker_day.specs.declared.row_view.RowView.{RowView}
 use Rattle.docker_day.specs.declared.row_view.RowView.TheVariants.{Train, Link, Other}
 
--- what the row of a key and a body is opened as
+-- the typed view of a row: schedule, association or neither
 abbrev pub view_of : Key → Body → RowView
 view_of (schedule_key key) (schedule_body lines) = Train (record { key = key; lines = lines })
 view_of (association_key key) (association_body line) = Link (record { key = key; line = line })
 view_of _ _ = Other
 
--- what the rows of a walk are opened as
+-- the typed view of each row
 abbrev pub views_of : List Row → List RowView
 views_of rows = map (λ (row : Row). view_of row.0 row.1) rows
 
--- opened rows, without their indices
+-- the views of rows, without the rows' indexes
 abbrev pub views_in : List (ℕ × RowView) → List RowView
 views_in rows = map (λ (row : ℕ × RowView). row.1) rows
 
--- the schedule or the association is one of the live table
+-- the schedule or the association is in the live table
 abbrev pub IsLiveView : Table → RowView → Type 0
 IsLiveView live (Train train) = IsLiveTrain live train
 IsLiveView live (Link link) = IsLiveLink live link
 IsLiveView live Other = ⊤
 
--- each of them is
+-- each schedule or association is in the live table
 abbrev pub AreLiveViews : Table → List RowView → Type 0
 AreLiveViews live [] = ⊤
 AreLiveViews live (row ∷ rows) = IsLiveView live row × AreLiveViews live rows
 
--- if the row is a schedule's, the schedule runs on the day or on one of the two days before it
+-- a schedule's row runs on the day or on one of the two days before; any other row may have lines
 abbrev pub row_lately : RowView → ℕ → Bool
 row_lately (Train train) day = is_lately train.lines day
 row_lately (Link link) day = true
 row_lately Other day = true
 
--- if the row is a schedule's, its train may be under way on the day, up to its last event at the
--- place
+-- the train of a schedule's row may be at the place on a day after its start; any other row may
+-- have lines
 abbrev pub row_under_way : List ℕ → RowView → ℕ → Bool
 row_under_way place (Train train) day = is_under_way place train.lines day
 row_under_way place (Link link) day = true
 row_under_way place Other day = true
 
--- if the row is a schedule's, the schedule has begun by the day and is marked on it or on one of
--- the two days before
+-- a schedule's row has begun by the day and marks it or one of the two days before; any other row
+-- may have lines
 abbrev pub row_may_run : RowView → ℕ → Bool
 row_may_run (Train train) day = may_run_lately train.key train.lines day
 row_may_run (Link link) day = true
 row_may_run Other day = true
 
--- the lines of a row
+-- the docker lines of a row
 abbrev pub view_lines : (List ℕ → ℕ → Option choices.Train) → (Group → ℕ → Option live_rows.Link) → List ℕ → ℕ → RowView → List DockerLine
 view_lines trains links place day (Train train) = schedule_lines trains place day train.key train.lines
 view_lines trains links place day (Link link) = association_lines trains links place day link.key link.line
 view_lines trains links place day Other = []
 
--- the lines of rows, row by row
+-- the docker lines of rows, row by row
 abbrev pub lines_of : (List ℕ → ℕ → Option choices.Train) → (Group → ℕ → Option live_rows.Link) → List ℕ → ℕ → List RowView → List DockerLine
 lines_of trains links place day rows = flat_map (view_lines trains links place day) rows
 
--- the lines of a row on a start day
+-- the docker lines of a row for a start day
 abbrev pub row_piece : (List ℕ → ℕ → Option choices.Train) → (Group → ℕ → Option live_rows.Link) → List ℕ → ℕ → RowView → ℕ → List DockerLine
 row_piece trains links place day (Train train) start = schedule_piece trains place day train.key train.lines start
 row_piece trains links place day (Link link) start = link_here trains links place day link start
 row_piece trains links place day Other start = []
 
--- the lines of a row `back` days before the day, if there is such a day
+-- the docker lines of a row for the start day `back` days before; none if there is no such day
 abbrev pub row_back : (List ℕ → ℕ → Option choices.Train) → (Group → ℕ → Option live_rows.Link) → List ℕ → ℕ → RowView → ℕ → List DockerLine
 row_back trains links place day row back = if nat_le back day then row_piece trains links place day row (day - back) else []

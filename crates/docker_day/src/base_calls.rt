@@ -1,4 +1,4 @@
-//! The first events of the calls of a train at a place.
+//! The calls of a train at a place, each with its first event.
 ghost use Rattle.std.specs.Prelude.{◌≡◌, ℕ, Some, None, if◌then◌else◌, find, option_map, IfOk, OnOk};
 ghost use Rattle.std.specs.BTreeMap.{get};
 ghost use Rattle.std.specs.Ordering.{nat_cmp};
@@ -15,8 +15,8 @@ use std::alloc::Global;
 use std::collections::BTreeMap;
 use train_choice::{Events, Occurrence};
 
-/// A UID, and the calls of its train at some place on some start day: for each suffix, the first
-/// event with it. There are none if the train doesn't run then.
+/// A UID, and the calls of its train at a place on a start day: for each suffix the first event
+/// there. There are none if the train doesn't run then.
 #[derive(Debug, Drop)]
 pub(crate) struct BaseCalls<'a> {
     pub(crate) uid: Uid,
@@ -24,8 +24,8 @@ pub(crate) struct BaseCalls<'a> {
 }
 
 impl<'a> BaseCalls<'a> {
-    /// The first event of the call with a suffix, if there is one. `None` if the calls are another
-    /// UID's.
+    /// The first event of the call with this suffix. The inner `None` says that there is no such
+    /// call, and the outer that these calls are another UID's.
     pub(crate) fn asked(&self, uid: &Uid, suffix: u8) -> Option<Option<Occurrence<'a>>>
         ensures { option_map meant_if result ≡ (if bytes_eq self.now.uid uid.now
             then Some (get nat_cmp self.now.calls suffix) else None) }
@@ -37,7 +37,7 @@ impl<'a> BaseCalls<'a> {
         }
     }
 
-    /// The first event of the call with a suffix, if there is one.
+    /// The first event of the call with this suffix, if there is one.
     pub(crate) fn first(&self, suffix: u8) -> Option<Occurrence<'a>>
         ensures { meant_if result ≡ get nat_cmp self.now.calls suffix }
     {
@@ -48,7 +48,7 @@ impl<'a> BaseCalls<'a> {
     }
 }
 
-/// For each suffix, the first event of the call at a place with that suffix.
+/// For each suffix, the first event of a call with it at a place.
 pub(crate) fn first_calls<'a>(
     alloc: Global,
     events: Events<'a>,
@@ -64,7 +64,7 @@ pub(crate) fn first_calls<'a>(
     Ok(calls)
 }
 
-/// Updates the first events with one more event, if it is at the place.
+/// Updates the first events after one more event. It counts only if it is at the place.
 fn add_event<'a>(
     calls: &mut BTreeMap<u8, FirstEvent<'a>>,
     event: &Occurrence<'a>,
@@ -80,7 +80,8 @@ fn add_event<'a>(
     }
 }
 
-/// Updates the first events with one more event of a call, if its suffix has none yet.
+/// Updates the first events after one more event at the place. It counts only if its suffix has no
+/// event yet.
 fn add_call<'a>(
     calls: &mut BTreeMap<u8, FirstEvent<'a>>,
     suffix: u8,

@@ -1,4 +1,4 @@
-//! The calls at a place of the base trains of associations. The ones asked for last are kept.
+//! The calls of base trains at a place. The last ones that were looked up are kept.
 ghost use Rattle.std.specs.Prelude.{◌≡◌, ℕ, List, IfOk, IfSome};
 ghost use Rattle.std.specs.BTreeMap.{get};
 ghost use Rattle.std.specs.Ordering.{nat_cmp};
@@ -16,9 +16,9 @@ use std::collections::BTreeMap;
 use std::marker::Model;
 use train_choice::{Occurrence, train_on};
 
-/// The calls at a place of the base trains that start on a day. The calls of the train asked for
-/// last are kept. A walk meets the associations of a base train one after the other, so the lines
-/// of each base train are read once.
+/// The calls at a place of the base trains that start on a day. The calls of the last train that
+/// was looked up are kept. A walk meets all associations of a base train one after the other, so
+/// each base train's lines are read only once.
 #[derive(Debug, Drop)]
 pub(crate) struct Bases<'a> {
     alloc: Global,
@@ -46,7 +46,7 @@ impl<'a> Model for Bases<'a> {
 }
 
 impl<'a> Bases<'a> {
-    /// The calls at a place of the trains that start on a day, none asked for yet.
+    /// The calls at a place of the trains that start on a day, before any is looked up.
     pub(crate) fn at(alloc: Global, state: &'a State, place: &Tiploc, day: Day) -> Bases<'a>
         ensures { result ≡ record { state = state.entry.now; place = place.now; day = day } }
     {
@@ -59,9 +59,8 @@ impl<'a> Bases<'a> {
         }
     }
 
-    /// The first event of the call of a UID's train at the place with a suffix. `None` if there is
-    /// no such call, or if the train doesn't run. `Memory` if there is no room for the calls of the
-    /// train.
+    /// The first event of a train's call at the place with this suffix. `None` if there is no such
+    /// call, or if the train doesn't run. `Memory` if there is no room for the train's calls.
     pub(crate) fn first_call(
         &mut self,
         uid: &Uid,
@@ -78,8 +77,8 @@ impl<'a> Bases<'a> {
         }
     }
 
-    /// The first event of the call, from the kept calls. `None` if no calls are kept, or another
-    /// train's.
+    /// The first event of the call, from the kept calls. The outer `None` says that no calls are
+    /// kept, or another train's.
     fn known(&self, uid: &Uid, suffix: u8) -> Option<Option<Occurrence<'a>>>
         ensures { IfSome result (λ event. (rows : List Row)
             → AreRowsOf (live_table self.now.state) rows → meant_if event
@@ -91,7 +90,7 @@ impl<'a> Bases<'a> {
         }
     }
 
-    /// Like `first_call`, by a walk over the lines of the train. Its calls are kept.
+    /// Like `first_call`, by a walk over the train's lines. It keeps the train's calls.
     fn look_up(&mut self, uid: &Uid, suffix: u8) -> Result<Option<Occurrence<'a>>, Memory>
         ensures same { self.new ≡ self.old }
         ensures event { IfOk result (λ event. (rows : List Row)
@@ -106,7 +105,7 @@ impl<'a> Bases<'a> {
     }
 }
 
-/// The first events of the calls at a place of a UID's train that starts on a day.
+/// The calls at a place of a UID's train that starts on a day, each with its first event.
 fn calls_of<'a>(
     alloc: Global,
     state: &'a State,

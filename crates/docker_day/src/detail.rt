@@ -1,31 +1,31 @@
-//! The end of a docker's line.
+//! The end of a docker line.
 ghost use Rattle.std.specs.Prelude.{◌≡◌};
 ghost use Rattle.docker_model.specs.docker.DockerLine.{associated_uid};
 ghost use Rattle.docker_day.specs.Details.{detail_meant};
 
 use cif_line::Uid;
 
-/// The end of a line.
+/// The end of a docker line.
 #[derive(Clone, Copy, Debug)]
 pub enum Detail {
-    /// For an event: where the train begins and where it ends.
+    /// For an event: where the train starts and where it ends.
     Ends {
-        /// The TIPLOC of its origin.
+        /// The TIPLOC of the origin.
         origin: [u8; 7],
-        /// The TIPLOC of its terminus.
+        /// The TIPLOC of the terminus.
         destination: [u8; 7],
     },
     /// For an association: the associated train.
     Partner {
-        /// Its UID.
+        /// The UID of that train.
         uid: Uid,
-        /// Its identity on its start day, `????` if it doesn't run then.
+        /// Its train identity on its start day, or `????` if it doesn't run then.
         identity: [u8; 4],
     },
 }
 
 impl Detail {
-    /// The UID of the associated train. It is empty for an event.
+    /// The UID of the associated train; empty for an event.
     pub(crate) fn associated_uid(&self) -> &[u8]
         ensures { result.now ≡ associated_uid (detail_meant self.now) }
     {

@@ -1,4 +1,4 @@
-//! A line of a docker, and the order of lines.
+//! Lines of a docker, and their order.
 ghost use Rattle.std.specs.Prelude.{◌≡◌};
 ghost use Rattle.std.specs.Ordering.{as_partial_cmp, eq_by_cmp};
 ghost use Rattle.std.specs.Cmp.{partial_equiv_from_equiv, eq_by_cmp_equiv, partial_order_from_total};
@@ -64,7 +64,7 @@ impl<'a> Model for DockerLine<'a> {
 }
 
 impl<'a> DockerLine<'a> {
-    /// The line of an event of a train that starts on a day. The line ends with this detail.
+    /// The line of an event, for a train that starts on this day. It ends with this detail.
     #[tactic(auto, using(crate::proofs::Shown::public_is))]
     pub(crate) fn of_event(
         train: &ScheduleView<'a>,
@@ -94,7 +94,7 @@ impl<'a> DockerLine<'a> {
         }
     }
 
-    /// The line of an association at an event of its base train, which starts on a day. The
+    /// The line of an association at an event of its base train, which starts on this day. The
     /// associated train has this identity.
     pub(crate) fn of_link(
         link: &LinkView<'a>,
@@ -134,35 +134,35 @@ impl<'a> DockerLine<'a> {
         self.time
     }
 
-    /// What happens.
+    /// What happens: an event or an association.
     pub fn occasion(&self) -> Occasion
         ensures { occasion_meant result ≡ self.now.occasion }
     {
         self.occasion
     }
 
-    /// The identity of the train at the location.
+    /// The train identity at the location.
     pub fn identity(&self) -> &'a [u8; 4]
         ensures { result.now ≡ self.now.identity }
     {
         self.identity
     }
 
-    /// The UID of the train. For an association, it is the base train's UID.
+    /// The UID of the train. In the line of an association it is the base train's.
     pub fn uid(&self) -> Uid
         ensures { result ≡ self.now.uid }
     {
         self.uid
     }
 
-    /// The STP indicator of the schedule. For an association, it is the association's indicator.
+    /// The STP indicator of the schedule, or in the line of an association the association's.
     pub fn stp(&self) -> Stp
         ensures { stp_letter result ≡ self.now.indicator }
     {
         self.stp
     }
 
-    /// The suffix of the location. It distinguishes several calls at one timing point.
+    /// The suffix of the location, which distinguishes several calls at one timing point.
     pub fn suffix(&self) -> u8
         ensures { result ≡ self.now.suffix }
     {
@@ -176,21 +176,23 @@ impl<'a> DockerLine<'a> {
         self.platform
     }
 
-    /// The line on which the train leaves or passes. Spaces at a terminus and for an association.
+    /// The line on which the train leaves or passes. Spaces at a terminus and in the line of an
+    /// association.
     pub fn track(&self) -> &'a [u8; 3]
         ensures { result.now ≡ self.now.track }
     {
         self.track
     }
 
-    /// The path by which the train arrives or passes. Spaces at an origin and for an association.
+    /// The path by which the train arrives or passes. Spaces at an origin and in the line of an
+    /// association.
     pub fn path(&self) -> &'a [u8; 3]
         ensures { result.now ≡ self.now.path }
     {
         self.path
     }
 
-    /// The public time of the arrival or the departure as HHMM. Spaces if there is none.
+    /// The public time of the arrival or departure as HHMM. Spaces if there is none.
     pub fn public_time(&self) -> &'a [u8; 4]
         ensures { result.now ≡ self.now.public_time }
     {
@@ -211,7 +213,7 @@ impl<'a> DockerLine<'a> {
         self.number
     }
 
-    /// The ends of the train, or the associated train.
+    /// The train's origin and destination, or the associated train.
     pub fn detail(&self) -> Detail
         ensures { detail_meant result ≡ self.now.detail }
     {

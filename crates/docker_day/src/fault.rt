@@ -1,13 +1,13 @@
-//! Why there is no docker.
+//! Why no docker can be made.
 use thiserror::Error;
 
-/// Why there is no docker.
+/// Why no docker can be made.
 #[derive(Clone, Copy, PartialEq, Eq, Debug, Error)]
 pub enum DockerFault {
-    /// The state has a horizon, and the day is before the horizon plus three days.
+    /// The state has a horizon, and the day is earlier than three days after it.
     #[error("lapsed")]
     Lapsed,
-    /// Out of memory: a growth was refused.
+    /// Out of memory: the allocator refused it.
     #[error("out of memory")]
     Memory,
 }

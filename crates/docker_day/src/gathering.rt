@@ -1,4 +1,4 @@
-//! The lines that a row has in a docker.
+//! The lines of one row in a docker.
 ghost use Rattle.std.specs.Prelude.{◌≡◌, OnOk};
 ghost use Rattle.docker_model.specs.state.State.{live_table};
 ghost use Rattle.train_choice.specs.Along.{IsLiveLink};
@@ -15,8 +15,8 @@ use crate::visits::Visits;
 use cif_line::{Day, Memory, Tiploc};
 use train_choice::LinkView;
 
-/// Adds the lines of a row, which has this index, for each start day whose trains can be there on
-/// the day.
+/// Adds the lines of a row, for each start day whose trains can be at the place on the day. `row`
+/// is the row's index.
 pub(crate) fn add_row<'a>(
     lines: &mut Vec<DockerLine<'a>>,
     visits: &mut Visits<'a>,
@@ -40,8 +40,8 @@ pub(crate) fn add_row<'a>(
     add_back(lines, &mut visits.two_before, row, view)
 }
 
-/// Whether a row may have lines on a day. A schedule may only if it runs on that day or on one of
-/// the two days before it. One read of its fields decides that.
+/// Whether a row may have lines on a day. A schedule has none if it runs neither on that day nor on
+/// one of the two days before. Its fields are read once for that.
 fn is_row_lately(view: &RowView<'_>, day: Day) -> bool
     ensures { result ≡ row_lately view.now day }
 {
@@ -51,8 +51,8 @@ fn is_row_lately(view: &RowView<'_>, day: Day) -> bool
     }
 }
 
-/// Whether a row may have lines at a place on a day for a train that started on an earlier day. A
-/// schedule may only if its train may be under way.
+/// Whether a row may have lines, at a place on a day, of a train that started on an earlier day. A
+/// schedule has none unless its train may be under way.
 fn is_row_under_way(view: &RowView<'_>, place: &Tiploc, day: Day) -> bool
     ensures { result ≡ row_under_way place.now view.now day }
 {
@@ -62,7 +62,7 @@ fn is_row_under_way(view: &RowView<'_>, place: &Tiploc, day: Day) -> bool
     }
 }
 
-/// Adds the lines of a row on a visit, if there is a visit.
+/// Adds the lines of a row for a visit, if there is one.
 fn add_back<'a>(
     lines: &mut Vec<DockerLine<'a>>,
     visit: &mut Option<Visit<'a>>,
@@ -79,7 +79,7 @@ fn add_back<'a>(
     }
 }
 
-/// Adds the lines of a row on a visit.
+/// Adds the lines of a row for a visit.
 fn add_piece<'a>(
     lines: &mut Vec<DockerLine<'a>>,
     visit: &mut Visit<'a>,
@@ -97,7 +97,7 @@ fn add_piece<'a>(
     }
 }
 
-/// Adds the line of an association on a visit, if it is at the place.
+/// Adds the line of an association for a visit, if the association is at the place.
 fn add_link<'a>(
     lines: &mut Vec<DockerLine<'a>>,
     visit: &mut Visit<'a>,

@@ -1,4 +1,4 @@
-//! The docker of a timing point and a day: its lines, their order, and the printed list.
+//! The docker of a timing point and a day: its lines, their order, and its printed text.
 #![tactic(auto)]
 
 mod base_calls;

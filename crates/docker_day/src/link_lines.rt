@@ -1,4 +1,4 @@
-//! The line of an association.
+//! The docker line of an association.
 ghost use Rattle.std.specs.Prelude.{◌≡◌, List, Some, option_map, IfOk};
 ghost use Rattle.docker_model.specs.file.Change.{ScheduleKey};
 ghost use Rattle.docker_model.specs.records.Record.{columns, column};
@@ -18,8 +18,8 @@ use crate::visit::Visit;
 use cif_line::Memory;
 use train_choice::{LinkView, Occasion, Occurrence, is_cancellation};
 
-/// The line of an association at the place of a visit, if it counts on the start day and its base
-/// train runs then.
+/// The docker line of an association for a visit. `None` if the association isn't in force on the
+/// start day, its category gives no line, or its base train doesn't call there on the day.
 pub(crate) fn link_line<'a>(
     visit: &mut Visit<'a>,
     link: &LinkView<'a>,
@@ -38,35 +38,36 @@ pub(crate) fn link_line<'a>(
     }
 }
 
-/// Whether an association counts on the start day, is no cancellation, and has a date indicator.
+/// Whether an association is chosen on the start day, isn't a cancellation, and has a date
+/// indicator that gives a line.
 fn is_in_force(visit: &Visit<'_>, link: &LinkView<'_>) -> bool
     requires live { IsLiveLink (live_table visit.now.state) link.now }
     requires here { link.now.key.location ≡ visit.now.place }
     ensures { (rows : List Row) → AreRowsOf (live_table visit.now.state) rows
         → result ≡ is_in_force (link_in rows) visit.now.start link.now.key link.now.line }
 {
-    // Its own days are checked first, because which association of its group counts takes a search.
+    // Its own days are checked first, as the choice in its group takes a search.
     if !link.runs_on(visit.start()) {
         return false;
     }
     visit.counts(link.key()) & !is_cancellation(link.key().stp) & has_indicator(link)
 }
 
-/// Whether an association has a date indicator.
+/// Whether the date indicator of an association gives a line.
 fn has_indicator(link: &LinkView<'_>) -> bool
     ensures { result ≡ is_date_indicator (column 37 link.now.line) }
 {
     is_date_indicator(link.record().date_indicator())
 }
 
-/// Whether this is one of the date indicators `S`, space, `N` and `P`.
+/// Whether this is a date indicator that gives a line: `S`, a space, `N` or `P`.
 fn is_date_indicator(indicator: u8) -> bool
     ensures { result ≡ is_date_indicator indicator }
 {
     (indicator == b'S') | (indicator == b' ') | (indicator == b'N') | (indicator == b'P')
 }
 
-/// The occasion of an association category: `JJ`, `VV` or `NP`. `None` for any other category.
+/// The occasion for an association category, `JJ`, `VV` or `NP`. `None` for any other category.
 fn occasion_of(category: &[u8; 2]) -> Option<Occasion>
     ensures { option_map occasion_meant result ≡ category_occasion category.now }
 {
@@ -78,8 +79,7 @@ fn occasion_of(category: &[u8; 2]) -> Option<Occasion>
     }
 }
 
-/// The line of an association that is in force, if its category has an occasion and its base train
-/// runs.
+/// The docker line of an association in force, if its category gives one and its base train runs.
 fn line_with<'a>(
     visit: &mut Visit<'a>,
     link: &LinkView<'a>,
@@ -98,7 +98,7 @@ fn line_with<'a>(
     }
 }
 
-/// The line of an association with this occasion, if its base train runs and calls there.
+/// The docker line of an association with this occasion, if its base train runs and calls there.
 fn line_by<'a>(
     visit: &mut Visit<'a>,
     link: &LinkView<'a>,
@@ -119,7 +119,7 @@ fn line_by<'a>(
     }
 }
 
-/// The line of an association at an event of its base train, if the event is on the day.
+/// The docker line of an association at an event of its base train, if the event is on the day.
 fn line_at<'a>(
     visit: &mut Visit<'a>,
     link: &LinkView<'a>,
@@ -140,8 +140,8 @@ fn line_at<'a>(
     Ok(Some(DockerLine::of_link(link, occasion, visit.start(), event, identity)))
 }
 
-/// The identity of the associated train on its start day. Question marks if the train doesn't run
-/// then, or if there is no such day.
+/// The train identity of the associated train on its start day. Question marks if the train doesn't
+/// run then, or if there is no such day.
 fn partner_identity<'a>(visit: &mut Visit<'a>, link: &LinkView<'_>) -> Result<[u8; 4], Memory>
     ensures same { visit.new ≡ visit.old }
     ensures identity { IfOk result (λ identity. (rows : List Row)

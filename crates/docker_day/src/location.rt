@@ -1,4 +1,4 @@
-//! What a docker shows of a location record.
+//! What a docker prints of a location record.
 ghost use Rattle.std.specs.Prelude.{◌≡◌, ◌+◌, ◌-◌, ◌<◌, ◌≤◌};
 ghost use Rattle.docker_model.specs.records.Record.{kind_of, columns, column};
 ghost use Rattle.docker_model.specs.records.PrintedTime.{shown_public};
@@ -8,8 +8,7 @@ ghost use Rattle.docker_day.specs.Locations.{location_meant, location_by_kind, p
 use cif_line::{Kind, Line, kind};
 use train_choice::Occasion;
 
-/// What a docker shows of a location record, as it is printed. What the record doesn't have is
-/// spaces.
+/// What a docker prints of a location record. Anything that the record doesn't have is spaces.
 #[derive(Clone, Copy, Debug)]
 pub(crate) struct Location<'a> {
     /// The platform.
@@ -18,15 +17,15 @@ pub(crate) struct Location<'a> {
     pub(crate) track: &'a [u8; 3],
     /// The path by which a train arrives or passes.
     pub(crate) path: &'a [u8; 3],
-    /// The public time of its arrival.
+    /// The public time of the arrival.
     pub(crate) arrival: &'a [u8; 4],
-    /// The public time of its departure.
+    /// The public time of the departure.
     pub(crate) departure: &'a [u8; 4],
 }
 
 impl<'a> Location<'a> {
-    /// What is shown of a location record. A line of another kind has no event: it shows the
-    /// platform's columns, and spaces for the rest.
+    /// What a docker prints of a line. Only location records have events. Of any other line it
+    /// would be the platform's columns, and otherwise spaces.
     pub(crate) fn of(line: &'a Line) -> Location<'a>
         ensures { location_meant result ≡ location_by_kind (kind_of line.entry.now) line.entry.now }
     {
@@ -62,7 +61,7 @@ impl<'a> Location<'a> {
         }
     }
 
-    /// The public time of an occasion.
+    /// The public time for an occasion.
     pub(crate) fn public_time(&self, occasion: Occasion) -> &'a [u8; 4]
         ensures { result.now ≡ public_at (occasion_meant occasion) (location_meant self.now) }
     {
@@ -81,21 +80,21 @@ pub(crate) fn tiploc_in(line: &Line) -> &[u8; 7]
     field(line, 3)
 }
 
-/// The suffix of a location record. It distinguishes several calls at one timing point.
+/// The suffix of a location record, which distinguishes several calls at one timing point.
 pub(crate) fn suffix_in(line: &Line) -> u8
     ensures { result ≡ column 10 line.now }
 {
     line.bytes()[9]
 }
 
-/// A public time as it is printed. `0000` means that there is none, and is printed as spaces.
+/// A public time as it is printed. `0000` means that there is none, and becomes spaces.
 fn shown_public(field: &[u8; 4]) -> &[u8; 4]
     ensures { result.now ≡ shown_public field.entry.now }
 {
     if field == b"0000" { b"    " } else { field }
 }
 
-/// The `N` bytes of a line from a column on. Columns are counted from 1.
+/// `N` bytes of a line, from this column on, counted from 1.
 fn field<const N: usize>(line: &Line, first: usize) -> &[u8; N]
     requires from { 0 < first }
     requires within { first - 1 + N ≤ 80 }

@@ -22,10 +22,10 @@ use docker_state::{Op, State};
 use std::alloc::Global;
 use train_choice::{associations_at, schedules_at};
 
-/// The docker of a timing point and a day: the events of the trains that run, and the associations,
-/// there on that day. `Lapsed` if and only if the state has a horizon and the day is before the
-/// horizon plus three days, because lapsed entries may then be missing. `Memory` if out of memory,
-/// for the lines or for what is looked up for them.
+/// The docker of a timing point and a day: the events of trains that run, and the associations, at
+/// the timing point on the day. `Lapsed` if and only if the state has a horizon and the day is
+/// earlier than three days after it; entries that have lapsed could be missing then. `Memory` if
+/// there is no room for the lines, or for what is looked up for them.
 pub fn docker<'a>(
     alloc: Global,
     state: &'a State,
@@ -73,7 +73,7 @@ fn in_order(mut lines: Vec<DockerLine<'_>>) -> Vec<DockerLine<'_>>
     lines
 }
 
-/// Whether there is a horizon, and the day is before it plus three days.
+/// Whether there is a horizon and the day is earlier than three days after it.
 fn is_refused(horizon: u16, day: Day) -> bool
     requires day { horizon ≤ 36524 }
     ensures { IsTrue result ↔ IsDayRefused horizon day }
@@ -81,7 +81,7 @@ fn is_refused(horizon: u16, day: Day) -> bool
     (horizon > 0) & (day.number() < horizon + 3)
 }
 
-/// The description of a timing point: 26 bytes, or 26 spaces if the timing point isn't live.
+/// The description of a timing point: 26 bytes, which are spaces if the timing point isn't live.
 fn description<'a>(state: &'a State, tiploc: &Tiploc) -> &'a [u8; 26]
     ensures text { result.now ≡ description_in (live_table state.now (tiploc_key tiploc.now)) }
     ensures valid { IsValid state.now }
@@ -92,7 +92,7 @@ fn description<'a>(state: &'a State, tiploc: &Tiploc) -> &'a [u8; 26]
     }
 }
 
-/// The description that an op puts, or spaces if it puts none.
+/// The description in the body that an op puts. Spaces if it puts none.
 fn described(op: &Op) -> &[u8; 26]
     ensures { result.now ≡ description_in (body_of (op_meant op.entry.now)) }
 {
@@ -102,15 +102,15 @@ fn described(op: &Op) -> &[u8; 26]
     }
 }
 
-/// The description in a TIPLOC's body: columns 19 to 44 of its record, whose columns 10 to 72 are the
-/// body.
+/// The description in a TIPLOC's body: columns 19 to 44 of its record. The body is columns 10 to
+/// 72.
 fn description_of(bytes: &[u8; 63]) -> &[u8; 26]
     ensures { result.now ≡ columns 10 35 bytes.now }
 {
     columns_of(bytes, 10)
 }
 
-/// The `N` bytes of a TIPLOC's body from a column on. The body's columns are counted from 1.
+/// `N` bytes of a TIPLOC's body, from this column of the body on, counted from 1.
 fn columns_of<const N: usize>(bytes: &[u8; 63], first: usize) -> &[u8; N]
     requires from { 0 < first }
     requires within { first - 1 + N ≤ 63 }

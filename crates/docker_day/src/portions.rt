@@ -1,4 +1,4 @@
-//! Gathers the lines of a docker from the rows of a walk, some rows at a time.
+//! Gathers the lines of a docker from the rows of a walk, a portion at a time.
 ghost use Rattle.std.specs.Prelude.{◌≡◌, ◌<◌, ◌⊎◌, [], true, false, length, IsNone, IsSome, OnOk, Some};
 ghost use Rattle.arrayvec.specs.ArrayVec.{array_vec_len};
 ghost use Rattle.docker_model.specs.state.State.{live_table};
@@ -16,10 +16,10 @@ use arrayvec::ArrayVec;
 use cif_line::{Day, Memory};
 use docker_state::{Numbered, Standing};
 
-/// How many rows are read before the lines of one are added, so that their cache misses overlap.
+/// How many rows are read before lines are added, so that cache misses overlap.
 const PORTION: usize = 16;
 
-/// Rows of a walk that are open, each with its index.
+/// A portion: rows of a walk that have been read, each with its index.
 type Portion<'a> = ArrayVec<(usize, RowView<'a>), PORTION>;
 
 /// Adds the lines of rows at a place on a day. `Memory` if out of memory.
@@ -49,8 +49,9 @@ pub(crate) fn add_rows<'a>(
     }
 }
 
-/// Opens the next rows of a walk, which advances past them: none if the walk is at its end. Whether
-/// any of them may have lines on a day. Each is read, whatever the earlier ones are.
+/// Refills the portion with the next rows of the walk, and returns whether any of them may have
+/// lines on the day. It reads every row, so that cache misses overlap. At the end of the walk the
+/// portion is empty.
 fn open_portion<'a>(portion: &mut Portion<'a>, rows: &mut Numbered<'a>, day: Day) -> bool
     requires { AreGoodRows rows.old }
     ensures left { AreLeft rows.old rows.new }
@@ -66,8 +67,8 @@ fn open_portion<'a>(portion: &mut Portion<'a>, rows: &mut Numbered<'a>, day: Day
     some
 }
 
-/// Opens the next row of a walk, which advances past it. Whether it may have lines on a day. `None`
-/// if there is no room for it, or if the walk is at its end.
+/// Adds the next row of the walk to the portion, and returns whether it may have lines on the day.
+/// `None` if the portion is full or the walk is at its end.
 fn open_next<'a>(portion: &mut Portion<'a>, rows: &mut Numbered<'a>, day: Day) -> Option<bool>
     requires { AreGoodRows rows.old }
     ensures none { IsNone result → (array_vec_len portion.new ≡ PORTION) ⊎ (rows.new ≡ []) }
@@ -86,8 +87,8 @@ fn open_next<'a>(portion: &mut Portion<'a>, rows: &mut Numbered<'a>, day: Day) -
     Some(may_run)
 }
 
-/// Whether a row may have lines on a day. A schedule may only if it has begun, and the weekday of
-/// the day or of one of the two days before it is marked.
+/// Whether a row may have lines on a day. A schedule has none unless it has begun and marks that
+/// weekday or one of the two before.
 fn may_row_run(view: &RowView<'_>, day: Day) -> bool
     ensures { result ≡ row_may_run view.now day }
 {
@@ -97,7 +98,7 @@ fn may_row_run(view: &RowView<'_>, day: Day) -> bool
     }
 }
 
-/// Adds the lines of rows that are open, each with its index.
+/// Adds the lines of the rows of a portion, each with its index.
 fn add_portion<'a>(
     lines: &mut Vec<DockerLine<'a>>,
     visits: &mut Visits<'a>,

@@ -1,4 +1,5 @@
-//! The text of a docker: a heading, its lines and a last line, each of 56 columns and a line feed.
+//! The text of a docker: a heading, the docker's lines and a last line, each of 56 columns and a
+//! line feed.
 ghost use Rattle.std.specs.Prelude.{◌≡◌, ℕ, List, ◌-◌, ◌^◌, ◌<◌, IsErr, OnOk, OnErr};
 ghost use Rattle.std.specs.List.{flat_map};
 ghost use Rattle.cif_line.specs.Device.{CountsFailure, Takes, TakesPart};
@@ -15,11 +16,10 @@ use arrayvec::ArrayVec;
 use cif_line::{Day, Failed, Sink, Tiploc, write_all};
 use fixed_text::{put, whole};
 
-/// The bytes of a line: 56 columns and a line feed.
+/// How many bytes a line has: 56 columns and a line feed.
 const WIDTH: usize = 57;
 
-/// Writes a docker as it is printed. If a write fails, the sink has a beginning of the text, and
-/// not all of it.
+/// Writes a docker as it is printed. If a write fails, the sink has only a first part of the text.
 pub fn write_docker<K: Sink>(docker: &Docker<'_>, sink: &mut K) -> Result<(), Failed>
     requires { K.failures sink.old < 2 ^ 64 - 1 }
     ensures whole { OnOk result (Takes (K.taken sink.old) (text_of docker.now) (K.taken sink.new)) }
@@ -108,7 +108,7 @@ fn text_of_line(line: &DockerLine<'_>) -> [u8; WIDTH]
     whole(text)
 }
 
-/// The end of a line: its last 15 columns.
+/// The last 15 columns of a line.
 fn text_of_detail(detail: &Detail) -> [u8; 15]
     ensures { result ≡ detail_text (detail_meant detail.now) }
 {

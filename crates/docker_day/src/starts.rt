@@ -1,4 +1,4 @@
-//! The start days of the trains that can be somewhere on a day.
+//! Start days: of associated trains, and of the trains that can be somewhere on a day.
 ghost use Rattle.std.specs.Prelude.{◌≡◌, ◌+◌, ◌≤◌};
 ghost use Rattle.docker_model.specs.docker.Association.{partner_start};
 ghost use Rattle.train_choice.specs.EventWalk.{occurrence_meant};
@@ -8,9 +8,9 @@ use crate::location::tiploc_in;
 use cif_line::{Day, Tiploc};
 use train_choice::{Occurrence, day_back};
 
-/// The start day of the associated train, if the base train starts on a day. It is the next day for
-/// the date indicator `N`, the day before for `P`, and otherwise the same day. `None` if there is
-/// no such day.
+/// The start day of the associated train, from the base train's. It is the next day for the date
+/// indicator `N`, the day before for `P`, and otherwise the same day. `None` if there is no such
+/// day.
 pub(crate) fn partner_start(indicator: u8, start: Day) -> Option<Day>
     ensures { result ≡ partner_start indicator start }
 {
@@ -28,7 +28,7 @@ pub(crate) fn is_here(event: &Occurrence<'_>, place: &Tiploc) -> bool
     tiploc_in(event.line) == place.bytes()
 }
 
-/// Whether an event is on a day. Its train starts on that day or before it.
+/// Whether an event is on a day, if its train starts on `start`, which isn't after the day.
 #[tactic(auto, using(crate::proofs::Days::today_is))]
 pub(crate) fn is_today(event: &Occurrence<'_>, day: Day, start: Day) -> bool
     requires past { start ≤ day }

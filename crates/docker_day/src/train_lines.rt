@@ -1,4 +1,4 @@
-//! The lines of a train's events.
+//! The docker lines of a train's events.
 ghost use Rattle.std.specs.Prelude.{◌≡◌, ◌≤◌, ◌&&◌, ◌++◌, [], OnOk, IfSome, IsNone, codes};
 ghost use Rattle.docker_model.specs.state.State.{live_table};
 ghost use Rattle.docker_model.specs.docker.DockerLine.{ends, tiploc_of_first};
@@ -18,8 +18,8 @@ use crate::visit::Visit;
 use cif_line::{Day, Memory, Tiploc};
 use train_choice::{Occurrence, ScheduleView, ends_of, passes_midnight};
 
-/// Adds the lines of a schedule on a visit, if its train runs by it then. `row` is the index of the
-/// schedule's row. `Memory` if out of memory.
+/// Adds the lines of a schedule for a visit, if its train runs by it on the start day. `row` is the
+/// index of the schedule's row. `Memory` if out of memory.
 pub(crate) fn add_schedule<'a>(
     lines: &mut Vec<DockerLine<'a>>,
     visit: &mut Visit<'a>,
@@ -33,8 +33,7 @@ pub(crate) fn add_schedule<'a>(
         train.now.lines visit.old.start)
         lines.old.items lines.new.items) }
 {
-    // Its own days are checked first, because the choice among the schedules of its UID takes a
-    // search.
+    // Its own days are checked first, as the choice among its UID's schedules takes a search.
     if !train.runs_on(visit.start()) {
         return Ok(());
     }
@@ -45,16 +44,15 @@ pub(crate) fn add_schedule<'a>(
     }
 }
 
-/// Whether a schedule runs on a day or on one of the two days before it.
+/// Whether a schedule runs on a day or on one of the two days before.
 pub(crate) fn is_lately(train: &ScheduleView<'_>, day: Day) -> bool
     ensures { result ≡ is_lately train.now.lines day }
 {
     train.runs_lately(day).is_some()
 }
 
-/// Whether the train of a schedule may be under way on a day, up to its last event at a place,
-/// since one of the two days before. It may if the schedule runs on one of them and passes midnight
-/// by that event.
+/// Whether a schedule's train may be at a place on a day, after starting earlier. It may if the
+/// schedule runs on one of the two days before, and passes midnight by its last event at the place.
 pub(crate) fn is_under_way(train: &ScheduleView<'_>, place: &Tiploc, day: Day) -> bool
     ensures { result ≡ is_under_way place.now train.now.lines day }
 {
@@ -65,7 +63,7 @@ pub(crate) fn is_under_way(train: &ScheduleView<'_>, place: &Tiploc, day: Day) -
     passes_midnight(train, place)
 }
 
-/// Adds the lines of the events of a train that are at a place on a day.
+/// Adds the lines of a train's events at a place on a day.
 fn add_events<'a>(
     lines: &mut Vec<DockerLine<'a>>,
     train: &ScheduleView<'a>,
@@ -83,7 +81,7 @@ fn add_events<'a>(
     }
 }
 
-/// Like `add_events`, for a train with these ends.
+/// Like `add_events`, for a train whose ends are known.
 fn add_there<'a>(
     lines: &mut Vec<DockerLine<'a>>,
     train: &ScheduleView<'a>,
@@ -114,7 +112,7 @@ fn is_there(event: &Occurrence<'_>, place: &Tiploc, day: Day, start: Day) -> boo
     is_here(event, place) & is_today(event, day, start)
 }
 
-/// Where a train begins and where it ends. `None` if its schedule has no journey.
+/// The origin and destination of a train. `None` if its schedule has no journey.
 fn detail_of(train: &ScheduleView<'_>) -> Option<Detail>
     ensures ends { IfSome result (λ detail. detail_meant detail
         ≡ ends (tiploc_of_first (codes "LO") train.now.lines)

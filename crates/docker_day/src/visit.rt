@@ -1,4 +1,4 @@
-//! A place on a day, for the trains that start on one day.
+//! A visit: a place on a day, for the trains that start on one day.
 ghost use Rattle.std.specs.Prelude.{◌≡◌, ◌≤◌, true, List, IfOk};
 ghost use Rattle.docker_model.specs.file.File.{first_record};
 ghost use Rattle.docker_model.specs.state.State.{live_table};
@@ -18,10 +18,10 @@ use std::alloc::Global;
 use std::marker::Model;
 use train_choice::{DayLinks, DayTrains, Identities, Occurrence, ScheduleView};
 
-/// The visit to a place on a day by the trains that start on that day or on an earlier one. What was
-/// looked up for it is kept: which trains and associations count on the start day, where base trains
-/// call, and the identities of associated trains. So each row is read once, however many rows need
-/// it.
+/// A visit: the trains that start on one day, at a place on that day or a later one. Whatever is
+/// looked up for it is kept: the trains and associations chosen on the start day, the calls of base
+/// trains, and the identities of associated trains. So each row is read only once, even if many
+/// rows need it.
 #[derive(Debug, Drop)]
 pub(crate) struct Visit<'a> {
     place: Tiploc,
@@ -51,8 +51,8 @@ impl<'a> Model for Visit<'a> {
 }
 
 impl<'a> Visit<'a> {
-    /// The visit by the trains that start on a day. `Memory` if there is no room for the
-    /// associations that count on that day.
+    /// The visit of the trains that start on a day. `Memory` if there is no room for the
+    /// associations chosen on that day.
     pub(crate) fn of(
         alloc: Global,
         state: &'a State,
@@ -101,8 +101,8 @@ impl<'a> Visit<'a> {
         self.start
     }
 
-    /// Whether the train of a schedule's UID runs by it on the start day, on which the schedule
-    /// runs. `row` is the index of the schedule's row.
+    /// Whether the train of this schedule's UID runs by this schedule on the start day. The
+    /// schedule has to run on that day. `row` is the index of its row.
     pub(crate) fn runs_by(&mut self, row: usize, train: &ScheduleView<'a>) -> bool
         requires live { IsLiveTrain (live_table self.old.state) train.now }
         requires runs { schedule_runs (first_record train.now.lines) self.old.start ≡ true }
@@ -113,7 +113,7 @@ impl<'a> Visit<'a> {
         self.trains.runs_by(row, train)
     }
 
-    /// Whether this association at the place is the one that counts in its group on the start day.
+    /// Whether this association at the place is the one chosen in its group on the start day.
     pub(crate) fn counts(&self, key: &AssocKey) -> bool
         requires { key.now.location ≡ self.now.place }
         ensures { (rows : List Row) → AreRowsOf (live_table self.now.state) rows → result
@@ -123,8 +123,8 @@ impl<'a> Visit<'a> {
         self.links.counts(key)
     }
 
-    /// The first event of the call of a UID's train at the place with a suffix. `None` if there is
-    /// no such call, or if the train doesn't run on the start day.
+    /// The first event of a train's call at the place with this suffix. `None` if there is no such
+    /// call, or if the train doesn't run on the start day.
     pub(crate) fn first_call(
         &mut self,
         uid: &Uid,
@@ -138,8 +138,8 @@ impl<'a> Visit<'a> {
         self.bases.first_call(uid, suffix)
     }
 
-    /// The identity of the train of a UID that starts on a day. Question marks if the train doesn't
-    /// run then.
+    /// The train identity of a UID's train that starts on a day. Question marks if the train
+    /// doesn't run then.
     pub(crate) fn identity(&mut self, uid: &Uid, day: Day) -> Result<[u8; 4], Memory>
         ensures same { self.new ≡ self.old }
         ensures identity { IfOk result (λ identity. (rows : List Row)

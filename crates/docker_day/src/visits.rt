@@ -10,8 +10,8 @@ use std::alloc::Global;
 use std::marker::Model;
 use train_choice::day_back;
 
-/// The visits to a place on a day: by the trains that start on the day, and by the trains that
-/// start on each of the two days before it, if there are such days.
+/// The visits to a place on a day. One is of the trains that start on that day. The others are of
+/// trains that start on the day before and two days before, if there are such days.
 #[derive(Debug, Drop)]
 pub(crate) struct Visits<'a> {
     pub(crate) today: Visit<'a>,
@@ -41,8 +41,8 @@ impl<'a> Model for Visits<'a> {
 }
 
 impl<'a> Visits<'a> {
-    /// The visits to a place on a day. `Memory` if there is no room for the associations that count
-    /// on their start days.
+    /// The visits to a place on a day. `Memory` if there is no room for the associations chosen on
+    /// the start days.
     pub(crate) fn at(
         alloc: Global,
         state: &'a State,
@@ -74,7 +74,7 @@ impl<'a> Visits<'a> {
     }
 }
 
-/// The visit by the trains that start `back` days before the day, if there is such a day.
+/// The visit of the trains that start `back` days before the day. `None` if there is no such day.
 fn visit_back<'a>(
     alloc: Global,
     state: &'a State,

@@ -1,10 +1,10 @@
--- What the files that are known fix: states, dockers and trains.
+-- What the files that are known fix: states, dockers and lists.
 use Rattle.std.proofs.Common.{◌≡◌, ℕ, List, [], length, subst, arith}
 use Rattle.std.proofs.lemmas.List.{length-map}
 use Rattle.std.proofs.lemmas.List.Elements.{All-get_or}
 use Rattle.cif_laws.proofs.lists.ZipSteps.{zip_at}
 use Rattle.docker_model.specs.docker.DockerText.{IsDockerText}
-use Rattle.docker_model.specs.state.Lapse.{IsDayRefused}
+use Rattle.docker_model.specs.state.Lapse.{IsDayRefused, lapse_table}
 use Rattle.docker_model.specs.state.State.{State, live_table}
 use Rattle.docker_model.specs.state.StateText.{dks_2}
 use Rattle.docker_model.specs.state.Summary.{HaveDistinctMoments, IsSummary}
@@ -16,8 +16,10 @@ use Rattle.docker_laws.proofs.runs.GoodKnowledge.{good_in_run}
 use Rattle.docker_laws.proofs.runs.KnownSets.{offices_are}
 use Rattle.docker_laws.proofs.runs.RunEnd.{docker_of_files}
 use Rattle.state_laws.proofs.states.OnePlainTable.{some_plain_table}
+use Rattle.state_laws.proofs.states.PlainLive.{live_is_lapsed_plain}
 use Rattle.state_laws.proofs.states.SummaryLaws.{summary_unique}
 use Rattle.docker_cmd.specs.RunEnds.{EndsWith, PrintsAs}
+use Rattle.state_lists.specs.Places.{IsPlacesText}
 use Rattle.docker_desk.specs.Answering.{answers_of, lines_of}
 use Rattle.docker_desk.specs.Learning.{IsKnown}
 use Rattle.docker_desk.specs.Moments.{Step}
@@ -49,6 +51,17 @@ plain_dockers known state is distinct =
       ),
     )
 
+-- the list of timing points is the plain table's, without what has lapsed
+pub plain_places : (known : Known) (state : State) → IsKnown known state → HaveDistinctMoments known.files
+    → (plain : Table) × IsPlainTable known.files plain
+    × ((text : List ℕ) → IsPlacesText (live_table state) text → IsPlacesText (lapse_table known.horizon plain) text)
+plain_places known state is distinct =
+    let plain = some_plain_table known.files distinct in (
+      plain.0,
+      plain.1,
+      λ text. subst (λ (live : Table). IsPlacesText live text) (live_is_lapsed_plain known.files known.horizon state plain.0 is.is plain.1),
+    )
+
 -- an office knows what its run says
 pub office_knows : (known : Known) (state : State) → EndsWith known state → IsKnown known state
 office_knows known state end =
@@ -65,8 +78,8 @@ office_knows known state end =
     }))
 
 -- each step has one line and one answer
-pub one_each : {F : Type 0} (steps : List (Step F)) → length (answers_of steps) ≡ length (lines_of steps)
+pub one_each : (steps : List Step) → length (answers_of steps) ≡ length (lines_of steps)
 one_each steps =
-    let first = length-map steps (λ (step : Step _). step.answer) in
-    let second = length-map steps (λ (step : Step _). step.line) in
+    let first = length-map steps (λ (step : Step). step.answer) in
+    let second = length-map steps (λ (step : Step). step.line) in
     omega (arith, first, second)

@@ -17,14 +17,15 @@ use Rattle.docker_cmd.specs.Office.{HoldsState}
 use Rattle.docker_cmd.specs.SourceRead.{ReadsState}
 use Rattle.docker_cmd.specs.OfficeFault.{OfficeFault}
 use Rattle.docker_cmd.specs.Words.{NamesDay, OfOne, Text}
+use Rattle.docker_host.specs.History.{Bytes, Event}
 use Rattle.docker_desk.specs.Lines.{LineView, whole_line, bad_line, cut_line}
 use Rattle.docker_cmd.specs.JobLine.{words_in}
-use Rattle.docker_desk.specs.Requests.{RequestView, behind_word, print_request, train_request, files_request, renew_request, take_request, merge_request, horizon_request, save_request}
-use Rattle.docker_desk.specs.Desk.{DeskView, EndsReceiving, EndsTaking}
+use Rattle.docker_desk.specs.Requests.{RequestView, behind_word, print_request, train_request, files_request, places_request, known_request, renew_request, take_request, merge_request, horizon_request, save_request}
+use Rattle.docker_desk.specs.Desk.{DeskView, EndsReceiving, EndsRenewing, EndsTaking}
 use Rattle.docker_desk.specs.Replies.{AnswerView, done_with, no_request, refused_for}
 use Rattle.docker_desk.specs.Moments.{Moment, Setting, Step}
 use Rattle.docker_desk.specs.Doing.{AreSteps, AsksOf, DoesAsked, DoesRequest, IsStep, answer_of, desk_by}
-use Rattle.docker_desk.specs.Learning.{AreLearned, Hears, HearsFile, HearsState, IsKnown, KnowsAt, Learns}
+use Rattle.docker_desk.specs.Learning.{AreLearned, Hears, HearsFile, HearsState, IsKnown, KnowsAt, Learns, merging, renewing}
 
 -- ---- what is known
 
@@ -67,9 +68,9 @@ known_file file state is few summary = record {
 
 -- ---- one request
 
-module _ {F : Type 0} (setting : Setting F) (before after : Moment F) where
+module _ (setting : Setting) (before after : Moment) where
   -- after a file was taken
-  file_known : (name : Text) (old heard : Known) → HearsFile setting name before after heard → IsKnown old before.desk.state
+  file_known : (name : Text) (old heard : Known) → HearsFile name before after heard → IsKnown old before.desk.state
       → IsKnown (united old heard) after.desk.state
   file_known name old heard hears is =
       let takes = hears.takes in
@@ -78,9 +79,9 @@ module _ {F : Type 0} (setting : Setting F) (before after : Moment F) where
       (known_file takes.file takes.own takes.is_text.is takes.is_text.within takes.of_file) takes.joined)
 
   -- after a state was received
-  state_known : (name : Text) (old heard : Known) → HearsState setting name before after heard → IsKnown old before.desk.state
+  state_known : (events : Bytes → List Event) (old heard : Known) → HearsState events before after heard → IsKnown old before.desk.state
       → IsKnown (united old heard) after.desk.state
-  state_known name old heard hears is =
+  state_known events old heard hears is =
       known_joined old heard before.desk.state hears.joins.received after.desk.state is hears.of hears.joins.join
 
   -- a saving leaves the state
@@ -89,15 +90,20 @@ module _ {F : Type 0} (setting : Setting F) (before after : Moment F) where
   same_saved (Err fault) same = ap (λ (desk : DeskView). desk.state) same
 
   -- a request that was refused leaves the state
-  refused_take : (held : Option (List ℕ)) (fault : OfficeFault) (result : Result ⊤ OfficeFault) → refused_for fault ≡ answer_of result
-      → EndsTaking held before.desk.state after.desk.state result → after.desk.state ≡ before.desk.state
-  refused_take held fault (Ok done) told ends = let never : ⊥ = cc in absurd never
-  refused_take held fault (Err why) told ends = ends.1
+  refused_take : (fault : OfficeFault) (result : Result ⊤ OfficeFault) (held : Option Bytes) → refused_for fault ≡ answer_of result
+      → EndsTaking before.desk.state after.desk.state result held → after.desk.state ≡ before.desk.state
+  refused_take fault (Ok done) held told ends = let never : ⊥ = cc in absurd never
+  refused_take fault (Err why) held told ends = ends.1
 
-  refused_merge : (held : Option (List ℕ)) (fault : OfficeFault) (result : Result ⊤ OfficeFault) → refused_for fault ≡ answer_of result
-      → EndsReceiving held before.desk.state after.desk.state result → after.desk.state ≡ before.desk.state
-  refused_merge held fault (Ok done) told ends = let never : ⊥ = cc in absurd never
-  refused_merge held fault (Err why) told ends = ends.1
+  refused_merge : (fault : OfficeFault) (result : Result ⊤ OfficeFault) (held : Option Bytes) → refused_for fault ≡ answer_of result
+      → EndsReceiving before.desk.state after.desk.state result held → after.desk.state ≡ before.desk.state
+  refused_merge fault (Ok done) held told ends = let never : ⊥ = cc in absurd never
+  refused_merge fault (Err why) held told ends = ends.1
+
+  refused_renew : (fault : OfficeFault) (result : Result ⊤ OfficeFault) (held : Option Bytes) → refused_for fault ≡ answer_of result
+      → EndsRenewing before.desk after.desk result held → after.desk.state ≡ before.desk.state
+  refused_renew fault (Ok done) held told ends = let never : ⊥ = cc in absurd never
+  refused_renew fault (Err why) held told ends = ap (λ (desk : DeskView). desk.state) ends.1
 
   -- each request has an answer
   some_answer : (result : Result ⊤ OfficeFault) → ¬ (no_request ≡ answer_of result)
@@ -109,27 +115,31 @@ module _ {F : Type 0} (setting : Setting F) (before after : Moment F) where
       → DoesRequest setting request before (done_with text) after → Hears setting request before after heard → IsKnown old before.desk.state
       → IsKnown (united old heard) after.desk.state
   known_done (print_request place day) text old heard days does hears is =
-      nothing_heard old heard _ _ hears (ap (λ (m : Moment F). m.desk.state) does.1) is
+      nothing_heard old heard _ _ hears (ap (λ (m : Moment). m.desk.state) does.1) is
   known_done (train_request uid day) text old heard days does hears is =
-      nothing_heard old heard _ _ hears (ap (λ (m : Moment F). m.desk.state) does.1) is
-  known_done files_request text old heard days does hears is = nothing_heard old heard _ _ hears (ap (λ (m : Moment F). m.desk.state) does.1) is
-  known_done renew_request text old heard days does hears is = state_known setting.name old heard hears is
+      nothing_heard old heard _ _ hears (ap (λ (m : Moment). m.desk.state) does.1) is
+  known_done files_request text old heard days does hears is = nothing_heard old heard _ _ hears (ap (λ (m : Moment). m.desk.state) does.1) is
+  known_done places_request text old heard days does hears is = nothing_heard old heard _ _ hears (ap (λ (m : Moment). m.desk.state) does.1) is
+  known_done known_request text old heard days does hears is = nothing_heard old heard _ _ hears (ap (λ (m : Moment). m.desk.state) does.1) is
+  known_done renew_request text old heard days does hears is = state_known (renewing setting.name) old heard hears is
   known_done (take_request file) text old heard days does hears is = file_known file old heard hears is
-  known_done (merge_request other) text old heard days does hears is = state_known other old heard hears is
+  known_done (merge_request other) text old heard days does hears is = state_known (merging other) old heard hears is
   known_done (horizon_request day) text old heard days does hears is =
-      subst (λ (m : Moment F). IsKnown (united old heard) m.desk.state) (sym does.1)
+      subst (λ (m : Moment). IsKnown (united old heard) m.desk.state) (sym does.1)
       (known_raised old heard day before.desk.state (days day refl) hears is)
   known_done save_request text old heard days does hears is = nothing_heard old heard _ _ hears (same_saved does.result does.desk) is
 
   -- a refused request leaves the state
   same_refused : (request : RequestView) (fault : OfficeFault) → DoesRequest setting request before (refused_for fault) after
       → after.desk.state ≡ before.desk.state
-  same_refused (print_request place day) fault does = ap (λ (m : Moment F). m.desk.state) does.1
-  same_refused (train_request uid day) fault does = ap (λ (m : Moment F). m.desk.state) does.1
-  same_refused files_request fault does = ap (λ (m : Moment F). m.desk.state) does.1
-  same_refused renew_request fault does = refused_merge (setting.held before.files setting.name) fault does.result does.told does.ends
-  same_refused (take_request file) fault does = refused_take (setting.held before.files file) fault does.result does.told does.ends
-  same_refused (merge_request other) fault does = refused_merge (setting.held before.files other) fault does.result does.told does.ends
+  same_refused (print_request place day) fault does = ap (λ (m : Moment). m.desk.state) does.1
+  same_refused (train_request uid day) fault does = ap (λ (m : Moment). m.desk.state) does.1
+  same_refused files_request fault does = ap (λ (m : Moment). m.desk.state) does.1
+  same_refused places_request fault does = ap (λ (m : Moment). m.desk.state) does.1
+  same_refused known_request fault does = ap (λ (m : Moment). m.desk.state) does.1
+  same_refused renew_request fault does = refused_renew fault does.result does.opens.held does.told does.opens.ends
+  same_refused (take_request file) fault does = refused_take fault does.result does.opens.held does.told does.opens.ends
+  same_refused (merge_request other) fault does = refused_merge fault does.result does.opens.held does.told does.opens.ends
   same_refused (horizon_request day) fault does = let told = does.0 in let never : ⊥ = cc in absurd never
   same_refused save_request fault does = same_saved does.result does.desk
 
@@ -138,6 +148,8 @@ module _ {F : Type 0} (setting : Setting F) (before after : Moment F) where
   never_unasked (print_request place day) does = does.0
   never_unasked (train_request uid day) does = does.0
   never_unasked files_request does = does.0
+  never_unasked places_request does = does.0
+  never_unasked known_request does = does.0
   never_unasked renew_request does = some_answer does.result does.told
   never_unasked (take_request file) does = some_answer does.result does.told
   never_unasked (merge_request other) does = some_answer does.result does.told
@@ -149,7 +161,7 @@ module _ {F : Type 0} (setting : Setting F) (before after : Moment F) where
       → DoesAsked setting request before answer after → Learns setting request before answer after old new → IsKnown old before.desk.state
       → IsKnown new after.desk.state
   known_asked None answer old new days does learns is =
-      subst (λ (m : Moment F). IsKnown new m.desk.state) (sym does.1) (subst (λ k. IsKnown k before.desk.state) (sym learns) is)
+      subst (λ (m : Moment). IsKnown new m.desk.state) (sym does.1) (subst (λ k. IsKnown k before.desk.state) (sym learns) is)
   known_asked (Some request) (done_with text) old new days does learns is =
       subst (λ k. IsKnown k after.desk.state) (sym learns.1.1)
       (known_done request text old learns.0 (λ day same. days day (ap Some same)) does learns.1.0 is)
@@ -172,30 +184,30 @@ day_asked may_write (whole_line line) request day asks same =
 day_asked may_write bad_line request day asks same = let never : ⊥ = cc in absurd never
 day_asked may_write cut_line request day asks same = let never : ⊥ = cc in absurd never
 
-module _ {F : Type 0} (setting : Setting F) where
+module _ (setting : Setting) where
   -- what is known after a step
-  known_step : (step : Step F) (old new : Known) → IsStep setting step → Learns setting step.request step.before step.answer step.after old new
+  known_step : (step : Step) (old new : Known) → IsStep setting step → Learns setting step.request step.before step.answer step.after old new
       → IsKnown old step.before.desk.state → IsKnown new step.after.desk.state
   known_step step old new does learns is =
       known_asked setting step.before step.after step.request step.answer old new
       (λ day same. day_asked setting.may_write step.line step.request day does.asks same) does.does learns is
 
   -- what is known after steps
-  pub known_steps : (first last : Moment F) (steps : List (Step F)) (old new : Known) → IsKnown old first.desk.state → AreSteps setting first steps last
+  pub known_steps : (first last : Moment) (steps : List Step) (old new : Known) → IsKnown old first.desk.state → AreSteps setting first steps last
       → AreLearned setting old steps new → IsKnown new last.desk.state
   known_steps first last [] old new is are learned =
-      subst (λ (m : Moment F). IsKnown new m.desk.state) (sym are) (subst (λ k. IsKnown k first.desk.state) (sym learned) is)
+      subst (λ (m : Moment). IsKnown new m.desk.state) (sym are) (subst (λ k. IsKnown k first.desk.state) (sym learned) is)
   known_steps first last (step ∷ steps) old new is are learned =
       known_steps step.after last steps learned.0 new
-      (known_step step old learned.0 are.1.0 learned.1.0 (subst (λ (m : Moment F). IsKnown old m.desk.state) (sym are.0) is)) are.1.1 learned.1.1
+      (known_step step old learned.0 are.1.0 learned.1.0 (subst (λ (m : Moment). IsKnown old m.desk.state) (sym are.0) is)) are.1.1 learned.1.1
 
   -- what is known at a moment of a session
   pub known_then : (known : Known) (state : State) → KnowsAt setting known state → IsKnown known state
   known_then known state at = subst (IsKnown known) at.has (known_steps at.first at.last at.steps at.start known at.begins at.are at.learned)
 
   -- the first steps lead to a moment, and the others on from there
-  pub steps_apart : (first last : Moment F) (earlier later : List (Step F)) → AreSteps setting first (earlier ++ later) last
-      → (between : Moment F) × (AreSteps setting first earlier between × AreSteps setting between later last)
+  pub steps_apart : (first last : Moment) (earlier later : List Step) → AreSteps setting first (earlier ++ later) last
+      → (between : Moment) × (AreSteps setting first earlier between × AreSteps setting between later last)
   steps_apart first last [] later are = (first, (refl, are))
   steps_apart first last (step ∷ earlier) later are =
       let apart = steps_apart step.after last earlier later are.1.1 in (apart.0, ((are.0, (are.1.0, apart.1.0)), apart.1.1))
@@ -203,7 +215,7 @@ module _ {F : Type 0} (setting : Setting F) where
 -- ---- the beginning
 
 -- the state that was read is the one whose text the file held
-one_read : (limit : ℕ) (left : Option (List ℕ)) (read sent : State) → ReadsState dks_2 limit left read → HoldsState dks_2 limit left sent → read ≡ sent
+pub one_read : (limit : ℕ) (left : Option (List ℕ)) (read sent : State) → ReadsState dks_2 limit left read → HoldsState dks_2 limit left sent → read ≡ sent
 one_read limit left read sent reads holds =
     let same : holds.text ≡ reads.text = subst (λ bytes. Held bytes reads.text) holds.told reads.held in
     one_text dks_2 read sent reads.is.valid holds.is.valid (sym reads.is.is ∙ sym same ∙ holds.is.is)

@@ -2,8 +2,8 @@ pub mod LineLemmas
 pub mod WordLemmas
 pub mod RequestLemmas
 pub mod WritingLemmas
-pub mod SavingLemmas
-mod ReadFiles
+pub mod ReadFiles
+pub mod HistoryLemmas
 mod TermsLemmas
 mod KnownLemmas
 mod FixedLemmas
@@ -11,3 +11,6 @@ mod TrainLemmas
 mod ReadingLemmas
 mod StepLemmas
 mod ServeLemmas
+mod LookLemmas
+mod HeardLemmas
+mod WitnessLemmas

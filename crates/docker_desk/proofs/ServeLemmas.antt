@@ -1,94 +1,85 @@
--- How a session begins and ends, from what the calls promise.
-use Rattle.std.proofs.Common.{◌≡◌, ℕ, ◌+◌, Bool, List, refl, arith, Err, inl, inr}
-use Rattle.std.specs.Prelude.{option_map}
-use Rattle.docker_cmd.specs.OfficeFault.{OfficeFault}
-use Rattle.docker_cmd.specs.Words.{Text}
-use Rattle.docker_cmd.specs.Prepared.{DeviceBytes}
-use Rattle.docker_cmd.specs.FaultLine.{fault_line, status_of}
-use Rattle.docker_cmd.specs.declared.fault.Fault.TheVariants.{Office}
-use Rattle.docker_program.specs.Devices.{IsCounted}
-use Rattle.docker_program.specs.Past.{with_look}
-use Rattle.docker_program.specs.Program.{FaultSink}
-use Rattle.docker_desk.specs.Desk.{DeskView}
-use Rattle.docker_desk.specs.Requests.{usage_line}
-use Rattle.docker_desk.specs.declared.ending.Ending.{Ending}
-use Rattle.docker_desk.specs.declared.ending.Ending.TheVariants.{Ended, InputFailed, InputEndless, OutputFailed}
-use Rattle.docker_desk.specs.Moments.{Moment, setting}
+-- How a session comes to its end.
+use Rattle.std.proofs.Common.{◌≡◌, ◌+◌, ℕ, Bool, List, ◌++◌, [], ◌∷◌, length, arith, inl, inr, Some, None, Ok, ap, subst, ◌∙◌, false}
+use Rattle.std.specs.Prelude.{Option, ◌&&◌}
+use Rattle.cif_line.specs.Device.{Takes, TakesPart}
+use Rattle.docker_host.specs.History.{Bytes, Event, Text, looked}
+use Rattle.docker_host.specs.Host.{HostView}
 use Rattle.docker_desk.specs.Answering.{AnswersLines, CountsStreams}
-use Rattle.docker_desk.specs.Serving.{Around, BeginsAt, EndsOpening, EndsWithStatus, FailsOnce, NameNoSession, NamesSession, Serves, TellsLine}
+use Rattle.docker_desk.specs.Desk.{DeskView, IsCounted, LooksAndOpens, opening_of}
+use Rattle.docker_desk.specs.declared.ending.Ending.{Ending}
+use Rattle.docker_desk.specs.Moments.{Moment, moment, setting}
+use Rattle.docker_desk.specs.Serving.{BeginsAt, EndsOpening, EndsWithStatus, NamesSession, Serves, Told, TellsText, told_by}
+use Rattle.docker_desk.proofs.WritingLemmas.{both_taken, part_of_back, part_of_front}
 
--- the streams of a session that ended
-pub fails_once : (ending : Ending) (unsaved : Bool) (status : ℕ) (faults : FaultSink) (input input_now output output_now : ℕ)
-    → CountsStreams ending input input_now output output_now → EndsWithStatus ending unsaved status faults
-    → FailsOnce status (input + output) (input_now + output_now)
-fails_once Ended unsaved status faults input input_now output output_now counted ends =
-    let first = counted.0 in
-    let second = counted.1 in
-    record { failed = λ more. absurd (more (omega (arith, first, second))); few = omega (arith, first, second) }
-fails_once InputFailed unsaved status faults input input_now output output_now counted ends =
-    let first = counted.0 in let second = counted.1 in record { failed = λ more. ends.0; few = omega (arith, first, second) }
-fails_once InputEndless unsaved status faults input input_now output output_now counted ends =
-    let first = counted.0 in let second = counted.1 in record { failed = λ more. ends.0; few = omega (arith, first, second) }
-fails_once OutputFailed unsaved status faults input input_now output output_now counted ends =
-    let first = counted.0 in let second = counted.1 in record { failed = λ more. ends.0; few = omega (arith, first, second) }
+-- two texts, one after the other
+pub tells_both : (first second piece behind : List ℕ) (old middle new : Told) → piece ≡ first → behind ≡ second → middle.failures ≡ old.failures
+    → Takes old.taken piece middle.taken → TellsText behind middle new → TellsText (first ++ second) old new
+tells_both first second piece behind old middle new one two sound whole tells = by (subst (λ text. TellsText text middle new) two tells)
+  where
+    taken : Takes old.taken first middle.taken
+    taken = subst (λ text. Takes old.taken text middle.taken) one whole
 
--- streams that weren't asked for anything
-pub fails_never : (status before after : ℕ) → after ≡ before → FailsOnce status before after
-fails_never status before after same = record { failed = λ more. absurd (more same); few = omega (arith, same) }
+    by : TellsText second middle new → TellsText (first ++ second) old new
+    by (inl next) = inl (next.0 ∙ sound, both_taken old.taken middle.taken new.taken first second taken next.1)
+    by (inr part) = inr (part.0 ∙ ap (λ n. n + 1) sound, part_of_back old.taken middle.taken new.taken first second taken part.1)
 
-module _ {F : Type 0} (held : F → Text → DeviceBytes) (words : List Text) (old new : Around F) (Unread Unlooked : Type 0) (faults : FaultSink) where
-  -- the words name no session
-  pub misused : NameNoSession words → Unread → Unlooked → new ≡ old → TellsLine usage_line faults
-      → Serves held words old new Unread Unlooked faults 2
-  misused none unread unlooked same tells = inl (record { none = none; unread = unread; unlooked = unlooked; untouched = same; status_is = refl; tells = tells })
+-- the first text in part
+pub tells_first : (first second piece : List ℕ) (old new : Told) → piece ≡ first → new.failures ≡ old.failures + 1 → TakesPart old.taken piece new.taken
+    → TellsText (first ++ second) old new
+tells_first first second piece old new one failed part =
+    inr (failed, part_of_front old.taken new.taken first second (subst (λ text. TakesPart old.taken text new.taken) one part))
 
-  -- no state was read
-  pub refused_start : (T : Type 0) (desk_in : T → DeskView) (name : Text) (may_write : Bool) (fault : OfficeFault) (status : ℕ)
-      → NamesSession words name may_write → Unread
-      → new.stored ≡ old.stored → new.past ≡ option_map with_look old.past → IsCounted status old.failed.files new.failed.files
-      → EndsOpening desk_in (held old.files name) (Err fault)
-      → status ≡ status_of (Office fault) → TellsLine (fault_line (Office fault)) faults
-      → Serves held words old new Unread Unlooked faults status
-  refused_start T desk_in name may_write fault status named unread stored past counted why status_is tells = inr (inl (record {
-    name = name;
-    may_write = may_write;
-    words_are = named;
-    unread = unread;
-    stored = stored;
-    past = past;
-    fault = fault;
-    why = why;
-    counted = counted;
-    status_is = status_is;
-    tells = tells;
-  }))
+-- a session begins with what was read
+pub begins : {T : Type 0} (desk_in : T → DeskView) (name : Text) (old new : List Event) (made : T) (look failures : ℕ)
+    → LooksAndOpens name (EndsOpening desk_in (Ok made)) old new → look ≡ length old
+    → BeginsAt name old (moment (desk_in made) look new failures)
+begins desk_in name old new made look failures opens same = by opens.held opens.asked opens.ends
+  where
+    by : (held : Option Bytes) → new ≡ old ++ looked name ∷ opening_of name held ∷ [] → EndsOpening desk_in (Ok made) held
+        → BeginsAt name old (moment (desk_in made) look new failures)
+    by (Some held) asked ends = record { held = held; asked = asked; state = ends.0; saved = ends.1; look = same }
+    by None asked ends = absurd ends.0
 
-  -- the session was served
-  pub served : (name : Text) (may_write : Bool) (first last : Moment F) (ending : Ending) (status : ℕ) → NamesSession words name may_write
-      → BeginsAt held name old first
-      → AnswersLines (setting held name may_write) first last old.input old.output new.output ending
-      → new.files ≡ last.files → new.stored ≡ last.stored → new.past ≡ last.past
-      → CountsStreams ending old.failed.input new.failed.input old.failed.output new.failed.output
-      → new.failed.files + new.failed.store ≡ last.failures
-      → EndsWithStatus ending last.desk.unsaved status faults → Serves held words old new Unread Unlooked faults status
-  served name may_write first last ending status named begins answers files stored past counts failures ends = inr (inr (record {
-    name = name;
-    may_write = may_write;
-    words_are = named;
-    first = first;
-    begins = begins;
-    last = last;
-    ending = ending;
-    answers = answers;
-    files = files;
-    stored = stored;
-    past = past;
-    counts = counts;
-    failures = failures;
-    ends = ends;
-  }))
+-- a state that was read shows that the folder didn't fail
+pub still : (before after : ℕ) → IsCounted 0 before after → after ≡ before
+still before after counted = counted.1 (λ four. omega arith)
 
--- a state that was read shows that no device failed
-pub still_none : (files files_now store store_now : ℕ) → IsCounted 0 files files_now → store_now ≡ store → files_now + store_now ≡ files + store
-still_none files files_now store store_now counted same =
-    let never = counted.1 (λ four. omega arith) in omega (arith, never, same)
+-- the session was served
+pub served : (words : List Text) (names_bytes : Bool) (old new : HostView) (status : ℕ) (name : Text) (may_write : Bool) (first last : Moment)
+    (ending : Ending) (unsaved : Bool)
+    → NamesSession words name may_write → BeginsAt name old.history first → first.failures ≡ old.folder_failures
+    → AnswersLines (setting name may_write names_bytes) first last old.input old.output new.output ending
+    → new.history ≡ last.history → new.folder_failures ≡ last.failures
+    → CountsStreams ending old.input_failures new.input_failures old.output_failures new.output_failures
+    → (old.ended ≡ false → new.passed ≡ old.passed) → EndsWithStatus ending unsaved status (told_by old) (told_by new)
+    → unsaved ≡ may_write && last.desk.unsaved → Serves words names_bytes old new status
+served words names_bytes old new status name may_write first last ending unsaved named begins none answers history failures counts not_passed ends same =
+    inr (inr (record {
+      name = name;
+      may_write = may_write;
+      words_are = named;
+      first = first;
+      begins = begins;
+      none = none;
+      last = last;
+      ending = ending;
+      answers = answers;
+      history = history;
+      failures = failures;
+      counts = counts;
+      not_passed = not_passed;
+      ends = subst (λ (u : Bool). EndsWithStatus ending u status (told_by old) (told_by new)) same ends;
+    }))
+
+-- the same, of a view that is another way to write the old one
+pub served_as : (words : List Text) (names_bytes : Bool) (seen old new : HostView) (status : ℕ) (name : Text) (may_write : Bool) (first last : Moment)
+    (ending : Ending) (unsaved : Bool) → seen ≡ old
+    → NamesSession words name may_write → BeginsAt name seen.history first → first.failures ≡ seen.folder_failures
+    → AnswersLines (setting name may_write names_bytes) first last seen.input seen.output new.output ending
+    → new.history ≡ last.history → new.folder_failures ≡ last.failures
+    → CountsStreams ending seen.input_failures new.input_failures seen.output_failures new.output_failures
+    → (seen.ended ≡ false → new.passed ≡ seen.passed) → EndsWithStatus ending unsaved status (told_by seen) (told_by new)
+    → unsaved ≡ may_write && last.desk.unsaved → Serves words names_bytes old new status
+served_as words names_bytes seen old new status name may_write first last ending unsaved is named begins none answers history failures counts not_passed ends same =
+    subst (λ (host : HostView). Serves words names_bytes host new status) is
+    (served words names_bytes seen new status name may_write first last ending unsaved named begins none answers history failures counts not_passed ends same)

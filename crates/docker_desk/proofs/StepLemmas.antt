@@ -11,7 +11,7 @@ use Rattle.docker_desk.specs.Lines.{AreLines, EndsLine, IsNextLine, LineView, Re
 use Rattle.docker_desk.specs.declared.lines.Asked.{Asked}
 use Rattle.docker_desk.specs.declared.lines.InputFault.{InputFault}
 use Rattle.docker_desk.specs.declared.lines.InputFault.TheVariants.{Endless}
-use Rattle.docker_program.specs.Devices.{IsCounted}
+use Rattle.docker_desk.specs.Desk.{IsCounted}
 use Rattle.docker_desk.specs.Replies.{AnswerView, bytes_told, no_request}
 use Rattle.docker_desk.specs.declared.ending.Ending.{Ending}
 use Rattle.docker_desk.specs.declared.ending.Ending.TheVariants.{Ended, InputFailed, InputEndless, OutputFailed}
@@ -151,34 +151,34 @@ takes_more (Some taken) now new first second one two =
 
 -- ---- steps
 
-module _ {F : Type 0} (setting : Setting F) where
+module _ (setting : Setting) where
   -- steps, and then more steps
-  steps_more : (first now last : Moment F) (steps more : List (Step F)) → AreSteps setting first steps now → AreSteps setting now more last
+  steps_more : (first now last : Moment) (steps more : List Step) → AreSteps setting first steps now → AreSteps setting now more last
       → AreSteps setting first (steps ++ more) last
   steps_more first now last [] more are then_more = subst (λ m. AreSteps setting m more last) are then_more
   steps_more first now last (step ∷ steps) more are then_more = (are.0, (are.1.0, steps_more step.after now last steps more are.1.1 then_more))
 
-  lines_both : (steps more : List (Step F)) → lines_of (steps ++ more) ≡ lines_of steps ++ lines_of more
-  lines_both steps more = map-append (λ (step : Step F). step.line) steps more
+  lines_both : (steps more : List Step) → lines_of (steps ++ more) ≡ lines_of steps ++ lines_of more
+  lines_both steps more = map-append (λ (step : Step). step.line) steps more
 
-  told_both : (steps more : List (Step F)) → answers_told (steps ++ more) ≡ answers_told steps ++ answers_told more
-  told_both steps more = flat_map-append (λ (step : Step F). bytes_told step.answer) steps more
+  told_both : (steps more : List Step) → answers_told (steps ++ more) ≡ answers_told steps ++ answers_told more
+  told_both steps more = flat_map-append (λ (step : Step). bytes_told step.answer) steps more
 
   -- a session so far: some lines were answered, and led to this moment
-  pub record IsSoFar (count : ℕ) (first now : Moment F) (input input_now output output_now : DeviceBytes) : Type 0 where
-    pub steps : List (Step F)
+  pub record IsSoFar (count : ℕ) (first now : Moment) (input input_now output output_now : DeviceBytes) : Type 0 where
+    pub steps : List Step
     pub many : length steps ≡ count
     pub are : AreSteps setting first steps now
     pub read : ReadsFirst input (lines_of steps) input_now
     pub told : Takes output (answers_told steps) output_now
 
   -- before the first line
-  so_far_none : (first : Moment F) (input output : DeviceBytes) → IsSoFar 0 first first input input output output
+  so_far_none : (first : Moment) (input output : DeviceBytes) → IsSoFar 0 first first input input output output
   so_far_none first input output =
       record { steps = []; many = refl; are = refl; read = reads_none input; told = takes_none output }
 
   -- nothing was read ahead before the first line
-  pub so_far_first : (first : Moment F) (ahead : List ℕ) (left output : DeviceBytes) → ahead ≡ [] → IsSoFar 0 first first left (with_ahead ahead left) output output
+  pub so_far_first : (first : Moment) (ahead : List ℕ) (left output : DeviceBytes) → ahead ≡ [] → IsSoFar 0 first first left (with_ahead ahead left) output output
   so_far_first first ahead left output none =
       subst (λ bytes. IsSoFar 0 first first left (with_ahead bytes left) output output) (sym none)
       (subst (λ input. IsSoFar 0 first first left input output output) (sym (none_ahead left)) (so_far_none first left output))
@@ -188,20 +188,20 @@ module _ {F : Type 0} (setting : Setting F) where
       none_ahead (Some rest) = refl
 
   -- a line with its answer is a step
-  abbrev pub step_of : (line : LineView) (before : Moment F) (answer : AnswerView) (after : Moment F) → DoesLine setting line before answer after → Step F
+  abbrev pub step_of : (line : LineView) (before : Moment) (answer : AnswerView) (after : Moment) → DoesLine setting line before answer after → Step
   step_of line before answer after does = record { line = line; request = does.request; before = before; answer = answer; after = after }
 
-  is_step : (line : LineView) (before : Moment F) (answer : AnswerView) (after : Moment F) → (does : DoesLine setting line before answer after)
+  is_step : (line : LineView) (before : Moment) (answer : AnswerView) (after : Moment) → (does : DoesLine setting line before answer after)
       → IsStep setting (step_of line before answer after does)
   is_step line before answer after does = record { asks = does.asks; does = does.does; counted = does.counted }
 
   -- one step
-  pub one_step : (line : LineView) (before : Moment F) (answer : AnswerView) (after : Moment F) → (does : DoesLine setting line before answer after)
+  pub one_step : (line : LineView) (before : Moment) (answer : AnswerView) (after : Moment) → (does : DoesLine setting line before answer after)
       → AreSteps setting before (step_of line before answer after does ∷ []) after
   one_step line before answer after does = (refl, (is_step line before answer after does, refl))
 
   -- after one line more
-  so_far_more : (count : ℕ) (first now next : Moment F) (input input_now input_next output output_now output_next : DeviceBytes)
+  so_far_more : (count : ℕ) (first now next : Moment) (input input_now input_next output output_now output_next : DeviceBytes)
       → IsSoFar count first now input input_now output output_now → ServesNext setting now next input_now input_next output_now output_next None
       → IsSoFar (count + 1) first next input input_next output output_next
   so_far_more count first now next input input_now input_next output output_now output_next so_far (line, answer, (followed, (does, (read, told)))) =
@@ -219,7 +219,7 @@ module _ {F : Type 0} (setting : Setting F) where
       }
 
   -- after one line more, if the session doesn't end there
-  pub so_far_on : (count : ℕ) (first now next : Moment F) (input input_now input_next output output_now output_next : DeviceBytes) (result : Option Ending)
+  pub so_far_on : (count : ℕ) (first now next : Moment) (input input_now input_next output output_now output_next : DeviceBytes) (result : Option Ending)
       → IsSoFar count first now input input_now output output_now → result ≡ None
       → ServesNext setting now next input_now input_next output_now output_next result
       → IsSoFar (count + 1) first next input input_next output output_next
@@ -228,7 +228,7 @@ module _ {F : Type 0} (setting : Setting F) where
       (subst (ServesNext setting now next input_now input_next output_now output_next) none serves)
 
   -- the end of a session, with the lines before
-  ends_more : (ending : Ending) (count : ℕ) (first now : Moment F) (input input_now output output_now output_last : DeviceBytes) (more : List (Step F))
+  ends_more : (ending : Ending) (count : ℕ) (first now : Moment) (input input_now output output_now output_last : DeviceBytes) (more : List Step)
       → (so_far : IsSoFar count first now input input_now output output_now) → EndsSession ending input_now more output_now output_last
       → EndsSession ending input (so_far.steps ++ more) output output_last
   ends_more ending count first now input input_now output output_now output_last more so_far = by ending
@@ -264,7 +264,7 @@ module _ {F : Type 0} (setting : Setting F) where
       by OutputFailed ends = (begins ends.0, breaks ends.1)
 
   -- a session so far, and then the lines that end it
-  pub ended_after : (ending : Ending) (count : ℕ) (first now last : Moment F) (input input_now output output_now output_last : DeviceBytes)
+  pub ended_after : (ending : Ending) (count : ℕ) (first now last : Moment) (input input_now output output_now output_last : DeviceBytes)
       → IsSoFar count first now input input_now output output_now → AnswersLines setting now last input_now output_now output_last ending
       → AnswersLines setting first last input output output_last ending
   ended_after ending count first now last input input_now output output_now output_last so_far answers = record {
@@ -274,7 +274,7 @@ module _ {F : Type 0} (setting : Setting F) where
   }
 
   -- a session with as many lines as make the input endless
-  pub ended_endless : (count : ℕ) (first now : Moment F) (input input_now output output_now : DeviceBytes) → count ≡ 2 ^ 64 - 1
+  pub ended_endless : (count : ℕ) (first now : Moment) (input input_now output output_now : DeviceBytes) → count ≡ 2 ^ 64 - 1
       → IsSoFar count first now input input_now output output_now → AnswersLines setting first now input output output_now InputEndless
   ended_endless count first now input input_now output output_now full so_far = record {
     steps = so_far.steps;
@@ -288,12 +288,12 @@ module _ {F : Type 0} (setting : Setting F) where
     );
   }
     where
-      many_lines : (steps : List (Step F)) → length steps ≡ 2 ^ 64 - 1 → length (lines_of steps) ≡ 2 ^ 64 - 1
-      many_lines steps many = length-map steps (λ (step : Step F). step.line) ∙ many
+      many_lines : (steps : List Step) → length steps ≡ 2 ^ 64 - 1 → length (lines_of steps) ≡ 2 ^ 64 - 1
+      many_lines steps many = length-map steps (λ (step : Step). step.line) ∙ many
 
 -- ---- one line
 
-module _ {F : Type 0} (setting : Setting F) (now next : Moment F) (input input_now output output_now : DeviceBytes) where
+module _ (setting : Setting) (now next : Moment) (input input_now output output_now : DeviceBytes) where
   -- a session that ends without a line
   pub ends_before : next ≡ now → IsEnd input → input_now ≡ input → output_now ≡ output → ServesNext setting now next input input_now output output_now (Some Ended)
   ends_before same end kept silent = record { steps = []; are = same; ends = (by input end, subst (Takes output []) (sym silent) (takes_none output)) }
@@ -400,8 +400,8 @@ counted_few status before after counted = by (eqb_tells status 4)
     by (inr other) = let never = counted.1 other.1 in omega (arith, never)
 
 -- a line that isn't whole asks for nothing
-pub does_bad : {F : Type 0} (setting : Setting F) (now : Moment F) → DoesLine setting bad_line now no_request now
+pub does_bad : (setting : Setting) (now : Moment) → DoesLine setting bad_line now no_request now
 does_bad setting now = record { request = None; asks = refl; does = (refl, refl); counted = counted_none 2 now.failures (λ four. omega arith) }
 
-pub does_cut : {F : Type 0} (setting : Setting F) (now : Moment F) → DoesLine setting cut_line now no_request now
+pub does_cut : (setting : Setting) (now : Moment) → DoesLine setting cut_line now no_request now
 does_cut setting now = record { request = None; asks = refl; does = (refl, refl); counted = counted_none 2 now.failures (λ four. omega arith) }

@@ -1,5 +1,5 @@
 -- The words of a line: the first word, and the others.
-use Rattle.std.proofs.Common.{◌≡◌, ◌≢◌, ℕ, ◌+◌, ◌<◌, ◌≤◌, List, [], ◌∷◌, ◌++◌, length, take, drop, ap, ◌∙◌, refl, sym, subst, Bool, true, false, cond, suc, arith, rules, tests, append-nil, length-drop}
+use Rattle.std.proofs.Common.{◌≡◌, ◌≢◌, ℕ, ◌+◌, ◌<◌, List, [], ◌∷◌, ◌++◌, length, take, drop, ap, ◌∙◌, refl, sym, subst, Bool, true, false, cond, suc, arith, rules, tests, append-nil, length-drop}
 use Rattle.std.specs.Prelude.{◌==◌, not, filter}
 use Rattle.std.specs.List.{slice_split, position_or_len, before_first, after_first, AllByRecursion}
 use Rattle.std.proofs.lemmas.List.{length-take-le, take_all}

@@ -1,8 +1,8 @@
 -- One write after another.
-use Rattle.std.proofs.Common.{◌≡◌, ℕ, ◌+◌, List, ◌++◌, arith, length, take, Option, None, Some, ap, sym, subst, ◌∙◌, append_assoc, length-append}
+use Rattle.std.proofs.Common.{◌≡◌, ℕ, ◌+◌, List, ◌++◌, ◌-◌, arith, length, take, drop, Option, None, Some, ap, sym, subst, ◌∙◌, append_assoc, length-append, slice_range}
 use Rattle.std.specs.Prelude.{option_map}
 use Rattle.std.proofs.lemmas.List.{take-append-le}
-use Rattle.std.proofs.Math.Seq.{take-append-add}
+use Rattle.std.proofs.Math.Seq.{take-add, take-append-add, take-length}
 use Rattle.cif_line.specs.Device.{Takes, TakesPart}
 
 -- if two parts were taken one after the other, both together were taken
@@ -29,3 +29,14 @@ part_of_back first second third front back one (n, short, taken) =
       subst (λ bytes. Takes first bytes third) (sym (take-append-add front back n))
           (both_taken first second third front (take n back) one taken),
     )
+
+-- what was taken of a text before, and the piece that comes next in it
+pub matched : (text piece taken : List ℕ) (at : ℕ) → slice_range text at (at + length piece) ≡ piece → take at text ≡ taken
+    → take (at + length piece) text ≡ taken ++ take (length piece) piece
+matched text piece taken at same front = take-add at (length piece) text ∙ (λ i. front i ++ next i)
+  where
+    width : (at + length piece) - at ≡ length piece
+    width = omega arith
+
+    next : take (length piece) (drop at text) ≡ take (length piece) piece
+    next = ap (λ (n : ℕ). take n (drop at text)) (sym width) ∙ same ∙ sym (take-length piece)

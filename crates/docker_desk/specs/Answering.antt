@@ -11,15 +11,15 @@ use Rattle.docker_desk.specs.Moments.{Moment, Setting, Step}
 use Rattle.docker_desk.specs.Doing.{AreSteps, DoesLine}
 
 -- the lines of steps
-abbrev pub lines_of : {F : Type 0} → List (Step F) → List LineView
+abbrev pub lines_of : List Step → List LineView
 lines_of = map (λ step. step.line)
 
 -- the answers of steps
-abbrev pub answers_of : {F : Type 0} → List (Step F) → List AnswerView
+abbrev pub answers_of : List Step → List AnswerView
 answers_of = map (λ step. step.answer)
 
 -- the bytes of the answers of steps
-abbrev pub answers_told : {F : Type 0} → List (Step F) → List ℕ
+abbrev pub answers_told : List Step → List ℕ
 answers_told = flat_map (λ step. bytes_told step.answer)
 
 -- the text begins with these lines, and then comes the rest
@@ -44,10 +44,10 @@ IsEndless None = ⊤
 IsEndless (Some text) = 2 ^ 64 - 1 ≤ length text
 
 -- the output gained each answer but the last, and a proper beginning of that one
-pub record BreaksOff {F : Type 0} (steps : List (Step F))
+pub record BreaksOff (steps : List Step)
     (output output_now : DeviceBytes) : Type 0 where
-  pub earlier : List (Step F)
-  pub last : Step F
+  pub earlier : List Step
+  pub last : Step
   pub whole : steps ≡ earlier ++ last ∷ []
   pub between : DeviceBytes
   pub told : Takes output (answers_told earlier) between
@@ -55,7 +55,7 @@ pub record BreaksOff {F : Type 0} (steps : List (Step F))
 
 -- how the steps of a session end: at the input's end all lines are answered; if a device fails, the
 -- first lines of the input are
-abbrev pub EndsSession : {F : Type 0} → Ending → DeviceBytes → List (Step F) → DeviceBytes
+abbrev pub EndsSession : Ending → DeviceBytes → List Step → DeviceBytes
     → DeviceBytes → Type 0
 EndsSession Ended input steps output output_now =
     HasLines input (lines_of steps) × Takes output (answers_told steps) output_now
@@ -68,9 +68,9 @@ EndsSession OutputFailed input steps output output_now =
     BeginsWith input (lines_of steps) × BreaksOff steps output output_now
 
 -- the lines of an input were answered on an output, and led from one moment to the other
-pub record AnswersLines {F : Type 0} (setting : Setting F) (before after : Moment F)
+pub record AnswersLines (setting : Setting) (before after : Moment)
     (input output output_now : DeviceBytes) (ending : Ending) : Type 0 where
-  pub steps : List (Step F)
+  pub steps : List Step
   pub are : AreSteps setting before steps after
   pub ends : EndsSession ending input steps output output_now
 
@@ -91,7 +91,7 @@ IsFollowed bad_line = ⊤
 IsFollowed cut_line = ⊥
 
 -- after one line: the session goes on, with that line answered, or it ends here
-abbrev pub ServesNext : {F : Type 0} → Setting F → Moment F → Moment F → DeviceBytes → DeviceBytes
+abbrev pub ServesNext : Setting → Moment → Moment → DeviceBytes → DeviceBytes
     → DeviceBytes → DeviceBytes → Option Ending → Type 0
 ServesNext setting before after input input_now output output_now None =
     (line : LineView) × (answer : AnswerView) × (IsFollowed line

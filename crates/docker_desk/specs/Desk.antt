@@ -1,24 +1,30 @@
 -- What a desk knows, and what each request makes of it.
-use Rattle.std.specs.Prelude.{◌≡◌, ◌<◌, ℕ, Bool, List, Option, option_map, ◌⊎◌, Result, Ok, Err, ⊤}
+use Rattle.std.specs.Prelude.{◌≡◌, ◌<◌, ℕ, Bool, true, false, List, [], ◌∷◌, ◌++◌, Option, Some, None, Result, Ok, Err, ⊤}
 use Rattle.docker_model.specs.file.File.{most_records}
 use Rattle.docker_model.specs.state.State.{State, live_table}
 use Rattle.docker_model.specs.state.StateText.{dks_2, state_text}
 use Rattle.docker_model.specs.state.Lapse.{IsDayRefused}
 use Rattle.docker_model.specs.docker.DockerText.{IsDockerText, files_text}
-use Rattle.cif_file.specs.SourceRead.{Held, RefusesText}
+use Rattle.cif_file.specs.SourceRead.{RefusesText}
 use Rattle.docker_train.specs.TrainText.{IsTrainText}
-use Rattle.docker_cmd.specs.SourceRead.{JoinsState, RefusesState}
+use Rattle.docker_cmd.specs.SourceRead.{JoinsState, ReadsState, RefusesState}
+use Rattle.state_lists.specs.Known.{IsKnownText}
+use Rattle.state_lists.specs.Places.{IsPlacesText}
 use Rattle.docker_cmd.specs.Office.{TakesFile}
 use Rattle.docker_cmd.specs.OfficeFault.{OfficeFault}
 use Rattle.docker_cmd.specs.OfficeFault.TheVariants as office
-use Rattle.docker_cmd.specs.Prepared.{DeviceBytes, most_bytes}
-use Rattle.docker_cmd.specs.Words.{Text}
-use Rattle.docker_program.specs.Devices.{LeavesOtherFiles}
-use Rattle.docker_program.specs.Past.{Past, with_draft, with_look}
+use Rattle.docker_cmd.specs.Prepared.{most_bytes}
+use Rattle.docker_cmd.specs.FaultLine.{status_of}
+use Rattle.docker_cmd.specs.declared.fault.Fault.TheVariants.{Office}
+use Rattle.cif_line.specs.Device.{CountsFailure}
+use Rattle.docker_host.specs.declared.folder.OpenFault.{OpenFault}
+use Rattle.docker_host.specs.declared.folder.OpenFault.TheVariants as opening
+use Rattle.docker_host.specs.History.{Bytes, Event, IsText, Text, drafted, looked, named_if, opened, placed, unopened}
+use Rattle.docker_host.specs.Asked.{FailsToStore, IsStored, IsUndrafted}
 use Rattle.docker_desk.specs.Replies.{AnswerView, done_with, refused_for, no_request}
 
--- the state that a desk knows, and whether something was taken, merged or set since it was last
--- saved
+-- the state that a desk knows, and whether it may be another than the one whose text the state's
+-- file was last seen to hold
 pub record DeskView : Type 0 where
   pub state : State
   pub unsaved : Bool
@@ -61,8 +67,50 @@ IsFilesAnswer state (done_with text) = text ≡ files_text state.ledger
 IsFilesAnswer state (refused_for fault) = fault ≡ office.Memory
 IsFilesAnswer state no_request = ⊥
 
--- why a file that held this isn't taken: it is no file, its device failed, or memory ran out
-abbrev pub RefusesToTake : DeviceBytes → OfficeFault → Type 0
+-- the answer to a request for the timing points
+abbrev pub IsPlacesAnswer : State → AnswerView → Type 0
+IsPlacesAnswer state (done_with text) = IsPlacesText (live_table state) text
+IsPlacesAnswer state (refused_for fault) = fault ≡ office.Memory
+IsPlacesAnswer state no_request = ⊥
+
+-- the answer to a request for what is known
+abbrev pub IsKnownAnswer : State → AnswerView → Type 0
+IsKnownAnswer state (done_with text) = IsKnownText state text
+IsKnownAnswer state (refused_for fault) = fault ≡ office.Memory
+IsKnownAnswer state no_request = ⊥
+
+-- ---- what is read
+
+-- the file of this name was opened, and held these bytes then; or it wasn't opened
+abbrev pub opening_of : Text → Option Bytes → Event
+opening_of name (Some bytes) = opened name bytes
+opening_of name None = unopened name
+
+-- the file of this name was opened once, or couldn't be, and this holds of what it held then
+pub record OpensOnce (name : Text) (Ends : Option Bytes → Type 0) (old new : List Event) : Type 0 where
+  pub held : Option Bytes
+  pub asked : new ≡ old ++ opening_of name held ∷ []
+  pub ends : Ends held
+
+-- the file of this name was looked at, and then it was opened once, or couldn't be, and this holds
+-- of what it held then
+pub record LooksAndOpens (name : Text) (Ends : Option Bytes → Type 0) (old new : List Event) : Type 0 where
+  pub held : Option Bytes
+  pub asked : new ≡ old ++ looked name ∷ opening_of name held ∷ []
+  pub ends : Ends held
+
+-- why a file isn't opened: its device failed, or memory ran out
+abbrev pub IsWhyUnopened : OfficeFault → Type 0
+IsWhyUnopened office.Source = ⊤
+IsWhyUnopened office.Memory = ⊤
+IsWhyUnopened (office.File fault) = ⊥
+IsWhyUnopened (office.State fault) = ⊥
+IsWhyUnopened office.Lapsed = ⊥
+IsWhyUnopened office.Sink = ⊥
+
+-- why a file that held this isn't taken: it is no file, its device failed, or memory ran out, which
+-- may be before a byte was read
+abbrev pub RefusesToTake : Bytes → OfficeFault → Type 0
 RefusesToTake held (office.File fault) = RefusesText most_records held fault
 RefusesToTake held office.Source = ⊤
 RefusesToTake held office.Memory = ⊤
@@ -71,8 +119,8 @@ RefusesToTake held office.Lapsed = ⊥
 RefusesToTake held office.Sink = ⊥
 
 -- why no state is received from a file that held this: it is no state, its device failed, or memory
--- ran out
-abbrev pub RefusesToReceive : DeviceBytes → OfficeFault → Type 0
+-- ran out, which may be before a byte was read
+abbrev pub RefusesToReceive : Bytes → OfficeFault → Type 0
 RefusesToReceive held (office.State fault) = RefusesState dks_2 most_bytes held fault
 RefusesToReceive held office.Source = ⊤
 RefusesToReceive held office.Memory = ⊤
@@ -80,45 +128,99 @@ RefusesToReceive held (office.File fault) = ⊥
 RefusesToReceive held office.Lapsed = ⊥
 RefusesToReceive held office.Sink = ⊥
 
--- the state after taking a file that held this, or the same state if the file was refused
-abbrev pub EndsTaking : DeviceBytes → State → State → Result ⊤ OfficeFault → Type 0
-EndsTaking held old new (Ok done) = TakesFile most_records held old new
-EndsTaking held old new (Err fault) = RefusesToTake held fault × (new ≡ old)
+-- a file was opened, and this holds of what it held
+abbrev pub HasOpened : (Bytes → Type 0) → Option Bytes → Type 0
+HasOpened Holds (Some held) = Holds held
+HasOpened Holds None = ⊥
 
--- the state after receiving from a file that held this, or the same state if the file was refused
-abbrev pub EndsReceiving : DeviceBytes → State → State → Result ⊤ OfficeFault → Type 0
-EndsReceiving held old new (Ok done) = JoinsState dks_2 most_bytes held old new
-EndsReceiving held old new (Err fault) = RefusesToReceive held fault × (new ≡ old)
+-- why a file isn't read: it wasn't opened, or this is said of what it held and of the fault
+abbrev pub IsWhyNot : (Bytes → OfficeFault → Type 0) → OfficeFault → Option Bytes → Type 0
+IsWhyNot Refuses fault (Some held) = Refuses held fault
+IsWhyNot Refuses fault None = IsWhyUnopened fault
 
--- the file of this name holds the text of the state, and each other file is as it was
-pub record StoresState (name : Text) (state : State)
-    (files files_now : Text → DeviceBytes) : Type 0 where
-  pub held : Held (files_now name) (state_text dks_2 state)
-  pub others : LeavesOtherFiles name files files_now
+-- the state after taking a file, from what the file held if it was opened; the same state if that
+-- was refused
+abbrev pub EndsTaking : State → State → Result ⊤ OfficeFault → Option Bytes → Type 0
+EndsTaking old new (Ok done) held = HasOpened (λ bytes. TakesFile most_records bytes old new) held
+EndsTaking old new (Err fault) held = IsWhyNot RefusesToTake fault held × (new ≡ old)
 
--- the file of this name is as it was, or holds the whole text of the state; each other file is as
--- it was
-pub record StoresAllOrNothing (name : Text) (state : State)
-    (files files_now : Text → DeviceBytes) : Type 0 where
-  pub either : (files_now name ≡ files name) ⊎ Held (files_now name) (state_text dks_2 state)
-  pub others : LeavesOtherFiles name files files_now
+-- the state after receiving the state of a file, from what the file held if it was opened; the same
+-- state if that was refused
+abbrev pub EndsReceiving : State → State → Result ⊤ OfficeFault → Option Bytes → Type 0
+EndsReceiving old new (Ok done) held =
+    HasOpened (λ bytes. JoinsState dks_2 most_bytes bytes old new) held
+EndsReceiving old new (Err fault) held = IsWhyNot RefusesToReceive fault held × (new ≡ old)
 
--- how saving a state ends: it is stored; or the device failed or the file isn't the one that was
--- seen; or memory ran out
-abbrev pub EndsSaving : Text → State → (Text → DeviceBytes) → (Text → DeviceBytes)
-    → Result ⊤ OfficeFault → Type 0
-EndsSaving name state files files_now (Ok done) = StoresState name state files files_now
-EndsSaving name state files files_now (Err office.Sink) =
-    StoresAllOrNothing name state files files_now
-EndsSaving name state files files_now (Err office.Memory) = files_now ≡ files
-EndsSaving name state files files_now (Err office.Source) = ⊥
-EndsSaving name state files files_now (Err office.Lapsed) = ⊥
-EndsSaving name state files files_now (Err (office.File fault)) = ⊥
-EndsSaving name state files files_now (Err (office.State fault)) = ⊥
+-- the state after reading the state of a file, from what the file held if it was opened
+abbrev pub EndsReloading : State → Result ⊤ OfficeFault → Option Bytes → Type 0
+EndsReloading new (Ok done) held = HasOpened (λ bytes. ReadsState dks_2 most_bytes bytes new) held
+EndsReloading new (Err fault) held = IsWhyNot RefusesToReceive fault held
 
--- what was asked of the store after a saving: a draft from the look of this number and, if the
--- draft took its file's place, one more look
-abbrev pub past_of_saving : ℕ → Option Past → Result ⊤ OfficeFault → Option Past
-past_of_saving number past (Ok done) =
-    option_map (λ asked. with_look (with_draft number asked)) past
-past_of_saving number past (Err fault) = option_map (with_draft number) past
+-- the file was opened, and held the text of this state, as far as the device can name what it held
+abbrev pub HoldsTextOf : State → Option Bytes → Type 0
+HoldsTextOf state held = HasOpened (λ bytes. IsText bytes (state_text dks_2 state)) held
+
+-- the state after receiving the state of a file; and if the two were compared and found the same,
+-- the file held the text of the state
+abbrev pub EndsComparing : State → State → Result ⊤ OfficeFault → (same : Bool) → Option Bytes → Type 0
+EndsComparing old new result true held =
+    EndsReceiving old new result held × HoldsTextOf new held
+EndsComparing old new result false held = EndsReceiving old new result held
+
+-- what a desk knows after renewing from its state's file: there are no unsaved changes only if the
+-- file held the text of the state that the desk has then. If it was refused, all is as it was
+abbrev pub EndsRenewing : DeskView → DeskView → Result ⊤ OfficeFault → Option Bytes → Type 0
+EndsRenewing old new (Ok done) held = EndsReceiving old.state new.state (Ok done) held
+    × (new.unsaved ≡ false → HoldsTextOf new.state held)
+EndsRenewing old new (Err fault) held = IsWhyNot RefusesToReceive fault held × (new ≡ old)
+
+-- whether there are unsaved changes after a request that may change what is known: there are if it
+-- was done, and if it was refused, all is as it was
+abbrev pub unsaved_by : Result ⊤ OfficeFault → Bool → Bool
+unsaved_by (Ok done) unsaved = true
+unsaved_by (Err fault) unsaved = unsaved
+
+-- the look of this number if a request was done, otherwise the one before
+abbrev pub look_by : Result ⊤ OfficeFault → ℕ → ℕ → ℕ
+look_by (Ok done) look before = look
+look_by (Err fault) look before = before
+
+-- ---- what is written
+
+-- how the storing of a text in a file ends, by a draft from the look of this number. The draft took
+-- its place, or a device failed, or there was no memory for a draft
+abbrev pub EndsStoring : (names_bytes : Bool) (name : Text) (look : ℕ) (text : List ℕ)
+    (old new : List Event) → Result ⊤ OfficeFault → Type 0
+EndsStoring names_bytes name look text old new (Ok done) = IsStored names_bytes name look text old new
+EndsStoring names_bytes name look text old new (Err office.Sink) =
+    FailsToStore names_bytes name look text old new
+EndsStoring names_bytes name look text old new (Err office.Memory) = IsUndrafted name look old new
+EndsStoring names_bytes name look text old new (Err office.Source) = ⊥
+EndsStoring names_bytes name look text old new (Err office.Lapsed) = ⊥
+EndsStoring names_bytes name look text old new (Err (office.File fault)) = ⊥
+EndsStoring names_bytes name look text old new (Err (office.State fault)) = ⊥
+
+-- how the saving of a text ends: like its storing, and once the draft took its place, the file is
+-- looked at
+abbrev pub EndsSaving : (names_bytes : Bool) (name : Text) (look : ℕ) (text : List ℕ)
+    (old new : List Event) → Result ⊤ OfficeFault → Type 0
+EndsSaving names_bytes name look text old new (Ok done) =
+    new ≡ old ++ drafted name look ∷ placed name (named_if names_bytes text) ∷ looked name ∷ []
+EndsSaving names_bytes name look text old new (Err fault) =
+    EndsStoring names_bytes name look text old new (Err fault)
+
+-- ---- faults
+
+-- how often a device failed, before and after: once more exactly if the status is 4
+abbrev pub IsCounted : (status before after : ℕ) → Type 0
+IsCounted status before after = CountsFailure (status ≡ 4) before after
+
+-- the exit status for an office's result: 0, or the fault's status
+abbrev pub result_status : {A : Type 0} → Result A OfficeFault → ℕ
+result_status (Ok answer) = 0
+result_status (Err fault) = status_of (Office fault)
+
+-- the office's fault for a file that wasn't opened
+abbrev pub fault_of_opening : OpenFault → OfficeFault
+fault_of_opening opening.Failed = office.Source
+fault_of_opening opening.Memory = office.Memory

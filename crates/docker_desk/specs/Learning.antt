@@ -1,20 +1,20 @@
 -- What is known in a session: the files that the state of each moment is the summary of, and its
 -- horizon.
-use Rattle.std.specs.Prelude.{◌≡◌, ℕ, List, [], ◌∷◌, Option, Some, None, option_map}
+use Rattle.std.specs.Prelude.{◌≡◌, ℕ, List, [], ◌∷◌, ◌++◌, Option, Some, None, option_map, ⊤}
 use Rattle.docker_model.specs.file.File.{most_records}
 use Rattle.docker_model.specs.state.State.{State}
 use Rattle.docker_model.specs.state.StateText.{dks_2}
 use Rattle.docker_model.specs.state.Table.{Table, IsPlainTable}
 use Rattle.docker_model.specs.docker.Choice.{IsChosenOn}
-use Rattle.docker_model.specs.run.Run.{IsStateOf, Known, nothing, united}
+use Rattle.docker_model.specs.run.Run.{IsMessageOf, IsStateOf, Known, nothing, united}
 use Rattle.docker_model.specs.run.Knowledge.{IsGoodKnown}
 use Rattle.docker_train.specs.TrainText.{Stamped, train_text}
 use Rattle.docker_train.specs.Origin.{CameFrom}
-use Rattle.docker_cmd.specs.Office.{TakesFile}
+use Rattle.docker_cmd.specs.Office.{HoldsState, TakesFile}
 use Rattle.docker_cmd.specs.SourceRead.{JoinsState}
 use Rattle.docker_cmd.specs.Prepared.{most_bytes}
-use Rattle.docker_cmd.specs.Words.{Text}
-use Rattle.docker_desk.specs.Requests.{RequestView, print_request, train_request, files_request, renew_request, take_request, merge_request, horizon_request, save_request}
+use Rattle.docker_host.specs.History.{Bytes, Event, Text, drafted, looked, named_if, opened, placed}
+use Rattle.docker_desk.specs.Requests.{RequestView, print_request, train_request, files_request, places_request, known_request, renew_request, take_request, merge_request, horizon_request, save_request}
 use Rattle.docker_desk.specs.Replies.{AnswerView, done_with, no_request, refused_for}
 use Rattle.docker_desk.specs.Moments.{Moment, Setting, Step}
 use Rattle.docker_desk.specs.Doing.{AreSteps}
@@ -24,34 +24,48 @@ pub record IsKnown (known : Known) (state : State) : Type 0 where
   pub good : IsGoodKnown dks_2 known
   pub is : IsStateOf known state
 
--- the file of this name held the text of a file, and this is the file
-pub record HearsFile {F : Type 0} (setting : Setting F) (name : Text) (before after : Moment F)
-    (heard : Known) : Type 0 where
-  pub takes : TakesFile most_records (setting.held before.files name) before.desk.state
-      after.desk.state
+-- the file of this name was opened and held the text of a file, and this is the file
+pub record HearsFile (name : Text) (before after : Moment) (heard : Known) : Type 0 where
+  pub held : Bytes
+  pub asked : after.history ≡ before.history ++ opened name held ∷ []
+  pub takes : TakesFile most_records held before.desk.state after.desk.state
   pub heard_is : heard ≡ record { files = takes.file ∷ []; horizon = 0 }
 
--- the file of this name held the text of a state, and the state is the summary of what was heard
-pub record HearsState {F : Type 0} (setting : Setting F) (name : Text) (before after : Moment F)
-    (heard : Known) : Type 0 where
-  pub joins : JoinsState dks_2 most_bytes (setting.held before.files name) before.desk.state
-      after.desk.state
+-- a file was opened by these events and held the text of a state, and the state is the summary of
+-- what was heard
+pub record HearsState (events : Bytes → List Event) (before after : Moment) (heard : Known)
+    : Type 0 where
+  pub held : Bytes
+  pub asked : after.history ≡ before.history ++ events held
+  pub joins : JoinsState dks_2 most_bytes held before.desk.state after.desk.state
   pub of : IsKnown heard joins.received
 
+-- the events of a merge with the file of this name, which held this
+abbrev pub merging : Text → Bytes → List Event
+merging name held = opened name held ∷ []
+
+-- the events of a renewal from the file of this name, which held this
+abbrev pub renewing : Text → Bytes → List Event
+renewing name held = looked name ∷ opened name held ∷ []
+
 -- what is heard by a request that was done
-abbrev pub Hears : {F : Type 0} → Setting F → RequestView → Moment F → Moment F → Known → Type 0
+abbrev pub Hears : Setting → RequestView → Moment → Moment → Known → Type 0
 Hears setting (print_request place day) before after heard = heard ≡ nothing
 Hears setting (train_request uid day) before after heard = heard ≡ nothing
 Hears setting files_request before after heard = heard ≡ nothing
-Hears setting renew_request before after heard = HearsState setting setting.name before after heard
-Hears setting (take_request file) before after heard = HearsFile setting file before after heard
-Hears setting (merge_request other) before after heard = HearsState setting other before after heard
+Hears setting places_request before after heard = heard ≡ nothing
+Hears setting known_request before after heard = heard ≡ nothing
+Hears setting renew_request before after heard =
+    HearsState (renewing setting.name) before after heard
+Hears setting (take_request file) before after heard = HearsFile file before after heard
+Hears setting (merge_request other) before after heard =
+    HearsState (merging other) before after heard
 Hears setting (horizon_request day) before after heard =
     heard ≡ record { files = []; horizon = day }
 Hears setting save_request before after heard = heard ≡ nothing
 
 -- what a request adds to what is known: what is heard by it, if it was done
-abbrev pub Learns : {F : Type 0} → Setting F → Option RequestView → Moment F → AnswerView → Moment F
+abbrev pub Learns : Setting → Option RequestView → Moment → AnswerView → Moment
     → Known → Known → Type 0
 Learns setting (Some request) before (done_with text) after old new =
     (heard : Known) × (Hears setting request before after heard × (new ≡ united old heard))
@@ -60,19 +74,65 @@ Learns setting (Some request) before no_request after old new = new ≡ old
 Learns setting None before answer after old new = new ≡ old
 
 -- what is known after steps
-abbrev pub AreLearned : {F : Type 0} → Setting F → Known → List (Step F) → Known → Type 0
+abbrev pub AreLearned : Setting → Known → List Step → Known → Type 0
 AreLearned setting old [] new = new ≡ old
 AreLearned setting old (step ∷ steps) new =
     (now : Known) × (Learns setting step.request step.before step.answer step.after old now
     × AreLearned setting now steps new)
 
+-- a file was opened by these events, and held the text of the summary of this
+pub record HoldsKnown (events : Bytes → List Event) (before after : Moment) (known : Known)
+    : Type 0 where
+  pub held : Bytes
+  pub asked : after.history ≡ before.history ++ events held
+  pub sent : State
+  pub holds : HoldsState dks_2 most_bytes held sent
+  pub of : IsKnown known sent
+
+-- if the request receives a state, the file held the text of a summary
+abbrev pub ReceivesKnown : Setting → RequestView → Moment → Moment → Type 0
+ReceivesKnown setting (print_request place day) before after = ⊤
+ReceivesKnown setting (train_request uid day) before after = ⊤
+ReceivesKnown setting files_request before after = ⊤
+ReceivesKnown setting places_request before after = ⊤
+ReceivesKnown setting known_request before after = ⊤
+ReceivesKnown setting renew_request before after =
+    (known : Known) × HoldsKnown (renewing setting.name) before after known
+ReceivesKnown setting (take_request file) before after = ⊤
+ReceivesKnown setting (merge_request other) before after =
+    (known : Known) × HoldsKnown (merging other) before after known
+ReceivesKnown setting (horizon_request day) before after = ⊤
+ReceivesKnown setting save_request before after = ⊤
+
+-- if a state was received, the file held the text of a summary
+abbrev pub HearsKnown : Setting → Option RequestView → Moment → AnswerView → Moment → Type 0
+HearsKnown setting (Some request) before (done_with text) after =
+    ReceivesKnown setting request before after
+HearsKnown setting (Some request) before (refused_for fault) after = ⊤
+HearsKnown setting (Some request) before no_request after = ⊤
+HearsKnown setting None before answer after = ⊤
+
+-- each state that was received in these steps came from a file that held the text of a summary
+abbrev pub AllHearKnown : Setting → List Step → Type 0
+AllHearKnown setting [] = ⊤
+AllHearKnown setting (step ∷ steps) =
+    HearsKnown setting step.request step.before step.answer step.after × AllHearKnown setting steps
+
+-- a draft took the place of the state's file, with the text of the summary of this
+pub record PlacesKnown (setting : Setting) (before after : Moment) (known : Known) : Type 0 where
+  pub text : List ℕ
+  pub good : IsGoodKnown dks_2 known
+  pub is : IsMessageOf dks_2 known text
+  pub asked : after.history ≡ before.history ++ drafted setting.name before.look
+      ∷ placed setting.name (named_if setting.names_bytes text) ∷ looked setting.name ∷ []
+
 -- at some moment of some session this is known, and the desk has this state
-pub record KnowsAt {F : Type 0} (setting : Setting F) (known : Known) (state : State) : Type 0 where
+pub record KnowsAt (setting : Setting) (known : Known) (state : State) : Type 0 where
   pub start : Known
-  pub first : Moment F
+  pub first : Moment
   pub begins : IsKnown start first.desk.state
-  pub steps : List (Step F)
-  pub last : Moment F
+  pub steps : List Step
+  pub last : Moment
   pub are : AreSteps setting first steps last
   pub learned : AreLearned setting start steps known
   pub has : last.desk.state ≡ state

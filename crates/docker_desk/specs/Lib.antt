@@ -8,3 +8,5 @@ pub mod Doing
 pub mod Answering
 pub mod Serving
 pub mod Learning
+pub mod Looking
+pub mod Copying

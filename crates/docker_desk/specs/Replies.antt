@@ -1,6 +1,7 @@
 -- The answers to requests.
 use Rattle.std.specs.Prelude.{ℕ, List, []}
 use Rattle.docker_cmd.specs.OfficeFault.{OfficeFault}
+use Rattle.docker_cmd.specs.OfficeFault.TheVariants as office
 use Rattle.docker_cmd.specs.FaultLine.{fault_line, status_of}
 use Rattle.docker_cmd.specs.declared.fault.Fault.TheVariants.{Office}
 use Rattle.docker_desk.specs.Answers.{answer_text}
@@ -36,3 +37,7 @@ text_told no_request = usage_line
 -- the bytes of an answer: its header and its text
 abbrev pub bytes_told : AnswerView → List ℕ
 bytes_told answer = answer_text (status_told answer) (text_told answer)
+
+-- the bytes of the answer to a request for which memory ran out
+abbrev pub memory_told : List ℕ
+memory_told = bytes_told (refused_for office.Memory)

@@ -16,6 +16,8 @@ pub data RequestView : Type 0 where
   print_request : (place : List ℕ) (day : ℕ) → RequestView
   train_request : (uid : List ℕ) (day : ℕ) → RequestView
   files_request : RequestView
+  places_request : RequestView
+  known_request : RequestView
   renew_request : RequestView
   take_request : (file : Text) → RequestView
   merge_request : (other : Text) → RequestView
@@ -27,6 +29,8 @@ abbrev pub request_meant : Request → RequestView
 request_meant (code.Print place day) = print_request place day
 request_meant (code.Train uid day) = train_request uid day
 request_meant code.Files = files_request
+request_meant code.Places = places_request
+request_meant code.Known = known_request
 request_meant code.Renew = renew_request
 request_meant (code.Take file) = take_request file.now
 request_meant (code.Merge other) = merge_request other.now
@@ -38,6 +42,8 @@ abbrev pub verb_of : RequestView → Verb
 verb_of (print_request place day) = verb.Print
 verb_of (train_request uid day) = verb.Train
 verb_of files_request = verb.Files
+verb_of places_request = verb.Places
+verb_of known_request = verb.Known
 verb_of renew_request = verb.Renew
 verb_of (take_request file) = verb.Take
 verb_of (merge_request other) = verb.Merge
@@ -64,6 +70,8 @@ abbrev pub row_of : Verb → RequestRow
 row_of verb.Print = row (codes "print") (codes "TIPLOC" ∷ codes "DATE" ∷ []) false
 row_of verb.Train = row (codes "train") (codes "UID" ∷ codes "DATE" ∷ []) false
 row_of verb.Files = row (codes "files") [] false
+row_of verb.Places = row (codes "places") [] false
+row_of verb.Known = row (codes "known") [] false
 row_of verb.Renew = row (codes "renew") [] false
 row_of verb.Take = row (codes "take") (codes "FILE" ∷ []) true
 row_of verb.Merge = row (codes "merge") (codes "OTHER" ∷ []) true
@@ -72,7 +80,7 @@ row_of verb.Save = row (codes "save") [] true
 
 -- all of these words
 abbrev pub verbs : List Verb
-verbs = verb.Print ∷ verb.Train ∷ verb.Files ∷ verb.Renew ∷ verb.Take ∷ verb.Merge ∷ verb.Horizon ∷ verb.Save ∷ []
+verbs = verb.Print ∷ verb.Train ∷ verb.Files ∷ verb.Places ∷ verb.Known ∷ verb.Renew ∷ verb.Take ∷ verb.Merge ∷ verb.Horizon ∷ verb.Save ∷ []
 
 -- the bytes of such a word
 abbrev pub name_of : Verb → Text
@@ -133,6 +141,8 @@ HasRest (print_request place day) rest = OfTwo (ArePlaceAndDay place day) (words
 HasRest (train_request uid day) rest =
     OfTwo (λ word date. NamesTrain word uid × NamesDay date day) (words_in rest)
 HasRest files_request rest = words_in rest ≡ []
+HasRest places_request rest = words_in rest ≡ []
+HasRest known_request rest = words_in rest ≡ []
 HasRest renew_request rest = words_in rest ≡ []
 HasRest (take_request file) rest = NamesFile rest file
 HasRest (merge_request other) rest = NamesFile rest other

@@ -1,18 +1,16 @@
 -- A whole session: its words, how it begins, and how it ends.
-use Rattle.std.specs.Prelude.{◌≡◌, ◌≢◌, ℕ, ◌+◌, ◌≤◌, Bool, true, false, List, [], ◌∷◌, codes, Option, option_map, IfSome, Result, Ok, Err, ◌⊎◌}
+use Rattle.std.specs.Prelude.{◌≡◌, ℕ, ◌+◌, Bool, true, false, ◌&&◌, List, [], ◌∷◌, ◌++◌, codes, length, Option, Result, Ok, Err, ◌⊎◌}
 use Rattle.cif_line.specs.Device.{Takes, TakesPart}
 use Rattle.docker_model.specs.state.StateText.{dks_2}
 use Rattle.docker_cmd.specs.SourceRead.{ReadsState}
 use Rattle.docker_cmd.specs.FaultLine.{device_line, fault_line, status_of}
 use Rattle.docker_cmd.specs.OfficeFault.{OfficeFault}
-use Rattle.docker_cmd.specs.Prepared.{DeviceBytes, most_bytes}
-use Rattle.docker_cmd.specs.Words.{Text}
+use Rattle.docker_cmd.specs.Prepared.{most_bytes}
 use Rattle.docker_cmd.specs.declared.fault.Fault.TheVariants.{Office}
+use Rattle.docker_host.specs.History.{Bytes, Event, Text, looked, opened}
+use Rattle.docker_host.specs.Host.{HostView}
 use Rattle.docker_desk.specs.Requests.{NamesFile, usage_line}
-use Rattle.docker_program.specs.Devices.{IsCounted}
-use Rattle.docker_program.specs.Past.{Past, with_look}
-use Rattle.docker_program.specs.Program.{FaultSink}
-use Rattle.docker_desk.specs.Desk.{DeskView, RefusesToReceive}
+use Rattle.docker_desk.specs.Desk.{DeskView, HasOpened, IsCounted, IsWhyNot, LooksAndOpens, RefusesToReceive}
 use Rattle.docker_desk.specs.declared.ending.Ending.{Ending}
 use Rattle.docker_desk.specs.declared.ending.Ending.TheVariants.{Ended, InputFailed, InputEndless, OutputFailed}
 use Rattle.docker_desk.specs.Moments.{Moment, setting}
@@ -34,76 +32,44 @@ pub record NamesSession (words : List Text) (name : Text) (may_write : Bool) : T
 abbrev pub NameNoSession : List Text → Type 0
 NameNoSession words = (name : Text) (may_write : Bool) → ¬ NamesSession words name may_write
 
--- ---- the devices
+-- ---- the sink of faults
 
--- how often the input, the device that opens files, the store and the output have failed
-pub record Failures : Type 0 where
-  pub input : ℕ
-  pub files : ℕ
-  pub store : ℕ
-  pub output : ℕ
+-- what a sink of faults took, and how often it failed
+pub record Told : Type 0 where
+  pub taken : Bytes
+  pub failures : ℕ
 
--- these counts, from the devices
-abbrev pub failures : {S F W K : Type 0} → (S → ℕ) → (F → ℕ) → (W → ℕ) → (K → ℕ) → S → F → W → K
-    → Failures
-failures of_input of_files of_store of_output input files store output =
-    record {
-      input = of_input input;
-      files = of_files files;
-      store = of_store store;
-      output = of_output output;
-    }
+-- these two, as one
+abbrev pub told : Bytes → ℕ → Told
+told taken failures = record { taken = taken; failures = failures }
 
--- what a session has around it: what its input holds, the device that opens files, what each stored
--- file holds, what was asked of the store, what its output took, and how often each has failed
-pub record Around (F : Type 0) : Type 0 where
-  pub input : DeviceBytes
-  pub files : F
-  pub stored : Text → DeviceBytes
-  pub past : Option Past
-  pub output : DeviceBytes
-  pub failed : Failures
+-- what the sink of faults of a program took, and how often it failed
+abbrev pub told_by : HostView → Told
+told_by host = told host.faults host.faults_failures
 
--- what a session has around it, from its devices
-abbrev pub around : {S F W K : Type 0} → (S → DeviceBytes) → (W → Text → DeviceBytes)
-    → (W → Option Past) → (K → DeviceBytes) → Failures → S → F → W → K → Around F
-around left held past taken failed input files store output =
-    record {
-      input = left input;
-      files = files;
-      stored = held store;
-      past = past store;
-      output = taken output;
-      failed = failed;
-    }
-
--- the sink of faults gained this line; or it failed once more, and gained a proper beginning of it
-abbrev pub TellsLine : List ℕ → FaultSink → Type 0
-TellsLine line faults =
-    ((faults.after ≡ faults.before) × Takes faults.taken line faults.taken_now)
-    ⊎ ((faults.after ≡ faults.before + 1) × TakesPart faults.taken line faults.taken_now)
-
--- the sink of faults is as it was
-abbrev pub TellsNothing : FaultSink → Type 0
-TellsNothing faults = (faults.taken_now ≡ faults.taken) × (faults.after ≡ faults.before)
+-- the sink of faults gained this text; or it failed once more, and gained a proper beginning of it
+abbrev pub TellsText : List ℕ → Told → Told → Type 0
+TellsText text old new = ((new.failures ≡ old.failures) × Takes old.taken text new.taken)
+    ⊎ ((new.failures ≡ old.failures + 1) × TakesPart old.taken text new.taken)
 
 -- ---- the beginning
 
--- the first moment of a session: the state's file was looked at and read, and nothing has changed
-pub record BeginsAt {F : Type 0} (held : F → Text → DeviceBytes) (name : Text) (old : Around F)
-    (first : Moment F) : Type 0 where
-  pub state : ReadsState dks_2 most_bytes (held old.files name) first.desk.state
-  pub saved : first.desk.unsaved ≡ false
-  pub stored : first.stored ≡ old.stored
-  pub past : first.past ≡ option_map with_look old.past
-  pub look : IfSome old.past (λ asked. first.look ≡ asked.looks)
-  pub failures : first.failures ≡ old.failed.files + old.failed.store
+-- a state was read from a file that held this, and nothing has changed; or it wasn't read
+abbrev pub EndsOpening : {T : Type 0} → (T → DeskView) → Result T OfficeFault → Option Bytes
+    → Type 0
+EndsOpening desk_in (Ok made) held =
+    HasOpened (λ bytes. ReadsState dks_2 most_bytes bytes (desk_in made).state) held
+    × ((desk_in made).unsaved ≡ false)
+EndsOpening desk_in (Err fault) held = IsWhyNot RefusesToReceive fault held
 
--- a state was read from a file that held this, and nothing has changed; or it was refused
-abbrev pub EndsOpening : {T : Type 0} → (T → DeskView) → DeviceBytes → Result T OfficeFault → Type 0
-EndsOpening desk_in held (Ok made) =
-    ReadsState dks_2 most_bytes held (desk_in made).state × ((desk_in made).unsaved ≡ false)
-EndsOpening desk_in held (Err fault) = RefusesToReceive held fault
+-- the first moment of a session, after this history: the state's file was looked at and then
+-- opened, the state is the one whose text it held, and that look is the moment's
+pub record BeginsAt (name : Text) (old : List Event) (first : Moment) : Type 0 where
+  pub held : Bytes
+  pub asked : first.history ≡ old ++ looked name ∷ opened name held ∷ []
+  pub state : ReadsState dks_2 most_bytes held first.desk.state
+  pub saved : first.desk.unsaved ≡ false
+  pub look : first.look ≡ length old
 
 -- ---- the end
 
@@ -111,72 +77,88 @@ EndsOpening desk_in held (Err fault) = RefusesToReceive held fault
 abbrev pub unsaved_line : List ℕ
 unsaved_line = codes "desk: changes not saved\n"
 
+-- that line, if changes weren't saved
+abbrev pub unsaved_text : Bool → List ℕ
+unsaved_text false = []
+unsaved_text true = unsaved_line
+
+-- the exit status of a session
+abbrev pub ending_status : Ending → Bool → ℕ
+ending_status Ended false = 0
+ending_status Ended true = 1
+ending_status InputFailed unsaved = 4
+ending_status InputEndless unsaved = 4
+ending_status OutputFailed unsaved = 4
+
+-- what the sink of faults gains at the end of a session: the device's line if a device failed, and
+-- a line if changes weren't saved
+abbrev pub ending_text : Ending → Bool → List ℕ
+ending_text Ended unsaved = unsaved_text unsaved
+ending_text InputFailed unsaved = device_line ++ unsaved_text unsaved
+ending_text InputEndless unsaved = device_line ++ unsaved_text unsaved
+ending_text OutputFailed unsaved = device_line ++ unsaved_text unsaved
+
 -- the status of a session, and what the sink of faults gains at its end
-abbrev pub EndsWithStatus : Ending → Bool → ℕ → FaultSink → Type 0
-EndsWithStatus Ended false status faults = (status ≡ 0) × TellsNothing faults
-EndsWithStatus Ended true status faults = (status ≡ 1) × TellsLine unsaved_line faults
-EndsWithStatus InputFailed unsaved status faults = (status ≡ 4) × TellsLine device_line faults
-EndsWithStatus InputEndless unsaved status faults = (status ≡ 4) × TellsLine device_line faults
-EndsWithStatus OutputFailed unsaved status faults = (status ≡ 4) × TellsLine device_line faults
+pub record EndsWithStatus (ending : Ending) (unsaved : Bool) (status : ℕ) (old new : Told)
+    : Type 0 where
+  pub status_is : status ≡ ending_status ending unsaved
+  pub tells : TellsText (ending_text ending unsaved) old new
 
 -- ---- a session
 
--- the words name no session, and nothing was done. What `Unread` and `Unlooked` say comes from the
--- caller: the input and the output are the devices that they were, and so is the store
-pub record IsMisused {F : Type 0} (words : List Text) (old new : Around F)
-    (Unread Unlooked : Type 0) (faults : FaultSink) (status : ℕ) : Type 0 where
+-- the words name no session, and only the sink of faults gained something
+pub record IsMisused (words : List Text) (old new : HostView) (status : ℕ) : Type 0 where
   pub none : NameNoSession words
-  pub unread : Unread
-  pub unlooked : Unlooked
-  pub untouched : new ≡ old
+  pub untouched : new ≡ record old { faults = new.faults; faults_failures = new.faults_failures }
   pub status_is : status ≡ 2
-  pub tells : TellsLine usage_line faults
+  pub tells : TellsText usage_line (told_by old) (told_by new)
 
--- the state's file was looked at, but no state was read from it
-pub record IsRefusedStart {F : Type 0} (held : F → Text → DeviceBytes) (words : List Text)
-    (old new : Around F) (Unread : Type 0) (faults : FaultSink) (status : ℕ) : Type 0 where
+-- the input and the output are as they were
+pub record LeavesStreams (old new : HostView) : Type 0 where
+  pub input : new.input ≡ old.input
+  pub ended : new.ended ≡ old.ended
+  pub passed : new.passed ≡ old.passed
+  pub output : new.output ≡ old.output
+  pub input_failures : new.input_failures ≡ old.input_failures
+  pub output_failures : new.output_failures ≡ old.output_failures
+
+-- the state's file was looked at and opened, but no state was read from it
+pub record IsRefusedStart (words : List Text) (old new : HostView) (status : ℕ) : Type 0 where
   pub name : Text
   pub may_write : Bool
   pub words_are : NamesSession words name may_write
-  pub unread : Unread
-  pub stored : new.stored ≡ old.stored
-  pub past : new.past ≡ option_map with_look old.past
   pub fault : OfficeFault
-  pub why : RefusesToReceive (held old.files name) fault
-  pub counted : IsCounted status old.failed.files new.failed.files
+  pub opens : LooksAndOpens name (IsWhyNot RefusesToReceive fault) old.history new.history
+  pub counted : IsCounted status old.folder_failures new.folder_failures
+  pub streams : LeavesStreams old new
   pub status_is : status ≡ status_of (Office fault)
-  pub tells : TellsLine (fault_line (Office fault)) faults
+  pub tells : TellsText (fault_line (Office fault)) (told_by old) (told_by new)
 
--- the state was read, the lines of the input were answered, and then the session ended
-pub record IsServed {F : Type 0} (held : F → Text → DeviceBytes) (words : List Text)
-    (old new : Around F) (faults : FaultSink) (status : ℕ) : Type 0 where
+-- the state was read, the lines of the input were answered, and then the session ended. What is
+-- unsaved counts only if the desk may write. An input that hadn't reported its end isn't read after
+-- it
+pub record IsServed (words : List Text) (names_bytes : Bool) (old new : HostView) (status : ℕ)
+    : Type 0 where
   pub name : Text
   pub may_write : Bool
   pub words_are : NamesSession words name may_write
-  pub first : Moment F
-  pub begins : BeginsAt held name old first
-  pub last : Moment F
+  pub first : Moment
+  pub begins : BeginsAt name old.history first
+  pub none : first.failures ≡ old.folder_failures
+  pub last : Moment
   pub ending : Ending
-  pub answers : AnswersLines (setting held name may_write) first last old.input old.output
+  pub answers : AnswersLines (setting name may_write names_bytes) first last old.input old.output
       new.output ending
-  pub files : new.files ≡ last.files
-  pub stored : new.stored ≡ last.stored
-  pub past : new.past ≡ last.past
-  pub counts : CountsStreams ending old.failed.input new.failed.input old.failed.output
-      new.failed.output
-  pub failures : new.failed.files + new.failed.store ≡ last.failures
-  pub ends : EndsWithStatus ending last.desk.unsaved status faults
+  pub history : new.history ≡ last.history
+  pub failures : new.folder_failures ≡ last.failures
+  pub counts : CountsStreams ending old.input_failures new.input_failures old.output_failures
+      new.output_failures
+  pub not_passed : old.ended ≡ false → new.passed ≡ old.passed
+  pub ends : EndsWithStatus ending (may_write && last.desk.unsaved) status (told_by old)
+      (told_by new)
 
 -- a session
-abbrev pub Serves : {F : Type 0} → (F → Text → DeviceBytes) → List Text → Around F → Around F
-    → Type 0 → Type 0 → FaultSink → ℕ → Type 0
-Serves held words old new Unread Unlooked faults status =
-    IsMisused words old new Unread Unlooked faults status
-    ⊎ (IsRefusedStart held words old new Unread faults status
-    ⊎ IsServed held words old new faults status)
-
--- how often the streams of a session failed, before and after: once more only if the status is 4,
--- and never twice
-pub record FailsOnce (status before after : ℕ) : Type 0 where
-  pub failed : after ≢ before → status ≡ 4
-  pub few : after ≤ before + 1
+abbrev pub Serves : List Text → Bool → HostView → HostView → ℕ → Type 0
+Serves words names_bytes old new status =
+    IsMisused words old new status
+    ⊎ (IsRefusedStart words old new status ⊎ IsServed words names_bytes old new status)

@@ -1,96 +1,82 @@
 //! How a line is answered.
-ghost use Rattle.std.specs.Prelude.{◌≡◌, ◌+◌, ◌-◌, ◌^◌, ◌<◌};
+ghost use Rattle.std.specs.Prelude.{◌≡◌, ◌-◌, ◌^◌, ◌<◌};
 ghost use Rattle.docker_cmd.specs.JobLine.{IsLineText};
 ghost use Rattle.docker_desk.specs.Lines.{whole_line};
 ghost use Rattle.docker_desk.specs.Requests.{request_meant};
-ghost use Rattle.docker_program.specs.Devices.{IsCounted, LeavesNoDraft};
 ghost use Rattle.docker_desk.specs.Replies.{answer_meant, status_told};
-ghost use Rattle.docker_desk.specs.Doing.{DoesLine, DoesRequest, answer_of, unsaved_by};
+ghost use Rattle.docker_desk.specs.Desk.{IsCounted};
+ghost use Rattle.docker_desk.specs.Doing.{DoesLine, DoesRequest, answer_of};
 ghost use Rattle.docker_desk.specs.Moments.{moment, setting};
 
-use crate::desk::Desk;
 use crate::reply::Answer;
 use crate::requests::{Request, request_in};
 use crate::session::Session;
 use crate::terms::Terms;
 use docker_cmd::OfficeFault;
-use docker_program::{Files, Stores};
+use docker_host::Folder;
 
 /// Answers one line: does what it asks for, if it asks for anything. A refusal changes nothing.
-pub fn answer_line<F: Files, W: Stores>(
+pub fn answer_line<D: Folder>(
     terms: &Terms<'_>,
     line: &[u8],
-    session: &mut Session<W::Seen>,
-    files: &mut F,
-    store: &mut W,
+    session: &mut Session<D::Seen>,
+    folder: &mut D,
 ) -> Answer
-where
-    W::Seen: Copy,
     requires line { IsLineText line.now }
-    requires few { F.failures files.old + W.failures store.old < 2 ^ 64 - 1 }
-    ensures does { DoesLine (setting F.held terms.now.name.now terms.now.may_write)
+    requires few { D.failures folder.old < 2 ^ 64 - 1 }
+    ensures { DoesLine (setting terms.now.name.now terms.now.may_write D.names_bytes)
         (whole_line line.now)
-        (moment W.held W.past W.number (F.failures files.old + W.failures store.old)
-        session.old.desk session.old.seen files.old store.old)
+        (moment session.old.desk (D.look_of session.old.seen)
+        (D.history folder.old) (D.failures folder.old))
         (answer_meant result)
-        (moment W.held W.past W.number (F.failures files.new + W.failures store.new)
-        session.new.desk session.new.seen files.new store.new) }
-    ensures drafts { LeavesNoDraft (W.has_draft store.old) (W.has_draft store.new) }
+        (moment session.new.desk (D.look_of session.new.seen)
+        (D.history folder.new) (D.failures folder.new)) }
 {
     match request_in(line, terms.may_write) {
-        Some(request) => answer_request(terms, request, session, files, store),
+        Some(request) => answer_request(terms, request, session, folder),
         None => Answer::Usage,
     }
 }
 
 /// Does what is asked for.
-fn answer_request<F: Files, W: Stores>(
+fn answer_request<D: Folder>(
     terms: &Terms<'_>,
     request: Request<'_>,
-    session: &mut Session<W::Seen>,
-    files: &mut F,
-    store: &mut W,
+    session: &mut Session<D::Seen>,
+    folder: &mut D,
 ) -> Answer
-where
-    W::Seen: Copy,
-    requires { F.failures files.old + W.failures store.old < 2 ^ 64 - 1 }
-    ensures does { DoesRequest (setting F.held terms.now.name.now terms.now.may_write)
+    requires { D.failures folder.old < 2 ^ 64 - 1 }
+    ensures does { DoesRequest (setting terms.now.name.now terms.now.may_write D.names_bytes)
         (request_meant request.entry)
-        (moment W.held W.past W.number (F.failures files.old + W.failures store.old)
-        session.old.desk session.old.seen files.old store.old)
+        (moment session.old.desk (D.look_of session.old.seen)
+        (D.history folder.old) (D.failures folder.old))
         (answer_meant result)
-        (moment W.held W.past W.number (F.failures files.new + W.failures store.new)
-        session.new.desk session.new.seen files.new store.new) }
-    ensures drafts { LeavesNoDraft (W.has_draft store.old) (W.has_draft store.new) }
+        (moment session.new.desk (D.look_of session.new.seen)
+        (D.history folder.new) (D.failures folder.new)) }
     ensures counted { IsCounted (status_told (answer_meant result))
-        (F.failures files.old + W.failures store.old)
-        (F.failures files.new + W.failures store.new) }
+        (D.failures folder.old) (D.failures folder.new) }
 {
     match request {
         Request::Print { place, day } => session.desk.print(&place, day),
         Request::Train { uid, day } => session.desk.train(&uid, day),
         Request::Files => session.desk.files(),
+        Request::Places => session.desk.places(),
+        Request::Known => session.desk.known(),
         Request::Renew => {
+            let compares = terms.may_write;
             let renewed = session
                 .desk
-                .renew(terms.name, &mut session.seen, files, store);
+                .renew(terms.name, compares, &mut session.seen, folder);
             answer_to(renewed)
         }
-        Request::Take(name) => {
-            let taken = session.desk.take(name, files);
-            note(&mut session.desk, taken)
-        }
-        Request::Merge(name) => {
-            let received = session.desk.receive(name, files);
-            note(&mut session.desk, received)
-        }
+        Request::Take(name) => answer_to(session.desk.take(name, folder)),
+        Request::Merge(name) => answer_to(session.desk.receive(name, folder)),
         Request::Horizon { day } => {
             session.desk.set_horizon(day);
-            session.desk.note(true);
             Answer::Done
         }
         Request::Save => {
-            let saved = session.desk.save(terms.name, &mut session.seen, store);
+            let saved = session.desk.save(terms.name, &mut session.seen, folder);
             answer_to(saved)
         }
     }
@@ -104,16 +90,4 @@ fn answer_to(outcome: Result<(), OfficeFault>) -> Answer
         Ok(()) => Answer::Done,
         Err(fault) => Answer::Refused(fault),
     }
-}
-
-/// Notes a change if it was made, and returns the answer.
-fn note(desk: &mut Desk, change: Result<(), OfficeFault>) -> Answer
-    ensures answer { answer_meant result ≡ answer_of change }
-    ensures state { desk.new.state ≡ desk.old.state }
-    ensures unsaved { desk.new.unsaved ≡ unsaved_by change desk.old.unsaved }
-{
-    if change.is_ok() {
-        desk.note(true);
-    }
-    answer_to(change)
 }

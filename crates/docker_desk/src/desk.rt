@@ -1,24 +1,26 @@
 //! A desk, and what it can be asked for.
-ghost use Rattle.std.specs.Prelude.{◌≡◌, ◌-◌, ◌^◌, ◌<◌, false, IfSome, OnErr, OnOk, option_map};
+ghost use Rattle.std.specs.Prelude.{◌≡◌, ◌+◌, ◌-◌, ◌^◌, ◌<◌, false, true, length, IsErr, IsOk};
 ghost use Rattle.docker_model.specs.state.State.{raise_horizon};
-ghost use Rattle.docker_program.specs.Devices.{IsCounted, LeavesNoDraft};
-ghost use Rattle.docker_program.specs.Past.{with_look};
-ghost use Rattle.docker_program.specs.Program.{result_status};
-ghost use Rattle.docker_desk.specs.Desk.{EndsReceiving, EndsSaving, EndsTaking, IsDockerAnswer, IsFilesAnswer, IsTrainAnswer, past_of_saving};
-ghost use Rattle.docker_desk.specs.Replies.{answer_meant};
+ghost use Rattle.docker_model.specs.state.StateText.{dks_2, state_text};
+ghost use Rattle.docker_cmd.specs.OfficeFault.TheVariants as office;
+ghost use Rattle.docker_desk.specs.Desk.{EndsReceiving, EndsRenewing, EndsSaving, EndsTaking, IsCounted, IsDockerAnswer, IsFilesAnswer, IsKnownAnswer, IsPlacesAnswer, IsTrainAnswer, LooksAndOpens, OpensOnce, look_by, result_status, unsaved_by};
+ghost use Rattle.docker_desk.specs.Doing.{desk_by};
+ghost use Rattle.docker_desk.specs.Replies.{answer_meant, done_with, refused_for};
 
 use crate::page::Page;
+use crate::reading::{receive_state, renew_state, take_file};
 use crate::reply::Answer;
 use crate::saving::store_office;
-use cif_file::MOST_RECORDS;
-use cif_line::{Day, Tiploc, Uid};
-use docker_cmd::{MOST_BYTES, Office, OfficeFault};
-use docker_program::{Files, Looked, Stores};
+use cif_line::{Day, Failed, Tiploc, Uid};
+use docker_cmd::{Office, OfficeFault};
+use docker_host::Folder;
 use docker_train::{TrainFault, print_train};
+use state_lists::{print_known, print_places};
 use std::alloc::Global;
 use std::marker::Model;
 
-/// A desk: an office, and whether something was taken, merged or set since it was last saved.
+/// A desk: an office, and whether its state may be another than the one whose text the state's file
+/// was last seen to hold.
 #[derive(Debug, Drop)]
 pub struct Desk {
     alloc: Global,
@@ -46,7 +48,8 @@ impl Desk {
         }
     }
 
-    /// Whether something was taken, merged or set since it was last saved.
+    /// Whether the state may be another than the one whose text the state's file was last seen to
+    /// hold. Then something was taken, merged, set or renewed since it was read or saved.
     pub fn is_unsaved(&self) -> bool
         ensures { result ≡ self.now.unsaved }
     {
@@ -89,105 +92,146 @@ impl Desk {
         }
     }
 
-    /// Takes the file of a name.
-    pub fn take<F: Files>(&mut self, name: &str, files: &mut F) -> Result<(), OfficeFault>
-        requires { F.failures files.old < 2 ^ 64 - 1 }
-        ensures ends { EndsTaking (F.held files.old name.now) self.old.state self.new.state result }
-        ensures unsaved { self.new.unsaved ≡ self.old.unsaved }
-        ensures counted { IsCounted (result_status result)
-            (F.failures files.old) (F.failures files.new) }
+    /// The timing points that are live, with how many live schedules call at each. The text is
+    /// whole before it is returned.
+    pub fn places(&self) -> Answer
+        ensures { IsPlacesAnswer self.now.state (answer_meant result) }
     {
-        files.open(name)?;
-        self.office.take(files, MOST_RECORDS)
+        let mut page = Page::new(self.alloc);
+        let printed = print_places(self.office.state(), &mut page);
+        answer_on(page, printed)
     }
 
-    /// Joins what the desk knows with the state that the file of a name holds.
-    pub fn receive<F: Files>(&mut self, name: &str, files: &mut F) -> Result<(), OfficeFault>
-        requires { F.failures files.old < 2 ^ 64 - 1 }
-        ensures ends { EndsReceiving (F.held files.old name.now) self.old.state self.new.state
-            result }
-        ensures unsaved { self.new.unsaved ≡ self.old.unsaved }
-        ensures counted { IsCounted (result_status result)
-            (F.failures files.old) (F.failures files.new) }
+    /// What the desk knows, in a few lines: the horizon, the newest full extract, the last day, and
+    /// how much is live.
+    pub fn known(&self) -> Answer
+        ensures { IsKnownAnswer self.now.state (answer_meant result) }
     {
-        files.open(name)?;
-        self.office.receive(files, MOST_BYTES)
+        let mut page = Page::new(self.alloc);
+        let printed = print_known(self.office.state(), &mut page);
+        answer_on(page, printed)
+    }
+
+    /// Takes a file, which is opened once.
+    pub fn take<D: Folder>(&mut self, name: &str, folder: &mut D) -> Result<(), OfficeFault>
+        requires { D.failures folder.old < 2 ^ 64 - 1 }
+        ensures opens { OpensOnce name.now (EndsTaking self.old.state self.new.state result)
+            (D.history folder.old) (D.history folder.new) }
+        ensures unsaved { self.new.unsaved ≡ unsaved_by result self.old.unsaved }
+        ensures counted { IsCounted (result_status result)
+            (D.failures folder.old) (D.failures folder.new) }
+    {
+        match take_file(&mut self.office, name, folder) {
+            Ok(()) => {
+                self.note_change();
+                Ok(())
+            }
+            Err(refused) => Err(refused),
+        }
+    }
+
+    /// Joins what the desk knows with the state that a file holds, which is opened once.
+    pub fn receive<D: Folder>(&mut self, name: &str, folder: &mut D) -> Result<(), OfficeFault>
+        requires { D.failures folder.old < 2 ^ 64 - 1 }
+        ensures opens { OpensOnce name.now (EndsReceiving self.old.state self.new.state result)
+            (D.history folder.old) (D.history folder.new) }
+        ensures unsaved { self.new.unsaved ≡ unsaved_by result self.old.unsaved }
+        ensures counted { IsCounted (result_status result)
+            (D.failures folder.old) (D.failures folder.new) }
+    {
+        match receive_state(&mut self.office, name, folder) {
+            Ok(()) => {
+                self.note_change();
+                Ok(())
+            }
+            Err(fault) => Err(fault),
+        }
     }
 
     /// Sets a horizon, which may be later than the desk's own. It is never refused.
     pub fn set_horizon(&mut self, day: Day)
-        ensures state { self.new.state ≡ raise_horizon day self.old.state }
-        ensures unsaved { self.new.unsaved ≡ self.old.unsaved }
+        ensures { self.new
+            ≡ record { state = raise_horizon day self.old.state; unsaved = true } }
     {
         self.office.set_horizon(day);
+        self.note_change();
     }
 
-    /// Notes whether something was taken, merged or set since it was last saved.
-    pub fn note(&mut self, unsaved: bool)
-        ensures { self.new ≡ record self.old { unsaved = unsaved } }
+    /// Notes that something may be unsaved.
+    fn note_change(&mut self)
+        ensures { self.new ≡ record self.old { unsaved = true } }
     {
-        self.unsaved = unsaved;
+        self.unsaved = true;
     }
 
-    /// Joins what the desk knows with what the file of a name holds now, and notes what is seen of
-    /// that file.
-    pub fn renew<F: Files, W: Stores>(
+    /// Looks at a file, then opens it once and joins what the desk knows with the state that it
+    /// holds. If that is done, notes what was seen of the file before it was opened. Then nothing
+    /// is unsaved only if the file held the text of the state that the desk has now. It is found
+    /// out only if `compares`, for which the file's text is kept until it is compared.
+    pub fn renew<D: Folder>(
         &mut self,
         name: &str,
-        seen: &mut W::Seen,
-        files: &mut F,
-        store: &mut W,
+        compares: bool,
+        seen: &mut D::Seen,
+        folder: &mut D,
     ) -> Result<(), OfficeFault>
-    where
-        W::Seen: Copy,
-        requires { F.failures files.old < 2 ^ 64 - 1 }
-        ensures ends { EndsReceiving (F.held files.old name.now) self.old.state self.new.state
-            result }
-        ensures unsaved { self.new.unsaved ≡ self.old.unsaved }
+        requires { D.failures folder.old < 2 ^ 64 - 1 }
+        ensures opens { LooksAndOpens name.now (EndsRenewing self.old self.new result)
+            (D.history folder.old) (D.history folder.new) }
+        ensures look { D.look_of seen.new
+            ≡ look_by result (length (D.history folder.old)) (D.look_of seen.old) }
         ensures counted { IsCounted (result_status result)
-            (F.failures files.old) (F.failures files.new) }
-        ensures kept { (W.held store.new ≡ W.held store.old)
-            × (W.failures store.new ≡ W.failures store.old)
-            × (W.has_draft store.new ≡ W.has_draft store.old) }
-        ensures asked { W.past store.new ≡ option_map with_look (W.past store.old) }
-        ensures seen { OnErr result (seen.new ≡ seen.old) }
-        ensures number { IfSome (W.past store.old) (λ asked.
-            OnOk result (W.number seen.new ≡ asked.looks)) }
+            (D.failures folder.old) (D.failures folder.new) }
     {
-        let looked = store.look(name);
-        self.receive(name, files)?;
-        *seen = looked.seen;
-        Ok(())
+        let compares = compares & !self.unsaved;
+        let sight = folder.look(name);
+        let (renewed, same) = renew_state(self.alloc, &mut self.office, name, compares, folder);
+        match renewed {
+            Ok(()) => {
+                *seen = sight;
+                self.unsaved = !same;
+                Ok(())
+            }
+            Err(fault) => Err(fault),
+        }
     }
 
-    /// Stores the text of the desk's state in the file of a name, which has to be the one that was
-    /// seen. Then notes what is seen of that file.
-    pub fn save<W: Stores>(
+    /// Stores the text of the desk's state in a file, by a draft from what was seen of that file.
+    /// If that is done, looks at the file, and notes what is seen of it.
+    pub fn save<D: Folder>(
         &mut self,
         name: &str,
-        seen: &mut W::Seen,
-        store: &mut W,
+        seen: &mut D::Seen,
+        folder: &mut D,
     ) -> Result<(), OfficeFault>
-    where
-        W::Seen: Copy,
-        requires { W.failures store.old < 2 ^ 64 - 1 }
-        ensures ends { EndsSaving name.now self.old.state (W.held store.old) (W.held store.new)
+        requires { D.failures folder.old < 2 ^ 64 - 1 }
+        ensures stores { EndsSaving D.names_bytes name.now (D.look_of seen.old)
+            (state_text dks_2 self.old.state) (D.history folder.old) (D.history folder.new)
             result }
-        ensures saved { OnOk result (self.new ≡ record self.old { unsaved = false }) }
-        ensures unsaved { OnErr result (self.new ≡ self.old) }
-        ensures drafts { LeavesNoDraft (W.has_draft store.old) (W.has_draft store.new) }
+        ensures desk { self.new ≡ desk_by result self.old }
+        ensures look { D.look_of seen.new
+            ≡ look_by result (length (D.history folder.old) + 2) (D.look_of seen.old) }
         ensures counted { IsCounted (result_status result)
-            (W.failures store.old) (W.failures store.new) }
-        ensures asked { W.past store.new
-            ≡ past_of_saving (W.number seen.old) (W.past store.old) result }
-        ensures seen { OnErr result (seen.new ≡ seen.old) }
-        ensures number { IfSome (W.past store.old) (λ asked.
-            OnOk result (W.number seen.new ≡ asked.looks)) }
+            (D.failures folder.old) (D.failures folder.new) }
     {
-        let looked = Looked { name, seen: *seen };
-        store_office(&self.office, looked, store)?;
-        *seen = store.look(name).seen;
-        self.unsaved = false;
-        Ok(())
+        match store_office(&self.office, name, seen, folder) {
+            Ok(()) => {
+                *seen = folder.look(name);
+                self.unsaved = false;
+                Ok(())
+            }
+            Err(fault) => Err(fault),
+        }
+    }
+}
+
+/// The answer whose text was printed on a page, or a refusal if memory ran out for the page.
+fn answer_on(page: Page, printed: Result<(), Failed>) -> Answer
+    ensures done { IsOk printed → answer_meant result ≡ done_with page.text }
+    ensures refused { IsErr printed → answer_meant result ≡ refused_for office.Memory }
+{
+    match printed {
+        Ok(()) => Answer::Text(page),
+        Err(Failed) => Answer::Refused(OfficeFault::Memory),
     }
 }

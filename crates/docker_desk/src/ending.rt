@@ -1,11 +1,10 @@
 //! How a session ends.
-ghost use Rattle.std.specs.Prelude.{◌-◌, ◌^◌, ◌<◌};
-ghost use Rattle.docker_program.specs.Program.{fault_sink};
-ghost use Rattle.docker_desk.specs.Serving.{EndsWithStatus, TellsLine};
+ghost use Rattle.std.specs.Prelude.{◌≡◌, ◌-◌, ◌^◌, ◌<◌, ◌++◌};
+ghost use Rattle.docker_cmd.specs.FaultLine.{fault_line, status_of};
+ghost use Rattle.docker_desk.specs.Serving.{EndsWithStatus, TellsText, told, unsaved_text};
 
 use cif_line::{Sink, write_all};
-use docker_cmd::{Fault, OfficeFault};
-use docker_program::tell;
+use docker_cmd::{Fault, OfficeFault, fault_text, status};
 
 /// The line that says that changes weren't saved.
 const UNSAVED: &[u8] = b"desk: changes not saved\n";
@@ -23,35 +22,74 @@ pub enum Ending {
     OutputFailed,
 }
 
-/// Tells how a session ended, and returns its exit status: 0, 1 if changes weren't saved, or 4 if a
-/// device failed.
+/// Reports how a session ended, and returns its exit status: 0, 1 if changes weren't saved, or 4 if
+/// a device failed. Changes that weren't saved are reported after a device's line too.
 pub(crate) fn end_session<L: Sink>(ending: Ending, unsaved: bool, faults: &mut L) -> u8
     requires { L.failures faults.old < 2 ^ 64 - 1 }
-    ensures { EndsWithStatus ending unsaved result (fault_sink (L.taken faults.old)
-        (L.taken faults.new) (L.failures faults.old) (L.failures faults.new)) }
+    ensures { EndsWithStatus ending unsaved result
+        (told (L.taken faults.old) (L.failures faults.old))
+        (told (L.taken faults.new) (L.failures faults.new)) }
 {
     match ending {
         Ending::Ended => {
-            if !unsaved {
-                return 0;
-            }
-            tell_line(UNSAVED, faults);
-            1
+            tell_text(unsaved_line(unsaved), faults);
+            if unsaved { 1 } else { 0 }
         }
-        Ending::InputFailed | Ending::InputEndless => {
-            tell(&Fault::Office(OfficeFault::Source), faults)
-        }
-        Ending::OutputFailed => tell(&Fault::Office(OfficeFault::Sink), faults),
+        Ending::InputFailed => tell_failure(&Fault::Office(OfficeFault::Source), unsaved, faults),
+        Ending::InputEndless => tell_failure(&Fault::Office(OfficeFault::Source), unsaved, faults),
+        Ending::OutputFailed => tell_failure(&Fault::Office(OfficeFault::Sink), unsaved, faults),
     }
 }
 
-/// Writes a line to the sink of faults, as far as it takes it.
-pub(crate) fn tell_line<L: Sink>(line: &[u8], faults: &mut L)
-    requires { L.failures faults.old < 2 ^ 64 - 1 }
-    ensures { TellsLine line.now (fault_sink (L.taken faults.old)
-        (L.taken faults.new) (L.failures faults.old) (L.failures faults.new)) }
+/// The line that says that changes weren't saved, or nothing if there are none.
+fn unsaved_line<'a>(unsaved: bool) -> &'a [u8]
+    ensures { result.now ≡ unsaved_text unsaved }
 {
-    match write_all(faults, line) {
+    if unsaved { UNSAVED } else { b"" }
+}
+
+/// Writes the line of a fault and, if all of it was written, the line that says that changes
+/// weren't saved, if there are any. Returns the fault's exit status.
+pub(crate) fn tell_failure<L: Sink>(fault: &Fault, unsaved: bool, faults: &mut L) -> u8
+    requires { L.failures faults.old < 2 ^ 64 - 1 }
+    ensures status { result ≡ status_of fault.now }
+    ensures tells { TellsText (fault_line fault.now ++ unsaved_text unsaved)
+        (told (L.taken faults.old) (L.failures faults.old))
+        (told (L.taken faults.new) (L.failures faults.new)) }
+{
+    let line = fault_text(fault);
+    let behind = unsaved_line(unsaved);
+    match write_all(faults, line.as_slice()) {
+        Ok(()) => {
+            tell_text(behind, faults);
+            status(fault)
+        }
+        Err(_) => status(fault),
+    }
+}
+
+/// Writes the line of a fault, and returns its exit status, whether or not the whole line is
+/// written.
+pub(crate) fn tell<L: Sink>(fault: &Fault, faults: &mut L) -> u8
+    requires { L.failures faults.old < 2 ^ 64 - 1 }
+    ensures status { result ≡ status_of fault.now }
+    ensures tells { TellsText (fault_line fault.now)
+        (told (L.taken faults.old) (L.failures faults.old))
+        (told (L.taken faults.new) (L.failures faults.new)) }
+{
+    let line = fault_text(fault);
+    tell_text(line.as_slice(), faults);
+    status(fault)
+}
+
+/// Writes a text to the sink of faults, as far as it takes it.
+pub(crate) fn tell_text<L: Sink>(text: &[u8], faults: &mut L)
+    requires { L.failures faults.old < 2 ^ 64 - 1 }
+    ensures { TellsText text.now
+        (told (L.taken faults.old) (L.failures faults.old))
+        (told (L.taken faults.new) (L.failures faults.new)) }
+{
+    match write_all(faults, text) {
         Ok(()) | Err(_) => {}
     }
 }

@@ -1,7 +1,7 @@
 //! What holds of every session. Each law is the contract of a function that does nothing, so it
 //! holds for every value that it names.
 ghost use Rattle.std.specs.Prelude.{◌≡◌, ◌≤◌, ◌++◌, ℕ, List, Some, length};
-ghost use Rattle.docker_model.specs.state.Lapse.{IsDayRefused};
+ghost use Rattle.docker_model.specs.state.Lapse.{IsDayRefused, lapse_table};
 ghost use Rattle.docker_model.specs.state.State.{State, live_table};
 ghost use Rattle.docker_model.specs.state.StateText.{dks_2, state_text};
 ghost use Rattle.docker_model.specs.state.Summary.{HaveDistinctMoments};
@@ -12,39 +12,81 @@ ghost use Rattle.docker_model.specs.run.Knowledge.{AreOneKnowledge, HaveSameFile
 ghost use Rattle.docker_cmd.specs.Office.{HoldsState};
 ghost use Rattle.docker_cmd.specs.RunEnds.{EndsWith, PrintsAs};
 ghost use Rattle.docker_cmd.specs.Prepared.{DeviceBytes, most_bytes};
+ghost use Rattle.docker_host.specs.History.{Event};
 ghost use Rattle.docker_desk.specs.Lines.{AreLines, LineView};
 ghost use Rattle.docker_train.specs.TrainText.{IsTrainText};
+ghost use Rattle.state_lists.specs.Known.{IsKnownText};
+ghost use Rattle.state_lists.specs.Places.{IsPlacesText};
 ghost use Rattle.docker_desk.specs.Answering.{EndsSession, answers_of, lines_of};
-ghost use Rattle.docker_desk.specs.Doing.{AreSteps};
-ghost use Rattle.docker_desk.specs.Learning.{AreLearned, IsKnown, IsTrainOf, KnowsAt};
+ghost use Rattle.docker_desk.specs.Doing.{AreSteps, DoesRequest};
+ghost use Rattle.docker_desk.specs.Learning.{AllHearKnown, AreLearned, HearsState, HoldsKnown, IsKnown, IsTrainOf, KnowsAt, PlacesKnown, merging, renewing};
 ghost use Rattle.docker_desk.specs.Moments.{Moment, Setting, Step};
-ghost use Rattle.docker_desk.specs.Serving.{Around, BeginsAt};
+ghost use Rattle.docker_desk.specs.Replies.{done_with};
+ghost use Rattle.docker_desk.specs.Requests.{merge_request, renew_request, save_request};
+ghost use Rattle.docker_desk.specs.Looking.{IsGoodLook};
+ghost use Rattle.docker_desk.specs.Serving.{BeginsAt};
 ghost use Rattle.docker_desk.specs.declared.ending.Ending.{Ending};
 ghost use Rattle.docker_desk.specs.declared.ending.Ending.TheVariants.{Ended};
 
-use docker_program::Files;
 use docker_train::laws::{found_train_is_plain, train_came_from_a_file};
+use state_lists::laws::{one_known_text, one_places_text};
 
 /// If the file of a session held the text of the summary of some files under a horizon, the first
 /// state is that summary. Each later state is the summary of these files and of all that was taken
 /// and received until then, under the greatest horizon.
-pub fn known_files_fix_sessions<F: Files>()
-    ensures begins { (name : List ℕ) (old : Around F) (first : Moment F) (start : Known)
-        (sent : State) → BeginsAt F.held name old first
-        → HoldsState dks_2 most_bytes (F.held old.files name) sent → IsKnown start sent
+pub fn known_files_fix_sessions()
+    ensures begins { (name : List ℕ) (old : List Event) (first : Moment) (start : Known)
+        (sent : State) → (begins : BeginsAt name old first)
+        → HoldsState dks_2 most_bytes begins.held sent → IsKnown start sent
         → IsKnown start first.desk.state }
-    ensures goes_on { (setting : Setting F) (first last : Moment F) (steps : List (Step F))
+    ensures goes_on { (setting : Setting) (first last : Moment) (steps : List Step)
         (old new : Known) → IsKnown old first.desk.state → AreSteps setting first steps last
         → AreLearned setting old steps new → IsKnown new last.desk.state }
-    ensures knows { (setting : Setting F) (known : Known) (state : State)
+    ensures knows { (setting : Setting) (known : Known) (state : State)
         → KnowsAt setting known state → IsKnown known state }
+{}
+
+/// At each moment of a session there is a look from which a draft is made. It comes right before an
+/// opening of the state's file, whose text was read then, or right after the desk put its own text
+/// there. So a text that came between a look and a reading is never overwritten unread: it was
+/// read, or the file is another than the one that was seen.
+pub fn looks_come_before_readings()
+    ensures { (setting : Setting) (old : List Event) (first last : Moment) (steps : List Step)
+        → BeginsAt setting.name old first → AreSteps setting first steps last
+        → IsGoodLook setting.name last.history last.look }
+{}
+
+/// If a file that was merged or renewed held the text of a summary, it is heard as that summary. If
+/// that is so of each such file, something is learned from all the steps: no step stands in the way
+/// of the law above.
+pub fn known_texts_are_heard()
+    ensures merged { (setting : Setting) (other text : List ℕ) (before after : Moment)
+        (known : Known) → DoesRequest setting (merge_request other) before (done_with text) after
+        → HoldsKnown (merging other) before after known
+        → HearsState (merging other) before after known }
+    ensures renewed { (setting : Setting) (text : List ℕ) (before after : Moment) (known : Known)
+        → DoesRequest setting renew_request before (done_with text) after
+        → HoldsKnown (renewing setting.name) before after known
+        → HearsState (renewing setting.name) before after known }
+    ensures learned { (setting : Setting) (first last : Moment) (steps : List Step) (old : Known)
+        → AreSteps setting first steps last → AllHearKnown setting steps
+        → (new : Known) × AreLearned setting old steps new }
+{}
+
+/// Each text that a desk puts in the place of its state's file is the text of the summary of what it
+/// knew then.
+pub fn saves_tell_what_is_known()
+    ensures { (setting : Setting) (text : List ℕ) (before after : Moment) (known : Known)
+        → IsKnown known before.desk.state
+        → DoesRequest setting save_request before (done_with text) after
+        → PlacesKnown setting before after known }
 {}
 
 /// The first steps of a session lead to a moment, and the others lead on from there. So what holds
 /// of the last state of a session holds of each state before it.
-pub fn each_moment_is_a_last_one<F: Files>()
-    ensures { (setting : Setting F) (first last : Moment F) (earlier later : List (Step F))
-        → AreSteps setting first (earlier ++ later) last → (between : Moment F)
+pub fn each_moment_is_a_last_one()
+    ensures { (setting : Setting) (first last : Moment) (earlier later : List Step)
+        → AreSteps setting first (earlier ++ later) last → (between : Moment)
         × AreSteps setting first earlier between × AreSteps setting between later last }
 {}
 
@@ -89,6 +131,30 @@ pub fn trains_came_from_known_files()
     found_train_is_plain();
 }
 
+/// Two sessions, or a session and an office of a run, that know the same files and the same horizon
+/// have one list of timing points. They also have one text of what is known.
+pub fn known_files_fix_lists()
+    ensures places { (first second : Known) (one two : State) → IsKnown first one
+        → IsKnown second two → AreOneKnowledge first second → (text other : List ℕ)
+        → IsPlacesText (live_table one) text → IsPlacesText (live_table two) other → text ≡ other }
+    ensures known { (first second : Known) (one two : State) → IsKnown first one
+        → IsKnown second two → AreOneKnowledge first second → (text other : List ℕ)
+        → IsKnownText one text → IsKnownText two other → text ≡ other }
+{
+    // Called for their contracts, which say that a state has one of each.
+    one_places_text();
+    one_known_text();
+}
+
+/// If no two files that a session knows have the same moment, the list of timing points is the one
+/// of their plain table, without what has lapsed.
+pub fn places_are_of_the_plain_table()
+    ensures { (known : Known) (state : State) → IsKnown known state
+        → HaveDistinctMoments known.files → (plain : Table) × IsPlainTable known.files plain
+        × ((text : List ℕ) → IsPlacesText (live_table state) text
+        → IsPlacesText (lapse_table known.horizon plain) text) }
+{}
+
 /// A text has one list of lines.
 pub fn an_input_has_one_reading()
     ensures { (text : List ℕ) (lines others : List LineView) → AreLines text lines
@@ -97,11 +163,11 @@ pub fn an_input_has_one_reading()
 
 /// Each line that is done has one answer. If the session ends at the input's end, these are all
 /// lines of the input.
-pub fn each_line_has_one_answer<F: Files>()
-    ensures one { (ending : Ending) (input output output_now : DeviceBytes) (steps : List (Step F))
+pub fn each_line_has_one_answer()
+    ensures one { (ending : Ending) (input output output_now : DeviceBytes) (steps : List Step)
         → EndsSession ending input steps output output_now
         → length (answers_of steps) ≡ length (lines_of steps) }
     ensures all { (text : List ℕ) (lines : List LineView) (output output_now : DeviceBytes)
-        (steps : List (Step F)) → AreLines text lines
+        (steps : List Step) → AreLines text lines
         → EndsSession Ended (Some text) steps output output_now → lines_of steps ≡ lines }
 {}

@@ -5,19 +5,23 @@
 mod ahead;
 mod answering;
 mod answers;
+mod copying;
 mod desk;
 mod ending;
 pub mod laws;
 mod lines;
+mod matching;
 mod opening;
 mod page;
 mod program;
+mod reading;
 mod reply;
 mod requests;
 mod saving;
 mod serving;
 mod session;
 mod terms;
+mod witness;
 mod words;
 
 pub use ahead::Ahead;
@@ -34,3 +38,4 @@ pub use requests::{Request, file_named, request_in};
 pub use serving::{serve_lines, serve_next};
 pub use session::Session;
 pub use terms::{Terms, terms_in};
+pub use witness::files_of_none;

@@ -20,6 +20,10 @@ pub enum Verb {
     Train,
     /// The files that are known.
     Files,
+    /// The timing points that are known, with how many schedules call at each.
+    Places,
+    /// How much is known.
+    Known,
     /// Joins what is known with what the state's file holds.
     Renew,
     /// Adds one file to what is known.
@@ -63,6 +67,8 @@ impl Verb {
             Verb::Print,
             Verb::Train,
             Verb::Files,
+            Verb::Places,
+            Verb::Known,
             Verb::Renew,
             Verb::Take,
             Verb::Merge,
@@ -79,6 +85,8 @@ impl Verb {
             Verb::Print => RequestRow::of("print", &["TIPLOC", "DATE"], false),
             Verb::Train => RequestRow::of("train", &["UID", "DATE"], false),
             Verb::Files => RequestRow::of("files", &[], false),
+            Verb::Places => RequestRow::of("places", &[], false),
+            Verb::Known => RequestRow::of("known", &[], false),
             Verb::Renew => RequestRow::of("renew", &[], false),
             Verb::Take => RequestRow::of("take", &["FILE"], true),
             Verb::Merge => RequestRow::of("merge", &["OTHER"], true),
@@ -121,7 +129,7 @@ impl Verb {
 pub(crate) fn usage<'a>() -> &'a [u8]
     ensures { result.now ≡ usage_line }
 {
-    b"desk: usage: [--write] STATE, and then a line for each request: print TIPLOC DATE | train UID DATE | files | renew | with --write take FILE | merge OTHER | horizon DATE | save\n"
+    b"desk: usage: [--write] STATE, and then a line for each request: print TIPLOC DATE | train UID DATE | files | places | known | renew | with --write take FILE | merge OTHER | horizon DATE | save\n"
 }
 
 /// The first of some verbs that has this name.
@@ -150,6 +158,10 @@ pub enum Request<'a> {
     },
     /// `files`.
     Files,
+    /// `places`.
+    Places,
+    /// `known`.
+    Known,
     /// `renew`.
     Renew,
     /// `take`, with the file.
@@ -189,6 +201,14 @@ fn request_of(verb: Verb, rest: &str) -> Option<Request<'_>>
         Verb::Files => {
             alone(rest)?;
             Some(Request::Files)
+        }
+        Verb::Places => {
+            alone(rest)?;
+            Some(Request::Places)
+        }
+        Verb::Known => {
+            alone(rest)?;
+            Some(Request::Known)
         }
         Verb::Renew => {
             alone(rest)?;

@@ -1,39 +1,35 @@
-//! How a state is saved.
-ghost use Rattle.std.specs.Prelude.{◌≡◌, ◌-◌, ◌^◌, ◌<◌, option_map};
-ghost use Rattle.docker_program.specs.Devices.{IsCounted, LeavesNoDraft};
-ghost use Rattle.docker_program.specs.Past.{with_draft};
-ghost use Rattle.docker_program.specs.Program.{result_status};
-ghost use Rattle.docker_desk.specs.Desk.{EndsSaving};
+//! How a state is stored.
+ghost use Rattle.std.specs.Prelude.{◌-◌, ◌^◌, ◌<◌};
+ghost use Rattle.docker_model.specs.state.StateText.{dks_2, state_text};
+ghost use Rattle.docker_desk.specs.Desk.{EndsStoring, IsCounted, result_status};
 
 use docker_cmd::{Office, OfficeFault};
-use docker_program::{Looked, OpenFault, Stores};
+use docker_host::{Folder, OpenFault};
 
-/// Writes the text of an office's state to a draft of the file that was looked at, and puts the
-/// draft in the place of that file.
-pub(crate) fn store_office<W: Stores>(
+/// Writes the text of an office's state to a draft for a file, from what was seen of it. Then puts
+/// the draft in the file's place.
+pub(crate) fn store_office<D: Folder>(
     office: &Office,
-    looked: Looked<'_, W::Seen>,
-    store: &mut W,
+    name: &str,
+    seen: &D::Seen,
+    folder: &mut D,
 ) -> Result<(), OfficeFault>
-    requires { W.failures store.old < 2 ^ 64 - 1 }
-    ensures ends { EndsSaving looked.entry.name.now office.now
-        (W.held store.old) (W.held store.new) result }
-    ensures drafts { LeavesNoDraft (W.has_draft store.old) (W.has_draft store.new) }
+    requires { D.failures folder.old < 2 ^ 64 - 1 }
+    ensures ends { EndsStoring D.names_bytes name.now (D.look_of seen.now)
+        (state_text dks_2 office.now) (D.history folder.old) (D.history folder.new) result }
     ensures counted { IsCounted (result_status result)
-        (W.failures store.old) (W.failures store.new) }
-    ensures asked { W.past store.new
-        ≡ option_map (with_draft (W.number looked.entry.seen)) (W.past store.old) }
+        (D.failures folder.old) (D.failures folder.new) }
 {
-    let mut draft = match store.create(looked) {
-        Ok(draft) => draft,
+    let mut made = match folder.create(name, seen) {
+        Ok(made) => made,
         Err(OpenFault::Failed) => return Err(OfficeFault::Sink),
         Err(OpenFault::Memory) => return Err(OfficeFault::Memory),
     };
-    if let Err(fault) = office.send(&mut draft) {
-        store.discard(draft);
+    if let Err(fault) = office.send(&mut made.draft) {
+        folder.discard(made);
         return Err(fault);
     }
-    let Ok(()) = store.complete(draft) else {
+    let Ok(()) = folder.complete(made) else {
         return Err(OfficeFault::Sink);
     };
     Ok(())

@@ -1,7 +1,6 @@
 //! The lines of a session, one after the other.
 ghost use Rattle.std.specs.Prelude.{◌≡◌, false, ◌+◌, ◌-◌, ◌^◌, ◌<◌, ◌≤◌, Some, Option};
 ghost use Rattle.docker_desk.specs.Lines.{with_ahead};
-ghost use Rattle.docker_program.specs.Devices.{LeavesNoDraft};
 ghost use Rattle.docker_desk.specs.Replies.{answer_meant, bytes_told};
 ghost use Rattle.docker_desk.specs.Answering.{AnswersLines, CountsNext, CountsStreams, ServesNext, StopsAtEnd, TellsAnswer};
 ghost use Rattle.docker_desk.specs.Moments.{moment, setting};
@@ -14,39 +13,36 @@ use crate::reply::{Answer, write_reply};
 use crate::session::Session;
 use crate::terms::Terms;
 use cif_line::{Sink, Source};
-use docker_program::{Files, Stores};
+use docker_host::Folder;
 
 /// Answers the lines of an input, one after the other, until the input is at its end or a device
 /// fails. Each answer is whole in memory before its first byte is written, and it is written before
 /// the next line is read. After a last line without its line feed nothing more is read.
-pub fn serve_lines<S: Source, F: Files, W: Stores, K: Sink>(
+pub fn serve_lines<S: Source, D: Folder, K: Sink>(
     terms: &Terms<'_>,
-    session: &mut Session<W::Seen>,
-    stdin: &mut S,
-    files: &mut F,
-    store: &mut W,
+    session: &mut Session<D::Seen>,
+    input: &mut S,
+    folder: &mut D,
     output: &mut K,
 ) -> Ending
-where
-    W::Seen: Copy,
-    requires stdin { S.failures stdin.old < 2 ^ 64 - 1 }
-    requires none { F.failures files.old + W.failures store.old ≡ 0 }
+    requires input { S.failures input.old < 2 ^ 64 - 1 }
+    requires none { D.failures folder.old ≡ 0 }
     requires output { K.failures output.old < 2 ^ 64 - 1 }
-    ensures answers { AnswersLines (setting F.held terms.now.name.now terms.now.may_write)
-        (moment W.held W.past W.number (F.failures files.old + W.failures store.old)
-        session.old.desk session.old.seen files.old store.old)
-        (moment W.held W.past W.number (F.failures files.new + W.failures store.new)
-        session.new.desk session.new.seen files.new store.new)
-        (S.left stdin.old) (K.taken output.old) (K.taken output.new) result }
-    ensures drafts { LeavesNoDraft (W.has_draft store.old) (W.has_draft store.new) }
-    ensures counted { CountsStreams result (S.failures stdin.old) (S.failures stdin.new)
+    ensures answers { AnswersLines
+        (setting terms.now.name.now terms.now.may_write D.names_bytes)
+        (moment session.old.desk (D.look_of session.old.seen)
+        (D.history folder.old) (D.failures folder.old))
+        (moment session.new.desk (D.look_of session.new.seen)
+        (D.history folder.new) (D.failures folder.new))
+        (S.left input.old) (K.taken output.old) (K.taken output.new) result }
+    ensures counted { CountsStreams result (S.failures input.old) (S.failures input.new)
         (K.failures output.old) (K.failures output.new) }
-    ensures not_passed { S.ended stdin.old ≡ false
-        → S.passed stdin.new ≡ S.passed stdin.old }
+    ensures not_passed { S.ended input.old ≡ false
+        → S.passed input.new ≡ S.passed input.old }
 {
     let mut ahead = Ahead::new();
     for _ in 0..u64::MAX {
-        let next = serve_next(terms, &mut ahead, session, stdin, files, store, output);
+        let next = serve_next(terms, &mut ahead, session, input, folder, output);
         if let Some(ending) = next {
             return ending;
         }
@@ -57,38 +53,33 @@ where
 /// Reads one line and answers it. Returns how the session ends, if it ends there. When it returns,
 /// the answer is written, and the lines after this one are left. So each line that is read gets its
 /// answer, even of an input that never ends.
-pub fn serve_next<S: Source, F: Files, W: Stores, K: Sink>(
+pub fn serve_next<S: Source, D: Folder, K: Sink>(
     terms: &Terms<'_>,
     ahead: &mut Ahead,
-    session: &mut Session<W::Seen>,
-    stdin: &mut S,
-    files: &mut F,
-    store: &mut W,
+    session: &mut Session<D::Seen>,
+    input: &mut S,
+    folder: &mut D,
     output: &mut K,
 ) -> Option<Ending>
-where
-    W::Seen: Copy,
-    requires stdin { S.failures stdin.old < 2 ^ 64 - 1 }
-    requires few { F.failures files.old + W.failures store.old < 2 ^ 64 - 1 }
+    requires input { S.failures input.old < 2 ^ 64 - 1 }
+    requires few { D.failures folder.old < 2 ^ 64 - 1 }
     requires output { K.failures output.old < 2 ^ 64 - 1 }
-    ensures serves { ServesNext (setting F.held terms.now.name.now terms.now.may_write)
-        (moment W.held W.past W.number (F.failures files.old + W.failures store.old)
-        session.old.desk session.old.seen files.old store.old)
-        (moment W.held W.past W.number (F.failures files.new + W.failures store.new)
-        session.new.desk session.new.seen files.new store.new)
-        (with_ahead ahead.old (S.left stdin.old)) (with_ahead ahead.new (S.left stdin.new))
+    ensures serves { ServesNext (setting terms.now.name.now terms.now.may_write D.names_bytes)
+        (moment session.old.desk (D.look_of session.old.seen)
+        (D.history folder.old) (D.failures folder.old))
+        (moment session.new.desk (D.look_of session.new.seen)
+        (D.history folder.new) (D.failures folder.new))
+        (with_ahead ahead.old (S.left input.old)) (with_ahead ahead.new (S.left input.new))
         (K.taken output.old) (K.taken output.new) result }
-    ensures drafts { LeavesNoDraft (W.has_draft store.old) (W.has_draft store.new) }
-    ensures few { F.failures files.new + W.failures store.new
-        ≤ F.failures files.old + W.failures store.old + 1 }
-    ensures counted { CountsNext result (S.failures stdin.old) (S.failures stdin.new)
+    ensures few { D.failures folder.new ≤ D.failures folder.old + 1 }
+    ensures counted { CountsNext result (S.failures input.old) (S.failures input.new)
         (K.failures output.old) (K.failures output.new) }
-    ensures stops { StopsAtEnd result (S.ended stdin.old) (S.ended stdin.new)
-        (S.passed stdin.old) (S.passed stdin.new) }
+    ensures stops { StopsAtEnd result (S.ended input.old) (S.ended input.new)
+        (S.passed input.old) (S.passed input.new) }
 {
-    match next_line(ahead, stdin) {
+    match next_line(ahead, input) {
         Ok(Asked::Line(line)) => {
-            let answer = answer_line(terms, line.as_slice(), session, files, store);
+            let answer = answer_line(terms, line.as_slice(), session, folder);
             tell_answer(&answer, None, output)
         }
         Ok(Asked::Bad) => tell_answer(&Answer::Usage, None, output),

@@ -14,7 +14,7 @@ use Rattle.docker_laws.proofs.dockers.NearState.{near_part, near_valid, near_sta
 use Rattle.docker_day.specs.DockerValue.{Docker}
 use Rattle.docker_day.specs.Dockers.{IsDockerOf}
 use Rattle.state_text.specs.Told.{horizon_meant, under}
-use Rattle.docker_excerpt.specs.Values.{Excerpt, with_entries, IsExcerptOf}
+use Rattle.docker_excerpt.specs.Values.{Excerpt, with_entries, StandsAt, IsExcerptOf}
 
 -- a state without a horizon is itself under the horizon 0
 plain_state : (state : State) → state.horizon ≡ 0 → state ≡ under 0 state
@@ -27,6 +27,19 @@ horizon_set state raised horizon day plain read valid set =
     set ∙ ap (raise_horizon day) (plain_state state plain)
     ∙ set_last (under day state) (subst (λ (h : Option ℕ). IsValid (under (horizon_meant h) state)) read valid)
     ∙ ap (λ (h : Option ℕ). under (horizon_meant h) state) (sym read)
+
+-- a docker of an excerpt is a docker of the whole state
+pub docker_of_whole : (place : List ℕ) (day : ℕ) (state part : State) → IsExcerptOf place day state part → (docker : Docker)
+    → IsDockerOf (live_table part) place day docker → IsDockerOf (live_table state) place day docker
+docker_of_whole place day state part is docker made = record {
+  place_is = made.place_is;
+  day_is = made.day_is;
+  described = made.described
+      ∙ ap description_in (same_where_needed place (live_table (near_state day state)) (live_table part) is.excerpt.live (tiploc_key place) refl)
+      ∙ near_description day (live_table state) (live_table (near_state day state)) (near_part day state is.valid.entries.1) place;
+  list = (near_state_list place day state docker.lines is.valid).1
+      ((excerpt_list_iff place (live_table (near_state day state)) (live_table part) is.excerpt.live day docker.lines).1 made.list);
+}
 
 module _ (place : List ℕ) (day horizon : ℕ) (told : State) (valid : IsValid (under horizon told)) where
   -- the entries that are kept are good
@@ -45,11 +58,12 @@ module _ (place : List ℕ) (day horizon : ℕ) (told : State) (valid : IsValid 
 
   -- the part is an excerpt of the state whose entries were given
   pub is_excerpt_of : (part : State) (rows entries : List (Key × Entry)) → rows ≡ (excerpt_on place day told).entries → part.horizon ≡ horizon
-      → part.ledger ≡ told.ledger → part.entries ≡ rows → entries ≡ told.entries → IsExcerptOf place day (with_entries part entries) part
+      → part.ledger ≡ told.ledger → part.entries ≡ rows → entries ≡ told.entries → StandsAt place day (with_entries part entries) part
   is_excerpt_of part rows entries is same_horizon same kept given =
-      subst (λ (p : State). IsExcerptOf place day (with_entries p entries) p) (sym (part_is part rows is same_horizon same kept))
+      docker_of_whole place day (with_entries part entries) part
+      (subst (λ (p : State). IsExcerptOf place day (with_entries p entries) p) (sym (part_is part rows is same_horizon same kept))
       (subst (λ (all : List (Key × Entry)). IsExcerptOf place day (with_entries (excerpt_on place day (under horizon told)) all) (excerpt_on place day (under horizon told)))
-      (sym given) (record { valid = valid; excerpt = walk_is_excerpt place (near_state day (under horizon told)) (near_valid day (under horizon told) valid).entries.1 }))
+      (sym given) (record { valid = valid; excerpt = walk_is_excerpt place (near_state day (under horizon told)) (near_valid day (under horizon told) valid).entries.1 })))
 
   -- the excerpt stands for that state
   pub stands_for : (part : State) (entries : List (Key × Entry)) → part.horizon ≡ horizon → part.ledger ≡ told.ledger → entries ≡ told.entries
@@ -60,16 +74,3 @@ module _ (place : List ℕ) (day horizon : ℕ) (told : State) (valid : IsValid 
     day = day;
     state = record { horizon = same_horizon i; ledger = same i; entries = given i };
   }
-
--- a docker of an excerpt is a docker of the whole state
-pub docker_of_whole : (place : List ℕ) (day : ℕ) (state part : State) → IsExcerptOf place day state part → (docker : Docker)
-    → IsDockerOf (live_table part) place day docker → IsDockerOf (live_table state) place day docker
-docker_of_whole place day state part is docker made = record {
-  place_is = made.place_is;
-  day_is = made.day_is;
-  described = made.described
-      ∙ ap description_in (same_where_needed place (live_table (near_state day state)) (live_table part) is.excerpt.live (tiploc_key place) refl)
-      ∙ near_description day (live_table state) (live_table (near_state day state)) (near_part day state is.valid.entries.1) place;
-  list = (near_state_list place day state docker.lines is.valid).1
-      ((excerpt_list_iff place (live_table (near_state day state)) (live_table part) is.excerpt.live day docker.lines).1 made.list);
-}

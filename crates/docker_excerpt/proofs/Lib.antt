@@ -5,3 +5,4 @@ pub mod GivenEntries
 pub mod NearFields
 pub mod NearWalk
 pub mod FinishedExcerpt
+pub mod ThinExcerpt

@@ -1,4 +1,4 @@
--- What a binary search finds in sorted names, in which a name may occur more than once.
+-- What a binary search finds in sorted names, where a name may occur more than once.
 use Rattle.std.proofs.Common.{◌≡◌, ℕ, ◌<◌, ◌≤◌, List, Bool, true, false, length, get_or, ap, sym, ◌∙◌, inl, inr, ◌⊎◌, Contains, Ok, Err, arith}
 use Rattle.std.proofs.lemmas.Bool.{cases_lt}
 use Rattle.std.proofs.lemmas.List.Sorted.{searchable_from_sorted}
@@ -10,7 +10,7 @@ use Rattle.std.specs.Prelude.{Result, ◌↔◌, is_ok}
 use Rattle.std.specs.declared.cmp.Ordering.TheVariants.{Less, Equal, Greater}
 use Rattle.docker_model.specs.state.Order.{bytes_cmp}
 
--- a name that is there is neither below nor above itself
+-- if all names are below a name or above it, it isn't among them
 absent : (names : List (List ℕ)) (uid : List ℕ) (at : ℕ)
     → IsPartitionPoint (λ name. bytes_cmp name uid ≡ Less) (λ name. bytes_cmp name uid ≡ Greater) names at → ¬ Contains names uid
 absent names uid at parts among = here (cases_lt among.0 at)

@@ -7,7 +7,6 @@ use Rattle.docker_model.specs.file.File.{first_record}
 use Rattle.docker_model.specs.state.Op.{put_with}
 use Rattle.docker_model.specs.state.State.{IsOpOf}
 use Rattle.docker_laws.proofs.dockers.KeptSchedules as kept
-use Rattle.docker_laws.proofs.dockers.KeptSchedules.{schedule_first, schedule_last}
 
 -- ---- a schedule that is kept under a key
 
@@ -36,7 +35,3 @@ first_there (tiploc_key code) lines of = absurd of
 first_there (association_key key) lines of = absurd of
 
 pub ruleset kept_schedule = (first_kind, first_good, first_stays, first_there)
-
--- ---- the fields of its first line
-
-pub ruleset schedule_fields = (schedule_first, schedule_last)

@@ -1,4 +1,4 @@
--- What is known of the entries that may count near a day.
+-- The entries of a state that may count near a day.
 use Rattle.std.proofs.Common.{◌≡◌, ℕ, List, sym, subst}
 use Rattle.docker_model.specs.file.Change.{Key}
 use Rattle.docker_model.specs.state.Order.{IsBelow}
@@ -12,7 +12,7 @@ use Rattle.docker_excerpt.specs.Walked.{state_of_entries}
 abbrev Keyed : Type 0
 Keyed = Key × Entry
 
--- a key above the entries is above the ones that may count
+-- a key above all entries is above those that may count
 pub near_above : (day : ℕ) (near entries : List Keyed) (key : Key) → near ≡ near_entries day entries → IsAboveEntries (state_of_entries entries) key
     → IsAboveEntries (state_of_entries near) key
 near_above day near entries key is above =

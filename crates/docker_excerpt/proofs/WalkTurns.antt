@@ -1,4 +1,4 @@
--- One step of the walk that keeps an excerpt and the partners' names.
+-- The steps of the walk that keeps an excerpt and the partners' names.
 use Rattle.std.proofs.Common.{◌≡◌, ℕ, List, [], ◌∷◌, ◌++◌, refl, ap, sym, ◌∙◌, subst, inl, inr, ◌⊎◌, Bool, true, false, cond, Contains}
 use Rattle.std.specs.Prelude.{◌||◌, ◌↔◌, Option, Some, None}
 use Rattle.std.specs.Option.{option_to_list}
@@ -19,7 +19,7 @@ use Rattle.docker_excerpt.specs.Walked.{AreNames, IsWalk}
 abbrev Keyed : Type 0
 Keyed = Key × Entry
 
--- no entries have no names
+-- without entries no partner is named
 pub no_names : AreNames [] []
 no_names uid = (λ among. among, λ among. among)
 
@@ -27,12 +27,12 @@ no_names uid = (λ among. among, λ among. among)
 pub walk_first : (place : List ℕ) → IsWalk place [] [] [] false []
 walk_first place = record { has_kept = kept_first place; told = no_names; sorted = inl refl }
 
--- if there is no run, none is needed
+-- if there is no run, it isn't needed
 unneeded : (place : List ℕ) (entries kept run : List Keyed) (needed : Bool) → HasKept place entries kept run needed → run ≡ [] → needed ≡ false
 unneeded place entries kept run needed has none =
     sym has.is_needed ∙ ap (λ (r : List Keyed). is_run_needed place (record { kept = kept; run = r })) none
 
--- the names that one entry gives
+-- the partners that one entry names
 names_of_one : (key : Key) (entry : Entry) → names_in ((key, entry) ∷ []) ≡ option_to_list (name_in key entry.op)
 names_of_one key entry = by (name_in key entry.op)
   where
@@ -40,7 +40,7 @@ names_of_one key entry = by (name_in key entry.op)
     by None = refl
     by (Some name) = refl
 
--- the names with one more entry
+-- the names after one more entry
 names_more : (names : List (List ℕ)) (kept : List Keyed) (key : Key) (entry : Entry) → AreNames names kept
     → AreNames (names ++ option_to_list (name_in key entry.op)) (kept ++ (key, entry) ∷ [])
 names_more names kept key entry are uid =
@@ -58,7 +58,7 @@ names_more names kept key entry are uid =
 
 module _ (place : List ℕ) (state : State) (kept run : List Keyed) (needed : Bool) (names : List (List ℕ))
     (is : IsWalk place state.entries kept run needed names) where
-  -- when a TIPLOC or an association comes, there is no run
+  -- when a TIPLOC or an association comes, there is no run yet
   alone : (key : Key) → IsAboveEntries state key → ((uid : List ℕ) → has_uid uid key ≡ false) → run ≡ []
   alone = kept_alone place state kept run needed is.has_kept
 
@@ -67,7 +67,7 @@ module _ (place : List ℕ) (state : State) (kept run : List Keyed) (needed : Bo
       subst (λ (r : List Keyed). HasKept place entries after r needed) (sym none)
       (subst (λ (b : Bool). HasKept place entries after [] b) (sym (unneeded place state.entries kept run needed is.has_kept none)) has)
 
-  -- if it is at the place, it is kept, and so is the name of its partner
+  -- if it is at the place, it is kept, and so is its partner's name
   pub walk_here : (key : Key) (entry : Entry) → IsAboveEntries state key → ((uid : List ℕ) → has_uid uid key ≡ false) → is_here place key ≡ true
       → IsWalk place (state.entries ++ (key, entry) ∷ []) (kept ++ (key, entry) ∷ []) run needed (names ++ option_to_list (name_in key entry.op))
   walk_here key entry above never here = record {
@@ -87,7 +87,7 @@ module _ (place : List ℕ) (state : State) (kept run : List Keyed) (needed : Bo
     sorted = inl (alone key above never);
   }
 
-  -- a schedule of the run's UID joins it
+  -- a schedule with the run's UID joins the run
   pub walk_joins : (key : ScheduleKey) (entry : Entry) → goes_on run key.uid ≡ true
       → IsWalk place (state.entries ++ (schedule_key key, entry) ∷ []) kept (run ++ (schedule_key key, entry) ∷ []) (needed || is_call place entry.op) names
   walk_joins key entry goes = record {
@@ -100,7 +100,7 @@ module _ (place : List ℕ) (state : State) (kept run : List Keyed) (needed : Bo
       by (inl none) = absurd (let bad : false ≡ true = ap (λ (r : List Keyed). goes_on r key.uid) (sym none) ∙ goes in cc)
       by (inr sorted) = inr sorted
 
-  -- a schedule of another UID ends the run and begins the next
+  -- a schedule with another UID ends the run and begins the next
   pub walk_begins : (key : ScheduleKey) (entry : Entry) (named : Bool) → goes_on run key.uid ≡ false → IsSorted bytes_cmp names
       → (named ≡ true) ↔ Contains names key.uid
       → IsWalk place (state.entries ++ (schedule_key key, entry) ∷ []) (cond needed (kept ++ run) kept) ((schedule_key key, entry) ∷ [])
@@ -123,7 +123,7 @@ module _ (place : List ℕ) (state : State) (kept run : List Keyed) (needed : Bo
           ∙ names_stay place state.entries key entry
           ∙ ap (λ (so_far : ExcerptSoFar). names_in so_far.kept) is.has_kept.so_far
 
-  -- sorting the names changes nothing
+  -- sorting the names keeps the walk
   pub walk_sorted : (after : List (List ℕ)) → IsPermutation names after → IsSorted bytes_cmp after → IsWalk place state.entries kept run needed after
   walk_sorted after moved sorted = record {
     has_kept = is.has_kept;

@@ -1,4 +1,4 @@
--- A walk over a state's entries that keeps an excerpt, as the code has it.
+-- A walk over a state's entries that keeps an excerpt.
 use Rattle.std.specs.Prelude.{List, map}
 use Rattle.docker_model.specs.file.Change.{Key}
 use Rattle.docker_model.specs.state.Op.{Entry}

@@ -1,5 +1,5 @@
-//! Walks over a state's entries for the docker of one place and one day. It passes over what may
-//! not count on the day.
+//! Walks over a state's entries for the docker of one place and one day. It skips what can't count
+//! on that day.
 ghost use Rattle.std.specs.Prelude.{◌≡◌, [], ◌∷◌, ◌++◌, map, IsOk, IsErr, IfOk};
 ghost use Rattle.docker_model.specs.state.State as states;
 ghost use Rattle.docker_model.specs.state.State.{IsOpOf};
@@ -26,7 +26,7 @@ pub(crate) struct DayWalk {
 }
 
 impl DayWalk {
-    /// Nothing kept yet. It takes no memory.
+    /// The walk before the first entry. It allocates nothing.
     pub(crate) fn new(alloc: Global, place: Tiploc, day: Day) -> DayWalk
         ensures passed { HasPassed result [] }
         ensures place { result.walk.place ≡ place }
@@ -53,7 +53,8 @@ impl DayWalk {
         self.day
     }
 
-    /// Passes the next entry, with its key. If memory runs out, the walk is still before it.
+    /// Passes the next entry, with its key. If memory runs out, the walk is still before that
+    /// entry.
     pub(crate) fn entry(&mut self, given: &Given, key: Key, entry: Entry) -> Result<(), Memory>
         requires passed { HasPassed self.old given.now.entries }
         requires above { IsAboveEntries (state_of_entries given.now.entries) (key_meant key) }
@@ -73,7 +74,7 @@ impl DayWalk {
         Ok(())
     }
 
-    /// The entries of the excerpt, each with its key, in key order.
+    /// The excerpt's entries, each with its key, in key order.
     pub(crate) fn finish(self) -> Result<Vec<(Key, Entry)>, Memory>
         ensures { IfOk result (λ rows. (state : states.State) → HasPassed self state.entries
             → map row_meant rows.items ≡ (excerpt_on self.walk.place self.day state).entries) }

@@ -1,11 +1,15 @@
 //! An excerpt of a state for a place and a day.
-ghost use Rattle.std.specs.Prelude.{◌≡◌, ◌↔◌, IfOk, Err};
+ghost use Rattle.std.specs.Prelude.{◌≡◌, ◌↔◌, ℕ, List, IfOk, Err};
 ghost use Rattle.docker_model.specs.state.State.{live_table};
 ghost use Rattle.docker_model.specs.state.Lapse.{IsDayRefused};
 ghost use Rattle.docker_day.specs.Dockers.{IsDockerOf};
-ghost use Rattle.docker_excerpt.specs.Values.{with_entries, IsExcerptOf};
+ghost use Rattle.docker_laws.specs.FileSummary.{summary_of};
+ghost use Rattle.cif_file.specs.FileRead.{IsOfRecords};
+ghost use Rattle.docker_excerpt.specs.Values.{with_entries, StandsAt};
 
-use cif_line::{Day, Tiploc};
+use crate::given_file::given_of;
+use cif_file::ThinFile;
+use cif_line::{Day, Memory, Tiploc};
 use docker_day::{Docker, DockerFault, docker};
 use state_text::{Given, State};
 use std::alloc::Global;
@@ -25,7 +29,7 @@ pub struct Excerpt {
 
 impl Model for Excerpt {
     ghost use Rattle.docker_excerpt.specs.Values as values;
-    ghost use Rattle.docker_excerpt.specs.Values.{with_entries, IsExcerptOf};
+    ghost use Rattle.docker_excerpt.specs.Values.{with_entries, StandsAt};
 
     ghost Value = { values.Excerpt };
 
@@ -36,7 +40,7 @@ impl Model for Excerpt {
     } };
 
     ghost invariant = { λ it.
-        IsExcerptOf it.place it.day (with_entries it.part it.given.entries) it.part };
+        StandsAt it.place it.day (with_entries it.part it.given.entries) it.part };
 }
 
 impl fmt::Debug for Excerpt {
@@ -49,7 +53,7 @@ impl Excerpt {
     /// The excerpt for a place and a day of the state with the entries that were given. `part` is
     /// what was kept of that state.
     pub(crate) fn of(place: Tiploc, day: Day, part: State, given: Given) -> Excerpt
-        requires { IsExcerptOf place day (with_entries part given.entries) part }
+        requires { StandsAt place day (with_entries part given.entries) part }
         ensures { result ≡ record {
           place = place;
           day = day;
@@ -62,6 +66,28 @@ impl Excerpt {
             part,
             given,
         }
+    }
+
+    /// The excerpt for a place and a day of the state of a file, of which enough was kept for them.
+    /// If memory runs out, what was kept is dropped.
+    pub fn of_file(
+        alloc: Global,
+        place: Tiploc,
+        day: Day,
+        file: ThinFile,
+    ) -> Result<Excerpt, Memory>
+        requires place { place ≡ file.place }
+        requires day { day ≡ file.day }
+        ensures place { IfOk result (λ it. it.place ≡ place) }
+        ensures day { IfOk result (λ it. it.day ≡ day) }
+        ensures state { (records : List (List ℕ)) → IsOfRecords file.file records
+            → IfOk result (λ it. it.state ≡ summary_of records) }
+    {
+        // Called for its contract: enough of a file was kept.
+        let _header = file.header();
+        let given = given_of(&file);
+        let part = State::of_thin(alloc, file)?;
+        Ok(Excerpt::of(place, day, part, given))
     }
 
     /// The docker of the place and the day. `Lapsed` if the state has a horizon and the day is

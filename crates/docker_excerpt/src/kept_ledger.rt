@@ -1,4 +1,4 @@
-//! What is kept of a state for the list of its files.
+//! The part of a state that is kept to list its files.
 ghost use Rattle.std.specs.Prelude.{◌≡◌, map};
 ghost use Rattle.docker_model.specs.state.State.{IsValid};
 ghost use Rattle.docker_day.specs.Meaning.{item_meant};
@@ -9,9 +9,8 @@ use cif_line::{Day, Memory};
 use state_text::{LedgerItem, Maker};
 use std::marker::Model;
 
-/// The ledger of a state, and its horizon, without the entries. Its value is the whole state, as an
-/// excerpt's is. It serves only for the list of the state's files: it is no state to write, join or
-/// send.
+/// The ledger of a state and its horizon, without the entries. Like an excerpt it stands for the
+/// whole state. It serves only to list the state's files: it isn't written, joined or sent.
 #[derive(Debug, Drop)]
 pub struct KeptLedger {
     ledger: Ledger,
@@ -31,7 +30,7 @@ impl Model for KeptLedger {
 }
 
 impl KeptLedger {
-    /// The ledger of the state whose parts were given, under the horizon that was read, if one was.
+    /// The ledger of the state whose parts were given, under the horizon that was read.
     pub(crate) fn of(ledger: Ledger, horizon: Option<Day>) -> KeptLedger
         requires { IsValid (under (horizon_meant horizon) ledger) }
         ensures { result ≡ under (horizon_meant horizon) ledger }
@@ -39,7 +38,7 @@ impl KeptLedger {
         KeptLedger { ledger, horizon }
     }
 
-    /// The ledger items, ascending.
+    /// The ledger items, in ascending order.
     pub fn items(&self) -> &[LedgerItem]
         ensures items { map item_meant result.now ≡ self.now.ledger }
         ensures valid { IsValid self.now }
@@ -55,7 +54,7 @@ impl Maker for Ledger {
 
     ghost makes = { λ made state. made ≡ state };
 
-    /// The ledger under the horizon that was read. It takes no memory.
+    /// The ledger under the horizon that was read. It allocates nothing.
     fn finish(self, horizon: Option<Day>) -> Result<KeptLedger, Memory> {
         Ok(KeptLedger::of(self, horizon))
     }

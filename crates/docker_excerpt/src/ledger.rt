@@ -1,4 +1,4 @@
-//! Makes the ledger of a state as the state's parts are given. It keeps no entries.
+//! Keeps only the ledger while a state's parts are given, and no entries.
 ghost use Rattle.std.specs.Prelude.{◌≡◌, ◌+◌, ◌-◌, ◌^◌, ◌<◌, [], ◌∷◌, ◌++◌, length, map, IsOk, IsErr, Some};
 ghost use Rattle.std.specs.Option.{option_copied, option_map};
 ghost use Rattle.docker_model.specs.state.State.{IsLedger, IsOpOf, IsValid};
@@ -17,11 +17,11 @@ use std::alloc::Global;
 use std::fmt;
 use std::marker::Model;
 
-/// The ledger of a state whose parts are given in order, as `Parts` takes them: ledger items, and
-/// then entries. It keeps none of the entries.
+/// The ledger of a state whose parts are given in order, as for `Parts`: ledger items, and then
+/// entries. It keeps none of the entries.
 #[derive(Drop)]
 pub struct Ledger {
-    // only the ledger items
+    // these parts are only ledger items
     parts: Parts,
     last: Option<Key>,
     count: u64,
@@ -47,7 +47,7 @@ impl fmt::Debug for Ledger {
 }
 
 impl Ledger {
-    /// No parts yet. It takes no memory.
+    /// Without parts. It allocates nothing.
     pub fn new(alloc: Global) -> Ledger
         ensures { result ≡ record { horizon = 0; ledger = []; entries = [] } }
     {
@@ -59,7 +59,7 @@ impl Ledger {
         }
     }
 
-    /// Gives the next ledger item. If memory runs out, the ledger is as it was.
+    /// Takes the next ledger item. If memory runs out, the ledger is unchanged.
     pub fn item(&mut self, item: LedgerItem) -> Result<(), Memory>
         requires before_entries { self.old.entries ≡ [] }
         requires ledger { IsLedger (self.old.ledger ++ item_meant item ∷ []) }
@@ -69,7 +69,7 @@ impl Ledger {
         self.parts.item(item)
     }
 
-    /// The ledger items, ascending.
+    /// The ledger items, in ascending order.
     pub fn items(&self) -> &[LedgerItem]
         ensures items { map item_meant result.now ≡ self.now.ledger }
         ensures valid { IsValid self.now }
@@ -84,21 +84,21 @@ impl Ledger {
         self.count
     }
 
-    /// The key of the last entry given. `None` if there is none yet.
+    /// The key of the last entry. `None` if there is no entry yet.
     pub fn last(&self) -> Option<&Key>
         ensures { option_map key_meant (option_copied result) ≡ last_key self.now.entries }
     {
         self.last.as_ref()
     }
 
-    /// The entries given so far, for proofs.
+    /// The entries that were given, for proofs.
     pub(crate) fn given(&self) -> &Given
         ensures { result.now.entries ≡ self.now.entries }
     {
         &self.given
     }
 
-    /// The entries given so far with one more, for proofs.
+    /// The entries that were given and one more, for proofs.
     pub(crate) fn with(&self, key: &Key, entry: &Entry) -> Given
         requires here { IsStampHere self.now (key_meant key.now) (entry_meant entry.now).stamp }
         requires op { IsOpOf (key_meant key.now) (entry_meant entry.now).op }
@@ -123,8 +123,8 @@ impl Ledger {
         self.given = given;
     }
 
-    /// The ledger items as parts of a state to which its entries are still to be given, and what
-    /// was given.
+    /// The ledger items as parts of a state, to which entries can then be given, and the entries
+    /// that were given, for proofs.
     pub(crate) fn into_parts(self) -> (Parts, Given)
         ensures parts { result.0 ≡ record { horizon = 0; ledger = self.ledger; entries = [] } }
         ensures given { result.1.entries ≡ self.entries }
@@ -146,7 +146,7 @@ impl Keeper for Ledger {
         self.parts.item(item)
     }
 
-    /// Counts the entry and drops it. It takes no memory.
+    /// Counts the entry and drops it. It allocates nothing.
     fn entry(&mut self, key: Key, entry: Entry) -> Result<(), Memory> {
         let given = self.with(&key, &entry);
         self.pass(key, given);

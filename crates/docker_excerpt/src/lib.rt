@@ -5,6 +5,7 @@
 mod day_walk;
 mod excerpt;
 mod excerpting;
+mod given_file;
 mod kept_ledger;
 mod ledger;
 mod near;
@@ -12,8 +13,9 @@ mod needs;
 mod place;
 mod walk;
 
+pub use cif_file::PlaceDay;
 pub use excerpt::Excerpt;
 pub use excerpting::Excerpting;
 pub use kept_ledger::KeptLedger;
 pub use ledger::Ledger;
-pub use place::{ExcerptingAt, PlaceDay};
+pub use place::ExcerptingAt;

@@ -1,16 +1,14 @@
 //! What is needed of an entry at a place.
-ghost use Rattle.std.specs.Prelude.{◌≡◌, ◌&&◌, ◌||◌, ◌↔◌, map, true, Contains};
+ghost use Rattle.std.specs.Prelude.{◌≡◌, ◌||◌, ◌↔◌, map, true, Contains};
 ghost use Rattle.std.specs.List.Sorted.{IsSorted};
-ghost use Rattle.docker_model.specs.file.Journey.{calls_at};
-ghost use Rattle.docker_model.specs.records.Record.{kind_of, columns, is_location};
-ghost use Rattle.std.specs.Str.{bytes_eq};
 ghost use Rattle.docker_model.specs.state.Order.{bytes_cmp};
 ghost use Rattle.docker_laws.specs.ExcerptWalk.{is_here, name_in, is_call, goes_on};
 ghost use Rattle.cif_change.specs.Meaning.{key_meant};
 ghost use Rattle.state_text.specs.Meaning.{op_meant, row_meant};
 
 use cif_change::{Body, Key};
-use cif_line::{Kind, Line, Tiploc, Uid, kind};
+use cif_file::calls_at;
+use cif_line::{Tiploc, Uid};
 use state_text::{Entry, Op};
 
 /// Whether a key is a TIPLOC's or an association's at a place.
@@ -71,26 +69,4 @@ fn is_call(place: &Tiploc, op: &Op) -> bool
         Op::Put(Body::Schedule(lines)) => calls_at(place, lines.as_slice()),
         _ => false,
     }
-}
-
-/// Whether a schedule with these lines calls at a place, in an LO, an LI or an LT.
-fn calls_at(place: &Tiploc, lines: &[Line]) -> bool
-    ensures { result ≡ calls_at place.now lines.now }
-{
-    lines.iter().any(|line| is_call_line(place, line))
-}
-
-/// Whether a line is a location record of a place.
-fn is_call_line(place: &Tiploc, line: &Line) -> bool
-    ensures { result
-        ≡ (is_location (kind_of line.now) && bytes_eq (columns 3 9 line.now) place.now) }
-{
-    // Few lines name the place, so the kind of only a few is looked at.
-    if line.bytes()[2..9] != place.bytes()[..] {
-        return false;
-    }
-    matches!(
-        kind(line),
-        Some(Kind::OriginLocation | Kind::IntermediateLocation | Kind::TerminatingLocation)
-    )
 }

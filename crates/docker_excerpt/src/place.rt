@@ -1,32 +1,15 @@
 //! An excerpt for the place and the day that a type names, for a reader that gives a state's parts
 //! to any keeper.
-ghost use Rattle.std.specs.Prelude.{◌≡◌, ℕ, List, []};
+ghost use Rattle.std.specs.Prelude.{◌≡◌, []};
 
 use crate::excerpt::Excerpt;
 use crate::excerpting::Excerpting;
 use cif_change::Key;
+use cif_file::PlaceDay;
 use cif_line::{Day, Memory, Tiploc};
 use state_text::{Entry, Keeper, LedgerItem, Maker};
 use std::alloc::Global;
-use std::marker::{Brand, Model, PhantomData};
-
-/// Names a place and a day, for proofs. A reader of parts doesn't know the docker for which its
-/// keeper keeps them.
-pub trait PlaceDay {
-    // the place
-    ghost place: { List ℕ };
-
-    // the day
-    ghost day: { ℕ };
-}
-
-impl PlaceDay for Brand {
-    ghost use Rattle.std.specs.Prelude.{[]};
-
-    ghost place = { [] };
-
-    ghost day = { 0 };
-}
+use std::marker::{Model, PhantomData};
 
 /// An `Excerpting` for the place and the day that the type names.
 #[derive(Debug, Drop)]

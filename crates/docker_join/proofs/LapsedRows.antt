@@ -1,4 +1,4 @@
--- Rows that lapse one by one, from the first to the last.
+-- Rows lapse one by one, from the first to the last.
 use Rattle.std.proofs.Common.{◌≡◌, ℕ, ◌+◌, ◌<◌, ◌≤◌, List, [], ◌∷◌, ◌++◌, map, length, get_or, take, drop, set, ap, sym, ◌∙◌, subst, append_assoc, arith}
 use Rattle.std.specs.declared.cmp.Ordering.{Ordering}
 use Rattle.std.proofs.lemmas.List.{map-append, drop_more, take_more_set, drop-set-lt, take_all, drop_all, append-nil}
@@ -18,7 +18,7 @@ use Rattle.docker_join.proofs.MeantOrder.{ascending_meant, meant_ascending}
 abbrev Row : Type 0
 Row = Key × Entry
 
--- rows whose first `i` have lapsed, with the others lapsed too
+-- rows of which the first `i` have lapsed, once the others lapse too
 abbrev pub lapsed_from : ℕ → ℕ → List (Key × Entry) → List (model.Key × ops.Entry)
 lapsed_from horizon i rows = map row_meant (take i rows) ++ lapse_entries horizon (map row_meant (drop i rows))
 
@@ -44,12 +44,12 @@ all_lapsed horizon all rows i over same =
     sym (ap (map row_meant) (take_all i rows over)) ∙ sym (append-nil (map row_meant (take i rows)))
     ∙ sym (ap (λ xs. map row_meant (take i rows) ++ lapse_entries horizon (map row_meant xs)) (drop_all i rows over)) ∙ same
 
--- rows that are written over the old ones are the new rows
+-- if as many new rows are written over old ones, the new rows are there
 pub written_back : (new old : List Row) (n : ℕ) → length new ≡ n → length old ≡ n → take n (new ++ drop (length new) old) ≡ new
 written_back new old n size same =
     ap (take n) (ap (λ xs. new ++ xs) (drop_all (length new) old (omega arith)) ∙ append-nil new) ∙ take_all n new (omega arith)
 
--- lapsed rows ascend
+-- ascending rows still ascend after they lapse
 pub lapsed_ascend : (horizon : ℕ) (rows after : List Row) → map row_meant after ≡ lapse_entries horizon (map row_meant rows) → AreAscending rows
     → AreAscending after
 lapsed_ascend horizon rows after same up =

@@ -17,7 +17,7 @@ use Rattle.cif_change.specs.Meaning.{key_meant}
 use Rattle.docker_join.specs.Rows.{row_cmp, AreAscending, value_at}
 use Rattle.docker_join.specs.RowLaws.{value_of, row_of}
 
--- how a row's key compares with a key
+-- how the key of a row compares with this key
 abbrev pub by_key : {E : Type 0} → model.Key → Key × E → Ordering
 by_key key row = key_cmp (key_meant row.0) key
 
@@ -35,7 +35,7 @@ module _ {E : Type 0} where
   below_at (row ∷ rows) zero (suc j) d up before within = above_at row rows j d up.0 (omega arith)
   below_at (row ∷ rows) (suc i) (suc j) d up before within = below_at rows i j d up.1 (omega arith) (omega arith)
 
-  -- if one row is below another, their comparisons with a key do not go down
+  -- if one row is below another, it doesn't compare higher with a key
   rises : (key : model.Key) (x y : Key × E) → row_cmp x y ≡ Less → ordering_index (by_key key x) ≤ ordering_index (by_key key y)
   rises key x y below = by (by_key key x) refl (by_key key y) refl
     where
@@ -52,7 +52,7 @@ module _ {E : Type 0} where
           let turned = key_total.antisymm (key_meant y.0) (key_meant x.0) in let r = ap ordering_reverse below in cc)
       by Greater at_x Greater at_y = omega arith
 
-  -- the comparisons of the rows with a key never go down
+  -- from row to row, the comparison with a key doesn't go down
   pub rows_rise : (rows : List (Key × E)) (key : model.Key) → AreAscending rows → IsNonDecreasingBy (λ row. ordering_index (by_key key row)) rows
   rows_rise rows key up = λ i j d before within. by i j d before within (cases_lt i j)
     where
@@ -63,14 +63,14 @@ module _ {E : Type 0} where
           let same : i ≡ j = omega arith in
           subst (λ k. ordering_index (by_key key (get_or rows i d)) ≤ ordering_index (by_key key (get_or rows k d))) same (omega arith)
 
-  -- the row that was found has what the rows have at the key
+  -- at the key, the rows have the value of the row that was found
   pub row_found : (rows : List (Key × E)) (key : model.Key) (at : ℕ) (row : Key × E) → AreAscending rows → at < length rows → row ≡ get_or rows at row
       → ((d : Key × E) → by_key key (get_or rows at d) ≡ Equal) → Some row.1 ≡ value_at rows key
   row_found rows key at row up within is tied =
       let here : by_key key row ≡ Equal = ap (by_key key) is ∙ tied row in
       sym (subst (λ k. value_at rows k ≡ Some row.1) (exact_key (key_meant row.0) key here) (value_of rows row up (at, within, sym is)))
 
-  -- rows below the key up to a place, and above it from there on, do not have the key
+  -- rows below the key, and then rows above it, don't have the key
   pub row_missing : (rows : List (Key × E)) (key : model.Key) (at : ℕ) → AreAscending rows
       → IsPartitionPoint (λ row. by_key key row ≡ Less) (λ row. by_key key row ≡ Greater) rows at → None ≡ value_at rows key
   row_missing rows key at up parts = by (value_at rows key) refl

@@ -1,4 +1,4 @@
--- The walk over the rows of two tables gives their join.
+-- A walk over the rows of two tables, first to last, gives their join.
 use Rattle.std.proofs.Common.{◌≡◌, List, [], ◌∷◌, refl, ap, sym, ◌∙◌, subst, None}
 use Rattle.std.specs.Prelude.{Option}
 use Rattle.std.specs.List.{AllByRecursion}
@@ -14,14 +14,14 @@ use Rattle.cif_change.specs.Meaning.{key_meant}
 use Rattle.docker_join.specs.Rows.{row_cmp, AreAscending, value_at, picked_value, IsJoinOfRows}
 use Rattle.docker_join.specs.RowLaws.{value_here, value_behind, value_above}
 
--- the row that goes out, before the rest of the walk; it depends on how the keys of the first rows
--- compare
+-- one step of the walk: it puts out the lower of the two first rows, or the pick of both if their
+-- keys are equal
 abbrev pub row_out : {E : Type 0} → (E → E → E) → Ordering → Key × E → Key × E → List (Key × E) → List (Key × E) → List (Key × E) → List (Key × E)
 row_out picked Less x y less equal greater = x ∷ less
 row_out picked Equal x y less equal greater = (x.0, picked x.1 y.1) ∷ equal
 row_out picked Greater x y less equal greater = y ∷ greater
 
--- the walk from a row of the first table on, given the walk over the rest of that table
+-- the walk from one row of the first table on, given the walk over the rows after it
 abbrev pub walk_from : {E : Type 0} → (E → E → E) → Key × E → (List (Key × E) → List (Key × E)) → List (Key × E) → List (Key × E)
 walk_from picked x rest [] = x ∷ rest []
 walk_from picked x rest (y ∷ ys) = row_out picked (row_cmp x y) x y (rest (y ∷ ys)) (rest ys) (walk_from picked x rest ys)
@@ -32,17 +32,17 @@ walk picked [] ys = ys
 walk picked (x ∷ xs) ys = walk_from picked x (walk picked xs) ys
 
 module _ {E : Type 0} where
-  -- the rows are above a row
+  -- the rows are above this row
   abbrev pub Above : Key × E → List (Key × E) → Type 0
   Above low rows = AllByRecursion (IsBelow row_cmp low) rows
 
-  -- rows above a row are above each row below that row
+  -- rows above a row are above each lower row
   pub above_lower : (low high : Key × E) (rows : List (Key × E)) → row_cmp low high ≡ Less → Above high rows → Above low rows
   above_lower low high [] below above = tt
   above_lower low high (row ∷ rows) below above =
       (key_total.trans (key_meant low.0) (key_meant high.0) (key_meant row.0) below above.0, above_lower low high rows below above.1)
 
-  -- they are also above each row with its key
+  -- rows above a row are above each row with the same key
   above_level : (low high : Key × E) (rows : List (Key × E)) → row_cmp low high ≡ Equal → Above high rows → Above low rows
   above_level low high [] tied above = tt
   above_level low high (row ∷ rows) tied above =
@@ -52,7 +52,7 @@ module _ {E : Type 0} where
   row_cmp_turned x y greater = key_total.antisymm (key_meant y.0) (key_meant x.0) ∙ ap ordering_reverse greater
 
 module _ {E : Type 0} (picked : E → E → E) where
-  -- the walk is above a row if the rows of both tables are
+  -- if the rows of both tables are above a row, so is the walk
   from_above : (low x : Key × E) (rest : List (Key × E) → List (Key × E)) → row_cmp low x ≡ Less → ((ys : List (Key × E)) → Above low ys → Above low (rest ys))
       → (ys : List (Key × E)) → Above low ys → Above low (walk_from picked x rest ys)
   from_above low x rest below behind [] above = (below, behind [] tt)
@@ -83,11 +83,11 @@ module _ {E : Type 0} (picked : E → E → E) where
   walk_ascends [] ys up_x up_y = up_y
   walk_ascends (x ∷ xs) ys up_x up_y = from_ascends x xs up_x (λ zs up. walk_ascends xs zs up_x.1 up) ys up_y
 
-  -- what both tables have at a key, joined
+  -- what two tables have at a key, joined
   abbrev Both : List (Key × E) → List (Key × E) → model.Key → Option E
   Both xs ys key = picked_value picked (value_at xs key) (value_at ys key)
 
-  -- a row that only the first table has goes out
+  -- a row that only the first table has is put out
   first_out : (x : Key × E) (xs ys tail : List (Key × E)) (key : model.Key) → Above x ys → value_at tail key ≡ Both xs ys key
       → value_at (x ∷ tail) key ≡ Both (x ∷ xs) ys key
   first_out x xs ys tail key above later = by (key_cmp (key_meant x.0) key) refl
@@ -102,7 +102,7 @@ module _ {E : Type 0} (picked : E → E → E) where
           let none : value_at ys key ≡ None = subst (λ k. value_at ys k ≡ None) (exact_key (key_meant x.0) key is) (value_above (key_meant x.0) ys above) in
           value_here x tail key is ∙ sym (λ i. picked_value picked (value_here x xs key is i) (none i))
 
-  -- a row that only the second table has goes out
+  -- a row that only the second table has is put out
   second_out : (y : Key × E) (xs ys tail : List (Key × E)) (key : model.Key) → Above y xs → value_at tail key ≡ Both xs ys key
       → value_at (y ∷ tail) key ≡ Both xs (y ∷ ys) key
   second_out y xs ys tail key above later = by (key_cmp (key_meant y.0) key) refl
@@ -117,7 +117,7 @@ module _ {E : Type 0} (picked : E → E → E) where
           let none : value_at xs key ≡ None = subst (λ k. value_at xs k ≡ None) (exact_key (key_meant y.0) key is) (value_above (key_meant y.0) xs above) in
           value_here y tail key is ∙ sym (λ i. picked_value picked (none i) (value_here y ys key is i))
 
-  -- the pick of two rows of one key goes out
+  -- the pick of two rows with one key is put out
   both_out : (x y : Key × E) (xs ys tail : List (Key × E)) (key : model.Key) → row_cmp x y ≡ Equal → value_at tail key ≡ Both xs ys key
       → value_at ((x.0, picked x.1 y.1) ∷ tail) key ≡ Both (x ∷ xs) (y ∷ ys) key
   both_out x y xs ys tail key level later = by (key_cmp (key_meant x.0) key) refl
@@ -137,7 +137,7 @@ module _ {E : Type 0} (picked : E → E → E) where
           value_here (x.0, picked x.1 y.1) tail key is
           ∙ sym (λ i. picked_value picked (value_here x xs key is i) (value_here y ys key (sym there ∙ is) i))
 
-  -- the walk has at each key what both tables have there, joined
+  -- at each key the walk has what the two tables have there, joined
   from_values : (x : Key × E) (xs : List (Key × E)) → AreAscending (x ∷ xs)
       → ((ys : List (Key × E)) → AreAscending ys → (key : model.Key) → value_at (walk picked xs ys) key ≡ Both xs ys key)
       → (ys : List (Key × E)) → AreAscending ys → (key : model.Key) → value_at (walk_from picked x (walk picked xs) ys) key ≡ Both (x ∷ xs) ys key

@@ -1,4 +1,4 @@
--- What stamps, ops and entries of the code mean, by the names of the definitions.
+-- Stamps, ops and entries of the code, as the definitions have them.
 use Rattle.docker_model.specs.file.Change as changes
 use Rattle.docker_model.specs.state.Stamp as model
 use Rattle.docker_model.specs.state.Op as ops
@@ -11,27 +11,27 @@ use Rattle.docker_join.specs.declared.entry.Op.{Op}
 use Rattle.docker_join.specs.declared.entry.Op.TheVariants as op
 use Rattle.docker_join.specs.declared.entry.Entry.{Entry}
 
--- a file stamp
+-- a file stamp of the code, as the definitions have it
 abbrev pub file_stamp_meant : FileStamp → model.FileStamp
 file_stamp_meant stamp = record {
   moment = record { day = stamp.day; minute = stamp.minute };
   reference = stamp.reference;
 }
 
--- a stamp
+-- a stamp of the code, as the definitions have it
 abbrev pub stamp_meant : Stamp → model.Stamp
 stamp_meant stamp = record { file = file_stamp_meant stamp.file; number = stamp.number }
 
--- an op
+-- an op of the code, as the definitions have it
 abbrev pub op_meant : Op → ops.Op
 op_meant op.Deleted = deleted
 op_meant op.Lapsed = lapsed
 op_meant (op.Put body) = put_with (body_meant body)
 
--- an entry
+-- an entry of the code, as the definitions have it
 abbrev pub entry_meant : Entry → ops.Entry
 entry_meant entry = record { stamp = stamp_meant entry.stamp; op = op_meant entry.op }
 
--- a key with its entry
+-- a key of the code with its entry, as the definitions have them
 abbrev pub row_meant : Key × Entry → changes.Key × ops.Entry
 row_meant row = (key_meant row.0, entry_meant row.1)

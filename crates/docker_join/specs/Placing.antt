@@ -1,4 +1,5 @@
--- Rows of a join that are placed from the greatest on, in a ring whose last rows are not placed yet.
+-- The rows of a join, placed from the greatest on. They are in a ring, whose last rows aren't
+-- placed yet.
 use Rattle.std.specs.Prelude.{◌≡◌, ℕ, ◌+◌, ◌-◌, ◌<◌, ◌≤◌, Bool, true, false, List, Option, Some, None, [], ◌∷◌, ◌++◌, length, take, drop, slice_index_or}
 use Rattle.std.specs.declared.cmp.Ordering.TheVariants.{Equal}
 use Rattle.std.specs.Ordering.{is_eq, is_gt}
@@ -8,35 +9,38 @@ use Rattle.cif_change.specs.declared.key.Key.{Key}
 use Rattle.cif_change.specs.Meaning.{key_meant}
 use Rattle.docker_join.specs.Rows.{AreAscending, IsJoinOfRows}
 
--- whether the row this far from the end of `n` rows, from 1, is above a key
+-- whether the row at this distance from the end of `n` rows, 1 for the last, is above the key
 abbrev pub is_above_at : {E : Type 0} → model.Key → List (Key × E) → ℕ → ℕ → Key × E → Bool
 is_above_at key rows n back d = is_gt (key_cmp (key_meant (slice_index_or rows (n - back) d).0) key)
 
--- whether the last of `n` rows has a key
+-- whether the last of `n` rows has the key
 abbrev pub is_level_at : {E : Type 0} → model.Key → List (Key × E) → ℕ → Key × E → Bool
 is_level_at key rows n d = is_eq (key_cmp (key_meant (slice_index_or rows (n - 1) d).0) key)
 
--- at the end of the last `left` of `n` rows, a run of rows above a key, and before it one that isn't
+-- of the last `left` of `n` rows, the last `run` are above the key, and the row before them isn't.
+-- If three rows have the keys 1, 5 and 7, the run above 3 has two rows
 pub record IsRunAbove {E : Type 0} (key : model.Key) (rows : List (Key × E)) (n left run : ℕ) : Type 0 where
   pub within : run ≤ left
   pub above : (d : Key × E) → 0 < run → is_above_at key rows n run d ≡ true
   pub below : (d : Key × E) → run < left → is_above_at key rows n (run + 1) d ≡ false
 
--- what was taken is the last row, if one is left and has the key
+-- the last row was taken, if a row is left and the last one has the key. Otherwise the rows stay as
+-- they were
 abbrev pub IsTaken : {E : Type 0} → model.Key → ℕ → ℕ → List (Key × E) → List (Key × E) → Option (Key × E) → Type 0
 IsTaken key n left old new None = (new ≡ old) × ((d : _) → 0 < left → is_level_at key old n d ≡ false)
 IsTaken key n left old new (Some own) = (old ≡ new ++ own ∷ []) × ((key_cmp (key_meant own.0) key ≡ Equal) × (0 < left))
 
--- the last rows of the ring, which are not placed yet
+-- the rows of the first table that aren't placed yet: the last rows of the ring
 abbrev pub left_rows : {E : Type 0} → ℕ → List (Key × E) → List (Key × E)
 left_rows left rows = drop (length rows - left) rows
 
--- the join of what is left of both tables, and then the placed rows, are the join of the tables
+-- if what is left of both tables is joined, and the placed rows follow, this is the join of the two
+-- tables
 pub record IsJoinWith {E : Type 0} (picked : E → E → E) (first second : List (Key × E)) (left : ℕ) (rows rest : List (Key × E)) : Type 0 where
   pub joins : (lower : List (Key × E)) → IsJoinOfRows picked (left_rows left rows) rest lower
       → IsJoinOfRows picked first second (lower ++ take (length rows - left) rows)
 
--- a row of the second table is placed, with what is above it in the first
+-- one row of the second table is placed, after the rows of the first table that are above it
 pub record IsPlaced {E : Type 0} (picked : E → E → E) (old : List (Key × E)) (left : ℕ) (row : Key × E) (new : List (Key × E)) (later : ℕ) : Type 0 where
   pub ascends : AreAscending (left_rows left old) → AreAscending (left_rows later new)
   pub joined : AreAscending (left_rows left old) → (first second rest : List (Key × E)) → AreAscending (rest ++ row ∷ [])

@@ -1,4 +1,4 @@
--- Bodies and ops of records. Those that tie in their order are equal.
+-- Bodies and ops whose lines are records. If they tie in their order, they are equal.
 use Rattle.std.specs.Prelude.{⊤, All}
 use Rattle.docker_model.specs.records.Record.{IsRecord}
 use Rattle.docker_model.specs.file.Change.{Body, tiploc_body, association_body, schedule_body}
@@ -10,7 +10,7 @@ IsOfRecords (tiploc_body bytes) = ⊤
 IsOfRecords (association_body line) = IsRecord line
 IsOfRecords (schedule_body lines) = All IsRecord lines
 
--- the body of the op, if it has one, is of records
+-- the lines of the op's body, if it has one, are records
 abbrev pub HasRecords : Op → Type 0
 HasRecords deleted = ⊤
 HasRecords lapsed = ⊤

@@ -23,7 +23,7 @@ use Rattle.cif_change.specs.declared.key.ScheduleKey.{ScheduleKey}
 use Rattle.cif_change.specs.Meaning.{key_meant}
 use Rattle.docker_join.specs.Rows.{row_cmp, AreAscending, AreValidRows, value_at, picked_value, IsJoinOfRows}
 
--- STP indicators of one letter are equal
+-- STP indicators with the same letter are equal
 same_stp : (a b : Stp) → stp_letter a ≡ stp_letter b → a ≡ b
 same_stp stp.Cancellation stp.Cancellation same = refl
 same_stp stp.Cancellation stp.New same = absurd (omega arith)
@@ -72,7 +72,7 @@ same_schedule a b same = λ i. record {
   stp = same_stp a.stp b.stp (λ j. (same j).indicator) i;
 }
 
--- keys with the same meaning are equal
+-- keys with equal meanings are equal
 pub same_key : (a b : Key) → key_meant a ≡ key_meant b → a ≡ b
 same_key (key.Tiploc a) (key.Tiploc b) same = ap key.Tiploc (let codes : a ≡ b = cc in codes)
 same_key (key.Tiploc a) (key.Assoc b) same = cc
@@ -88,12 +88,12 @@ module _ {E : Type 0} where
   row_total : IsTotalOrder (row_cmp {E = E})
   row_total = on_total (λ (row : Key × E). key_meant row.0) key_total
 
-  -- at the first row's key, the value is the first row's
+  -- at the first row's key, rows have the first row's value
   pub value_here : (row : Key × E) (rows : List (Key × E)) (key : model.Key) → key_cmp (key_meant row.0) key ≡ Equal → value_at (row ∷ rows) key ≡ Some row.1
   value_here row rows key tied =
       λ i. option_map (λ (r : Key × E). r.1) (cond (is_eq (tied i)) (Some row) (find (λ (r : Key × E). is_eq (key_cmp (key_meant r.0) key)) rows))
 
-  -- at another key, the value is the value in the rows after the first
+  -- at any other key, they have what the other rows have
   pub value_behind : (row : Key × E) (rows : List (Key × E)) (key : model.Key) → ¬ (key_cmp (key_meant row.0) key ≡ Equal)
       → value_at (row ∷ rows) key ≡ value_at rows key
   value_behind row rows key other = by (key_cmp (key_meant row.0) key) refl
@@ -103,14 +103,14 @@ module _ {E : Type 0} where
       by Equal is = absurd (other is)
       by Greater is = λ i. option_map (λ (r : Key × E). r.1) (cond (is_eq (is i)) (Some row) (find (λ (r : Key × E). is_eq (key_cmp (key_meant r.0) key)) rows))
 
-  -- rows above a key do not have the key
+  -- rows above a key don't have the key
   pub value_above : (key : model.Key) (rows : List (Key × E)) → AllByRecursion (λ row. key_cmp key (key_meant row.0) ≡ Less) rows → value_at rows key ≡ None
   value_above key [] above = refl
   value_above key (row ∷ rows) above =
       value_behind row rows key (λ tied. let turned = key_total.antisymm key (key_meant row.0) in let below = above.0 in cc)
       ∙ value_above key rows above.1
 
-  -- ascending rows have at the key of each row what the row has
+  -- at the key of each row, ascending rows have that row's value
   pub value_of : (rows : List (Key × E)) (row : Key × E) → AreAscending rows → Contains rows row → value_at rows (key_meant row.0) ≡ Some row.1
   value_of [] row up among = absurd (nil-Contains row among)
   value_of (first ∷ rows) row up among = by (value_of rows row up.1) (Contains-cons first rows row among)
@@ -124,11 +124,11 @@ module _ {E : Type 0} where
           (λ tied. let below : row_cmp first row ≡ Less = below_by_recursion (IsBelow row_cmp first) rows row up.0 inside in cc)
           ∙ rest inside
 
-  -- a row that has this value at a key
+  -- some row has this key and this value
   abbrev RowWith : List (Key × E) → model.Key → E → Type 0
   RowWith rows key value = (row : Key × E) × Contains rows row × (key_meant row.0 ≡ key) × (row.1 ≡ value)
 
-  -- what rows have at a key is in one of them
+  -- if rows have a value at a key, one of them has both
   pub row_of : (rows : List (Key × E)) (key : model.Key) (value : E) → value_at rows key ≡ Some value → RowWith rows key value
   row_of [] key value found = cc
   row_of (row ∷ rows) key value found = by (key_cmp (key_meant row.0) key) refl (row_of rows key value)
@@ -144,7 +144,7 @@ module _ {E : Type 0} where
           let later = rest (sym (value_behind row rows key (λ tied. cc)) ∙ found) in
           (later.0, cons-Contains row rows later.0 later.1, later.2, later.3)
 
-  -- what ascending rows have at each key determines them
+  -- ascending rows are determined by what they have at each key
   pub same_rows : (a b : List (Key × E)) → AreAscending a → AreAscending b → ((key : model.Key) → value_at a key ≡ value_at b key) → a ≡ b
   same_rows a b up_a up_b same = same_list row_total a b up_a up_b (λ row. (into a b up_a same row, into b a up_b (λ key. sym (same key)) row))
     where
@@ -154,19 +154,19 @@ module _ {E : Type 0} where
           let whole : there.0 ≡ row = (λ i. (same_key there.0.0 row.0 there.2 i, there.3 i)) in
           subst (Contains y) whole there.1
 
--- what rows have at a key is valid, if they have something there
+-- the value at a key is valid, if there is one
 abbrev IsValidValue : {E : Type 0} → (E → Type 0) → Option E → Type 0
 IsValidValue valid None = ⊤
 IsValidValue valid (Some value) = valid value
 
--- the laws of a pick of two values
+-- the laws of a function that picks one of two values, or joins them
 pub record ArePickLaws {E : Type 0} (valid : E → Type 0) (picked : E → E → E) : Type 0 where
   pub closed : (a b : E) → valid a → valid b → valid (picked a b)
   pub commutes : (a b : E) → valid a → valid b → picked a b ≡ picked b a
   pub associates : (a b c : E) → valid a → valid b → valid c → picked (picked a b) c ≡ picked a (picked b c)
   pub itself : (a : E) → valid a → picked a a ≡ a
 
--- a pick that gives a join has the laws of joins
+-- if what it picks is a join, a function has these laws
 pub pick_laws : {E : Type 0} (valid : E → Type 0) (is_join : E → E → E → Type 0) (picked : E → E → E)
     → ((a b c : E) → valid a → valid b → is_join a b c → valid c)
     → ((a b c d : E) → valid a → valid b → is_join a b c → is_join a b d → c ≡ d)
@@ -184,14 +184,14 @@ pick_laws valid is_join picked closed one commutative associative idempotent joi
   itself = λ a good. one a a (picked a a) a good good (joins a a) (idempotent a good);
 }
 
--- two tables have at most one join
+-- two tables have only one join
 pub joins_one : {E : Type 0} (valid : E → Type 0) (picked : E → E → E) (a b c d : List (Key × E))
     → AreValidRows valid a → AreValidRows valid b → IsJoinOfRows picked a b c → IsJoinOfRows picked a b d → c ≡ d
 joins_one valid picked a b c d good_a good_b is_c is_d =
     same_rows c d is_c.ascends is_d.ascends (λ key. is_c.values key ∙ sym (is_d.values key))
 
 module _ {E : Type 0} (valid : E → Type 0) (picked : E → E → E) (laws : ArePickLaws valid picked) where
-  -- what valid rows have at a key is valid
+  -- if all rows are valid, so is the value at any key
   valid_at : (rows : List (Key × E)) (key : model.Key) → AreValidRows valid rows → IsValidValue valid (value_at rows key)
   valid_at rows key good = by (value_at rows key) refl
     where
@@ -224,7 +224,7 @@ module _ {E : Type 0} (valid : E → Type 0) (picked : E → E → E) (laws : Ar
   values_itself None good = refl
   values_itself (Some a) good = ap Some (sym (laws.itself a good))
 
-  -- joins of valid tables are valid
+  -- the join of valid tables is valid
   pub joins_closed : (a b c : List (Key × E)) → AreValidRows valid a → AreValidRows valid b → IsJoinOfRows picked a b c → AreValidRows valid c
   joins_closed a b c good_a good_b is = (
     is.ascends,
@@ -234,7 +234,7 @@ module _ {E : Type 0} (valid : E → Type 0) (picked : E → E → E) (laws : Ar
         (valid_at b (key_meant row.0) good_b))),
   )
 
-  -- valid tables in the other order have the same join
+  -- the join of two valid tables is also their join in the other order
   pub joins_commute : (a b c : List (Key × E)) → AreValidRows valid a → AreValidRows valid b → IsJoinOfRows picked a b c → IsJoinOfRows picked b a c
   joins_commute a b c good_a good_b is = record {
     ascends = is.ascends;
@@ -252,6 +252,6 @@ module _ {E : Type 0} (valid : E → Type 0) (picked : E → E → E) (laws : Ar
       ∙ sym (ap (λ value. picked_value picked (value_at a key) value) (is_bc.values key))
       ∙ sym (is_right.values key))
 
-  -- a valid table joined with itself is itself
+  -- a valid table joined with itself stays as it is
   pub joins_itself : (a : List (Key × E)) → AreValidRows valid a → IsJoinOfRows picked a a a
   joins_itself a good = record { ascends = good.0; values = λ key. values_itself (value_at a key) (valid_at a key good) }

@@ -1,4 +1,4 @@
-//! What is known at a key, and since when.
+//! Entries: what is known of a key, and since when.
 ghost use Rattle.std.specs.Prelude.{◌≡◌, false, IfOk, IsOk, if◌then◌else◌};
 ghost use Rattle.std.specs.Ordering.{on, as_partial_cmp, eq_by_cmp, ord_max};
 ghost use Rattle.std.specs.Cmp.{partial_equiv_from_equiv, on_equiv, on_total, eq_by_cmp_equiv, partial_order_from_total};
@@ -18,22 +18,22 @@ use cif_change::Body;
 use std::alloc::Global;
 use std::cmp::Ordering;
 
-/// What is known at a key. A deletion is less than a lapsed op, and a lapsed op is less than each
-/// put. Two puts have the order of their bodies.
+/// What is known of a key. A deletion is less than a lapsed op, and a lapsed op is less than any
+/// put. Puts are ordered by their bodies.
 #[derive(Debug, Drop)]
 pub enum Op {
     /// The key is deleted.
     Deleted,
     /// The key was put with a body that ended before a horizon. The body is no longer known.
     Lapsed,
-    /// The key is present, with this body.
+    /// The key is put with this body.
     Put(Body),
 }
 
 impl Op {
-    /// The op under a horizon, a day number. A put whose end number is below the horizon lapses,
-    /// and its body is dropped. Nothing else changes: a deletion, a lapsed op, a TIPLOC and a body
-    /// without end stay under each horizon.
+    /// The op under a horizon, which is a day number. A put whose end number is below the horizon
+    /// lapses and loses its body. Any other op stays: a deletion, a lapsed op, a TIPLOC, a body
+    /// without an end.
     pub fn lapse(self, horizon: u16) -> Op
         ensures { op_meant result ≡ lapse horizon (op_meant self) }
     {
@@ -105,8 +105,8 @@ impl Ord for Op {
     }
 }
 
-/// What is known at a key, with the stamp of the change that made it so. Ordered by stamp, then by
-/// op. The greater of two entries of a key wins.
+/// An entry: what is known of a key, with the stamp of the change that said so. Entries are ordered
+/// by stamp, then by op. Of two entries of one key the greater wins.
 #[derive(Debug, Drop)]
 pub struct Entry {
     /// The stamp of the change.
@@ -117,7 +117,7 @@ pub struct Entry {
 
 impl Entry {
     /// Lapses the op under a horizon, in place. The stamp stays, so that no older entry wins over
-    /// this one. Returns whether the op lapsed now.
+    /// this one. Returns whether the op has lapsed in this call.
     pub fn lapse(&mut self, horizon: u16) -> bool
         ensures lapsed { entry_meant self.new ≡ lapse_entry horizon (entry_meant self.old) }
         ensures same { result ≡ false → self.new ≡ self.old }
@@ -191,7 +191,7 @@ impl Merge for Entry {
     ghost idempotent = { greater_itself (λ entry. HasRecords (op_meant entry.op))
         (on_total entry_meant entry_total) };
 
-    /// The greater of the two. It takes no memory.
+    /// The greater of the two. It allocates no memory.
     fn join(self, _alloc: Global, other: Entry) -> Result<Entry, (Entry, Entry)>
         ensures always { IsOk result }
         ensures ok { IfOk result (IsGreater (on entry_meant entry_cmp) self other) }

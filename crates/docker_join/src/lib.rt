@@ -1,5 +1,5 @@
-//! Stamps, ops and entries with their orders, the lapse of what ended before a day, and the join of
-//! tables of entries.
+//! Stamps, ops and entries with their orders, the lapse under a horizon, and the join of tables of
+//! entries.
 #![tactic(auto)]
 
 mod entry;

@@ -1,13 +1,13 @@
-//! Values that are joined, in whatever order and however often.
+//! Values that can be joined, in any order and any number of times.
 ghost use Rattle.std.specs.Prelude.{◌≡◌, IfOk, IfErr};
 
 use std::alloc::Global;
 
-/// What can be joined. For valid values the join is commutative, associative and idempotent, if the
-/// joins succeed.
+/// What can be joined. For valid values the join is commutative, associative and idempotent, as
+/// long as joins succeed.
 ///
-/// The programs join states only. File stamps, stamps, entries and tables can be joined too: this is
-/// a part of what the library offers, with the same laws.
+/// The programs join only states. File stamps, stamps, entries and tables can be joined too: the
+/// library offers them with the same laws.
 pub trait Merge: Sized {
     // the values for which the laws hold
     ghost is_valid: { Self → Type 0 };
@@ -15,7 +15,7 @@ pub trait Merge: Sized {
     // the third value is the join of the first two
     ghost is_join: { Self → Self → Self → Type 0 };
 
-    /// The join of two values. If memory runs out, returns both as they were.
+    /// The join of two values. If memory runs out, it returns both unchanged.
     fn join(self, alloc: Global, other: Self) -> Result<Self, (Self, Self)>
         ensures ok { IfOk result (is_join self other) }
         ensures err { IfErr result (λ both. (both.0 ≡ self) × (both.1 ≡ other)) };

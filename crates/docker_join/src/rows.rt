@@ -1,4 +1,5 @@
-//! Rows of tables: their lapse, and the join of two tables' rows in the memory of the first.
+//! Rows of tables: how they lapse, and how the rows of two tables are joined in the memory of the
+//! first.
 ghost use Rattle.std.specs.Prelude.{◌≡◌, ◌+◌, ◌<◌, ◌≤◌, true, false, map, vec_len, vec_capacity, MatchOption};
 ghost use Rattle.std.specs.VecDeque.{deque_len, deque_capacity};
 ghost use Rattle.cif_change.specs.Meaning.{key_meant};
@@ -12,8 +13,8 @@ use crate::merge::Pick;
 use cif_change::Key;
 use std::collections::VecDeque;
 
-/// Lapses what is known at each key under a horizon. The keys and the stamps stay. The bodies of
-/// what lapses are dropped. Returns whether an entry lapsed now.
+/// Lapses the entry of each key under a horizon. Keys and stamps stay, and what lapses loses its
+/// body. Returns whether an entry has lapsed in this call.
 pub fn lapse_rows(rows: &mut [(Key, Entry)], horizon: u16) -> bool
     ensures lapsed { map row_meant rows.new ≡ lapse_entries horizon (map row_meant rows.old) }
     ensures same { result ≡ false → rows.new ≡ rows.old }
@@ -27,9 +28,9 @@ pub fn lapse_rows(rows: &mut [(Key, Entry)], horizon: u16) -> bool
 }
 
 /// The rows of the join of two tables, in the first vector, which has room for the rows of both. It
-/// takes no other memory. The rows of the second are placed from the last to the first. Only the
-/// rows of the first that come after one of them move, in blocks. Of a block a few keys are
-/// compared.
+/// allocates nothing. The rows of the second table are placed from the last to the first. Rows of
+/// the first table move only if they come after such a row. They move in blocks, and only a few
+/// keys of each block are compared.
 pub fn join_rows<E: Pick>(first: Vec<(Key, E)>, mut second: Vec<(Key, E)>) -> Vec<(Key, E)>
     requires first { AreAscending first.items }
     requires second { AreAscending second.items }
@@ -46,9 +47,10 @@ pub fn join_rows<E: Pick>(first: Vec<(Key, E)>, mut second: Vec<(Key, E)>) -> Ve
     rows.into_vec()
 }
 
-/// Places a row of the second table. The placed rows are in front. The last `left` rows are the ones
-/// of the first table that are still to be placed. Those above the row are placed before it. If the
-/// next one has its key, the pick of both is placed. Returns how many are left.
+/// Places a row of the second table, and returns how many rows of the first are then left. The ring
+/// has the placed rows in front, and in its last `left` rows what is left of the first table. Those
+/// above the row are placed before it. If the next one has the row's key, the join of both is
+/// placed.
 fn place<E: Pick>(rows: &mut VecDeque<(Key, E)>, left: usize, row: (Key, E)) -> usize
     requires left { left ≤ deque_len rows.old }
     requires room { deque_len rows.old < deque_capacity rows.old }
@@ -72,7 +74,7 @@ fn place<E: Pick>(rows: &mut VecDeque<(Key, E)>, left: usize, row: (Key, E)) -> 
     }
 }
 
-/// Takes the last row if one is left and it has this key.
+/// Takes the last row, if one is left and it has this key.
 fn take_level<E>(rows: &mut VecDeque<(Key, E)>, left: usize, key: &Key) -> Option<(Key, E)>
     requires { left ≤ deque_len rows.old }
     ensures taken { IsTaken (key_meant key.now) (deque_len rows.old) left rows.old.items
@@ -99,7 +101,7 @@ fn is_level<E>(rows: &VecDeque<(Key, E)>, key: &Key) -> bool
     rows[rows.len() - 1].0.cmp(key).is_eq()
 }
 
-/// Whether the row this far from the end, from 1, has a greater key.
+/// Whether the row at this distance from the end, 1 for the last, has a greater key.
 fn is_above<E>(rows: &VecDeque<(Key, E)>, back: usize, key: &Key) -> bool
     requires { (0 < back) × (back ≤ deque_len rows.now) }
     ensures { (d : _) → result
@@ -108,8 +110,9 @@ fn is_above<E>(rows: &VecDeque<(Key, E)>, back: usize, key: &Key) -> bool
     rows[rows.len() - back].0.cmp(key).is_gt()
 }
 
-/// How many of the last `left` rows have greater keys. It looks at the last row, then twice as far
-/// back each time. A binary search between the last two of these rows finds the end.
+/// How many of the last `left` rows have greater keys. It looks at the last row, and then each time
+/// twice as far back. Once it meets a key that isn't greater, a binary search finds where the
+/// greater ones end.
 fn run_above<E>(rows: &VecDeque<(Key, E)>, left: usize, key: &Key) -> usize
     requires { left ≤ deque_len rows.now }
     ensures { IsRunAbove (key_meant key.now) rows.now.items (deque_len rows.now) left result }
@@ -123,7 +126,8 @@ fn run_above<E>(rows: &VecDeque<(Key, E)>, left: usize, key: &Key) -> usize
     run_between(rows, key, low, (high - 1).min(left))
 }
 
-/// How many of the last `high` rows have greater keys, by a binary search. The last `low` rows have.
+/// How many of the last `high` rows have greater keys, by a binary search. The last `low` of them
+/// do.
 fn run_between<E>(rows: &VecDeque<(Key, E)>, key: &Key, mut low: usize, mut high: usize) -> usize
     requires order { low ≤ high }
     requires within { high ≤ deque_len rows.now }

@@ -1,4 +1,4 @@
-//! Stamps: when a file was made, and which of its records changed a key.
+//! Stamps: when a file was extracted, and which of its records changed a key.
 ghost use Rattle.std.specs.Prelude.{IfOk, IsOk, ⊤};
 ghost use Rattle.std.specs.Ordering.{on, as_partial_cmp, eq_by_cmp, ord_max};
 ghost use Rattle.std.specs.Cmp.{partial_equiv_from_equiv, on_equiv, on_total, eq_by_cmp_equiv, partial_order_from_total};
@@ -15,12 +15,13 @@ use cif_change::Day;
 use std::alloc::Global;
 use std::cmp::Ordering;
 
-/// When a file was extracted, and its reference. Ordered by day, then by minute, then by reference.
+/// A file stamp: when a file was extracted, and its reference. File stamps are ordered by day, by
+/// minute, then by reference.
 #[derive(Clone, Copy, Debug)]
 pub struct FileStamp {
     /// The day of extract.
     pub day: Day,
-    /// The minute of the day, from 0.
+    /// The minute of that day, from 0.
     pub minute: u16,
     /// The current file reference.
     pub reference: [u8; 7],
@@ -85,7 +86,7 @@ impl Merge for FileStamp {
 
     ghost idempotent = { greater_itself (λ _. ⊤) (on_total file_stamp_meant file_stamp_total) };
 
-    /// The greater of the two. It takes no memory.
+    /// The greater of the two. It allocates no memory.
     fn join(self, _alloc: Global, other: FileStamp) -> Result<FileStamp, (FileStamp, FileStamp)>
         ensures always { IsOk result }
         ensures ok { IfOk result (IsGreater (on file_stamp_meant file_stamp_cmp) self other) }
@@ -105,8 +106,8 @@ impl Pick for FileStamp {
     }
 }
 
-/// The file stamp of a file, and the number of a record in it. Ordered by file stamp, then by
-/// number.
+/// A stamp: a file stamp, and the number of a record in that file. Stamps are ordered by file
+/// stamp, then by number.
 #[derive(Clone, Copy, Debug)]
 pub struct Stamp {
     /// The file stamp.
@@ -171,7 +172,7 @@ impl Merge for Stamp {
 
     ghost idempotent = { greater_itself (λ _. ⊤) (on_total stamp_meant stamp_total) };
 
-    /// The greater of the two. It takes no memory.
+    /// The greater of the two. It allocates no memory.
     fn join(self, _alloc: Global, other: Stamp) -> Result<Stamp, (Stamp, Stamp)>
         ensures always { IsOk result }
         ensures ok { IfOk result (IsGreater (on stamp_meant stamp_cmp) self other) }

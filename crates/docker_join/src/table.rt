@@ -1,4 +1,4 @@
-//! Tables of what is known at keys.
+//! Tables: what is known of each of some keys.
 ghost use Rattle.std.specs.Prelude.{◌≡◌, ◌==◌, ◌+◌, ◌≤◌, [], false, length, map, vec_len, vec_capacity, IfOk, IfErr};
 ghost use Rattle.std.specs.Option.{option_copied};
 ghost use Rattle.cif_change.specs.Meaning.{key_meant};
@@ -13,10 +13,10 @@ use cif_change::Key;
 use std::alloc::Global;
 use std::marker::Model;
 
-/// What is known at each of some keys.
+/// What is known of each of some keys.
 #[derive(Debug, Drop)]
 pub struct Table<E> {
-    /// The rows, each a key with what is known at it. Their keys ascend.
+    /// The rows: each a key with what is known of it, in ascending order of keys.
     pub rows: Vec<(Key, E)>,
 }
 
@@ -33,7 +33,7 @@ impl<E> Model for Table<E> {
 }
 
 impl<E> Table<E> {
-    /// The table without keys.
+    /// A table without keys.
     pub fn new(alloc: Global) -> Table<E>
         ensures { result ≡ [] }
     {
@@ -42,7 +42,7 @@ impl<E> Table<E> {
         }
     }
 
-    /// The table of rows whose keys ascend.
+    /// The table with these rows, whose keys ascend.
     pub fn from_rows(rows: Vec<(Key, E)>) -> Table<E>
         requires { AreAscending rows.items }
         ensures { result ≡ rows.items }
@@ -68,7 +68,7 @@ impl<E> Table<E> {
     }
 
     /// The rows, in the order of their keys, with room for `more` rows after them. If memory runs
-    /// out, returns the table as it was.
+    /// out, it returns the table unchanged.
     pub fn with_room(self, more: usize) -> Result<Vec<(Key, E)>, Table<E>>
         ensures rows { IfOk result (λ rows. rows.items ≡ self) }
         ensures room { IfOk result (λ rows. vec_len rows + more ≤ vec_capacity rows) }
@@ -89,14 +89,14 @@ impl<E> Table<E> {
         self.rows.len()
     }
 
-    /// Whether there is no key.
+    /// Whether the table has no key.
     pub fn is_empty(&self) -> bool
         ensures { result ≡ (length self.now == 0) }
     {
         self.rows.is_empty()
     }
 
-    /// What is known at a key. None if the table does not have the key.
+    /// What is known of a key. None if the table doesn't have it.
     pub fn get(&self, key: &Key) -> Option<&E>
         ensures { option_copied result ≡ value_at self.now (key_meant key.now) }
     {
@@ -108,8 +108,8 @@ impl<E> Table<E> {
 }
 
 impl Table<Entry> {
-    /// Lapses what is known at each key under a horizon. The keys and the stamps stay. The bodies
-    /// of what lapses are dropped. Returns whether an entry lapsed now.
+    /// Lapses the entry of each key under a horizon. Keys and stamps stay, and what lapses loses
+    /// its body. Returns whether an entry has lapsed in this call.
     pub fn lapse(&mut self, horizon: u16) -> bool
         ensures lapsed { map row_meant self.new ≡ lapse_entries horizon (map row_meant self.old) }
         ensures same { result ≡ false → self.new ≡ self.old }
@@ -122,7 +122,7 @@ impl<E: Pick> Merge for Table<E> {
     ghost use Rattle.docker_join.specs.Rows.{AreValidRows, IsJoinOfRows};
     ghost use Rattle.docker_join.specs.RowLaws.{pick_laws, joins_closed, joins_one, joins_commute, joins_associate, joins_itself};
 
-    // the keys ascend, and what is known at each is valid
+    // the keys ascend, and what is known of each is valid
     ghost is_valid = { AreValidRows E.is_valid };
 
     ghost is_join = { IsJoinOfRows E.picked };
@@ -141,9 +141,9 @@ impl<E: Pick> Merge for Table<E> {
     ghost idempotent = { joins_itself E.is_valid E.picked
         (pick_laws E.is_valid E.is_join E.picked E.closed E.one E.commutative E.associative E.idempotent E.joins) };
 
-    /// The table of the keys of both. Each key has what one table knows at it, or the join of what
-    /// both know. If memory runs out, no row has been moved, and it returns both tables as they
-    /// were.
+    /// The table with the keys of both. For a key of both tables it has the join of what they know,
+    /// and for any other key what the one table knows. If memory runs out, no row has moved, and it
+    /// returns both tables unchanged.
     fn join(self, _alloc: Global, other: Table<E>) -> Result<Table<E>, (Table<E>, Table<E>)> {
         match self.with_room(other.len()) {
             Ok(rows) => Ok(Table::from_rows(join_rows(rows, other.into_rows()))),

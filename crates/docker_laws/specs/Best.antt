@@ -1,12 +1,12 @@
--- The best element that a walk has met so far: the first, in an order, of the elements that pass a
--- test.
+-- The best element that a walk has met so far: of the elements that pass a test, the first in an
+-- order.
 use Rattle.std.specs.Prelude.{◌≡◌, Bool, true, false, if◌then◌else◌, List, Option, Some, None, Contains}
 use Rattle.std.specs.declared.cmp.Ordering.{Ordering}
 use Rattle.std.specs.Ordering.{is_lt}
 use Rattle.docker_model.specs.state.Order.{IsAtMost}
 
--- what is found is an element that passes, and no other that passes comes before it; if nothing is
--- found, none passes
+-- the best of these elements: it passes the test, and none that passes comes before it. None if no
+-- element passes
 abbrev pub IsBest : {A : Type 0} → (A → A → Ordering) → (A → Bool) → List A → Option A → Type 0
 IsBest {A} cmp test xs None = (z : A) → Contains xs z → test z ≡ false
 IsBest {A} cmp test xs (Some x) = Contains xs x × (test x ≡ true) × ((z : A) → Contains xs z → test z ≡ true → IsAtMost cmp x z)
@@ -16,6 +16,6 @@ abbrev pub better : {A : Type 0} → (A → A → Ordering) → Option A → A �
 better cmp None x = Some x
 better cmp (Some b) x = if is_lt (cmp x b) then Some x else Some b
 
--- the best with one more element
+-- the best, with one more element
 abbrev pub with_one_more : {A : Type 0} → (A → A → Ordering) → (A → Bool) → Option A → A → Option A
 with_one_more cmp test found x = if test x then better cmp found x else found

@@ -1,4 +1,4 @@
--- The choice of a schedule, and of an association, that a walk over rows has made so far.
+-- The choice of a schedule or an association that a walk over rows has made so far.
 use Rattle.std.specs.Prelude.{ℕ, List, Option}
 use Rattle.std.specs.Ordering.{on}
 use Rattle.docker_model.specs.file.Change.{Key, association_key, schedule_key, Body, association_body, schedule_body}
@@ -7,21 +7,21 @@ use Rattle.docker_model.specs.docker.Choice.{schedule_choice_cmp, association_ch
 use Rattle.docker_laws.specs.LiveRows.{Link, schedules_in, associations_in, is_running, is_linked}
 use Rattle.docker_laws.specs.Best.{IsBest, with_one_more}
 
--- the best schedule of the UID on the day among the rows so far
+-- the best of the UID's schedules among the rows so far, on the day
 abbrev pub IsChosenSoFar : List ℕ → ℕ → List Row → Option Train → Type 0
 IsChosenSoFar uid day rows found = IsBest (on (λ (train : Train). train.key) schedule_choice_cmp) (is_running uid day) (schedules_in rows) found
 
--- the best schedule with one more row
+-- the best schedule, with one more row
 abbrev pub next_chosen : List ℕ → ℕ → Option Train → Key → Body → Option Train
 next_chosen uid day found (schedule_key key) (schedule_body lines) =
     with_one_more (on (λ (train : Train). train.key) schedule_choice_cmp) (is_running uid day) found (record { key = key; lines = lines })
 next_chosen uid day found _ _ = found
 
--- the best association of the group on the base's start day among the rows so far
+-- the best of the group's associations among the rows so far, on the base train's start day
 abbrev pub IsLinkSoFar : Group → ℕ → List Row → Option Link → Type 0
 IsLinkSoFar group day rows found = IsBest (on (λ (link : Link). link.key) association_choice_cmp) (is_linked group day) (associations_in rows) found
 
--- the best association with one more row
+-- the best association, with one more row
 abbrev pub next_link : Group → ℕ → Option Link → Key → Body → Option Link
 next_link group day found (association_key key) (association_body line) =
     with_one_more (on (λ (link : Link). link.key) association_choice_cmp) (is_linked group day) found (record { key = key; line = line })

@@ -1,21 +1,22 @@
--- The events of a schedule as a walk over its lines meets them, and the falls and the identity that
--- it carries along.
+-- The events of a schedule, as a walk over its lines meets them. It carries along the falls and the
+-- last change en route.
 use Rattle.std.specs.Prelude.{ℕ, ◌+◌, nat_lt, if◌then◌else◌, List, [], ◌∷◌, ◌++◌, map, length, filter, Option, Some, None, codes}
 use Rattle.std.specs.List.{enumerate_from, last_or}
 use Rattle.docker_model.specs.file.Journey.{Occasion, times_of}
 use Rattle.docker_model.specs.docker.Event.{Event, has_identity}
 
--- the events of the times of one line, numbered from here on, where the line stands at this place
+-- the events of one line, which has these times and stands at this place. The first of them has
+-- this number
 abbrev pub events_here : ℕ → ℕ → List (Occasion × ℕ) → List Event
 events_here number place times =
     map (λ counted. record { number = counted.0; place = place; occasion = counted.1.0; time = counted.1.1 }) (enumerate_from number times)
 
--- the events of lines, numbered from here on, where the first line stands at this place
+-- the events of lines. The first event has this number, and the first line stands at this place
 abbrev pub events_from : ℕ → ℕ → List (List ℕ) → List Event
 events_from number place [] = []
 events_from number place (line ∷ lines) = events_here number place (times_of line) ++ events_from (number + length (times_of line)) (place + 1) lines
 
--- 1 if a time is below the last one before it, else 0
+-- 1 if the time is below the last one, otherwise 0
 abbrev pub fall_at : Option ℕ → ℕ → ℕ
 fall_at None time = 0
 fall_at (Some last) time = if nat_lt time last then 1 else 0

@@ -8,18 +8,19 @@ use Rattle.docker_model.specs.state.Op.{Entry, key_cmp}
 use Rattle.docker_model.specs.state.State.{State}
 use Rattle.docker_model.specs.state.Summary.{entry_of}
 
--- an entry before the first one of the rest, or in its place, or after it
+-- an entry goes before the first one, or is left out as one of the same key is there, or goes
+-- further back
 abbrev pub placed : Ordering → Key × Entry → Key × Entry → List (Key × Entry) → List (Key × Entry) → List (Key × Entry)
 placed Less entry first entries rest = entry ∷ first ∷ entries
 placed Equal entry first entries rest = first ∷ entries
 placed Greater entry first entries rest = first ∷ rest
 
--- entries in key order with an earlier one, unless they have one of its key
+-- entries in key order, and one that was made earlier: it is left out if they have one of its key
 abbrev pub with_earlier : Key × Entry → List (Key × Entry) → List (Key × Entry)
 with_earlier entry [] = entry ∷ []
 with_earlier entry (first ∷ entries) = placed (key_cmp entry.0 first.0) entry first entries (with_earlier entry entries)
 
--- the last entry of each key, in key order
+-- of each key the entry that was made last, in key order
 abbrev pub latest_entries : List (Key × Entry) → List (Key × Entry)
 latest_entries [] = []
 latest_entries (entry ∷ entries) = with_earlier entry (latest_entries entries)

@@ -17,7 +17,7 @@ AreAt {K} place rows = (row : List ℕ × K) → Contains rows row → row.0 ≡
 abbrev pub AreElsewhere : {K : Type 0} → List ℕ → List (List ℕ × K) → Type 0
 AreElsewhere {K} place rows = (row : List ℕ × K) → Contains rows row → ¬ (row.0 ≡ place)
 
--- an exchange holds what is known after an event that was done, with its office's new state
+-- once the event is done and its office has this state, the exchange holds what is known
 abbrev pub HoldsAfter : Format → KnownSets → RunEvent → List State → ℕ → State → List (List ℕ) → Type 0
 HoldsAfter format known event states office now messages =
     Holds format (after_reply known (event, done)) (slice_set states office now) messages

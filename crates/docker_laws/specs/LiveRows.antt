@@ -1,5 +1,5 @@
--- A live table as rows, and what a walk over rows finds there: the train of a UID on a day, and the
--- association of a group on a base start day.
+-- A live table as rows. They give the train of a UID on a day, and the chosen association of a
+-- group on a start day of the base train.
 use Rattle.std.specs.Prelude.{◌≡◌, ℕ, List, Some, Contains, Option, None, Bool, ◌&&◌, not, find, ◌==◌, if◌then◌else◌}
 use Rattle.std.specs.List.{filter_map, list_all}
 use Rattle.std.specs.Str.{bytes_eq}
@@ -11,37 +11,37 @@ use Rattle.state_laws.specs.Row.{Row}
 use Rattle.docker_model.specs.docker.Choice.{Train, Group, group_of, schedule_runs, schedule_choice_cmp, association_runs, association_choice_cmp, IsRunning, IsChosen, TrainRuns, IsChosenAssociation}
 use Rattle.docker_model.specs.docker.Association.{RunsNot}
 
--- live rows, among them each schedule of the UID
+-- the rows are live, and have each schedule of the UID
 pub record HasSchedulesOf (live : Table) (uid : List ℕ) (rows : List Row) : Type 0 where
   pub each : (key : Key) (body : Body) → Contains rows (key, body) → live key ≡ Some body
   pub all : (key : ScheduleKey) (lines : List (List ℕ)) → key.uid ≡ uid → live (schedule_key key) ≡ Some (schedule_body lines)
       → Contains rows (schedule_key key, schedule_body lines)
 
--- live rows, among them each association of the group
+-- the rows are live, and have each association of the group
 pub record HasAssociationsOf (live : Table) (group : Group) (rows : List Row) : Type 0 where
   pub each : (key : Key) (body : Body) → Contains rows (key, body) → live key ≡ Some body
   pub all : (key : AssociationKey) (line : List ℕ) → group_of key ≡ group → live (association_key key) ≡ Some (association_body line)
       → Contains rows (association_key key, association_body line)
 
--- none of the rows is of a schedule of the UID
+-- no row is a schedule of the UID
 abbrev pub HasNoScheduleOf : List ℕ → List Row → Type 0
 HasNoScheduleOf uid rows = (key : ScheduleKey) (body : Body) → Contains rows (schedule_key key, body) → ¬ (key.uid ≡ uid)
 
--- none of the rows is of an association of the group
+-- no row is an association of the group
 abbrev pub HasNoAssociationOf : Group → List Row → Type 0
 HasNoAssociationOf group rows = (key : AssociationKey) (body : Body) → Contains rows (association_key key, body) → ¬ (group_of key ≡ group)
 
--- an association: its key and its line
+-- an association: its key and its record
 pub record Link : Type 0 where
   pub key : AssociationKey
   pub line : List ℕ
 
--- the schedule of a row, if it is of one
+-- the schedule in a row, if the row has one
 abbrev pub schedule_of : Key → Body → Option Train
 schedule_of (schedule_key key) (schedule_body lines) = Some (record { key = key; lines = lines })
 schedule_of _ _ = None
 
--- the association of a row, if it is of one
+-- the association in a row, if the row has one
 abbrev pub association_of : Key → Body → Option Link
 association_of (association_key key) (association_body line) = Some (record { key = key; line = line })
 association_of _ _ = None
@@ -58,58 +58,58 @@ associations_in rows = filter_map (λ row. association_of row.0 row.1) rows
 abbrev pub is_running : List ℕ → ℕ → Train → Bool
 is_running uid day train = bytes_eq train.key.uid uid && schedule_runs (first_record train.lines) day
 
--- the schedule runs, and none that runs comes before it in the order of choice
+-- the schedule runs on the day, and no other that runs comes before it in the order of choice
 abbrev pub is_choice : List Train → List ℕ → ℕ → Train → Bool
 is_choice trains uid day train =
     is_running uid day train
     && list_all (λ other. not (is_running uid day other && is_gt (schedule_choice_cmp train.key other.key))) trains
 
--- the chosen schedule of the UID on the day among the rows, if one runs
+-- the chosen schedule of the UID on the day, among the rows
 abbrev pub chosen_in : List Row → List ℕ → ℕ → Option Train
 chosen_in rows uid day = find (is_choice (schedules_in rows) uid day) (schedules_in rows)
 
--- a cancellation is no train
+-- no train if the schedule is a cancellation
 abbrev pub unless_cancelled : Option Train → Option Train
 unless_cancelled None = None
 unless_cancelled (Some train) = if train.key.indicator == 67 then None else Some train
 
--- the train of the UID that starts on the day among the rows, if it runs
+-- the UID's train that starts on the day, among the rows
 abbrev pub train_in : List Row → List ℕ → ℕ → Option Train
 train_in rows uid day = unless_cancelled (chosen_in rows uid day)
 
--- two associations are of one group
+-- the association is of the group
 abbrev pub is_of_group : Group → AssociationKey → Bool
 is_of_group group key =
     bytes_eq key.base group.base && bytes_eq key.associated group.associated && bytes_eq key.location group.location && (key.suffix == group.suffix)
 
--- the association is of the group and runs on the base's start day
+-- the association is of the group, and runs on the base train's start day
 abbrev pub is_linked : Group → ℕ → Link → Bool
 is_linked group day link = is_of_group group link.key && association_runs link.line day
 
--- the association runs, and none of its group that runs comes before it in the order of choice
+-- the association runs, and no other of its group that runs comes before it in the order of choice
 abbrev pub is_link_choice : List Link → Group → ℕ → Link → Bool
 is_link_choice links group day link =
     is_linked group day link
     && list_all (λ other. not (is_linked group day other && is_gt (association_choice_cmp link.key other.key))) links
 
--- the chosen association of the group on the base's start day among the rows, if one runs
+-- the chosen association of the group on the base train's start day, among the rows
 abbrev pub link_in : List Row → Group → ℕ → Option Link
 link_in rows group day = find (is_link_choice (associations_in rows) group day) (associations_in rows)
 
--- the answer is the UID's train that starts on the day, or none if none runs
+-- this is the UID's train that starts on the day, or none if none does
 abbrev pub IsTrainOn : Table → List ℕ → ℕ → Option Train → Type 0
 IsTrainOn live uid day None = RunsNot live uid day
 IsTrainOn live uid day (Some train) = TrainRuns live uid day train.key train.lines
 
--- the function gives, for each UID and day, the train of the table
+-- for each UID and day the function gives the table's train
 abbrev pub TellsTrains : Table → (List ℕ → ℕ → Option Train) → Type 0
 TellsTrains live trains = (uid : List ℕ) (day : ℕ) → IsTrainOn live uid day (trains uid day)
 
--- the answer is the chosen association of the group on the day, or none if none runs
+-- this is the chosen association of the group on the day, or none if none runs
 abbrev pub IsLinkOn : Table → Group → ℕ → Option Link → Type 0
 IsLinkOn live group day None = (key : AssociationKey) (line : List ℕ) → ¬ IsChosenAssociation live group day key line
 IsLinkOn live group day (Some link) = IsChosenAssociation live group day link.key link.line
 
--- the function gives, for each group and base start day, the chosen association of the table
+-- for each group and base train's start day the function gives the table's chosen association
 abbrev pub TellsLinks : Table → (Group → ℕ → Option Link) → Type 0
 TellsLinks live links = (group : Group) (day : ℕ) → IsLinkOn live group day (links group day)

@@ -1,6 +1,6 @@
--- What of a state may count in the dockers of one day: all but the schedules that run on no start
--- day near it. A train that starts on such a day can call somewhere on that one, or can be the
--- partner of a train that does.
+-- What may count in a state for the dockers of one day: everything but the schedules that run on no
+-- start day near it. A train that starts on such a day can call somewhere on that day, or be the
+-- partner of one that does.
 use Rattle.std.specs.Prelude.{ℕ, ◌+◌, ◌-◌, Bool, true, List, [], ◌∷◌, filter}
 use Rattle.std.specs.List.{list_any}
 use Rattle.docker_model.specs.file.Change.{Key, schedule_body}
@@ -10,15 +10,16 @@ use Rattle.docker_model.specs.state.State.{State}
 use Rattle.docker_model.specs.docker.Choice.{schedule_runs}
 use Rattle.docker_laws.specs.ExcerptWalk.{excerpt_for}
 
--- the start days near a day: from three days before it to the day after it
+-- the start days near a day: from three days before it to the day after. Those near day 10 are 7 to
+-- 11
 abbrev pub near_starts : ℕ → List ℕ
 near_starts day = (day + 1) ∷ day ∷ (day - 1) ∷ (day - 2) ∷ (day - 3) ∷ []
 
--- a basic schedule, a record, runs on a start day near the day
+-- a basic schedule runs on a start day near the day. For a record
 abbrev pub runs_near : ℕ → List ℕ → Bool
 runs_near day line = list_any (λ start. schedule_runs line start) (near_starts day)
 
--- what a key holds may count on the day: it is no schedule, or the schedule runs near the day
+-- an op may count on the day: it isn't a put of a schedule, or the schedule runs near the day
 abbrev pub may_count : ℕ → Op → Bool
 may_count day (put_with (schedule_body lines)) = runs_near day (first_record lines)
 may_count day op = true
@@ -27,7 +28,7 @@ may_count day op = true
 abbrev pub near_entries : ℕ → List (Key × Entry) → List (Key × Entry)
 near_entries day entries = filter (λ entry. may_count day entry.1.op) entries
 
--- the state with only these
+-- the state with only those entries
 abbrev pub near_state : ℕ → State → State
 near_state day state = record { horizon = state.horizon; ledger = state.ledger; entries = near_entries day state.entries }
 

@@ -1,6 +1,7 @@
--- What the docker of one place and one day needs of a table, as far as each change shows it by
--- itself. TIPLOCs and associations elsewhere are left out, and so are schedules that run on no
--- start day near the day. Of a schedule that doesn't call at the place, only the ends are left.
+-- Thinning: what the docker of one place and one day needs of a table, as far as each change shows
+-- it by itself. TIPLOCs and associations elsewhere are left out, and so are schedules that run on
+-- no start day near the day. A schedule that doesn't call at the place keeps its first line and its
+-- ends.
 use Rattle.std.specs.Prelude.{◌≡◌, ℕ, Bool, true, false, if◌then◌else◌, List, [], ◌∷◌, map, filter, fold, Option, Some, None, option_and_then, not, Contains, ◌↔◌}
 use Rattle.std.specs.Ordering.{is_eq}
 use Rattle.std.specs.Str.{bytes_eq}
@@ -22,45 +23,46 @@ is_end (Some origin_location) = true
 is_end (Some terminating_location) = true
 is_end _ = false
 
--- a schedule's first line and its ends: the basic schedule, the origin and the terminus
+-- the thin lines of a schedule: its basic schedule, its origin and its terminus. BS, BX, LO, LI and
+-- LT become BS, LO and LT
 abbrev pub thin_lines : List (List ℕ) → List (List ℕ)
 thin_lines [] = []
 thin_lines (basic ∷ others) = basic ∷ filter (λ line. is_end (kind_of line)) others
 
--- the lines of a schedule that the place needs: all if it calls there, else only those
+-- the lines of a schedule that the place needs: all if it calls there, otherwise the thin ones
 abbrev pub lines_for : List ℕ → List (List ℕ) → List (List ℕ)
 lines_for place lines = if calls_at place lines then lines else thin_lines lines
 
--- the body that the place needs: a thin body, if it is of a schedule that doesn't call there
+-- the body that the place needs: thin if it is of a schedule that doesn't call there
 abbrev pub body_for : List ℕ → Body → Body
 body_for place (schedule_body lines) = schedule_body (lines_for place lines)
 body_for place body = body
 
--- the key may matter at the place: the TIPLOC's own, an association's there, or a schedule's
+-- the key may matter at the place: it is the place's TIPLOC, an association there, or any schedule
 abbrev pub may_matter : List ℕ → Key → Bool
 may_matter place (tiploc_key code) = bytes_eq code place
 may_matter place (association_key key) = bytes_eq key.location place
 may_matter place (schedule_key key) = true
 
--- what is left of a body for the place and the day: nothing, if it may not count
+-- the body that is left for the place and the day: none if it may not count
 abbrev pub thin_body : List ℕ → ℕ → Body → Option Body
 thin_body place day body = if may_count day (put_with body) then Some (body_for place body) else None
 
--- the thinned table for the place and the day
+-- the table, thinned for the place and the day
 abbrev pub thinned : List ℕ → ℕ → Table → Table
 thinned place day live key = if may_matter place key then option_and_then (thin_body place day) (live key) else None
 
--- the act, thin: a put of what may not count deletes, and any other has the body that the place
--- needs
+-- the act, thin. A put of what may not count becomes a deletion; any other put has the body that
+-- the place needs
 abbrev pub thin_act : List ℕ → ℕ → Act → Act
 thin_act place day delete = delete
 thin_act place day (put body) = if may_count day (put_with body) then put (body_for place body) else delete
 
--- the change, thin: its number and its key stay
+-- the change, thin: only its act is another
 abbrev pub thin_change : List ℕ → ℕ → Change → Change
 thin_change place day change = record { number = change.number; key = change.key; act = thin_act place day change.act }
 
--- the changes of the keys that may matter at the place, each thin
+-- the changes whose keys may matter at the place, each thin
 abbrev pub thin_changes : List ℕ → ℕ → List Change → List Change
 thin_changes place day changes = map (thin_change place day) (filter (λ (change : Change). may_matter place change.key) changes)
 
@@ -68,18 +70,18 @@ thin_changes place day changes = map (thin_change place day) (filter (λ (change
 abbrev pub table_of : List Change → Table
 table_of changes = fold after_change empty_table changes
 
--- the kept changes are enough for the place and the day: they make the thinned table of the one
--- that all of the changes make
+-- the kept changes are enough for the place and the day: they make the thinned table of what all
+-- changes make
 abbrev pub AreEnough : List ℕ → ℕ → List Change → List Change → Type 0
 AreEnough place day changes kept = (key : Key) → table_of kept key ≡ thinned place day (table_of changes) key
 
--- these changes may be kept in place of all: they are some of the thin ones, in their order, and
+-- these changes may be kept in place of all: they are some of them, each thin, in their order, and
 -- they are enough
 pub record IsThinning (place : List ℕ) (day : ℕ) (changes kept : List Change) : Type 0 where
   pub some : IsSublist kept (map (thin_change place day) changes)
   pub enough : AreEnough place day changes kept
 
--- no change is of the key
+-- no change is of this key
 abbrev pub HasNoChangeOf : Key → List Change → Type 0
 HasNoChangeOf key changes = (change : Change) → Contains changes change → ¬ (change.key ≡ key)
 
@@ -87,12 +89,12 @@ HasNoChangeOf key changes = (change : Change) → Contains changes change → ¬
 abbrev pub AreAtMost : Key → List Change → Type 0
 AreAtMost highest changes = (change : Change) → Contains changes change → IsAtMost key_cmp change.key highest
 
--- the changes of other keys
+-- the changes of all other keys
 abbrev pub without : Key → List Change → List Change
 without key changes = filter (λ (change : Change). not (is_eq (key_cmp change.key key))) changes
 
--- the state of some changes of a file, thin or not: the file's ledger item and, for each key, the
--- greatest entry that they make
+-- the state that some changes of a file make, thin or not. It has the file's ledger item and, for
+-- each key, the greatest entry that they make
 pub record IsStateOfChanges (file : List (List ℕ)) (changes : List Change) (state : State) : Type 0 where
   pub horizon : state.horizon ≡ 0
   pub ledger : state.ledger ≡ ledger_item_of file ∷ []

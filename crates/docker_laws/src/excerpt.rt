@@ -1,6 +1,5 @@
-//! Laws of excerpts: leaving entries out of a table or a state for one place changes no docker of
-//! that place. Each is the contract of a function with an empty body, so it holds for all values of
-//! its variables.
+//! Laws of excerpts: the entries that are left out for a place change no docker there. Each is the
+//! contract of a function with an empty body, so it holds for all values of its variables.
 ghost use Rattle.std.specs.Prelude.{◌≡◌, ℕ, List, [], ◌∷◌, ◌++◌, ◌↔◌, ◌||◌, ◌⊎◌, Contains, filter, Bool, true, false, if◌then◌else◌};
 ghost use Rattle.docker_model.specs.file.Change.{Key, schedule_key, ScheduleKey};
 ghost use Rattle.docker_model.specs.state.Stamp.{LedgerItem, Stamp};
@@ -16,7 +15,7 @@ ghost use Rattle.docker_laws.specs.NearDay.{may_count, near_entries, near_state,
 ghost use Rattle.docker_laws.specs.Excerpt.{IsNeeded, IsExcerpt, IsSublist, IsExcerptState};
 ghost use Rattle.docker_laws.specs.ExcerptWalk.{ExcerptSoFar, nothing_kept, is_here, has_uid, names_in, is_call, is_run_calling, is_run_needed, kept_after_run, goes_on, next_kept, kept_from, kept_so_far, excerpt_for, HasKept};
 
-/// A table and each excerpt of it for a place have the same docker there on each day.
+/// A table and any excerpt of it for a place have the same docker there on each day.
 pub fn excerpt_has_one_docker()
     ensures list { (place : List ℕ) (live part : Table) (day : ℕ) (lines : List DockerLine)
         → IsExcerpt place live part
@@ -28,7 +27,7 @@ pub fn excerpt_has_one_docker()
         → IsExcerpt place live part → HasGoodBodies live → HasGoodBodies part }
 {}
 
-/// An excerpt of a valid state for a place is valid, refuses the same days and prints the same
+/// An excerpt of a valid state for a place is valid, refuses the same days and gives the same
 /// dockers there. An excerpt of an excerpt is an excerpt. A state is an excerpt of itself.
 pub fn excerpt_of_state()
     ensures valid { (place : List ℕ) (state part : State)
@@ -50,8 +49,8 @@ pub fn excerpt_of_state()
         → IsExcerptState place state smaller }
 {}
 
-/// The walk over a state's entries in key order leaves an excerpt: the entries whose keys are
-/// needed at the place, and no others. For a valid state the excerpt is valid and has the same
+/// A walk over a state's entries in key order leaves an excerpt: the entries whose keys are needed
+/// at the place, and no others. If the state is valid, the excerpt is valid and gives the same
 /// dockers there.
 pub fn walk_leaves_excerpt()
     ensures is { (place : List ℕ) (state : State)
@@ -69,8 +68,8 @@ pub fn walk_leaves_excerpt()
         ↔ IsDockerText (live_table (excerpt_for place state)) place day text }
 {}
 
-/// That walk, entry by entry: from its beginning on, and from any entry to its end. What it has
-/// kept and its run are some of the entries so far.
+/// The walk entry by entry, from its start on and from any entry to its end. What it has kept, and
+/// then its run, are some of the entries so far.
 pub fn excerpt_in_a_walk()
     ensures none { (place : List ℕ) → kept_so_far place [] ≡ nothing_kept }
     ensures more { (place : List ℕ) (entries : List (Key × Entry)) (entry : Key × Entry)
@@ -95,9 +94,9 @@ pub fn excerpt_in_a_walk()
         ++ (kept_so_far place entries).run) }
 {}
 
-/// One step of that walk. In key order no run is pending when a TIPLOC or an association comes.
-/// Such an entry is kept if it is at the place. A schedule joins the run of its UID, or it ends the
-/// run and begins the next.
+/// One step of the walk. When a TIPLOC or an association comes, no run is open, because they come
+/// before all schedules. Such an entry is kept if it is at the place. A schedule joins the run of
+/// its UID, or ends the run and begins the next.
 pub fn excerpt_by_entry()
     ensures no_run { (place : List ℕ) (state : State) (key : Key)
         → IsAboveEntries state key → ((uid : List ℕ) → has_uid uid key ≡ false)
@@ -116,9 +115,8 @@ pub fn excerpt_by_entry()
         ≡ record { kept = kept_after_run place so_far; run = (schedule_key key, entry) ∷ [] } }
 {}
 
-/// The end of a run. The run is kept as a whole if it is needed, and otherwise dropped as a whole.
-/// It is needed if a live association at the place names its UID, or one of its live schedules
-/// calls there.
+/// The end of a run: all of it is kept if it is needed, and dropped otherwise. It is needed if a
+/// live association at the place names its UID, or if one of its live schedules calls there.
 pub fn run_of_one_uid()
     ensures keeps { (place : List ℕ) (so_far : ExcerptSoFar)
         → is_run_needed place so_far ≡ true
@@ -148,8 +146,8 @@ pub fn run_of_one_uid()
         → Contains (kept_so_far place entries).run one → has_uid uid one.0 ≡ true }
 {}
 
-/// The same walk as a loop does it, with the kept rows, a run, and whether to keep the run. It goes
-/// from nothing, entry by entry in key order, to the excerpt.
+/// The same walk as a loop makes it: it carries the kept entries, the run, and whether the run is
+/// needed. It starts with nothing and ends with the excerpt.
 pub fn excerpt_in_a_loop()
     ensures first { (place : List ℕ) → HasKept place [] [] [] false }
     ensures alone { (place : List ℕ) (state : State) (kept run : List (Key × Entry))
@@ -187,9 +185,8 @@ pub fn excerpt_in_a_loop()
         → AreEntries ledger entries → AreEntries ledger (kept ++ run) }
 {}
 
-/// Some of a state's entries, in the order in which the state was given them. An entry that may
-/// follow all of the state's entries may also follow only these. Each of them may follow the ones
-/// before it.
+/// Some of a state's entries, in their order. An entry that may follow all of the state's entries
+/// may follow these too. Each of them may follow those before it.
 pub fn some_of_entries()
     ensures more { (state : State) (key : Key) (entry : Entry)
         → AreEntries state.ledger state.entries → IsStampHere state key entry.stamp
@@ -207,8 +204,8 @@ pub fn some_of_entries()
         → part.ledger ≡ state.ledger → IsSublist part.entries state.entries → IsValid part }
 {}
 
-/// A valid state with only what may count near a day is valid, refuses the same days and has the
-/// same dockers on that day.
+/// Leave out of a valid state each schedule that runs on no start day near a day. The rest is
+/// valid, refuses the same days and gives the same dockers on that day.
 pub fn near_state_has_one_docker()
     ensures valid { (day : ℕ) (state : State) → IsValid state → IsValid (near_state day state) }
     ensures refused { (day other : ℕ) (state : State)
@@ -221,7 +218,7 @@ pub fn near_state_has_one_docker()
         ↔ IsDockerText (live_table (near_state day state)) place day text }
 {}
 
-/// The excerpt of a valid state for a place and a day is valid, refuses the same days and has the
+/// The excerpt of a valid state for a place and a day is valid, refuses the same days and gives the
 /// same docker there on that day.
 pub fn excerpt_on_has_one_docker()
     ensures valid { (place : List ℕ) (day : ℕ) (state : State)
@@ -237,8 +234,8 @@ pub fn excerpt_on_has_one_docker()
         ↔ IsDockerText (live_table (excerpt_on place day state)) place day text }
 {}
 
-/// What may count near a day, entry by entry: an entry that may count stays, and any other is left
-/// out.
+/// The walk that leaves out what can't count near a day, entry by entry: an entry stays if it may
+/// count.
 pub fn near_by_entry()
     ensures none { (day : ℕ) → near_entries day [] ≡ [] }
     ensures stays { (day : ℕ) (entries : List (Key × Entry)) (entry : Key × Entry)

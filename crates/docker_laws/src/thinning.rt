@@ -1,6 +1,6 @@
-//! Laws of thinning: what of a file's changes may be dropped for the docker of one place on one
-//! day, by looking at each change by itself. Each is the contract of a function with an empty body,
-//! so it holds for all values of its variables.
+//! Laws of thinning: for the docker of one place on one day, much of a file may be dropped, judging
+//! each change by itself. Each is the contract of a function with an empty body, so it holds for
+//! all values of its variables.
 ghost use Rattle.std.specs.Prelude.{◌≡◌, ℕ, ◌-◌, ◌^◌, ◌<◌, ◌≤◌, Contains, List, [], ◌∷◌, ◌++◌, ◌↔◌, ◌||◌, ◌&&◌, length, fold, true, false};
 ghost use Rattle.std.specs.Str.{bytes_eq};
 ghost use Rattle.docker_model.specs.records.Record.{IsRecord, columns, is_location, kind_of, HasKind, origin_location, terminating_location};
@@ -35,7 +35,7 @@ pub fn thinned_table_has_one_docker()
         → HasGoodBodies live → HasGoodBodies (thinned place day live) }
 {}
 
-/// An excerpt of a thinned table for the place has the same docker too.
+/// Any excerpt of a thinned table for the place has the same docker too.
 pub fn excerpt_of_thinned_has_one_docker()
     ensures list { (place : List ℕ) (day : ℕ) (live part : Table) (lines : List DockerLine)
         → HasGoodBodies live → IsExcerpt place (thinned place day live) part
@@ -45,8 +45,8 @@ pub fn excerpt_of_thinned_has_one_docker()
         → IsDockerText live place day text ↔ IsDockerText part place day text }
 {}
 
-/// A table that stands for another one in the docker of a place and a day has the same docker there
-/// on that day, if both have good bodies. The thinned table is one that stands for it.
+/// A table that stands for another has the same docker for that place and day, if both have good
+/// bodies. The thinned table stands for the table.
 pub fn stand_in_has_one_docker()
     ensures list { (place : List ℕ) (day : ℕ) (live part : Table) (lines : List DockerLine)
         → HasGoodBodies live → HasGoodBodies part → StandsFor place day live part
@@ -58,9 +58,9 @@ pub fn stand_in_has_one_docker()
         → HasGoodBodies live → StandsFor place day live (thinned place day live) }
 {}
 
-/// Which lines stand for a schedule's: the ones that the place needs, and, if it doesn't call
-/// there, any with the same first line that don't either. That line with any two good ends after it
-/// is of the same key.
+/// Which lines are stand-ins for a schedule's lines: those that the place needs, and, if neither
+/// calls there, any with the same first line. That first line with any two good ends is a schedule
+/// with the same key.
 pub fn stand_in_of_a_schedule()
     ensures needed { (place : List ℕ) (day : ℕ) (lines : List (List ℕ))
         → IsStandIn place day lines (lines_for place lines) }
@@ -74,8 +74,8 @@ pub fn stand_in_of_a_schedule()
         → IsScheduleOf key (first_record lines ∷ first ∷ last ∷ []) }
 {}
 
-/// A thin body is of the same key, and has at most three lines. The first line stays, and it calls
-/// nowhere else.
+/// A thin body fits the same key and has at most three lines. Its first line is the whole body's,
+/// and it calls at no place where the whole body doesn't.
 pub fn thin_body_is_of_its_key()
     ensures schedule { (lines : List (List ℕ)) → IsSchedule lines → IsSchedule (thin_lines lines) }
     ensures of_key { (key : ScheduleKey) (lines : List (List ℕ))
@@ -88,7 +88,7 @@ pub fn thin_body_is_of_its_key()
         → calls_at place lines ≡ false → calls_at place (thin_lines lines) ≡ false }
 {}
 
-/// Thin lines, and whether a schedule calls at a place, line by line.
+/// Line by line: the thin lines of a schedule, and whether it calls at a place.
 pub fn thin_lines_in_a_walk()
     ensures first { (basic : List ℕ) → thin_lines (basic ∷ []) ≡ basic ∷ [] }
     ensures end { (basic : List ℕ) (others : List (List ℕ)) (line : List ℕ)
@@ -102,9 +102,9 @@ pub fn thin_lines_in_a_walk()
         || (is_location (kind_of line) && bytes_eq (columns 3 9 line) place)) }
 {}
 
-/// A thin act, case by case. A put of a schedule that runs on no start day near the day deletes,
-/// and one that doesn't call at the place puts a thin body. Any other act stays. Whether a schedule
-/// runs near the day doesn't depend on its transaction.
+/// A thin act, case by case. A put of a schedule becomes a deletion if it runs on no start day near
+/// the day. Otherwise it has a thin body if it doesn't call at the place. Any other act stays.
+/// Whether a schedule runs near the day doesn't depend on its transaction.
 pub fn thin_act_by_case()
     ensures deletes { (place : List ℕ) (day : ℕ) → thin_act place day delete ≡ delete }
     ensures tiploc { (place : List ℕ) (day : ℕ) (bytes : List ℕ)
@@ -124,9 +124,9 @@ pub fn thin_act_by_case()
         → runs_near day (as_new line) ≡ runs_near day line }
 {}
 
-/// What a keeper may keep, change by change. A change elsewhere is dropped, and any other is kept
-/// thin. A deletion is dropped if nothing of its key was kept. What was kept of a key may be
-/// dropped when it is deleted or put again.
+/// What may be kept, change by change. A change elsewhere is dropped, and any other is kept thin. A
+/// deletion is dropped if no change of its key was kept. When a key is deleted or put again, the
+/// kept changes of that key may go.
 pub fn thinning_change_by_change()
     ensures first { (place : List ℕ) (day : ℕ) → IsThinning place day [] [] }
     ensures elsewhere { (place : List ℕ) (day : ℕ) (all kept : List Change) (change : Change)
@@ -152,8 +152,8 @@ pub fn thinning_change_by_change()
         → IsThinning place day all (thin_changes place day all) }
 {}
 
-/// Nothing of a key was kept if the key is above all keys of kept changes. So a keeper that knows
-/// the greatest of these may drop a deletion at once.
+/// If a key is above the keys of all kept changes, no change of that key was kept. So whoever knows
+/// the greatest of those keys may drop a deletion at once.
 pub fn nothing_kept_of_a_key_above()
     ensures none { (highest key : Key) (kept : List Change)
         → AreAtMost highest kept → IsBelow key_cmp highest key → HasNoChangeOf key kept }
@@ -166,8 +166,8 @@ pub fn nothing_kept_of_a_key_above()
         → AreAtMost change.key (kept ++ change ∷ []) }
 {}
 
-/// The kept changes make the thinned table of the one that all changes make: from the empty table
-/// on, and from any thinned table on. Those of a file are well formed.
+/// The kept changes make the thinned table, from the empty table on or from any thinned table on.
+/// The kept changes of a file are well formed.
 pub fn kept_changes_make_the_thinned_table()
     ensures table { (place : List ℕ) (day : ℕ) (all kept : List Change) (key : Key)
         → IsThinning place day all kept
@@ -186,8 +186,8 @@ pub fn kept_changes_make_the_thinned_table()
         → (2 ≤ change.number) × (change.number < 2 ^ 32 - 1) }
 {}
 
-/// The state of what is kept of a file for a place and a day is valid. Its live table is the
-/// thinned table of the file, and it has the docker there on that day that the file's summary has.
+/// The state made of what is kept of a file is valid. Its live table is the file's table, thinned
+/// for the place and the day. It gives the same docker there on that day as the file's summary.
 pub fn state_of_thinning_has_one_docker()
     ensures valid { (place : List ℕ) (day : ℕ) (file : List (List ℕ)) (kept : List Change)
         (part : State) → IsFile file → length file ≤ most_records
@@ -210,8 +210,9 @@ pub fn state_of_thinning_has_one_docker()
         ↔ IsDockerText (live_table part) place day text }
 {}
 
-/// The summary of one file, as a value: it is the summary, and valid. The join of nothing with a
-/// valid state is that state. The live table of a file's summary is the table of its changes.
+/// The summary of one file, as a value: it is the summary, and is valid. The join of an empty state
+/// with a valid state is that state. The live table of a file's summary is the table that the
+/// file's changes make.
 pub fn summary_of_one_file()
     ensures is { (file : List (List ℕ)) → IsSummary (file ∷ []) 0 (summary_of file) }
     ensures valid { (file : List (List ℕ)) → IsFile file → length file ≤ most_records

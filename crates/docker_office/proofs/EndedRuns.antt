@@ -1,4 +1,4 @@
--- Offices at the end of runs.
+-- Offices at the end of their runs.
 use Rattle.std.proofs.Common.{◌≡◌, ℕ, List, subst, arith}
 use Rattle.docker_model.specs.state.State.{State, live_table}
 use Rattle.docker_model.specs.state.StateText.{dks_2}
@@ -11,19 +11,19 @@ use Rattle.docker_laws.proofs.runs.KnownSets.{offices_are}
 use Rattle.docker_laws.proofs.runs.RunEnd.{same_state, same_docker, plain_docker}
 use Rattle.docker_office.specs.RunEnds.{EndsWith, PrintsAs, known_at_end}
 
--- the office is one of its run's
+-- there is such an office in its run
 is_there : (known : Known) (state : State) → (end : EndsWith known state) → IsOffice (sets_of end.offices end.events end.exchange) end.office
 is_there known state end =
     let many = offices_are end.offices end.events end.exchange.replies in
     let low = end.there in
     omega arith
 
--- what holds of an office in its run holds of its knowledge and its state
+-- what holds for the office within its run holds for what it knows and for its state
 at_end : (P : Known → State → Type 0) (known : Known) (state : State) → (end : EndsWith known state)
     → P (known_at_end end.offices end.events end.exchange end.office) (office_state end.exchange.states end.office) → P known state
 at_end P known state end is = subst (P known) end.has (subst (λ k. P k (office_state end.exchange.states end.office)) end.knows is)
 
--- offices that know the same have one state
+-- offices that know the same files and horizon have equal states
 pub one_state : (first second : Known) (one two : State) → EndsWith first one → EndsWith second two → AreOneKnowledge first second → one ≡ two
 one_state first second one two left right same =
     at_end (λ f o. AreOneKnowledge f second → o ≡ two) first one left
@@ -32,13 +32,13 @@ one_state first second one two left right same =
     (same_state dks_2 left.offices right.offices left.events right.events left.exchange right.exchange left.leaves.run right.leaves.run left.office
     right.office (is_there first one left) (is_there second two right))) same
 
--- two states print the same docker, if both print one
+-- for each place and day, all dockers that these two states print are equal
 abbrev PrintOne : State → State → Type 0
 PrintOne one two =
     (place : List ℕ) (day : ℕ) → ¬ IsDayRefused one.horizon day → ¬ IsDayRefused two.horizon day → (text other : List ℕ)
     → IsDockerText (live_table one) place day text → IsDockerText (live_table two) place day other → text ≡ other
 
--- offices that know the same files print the same docker
+-- offices that know the same files print the same dockers
 pub one_docker : (first second : Known) (one two : State) → EndsWith first one → EndsWith second two → HaveSameFiles first.files second.files
     → PrintOne one two
 one_docker first second one two left right same =

@@ -1,4 +1,4 @@
--- The lines of ledger items, written one by one.
+-- The lines of ledger items, written one after the other.
 use Rattle.std.proofs.Common.{◌≡◌, ℕ, suc, ◌+◌, ◌<◌, ◌≤◌, List, [], ◌∷◌, ◌++◌, length, take, drop, map, get_or, All, refl, ap, sym, ◌∙◌, subst, Some, None, Ok, Err, arith, append_assoc, append-nil, length-append}
 use Rattle.std.specs.Prelude.{Option, option_map, Result, OnErr}
 use Rattle.std.proofs.Math.ListN.{get_or-map, drop_of_length-le}
@@ -11,11 +11,11 @@ use Rattle.docker_model.specs.state.State.{IsGoodItem}
 use Rattle.docker_day.specs.LedgerItem.{LedgerItem}
 use Rattle.docker_day.specs.Meaning.{item_meant}
 
--- the text of items
+-- the text of these items
 abbrev pub text_of : List LedgerItem → List ℕ
 text_of items = files_text (map item_meant items)
 
--- the text of two lists is the first list's text and then the second's
+-- the text of two joined lists is both texts, one after the other
 text_joined : (xs ys : List LedgerItem) → text_of (xs ++ ys) ≡ text_of xs ++ text_of ys
 text_joined xs ys =
     ap files_text (map-append item_meant xs ys) ∙ flat_map-append (λ item. ended (file_text item)) (map item_meant xs) (map item_meant ys)
@@ -24,18 +24,18 @@ text_joined xs ys =
 text_of_one : (item : LedgerItem) → text_of (item ∷ []) ≡ ended (file_text (item_meant item))
 text_of_one item = append-nil (ended (file_text (item_meant item)))
 
--- taking no byte leaves the sink as it was
+-- writing no bytes leaves the sink unchanged
 pub none_taken : (sink : Option (List ℕ)) → Takes sink [] sink
 none_taken None = refl
 none_taken (Some taken) = ap Some (sym (append-nil taken))
 
--- taking bytes and then more is taking both at once
+-- two writes, one after the other, take both pieces
 taken_then : (first now next : Option (List ℕ)) (front back : List ℕ) → Takes first front now → Takes now back next → Takes first (front ++ back) next
 taken_then None now next front back one two = two ∙ ap (option_map (λ taken. taken ++ back)) one
 taken_then (Some taken) now next front back one two =
     two ∙ ap (option_map (λ bytes. bytes ++ back)) one ∙ ap Some (append_assoc taken front back)
 
--- each item of a valid ledger has a minute of the day
+-- each item of a good ledger has a minute of the day
 pub minute_at : (items : List LedgerItem) (i : ℕ) (item : LedgerItem) → All IsGoodItem (map item_meant items) → i < length items
     → item ≡ get_or items i item → item.minute < 1440
 minute_at items i item all below at =
@@ -44,7 +44,7 @@ minute_at items i item all below at =
     let good : IsGoodItem (item_meant item) = subst IsGoodItem same (all i (item_meant item) (omega arith)) in
     good.minute
 
--- after the lines of the items before one were taken
+-- the lines of the items before this one are written
 module _ (items : List LedgerItem) (i : ℕ) (item : LedgerItem) (line : List ℕ) (first now next : Option (List ℕ)) (below : i < length items)
     (at : item ≡ get_or items i item) (line_is : line ≡ ended (file_text (item_meant item))) (so_far : Takes first (text_of (take i items)) now) where
   following : suc i ≡ i + 1
@@ -56,7 +56,7 @@ module _ (items : List LedgerItem) (i : ℕ) (item : LedgerItem) (line : List �
       ∙ text_joined (take i items) (get_or items i item ∷ []) ∙ ap (λ one. text_of (take i items) ++ text_of (one ∷ [])) (sym at)
       ∙ ap (λ bytes. text_of (take i items) ++ bytes) (text_of_one item ∙ sym line_is)
 
-  -- if its line is taken, the lines of the items up to it were taken
+  -- if its line is written, so are the lines up to it
   pub line_taken : Takes now line next → Takes first (text_of (take (i + 1) items)) next
   line_taken taken = subst (λ bytes. Takes first bytes next) (sym front_and_line) (taken_then first now next (text_of (take i items)) line so_far taken)
 
@@ -66,7 +66,7 @@ module _ (items : List LedgerItem) (i : ℕ) (item : LedgerItem) (line : List �
       ∙ ap (λ bytes. bytes ++ text_of (drop (i + 1) items)) front_and_line
       ∙ append_assoc (text_of (take i items)) line (text_of (drop (i + 1) items))
 
-  -- if a proper beginning of its line is taken, a proper beginning of the whole text was taken
+  -- if a proper prefix of its line is written, a proper prefix of the whole text is
   pub line_begun : TakesPart now line next → TakesPart first (text_of items) next
   line_begun (n, short, taken) =
       let front = text_of (take i items) in
@@ -82,7 +82,7 @@ module _ (items : List LedgerItem) (i : ℕ) (item : LedgerItem) (line : List �
         subst (λ bytes. Takes first bytes next) (sym cut) (taken_then first now next front (take n line) so_far taken),
       )
 
--- after the last item the whole text was taken
+-- after the last item the whole text is written
 pub all_taken : (items : List LedgerItem) (i : ℕ) (first now : Option (List ℕ)) → length items ≤ i → Takes first (text_of (take i items)) now
     → Takes first (text_of items) now
 all_taken items i first now end so_far = subst (λ xs. Takes first (text_of xs) now) all so_far
@@ -91,7 +91,7 @@ all_taken items i first now end so_far = subst (λ xs. Takes first (text_of xs) 
     all =
         sym (append-nil (take i items)) ∙ ap (λ rest. take i items ++ rest) (sym (drop_of_length-le items end)) ∙ take-append-drop i items
 
--- what holds anyway holds if an answer is an error
+-- what holds anyway holds if a result is an error
 pub on_err : {A E : Type 0} (answer : Result A E) (P : Type 0) → P → OnErr answer P
 on_err (Ok a) P holds = tt
 on_err (Err e) P holds = holds

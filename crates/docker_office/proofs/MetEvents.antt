@@ -1,4 +1,4 @@
--- Each event of a run meets its definition, whatever the office answers.
+-- Each event of a run meets its definition, whatever the office returns.
 use Rattle.std.proofs.Common.{◌≡◌, ℕ, ◌^◌, ◌<◌, ◌≤◌, List, [], ◌∷◌, ◌++◌, length, set, get_or, refl, sym, ◌∙◌, ap, subst, arith, Option, Some, None, Result, Ok, Err, IsOk, IsErr, IfErr}
 use Rattle.std.proofs.lemmas.List.{length-map, set-get_or, map-append}
 use Rattle.cif_line.specs.Device.{Store}
@@ -33,7 +33,7 @@ use Rattle.docker_office.specs.declared.steps.Holdings.{Holdings}
 use Rattle.docker_office.specs.RunMeaning.{IsMissing, IsTextCause, refusal_of_file, reply_for, texts_of}
 use Rattle.docker_office.specs.RunSteps.{AreOf, MeetsEvent}
 
--- if the bytes that are left are this text, a fault of the bytes is a fault of the text
+-- if a source's bytes are this text, their fault is the text's fault
 pub refused_text : (limit : ℕ) (left text : List ℕ) (answer : Result Unit OfficeFault) → left ≡ text
     → ((fault : StateFault) → answer ≡ Err (why.State fault) → RefusesState dks_2 limit (Some left) fault)
     → (fault : StateFault) → answer ≡ Err (why.State fault) → RefusesState dks_2 limit (Some text) fault
@@ -66,24 +66,24 @@ module _ (known : KnownSets) (held : Holdings) (holds : AreOf known held) where
   message_sent : (message : ℕ) (reply : model.Reply) → message < length held.messages.items → IsDoneOrNoMemory reply → IsMessageReply known message reply
   message_sent message reply sent is = record { absent = λ never. absurd (never (is_message message sent)); there = λ _. is }
 
-  -- ---- no such office, and no such message
+  -- ---- the office or the message doesn't exist
 
-  -- a take at an office that isn't there
+  -- a take at an office that doesn't exist
   pub take_without_office : (office : ℕ) (text : List ℕ) (limit : ℕ) → length held.offices.items ≤ office
       → MeetsEvent known (take_file office text limit) (Refused NoOffice) held
   take_without_office office text limit far =
       record { told = tt; may = no_office_there office (IsFileReply limit text (refused no_office)) far; holds = holds }
 
-  -- a send at an office that isn't there
+  -- a send at an office that doesn't exist
   pub send_without_office : (office : ℕ) → length held.offices.items ≤ office → MeetsEvent known (send_state office) (Refused NoOffice) held
   send_without_office office far = record { told = tt; may = no_office_there office (IsDoneOrNoMemory (refused no_office)) far; holds = holds }
 
-  -- a horizon at an office that isn't there
+  -- a horizon at an office that doesn't exist
   pub horizon_without_office : (office day : ℕ) → length held.offices.items ≤ office → MeetsEvent known (horizon_event office day) (Refused NoOffice) held
   horizon_without_office office day far =
       record { told = tt; may = no_office_there office (refused no_office ≡ model.done) far; holds = holds }
 
-  -- a delivery whose office or message is missing
+  -- a delivery whose office or message doesn't exist
   pub delivery_missing : (office message : ℕ) (fault : RunFault)
       → IsMissing (length held.offices.items) (length held.messages.items) office message fault
       → MeetsEvent known (deliver office message) (Refused fault) held
@@ -96,7 +96,7 @@ module _ (known : KnownSets) (held : Holdings) (holds : AreOf known held) where
   }
   delivery_missing office message (Office fault) never = absurd never
 
-  -- a reload whose office or message is missing
+  -- a reload whose office or message doesn't exist
   pub reload_missing : (office message : ℕ) (fault : RunFault)
       → IsMissing (length held.offices.items) (length held.messages.items) office message fault
       → MeetsEvent known (reload office message) (Refused fault) held
@@ -109,9 +109,9 @@ module _ (known : KnownSets) (held : Holdings) (holds : AreOf known held) where
   }
   reload_missing office message (Office fault) never = absurd never
 
-  -- ---- what is held after an event
+  -- ---- the states and messages after an event
 
-  -- the state of one office was replaced, and the messages are as before
+  -- only this office's state has changed, and the messages are unchanged
   pub record IsReplaced (office : ℕ) (now : State) (after : Holdings) : Type 0 where
     pub offices : after.offices.items ≡ set held.offices.items office now
     pub messages : after.messages.items ≡ held.messages.items
@@ -122,7 +122,7 @@ module _ (known : KnownSets) (held : Holdings) (holds : AreOf known held) where
       subst (λ states. Holds dks_2 sets states (texts_of after.messages.items)) (sym is.offices)
       (subst (λ kept. Holds dks_2 sets (set held.offices.items office now) (texts_of kept)) (sym is.messages) have)
 
-  -- replacing a state by itself leaves what is held as it was known
+  -- if the new state equals the old one, what is held is still what is known
   unchanged : (office : ℕ) (now : State) (after : Holdings) → IsReplaced office now after → now ≡ get_or held.offices.items office no_state
       → AreOf known after
   unchanged office now after is same =
@@ -172,7 +172,7 @@ module _ (known : KnownSets) (held : Holdings) (holds : AreOf known held) where
       holds = unchanged office now after is same;
     }
 
-    -- the take meets its definition, whatever the office answers
+    -- the take meets its definition, whatever the office returns
     pub take_met : (answer : Result Unit OfficeFault) (reply : Reply) → reply ≡ reply_for answer → limit ≤ 4_294_967_294
         → (IsOk answer → TakesFile limit (Some text) (get_or held.offices.items office no_state) now)
         → (IsErr answer → now ≡ get_or held.offices.items office no_state)
@@ -195,7 +195,7 @@ module _ (known : KnownSets) (held : Holdings) (holds : AreOf known held) where
 
   -- ---- a state is sent
 
-  -- the new message comes after the earlier ones
+  -- the new message comes last
   pub send_met : (office : ℕ) (message : Store) (after : Holdings) → office < length held.offices.items → after.offices.items ≡ held.offices.items
       → after.messages.items ≡ held.messages.items ++ message ∷ [] → message.taken ≡ state_text dks_2 (get_or held.offices.items office no_state)
       → MeetsEvent known (send_state office) Done after
@@ -235,7 +235,7 @@ module _ (known : KnownSets) (held : Holdings) (holds : AreOf known held) where
 
   module _ (office message : ℕ) (text : List ℕ) (there : office < length held.offices.items) (sent : message < length held.messages.items)
       (text_is : text ≡ message_text (texts_of held.messages.items) message) (short : length text < 2 ^ 64) where
-    -- it has no fault
+    -- the message's text has no fault
     no_fault : (fault : StateFault) → RefusesState dks_2 (length text) (Some text) fault → ⊥
     no_fault fault refuses = by (state_cause_meant fault.cause) refuses.is
       where
@@ -251,7 +251,7 @@ module _ (known : KnownSets) (held : Holdings) (holds : AreOf known held) where
             no_fault_of_state dks_2 (length text) text reads.0 (record { at = fault.at; cause = cause }) reads.1
             (subst (λ t. states.IsStateFault dks_2 (length text) t (record { at = fault.at; cause = cause })) (sym refuses.held) is)
 
-    -- a state that is read is the one whose text the message is
+    -- the message is the text of the state that was read from it
     read_of : (state : State) → (read : ReadsState dks_2 (length text) (Some text) state)
         → IsStateText dks_2 (length text) (message_text (texts_of held.messages.items) message) state
     read_of state read = subst (λ t. IsStateText dks_2 (length text) t state) (sym read.held ∙ text_is) read.is
@@ -289,7 +289,7 @@ module _ (known : KnownSets) (held : Holdings) (holds : AreOf known held) where
       reload_without_memory : now ≡ get_or held.offices.items office no_state → MeetsEvent known (reload office message) (Refused (Office why.Memory)) after
       reload_without_memory same = record { told = tt; may = no_memory_there; holds = unchanged office now after is same }
 
-      -- the delivery meets its definition, whatever the office answers
+      -- the delivery meets its definition, whatever the office returns
       pub delivery_met : (answer : Result Unit OfficeFault) (reply : Reply) → reply ≡ reply_for answer
           → (IsOk answer → JoinsState dks_2 (length text) (Some text) (get_or held.offices.items office no_state) now)
           → (IsErr answer → now ≡ get_or held.offices.items office no_state)
@@ -310,7 +310,7 @@ module _ (known : KnownSets) (held : Holdings) (holds : AreOf known held) where
           by (Err why.Lapsed) ok stays state source only = absurd only
           by (Err why.Sink) ok stays state source only = absurd only
 
-      -- the reload meets its definition, whatever the office answers
+      -- the reload meets its definition, whatever the office returns
       pub reload_met : (answer : Result Unit OfficeFault) (reply : Reply) → reply ≡ reply_for answer
           → (IsOk answer → ReadsState dks_2 (length text) (Some text) now) → (IsErr answer → now ≡ get_or held.offices.items office no_state)
           → ((fault : StateFault) → answer ≡ Err (why.State fault) → RefusesState dks_2 (length text) (Some text) fault) → ¬ (answer ≡ Err why.Source)

@@ -1,4 +1,4 @@
--- What a run leaves, read event by event, office by office and message by message.
+-- The result of a run, by event, by office and by message.
 use Rattle.std.proofs.Common.{◌≡◌, ℕ, zero, suc, ◌<◌, List, [], ◌∷◌, length, take, sym, ◌∙◌, arith}
 use Rattle.std.specs.Prelude.{fold}
 use Rattle.std.specs.List.{zip}
@@ -10,7 +10,7 @@ use Rattle.docker_laws.proofs.runs.RunEnd.{run_holds}
 use Rattle.docker_laws.proofs.runs.RunSteps.{sizes, office_is, message_is}
 use Rattle.docker_office.specs.RunEnds.{LeavesRun, IsReplyAt, HasSummary, TellsSummary, event_at, reply_at}
 
--- a reply in a run that begins anywhere
+-- a reply within a run, whatever was known before it
 reply_there : (known : KnownSets) (events : List RunEvent) (replies : List Reply) → AreReplies known events replies → (place : ℕ) → place < length events
     → IsReply (fold after_reply known (zip (take place events) (take place replies))) (event_at events place) (reply_at replies place)
 reply_there known [] replies are place low = absurd (omega arith)
@@ -27,29 +27,29 @@ module _ (offices : ℕ) (events : List RunEvent) (exchange : Exchange) (leaves 
       (length exchange.messages ≡ length (sets_of offices events exchange).messages)
   many = sizes dks_2 (sets_of offices events exchange) exchange.states exchange.messages held
 
-  -- a reply for each event
+  -- there is one reply for each event
   pub one_each : length exchange.replies ≡ length events
   one_each = sym (replies_long (none_known offices) events exchange.replies leaves.run.replies)
 
-  -- each is one that its event may have
+  -- each reply is one that its event may have
   pub each_reply : (place : ℕ) → place < length events → IsReplyAt offices events exchange.replies place
   each_reply place low = reply_there (none_known offices) events exchange.replies leaves.run.replies place low
 
-  -- a message for each sending that was done
+  -- there is one message for each send that was done
   pub one_sent : length exchange.messages ≡ sent_count events exchange.replies
   one_sent = many.1 ∙ messages_are offices events exchange.replies
 
-  -- a state for each office
+  -- there is one state for each office
   pub all_offices : length exchange.states ≡ offices
   all_offices = many.0 ∙ offices_are offices events exchange.replies
 
-  -- each office's state is the summary of what it knows
+  -- each office's state is the summary of what the office knows
   pub each_state : (office : ℕ) → office < offices → HasSummary offices events exchange office
   each_state office there =
       office_is dks_2 (sets_of offices events exchange) exchange.states exchange.messages held office
       (let same = offices_are offices events exchange.replies in omega arith)
 
-  -- each message is the text of the summary of what it knows
+  -- each message is the text of the summary of what its office knew then
   pub each_message : (message : ℕ) → message < length exchange.messages → TellsSummary offices events exchange message
   each_message message sent =
       message_is dks_2 (sets_of offices events exchange) exchange.states exchange.messages held message (let same = many.1 in omega arith)

@@ -1,4 +1,4 @@
--- A run from event to event.
+-- A run, from one event to the next.
 use Rattle.std.proofs.Common.{◌≡◌, ℕ, ◌≤◌, List, [], ◌∷◌, ◌++◌, length, map, take, sym, subst, All}
 use Rattle.std.proofs.lemmas.List.{map-append, take_all}
 use Rattle.std.proofs.lemmas.List.Elements.{All-nil, All-push}
@@ -17,14 +17,14 @@ use Rattle.docker_office.specs.declared.event.Event.{Event}
 use Rattle.docker_office.specs.RunSteps.{AreOf, MeetsEvent}
 use Rattle.docker_office.specs.RunEnds.{LeavesRun}
 
--- these events were met with these replies, and what is held is what is known then
+-- these events had these replies, and what is held is what is known after them
 pub record HasRun (offices : ℕ) (events : List RunEvent) (replies : List Reply) (held : Holdings) : Type 0 where
   pub told : All IsRunReply replies
   pub are : AreReplies (none_known offices) events (map reply_meant replies)
   pub holds : AreOf (known_sets offices events (map reply_meant replies)) held
   pub good : All (IsGoodEvent dks_2) events
 
--- before the first event
+-- the run before its first event
 pub run_at_first : (offices : ℕ) (held : Holdings) → length held.offices.items ≡ offices → All (IsSummary [] 0) held.offices.items
     → held.messages.items ≡ [] → HasRun offices [] [] held
 run_at_first offices held many each none = record {
@@ -36,7 +36,7 @@ run_at_first offices held many each none = record {
   good = All-nil (IsGoodEvent dks_2);
 }
 
--- after one more event
+-- the run after one more event
 pub run_with_one_more : (offices : ℕ) (events : List RunEvent) (replies : List Reply) (held after : Holdings) (event : RunEvent) (reply : Reply)
     → HasRun offices events replies held → IsGoodEvent dks_2 event → ((known : model.KnownSets) → AreOf known held → MeetsEvent known event reply after)
     → HasRun offices (events ++ event ∷ []) (replies ++ reply ∷ []) after
@@ -65,7 +65,7 @@ run_with_one_more offices events replies held after event reply run good meets =
       good = All-push (IsGoodEvent dks_2) events event run.good good;
     }
 
--- after the last event
+-- the run after its last event
 pub run_at_end : (offices : ℕ) (events : List Event) (index : ℕ) (replies : List Reply) (held : Holdings) (exchange : Exchange)
     → HasRun offices (events_meant (take index events)) replies held → length events ≤ index
     → exchange ≡ record { states = held.offices.items; messages = texts_of held.messages.items; replies = map reply_meant replies }

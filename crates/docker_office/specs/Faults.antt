@@ -1,5 +1,5 @@
--- The faults of an office: which of them a lower call's fault becomes, and which of them a call can
--- have.
+-- The faults of an office: the one that stands for a fault of a call below, and those that each
+-- kind of call can have.
 use Rattle.std.specs.Prelude.{⊤}
 use Rattle.cif_file.specs.declared.fault.ReadFault as files
 use Rattle.cif_file.specs.declared.fault.ReadFault.TheVariants as file_faults
@@ -10,24 +10,24 @@ use Rattle.docker_day.specs.declared.fault.DockerFault.TheVariants as docker_fau
 use Rattle.docker_office.specs.declared.fault.OfficeFault.{OfficeFault}
 use Rattle.docker_office.specs.declared.fault.OfficeFault.TheVariants.{File, State, Lapsed, Source, Sink, Memory}
 
--- the office's fault for a fault in reading a file
+-- the office's fault for a fault of reading a file
 abbrev pub told_of_file : files.ReadFault → OfficeFault
 told_of_file file_faults.Source = Source
 told_of_file (file_faults.File fault) = File fault
 told_of_file file_faults.Memory = Memory
 
--- the office's fault for a fault in reading a state
+-- the office's fault for a fault of reading a state
 abbrev pub told_of_state : states.ReadFault → OfficeFault
 told_of_state state_faults.Source = Source
 told_of_state (state_faults.State fault) = State fault
 told_of_state state_faults.Memory = Memory
 
--- the office's fault for a fault in making a docker
+-- the office's fault for a fault of making a docker
 abbrev pub told_of_docker : dockers.DockerFault → OfficeFault
 told_of_docker docker_faults.Lapsed = Lapsed
 told_of_docker docker_faults.Memory = Memory
 
--- a fault that a call which reads a file can have
+-- the faults that a call has which reads a file
 abbrev pub IsOfFile : OfficeFault → Type 0
 IsOfFile (File fault) = ⊤
 IsOfFile Source = ⊤
@@ -36,7 +36,7 @@ IsOfFile (State fault) = ⊥
 IsOfFile Lapsed = ⊥
 IsOfFile Sink = ⊥
 
--- a fault that a call which reads a state can have
+-- the faults that a call has which reads a state
 abbrev pub IsOfState : OfficeFault → Type 0
 IsOfState (State fault) = ⊤
 IsOfState Source = ⊤
@@ -45,7 +45,7 @@ IsOfState (File fault) = ⊥
 IsOfState Lapsed = ⊥
 IsOfState Sink = ⊥
 
--- a fault that a call which prints a docker can have
+-- the faults that a call has which prints a docker
 abbrev pub IsOfDocker : OfficeFault → Type 0
 IsOfDocker Lapsed = ⊤
 IsOfDocker Sink = ⊤

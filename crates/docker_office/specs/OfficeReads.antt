@@ -1,4 +1,4 @@
--- How an office's reading of a state or of a file ends.
+-- The end of an office's reading of a state or a file.
 use Rattle.std.specs.Prelude.{◌≡◌, ℕ, ◌+◌, Option, Some, None, Result, Ok, Err, ⊤}
 use Rattle.cif_file.specs.SourceRead.{ReadsNoFurther, RefusesText}
 use Rattle.cif_line.specs.Device.{IsEnd}
@@ -14,7 +14,7 @@ use Rattle.docker_office.specs.declared.fault.OfficeFault.TheVariants.{File, Sta
 
 -- ---- a state
 
--- the fault of reading a state that an office's fault stands for, if it stands for one
+-- the fault of reading a state for which an office's fault stands, if there is one
 abbrev pub why_unread : OfficeFault → Option ReadFault
 why_unread (State fault) = Some (states.State fault)
 why_unread Source = Some states.Source
@@ -23,15 +23,15 @@ why_unread (File fault) = None
 why_unread Lapsed = None
 why_unread Sink = None
 
--- how reading the text of a state ends: as the reader of states ends it, by an office's fault
+-- the end of reading a state's text, with an office's faults
 abbrev pub EndsReadingState : {S A : Type 0} → (S → BytesLeft) → (S → ℕ) → Format → ℕ → (A → Type 0) → S → S → Result A OfficeFault → Type 0
 EndsReadingState left failures format limit IsMade source source_now result =
     EndsReadingBy WantsMemory why_unread left failures format limit IsMade source source_now result
 
 -- ---- a file
 
--- what came of taking a file: this holds of what was made, and the source is at its end; or the
--- fault is the file's, or memory ran out; or the source failed
+-- the result of taking a file: a value for which this holds, after the source was read to its end.
+-- Or the fault of the file; or memory ran out, or the source failed
 abbrev pub IsTakingOutcome : {A : Type 0} → ℕ → (A → Type 0) → BytesLeft → BytesLeft → Result A OfficeFault → Type 0
 IsTakingOutcome limit IsMade left left_now (Ok made) = IsMade made × IsEnd left_now
 IsTakingOutcome limit IsMade left left_now (Err (File fault)) = RefusesText limit left fault
@@ -41,7 +41,8 @@ IsTakingOutcome limit IsMade left left_now (Err (State fault)) = ⊥
 IsTakingOutcome limit IsMade left left_now (Err Lapsed) = ⊥
 IsTakingOutcome limit IsMade left left_now (Err Sink) = ⊥
 
--- how often the source failed: once more if that is the fault, and otherwise as often as before
+-- how often the source has failed: once more if that is the fault, and otherwise no more than
+-- before
 abbrev pub CountsTaking : {A : Type 0} → ℕ → ℕ → Result A OfficeFault → Type 0
 CountsTaking failures failures_now (Ok made) = failures_now ≡ failures
 CountsTaking failures failures_now (Err (File fault)) = failures_now ≡ failures
@@ -51,14 +52,14 @@ CountsTaking failures failures_now (Err (State fault)) = ⊥
 CountsTaking failures failures_now (Err Lapsed) = ⊥
 CountsTaking failures failures_now (Err Sink) = ⊥
 
--- nothing of a source was read after the piece that decides. This came of it, and this says how
--- often the source failed
+-- nothing was read after the piece that decides the result. The result has these two properties:
+-- what it says of the file, and how often the source has failed
 pub record StopsTaking (limit : ℕ) (left left_now : BytesLeft) (Outcome Counted : Type 0) : Type 0 where
   pub no_further : ReadsNoFurther most_at_once limit left left_now
   pub outcome : Outcome
   pub failures : Counted
 
--- how the taking of a file of at most `limit` records ends
+-- the end of taking a file with at most `limit` records
 abbrev pub EndsTakingFile : {S A : Type 0} → (S → BytesLeft) → (S → ℕ) → ℕ → (A → Type 0) → S → S → Result A OfficeFault → Type 0
 EndsTakingFile left failures limit IsMade source source_now result =
     StopsTaking limit (left source) (left source_now) (IsTakingOutcome limit IsMade (left source) (left source_now) result)

@@ -1,4 +1,4 @@
--- What a run leaves, event by event, office by office and message by message.
+-- The result of a run, by event, by office and by message.
 use Rattle.std.specs.Prelude.{◌≡◌, ℕ, ◌<◌, ◌≤◌, ◌↔◌, List, take, slice_index_or, All, ⊤}
 use Rattle.docker_model.specs.state.State.{State, live_table}
 use Rattle.docker_model.specs.state.Lapse.{IsDayRefused}
@@ -8,7 +8,7 @@ use Rattle.docker_model.specs.state.StateText.{dks_2}
 use Rattle.docker_model.specs.run.Run.{RunEvent, take_file, send_state, deliver, reload, horizon_event, Reply, done, Known, Exchange, IsRun, IsReply, IsStateOf, IsMessageOf, office_known, message_known, known_sets}
 use Rattle.docker_model.specs.run.Knowledge.{IsGoodEvent, office_state, message_text, sets_of}
 
--- a file is taken under a limit of at most 4,294,967,294 records
+-- a take's limit is at most 4,294,967,294 records
 abbrev pub HasGoodLimit : RunEvent → Type 0
 HasGoodLimit (take_file office text limit) = limit ≤ 4_294_967_294
 HasGoodLimit (send_state office) = ⊤
@@ -16,8 +16,8 @@ HasGoodLimit (deliver office message) = ⊤
 HasGoodLimit (reload office message) = ⊤
 HasGoodLimit (horizon_event office day) = ⊤
 
--- what a run of these events at `offices` offices leaves, with messages of the mark DKS2; the
--- events' limits and horizons are good
+-- this is the result of a run of these events at `offices` offices, with messages in the format
+-- `DKS2`. The limits and horizons of the events are good
 pub record LeavesRun (offices : ℕ) (events : List RunEvent) (exchange : Exchange) : Type 0 where
   pub run : IsRun dks_2 offices events exchange
   pub good : All (IsGoodEvent dks_2) events
@@ -26,28 +26,28 @@ pub record LeavesRun (offices : ℕ) (events : List RunEvent) (exchange : Exchan
 abbrev pub known_at_end : ℕ → List RunEvent → Exchange → ℕ → Known
 known_at_end offices events exchange office = office_known (sets_of offices events exchange) office
 
--- what a message knows at the end of a run
+-- what a message's office knew when the message was sent
 abbrev pub sent_with : ℕ → List RunEvent → Exchange → ℕ → Known
 sent_with offices events exchange message = message_known (sets_of offices events exchange) message
 
--- the event at a place, from 0
+-- the event at an index, from 0
 abbrev pub event_at : List RunEvent → ℕ → RunEvent
 event_at events place = slice_index_or events place (send_state 0)
 
--- the reply at a place
+-- the reply at an index, from 0
 abbrev pub reply_at : List Reply → ℕ → Reply
 reply_at replies place = slice_index_or replies place done
 
--- the reply at a place is one that its event may have after the earlier events and their replies
+-- the reply at this index is one that its event may have, after the earlier events and replies
 abbrev pub IsReplyAt : ℕ → List RunEvent → List Reply → ℕ → Type 0
 IsReplyAt offices events replies place =
     IsReply (known_sets offices (take place events) (take place replies)) (event_at events place) (reply_at replies place)
 
--- the state of an office is the summary of what it knows
+-- the state of this office is the summary of what the office knows
 abbrev pub HasSummary : ℕ → List RunEvent → Exchange → ℕ → Type 0
 HasSummary offices events exchange office = IsStateOf (known_at_end offices events exchange office) (office_state exchange.states office)
 
--- the bytes of a message are the text of the summary of what its office knew when it was sent
+-- this message is the text of the summary of what its office knew when it was sent
 abbrev pub TellsSummary : ℕ → List RunEvent → Exchange → ℕ → Type 0
 TellsSummary offices events exchange message = IsMessageOf dks_2 (sent_with offices events exchange message) (message_text exchange.messages message)
 
@@ -62,7 +62,7 @@ pub record EndsWith (known : Known) (state : State) : Type 0 where
   pub knows : known_at_end offices events exchange office ≡ known
   pub has : office_state exchange.states office ≡ state
 
--- for each timing point and each day that the state does not refuse, its docker is the table's
+-- for each place and each day that the state doesn't refuse, the state's docker is the table's
 -- docker
 abbrev pub PrintsAs : State → Table → Type 0
 PrintsAs state table =

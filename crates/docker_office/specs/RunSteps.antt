@@ -1,4 +1,4 @@
--- What is held in the middle of a run, and an event that happens there.
+-- The states and messages in the middle of a run, and the next event.
 use Rattle.docker_model.specs.state.StateText.{dks_2}
 use Rattle.docker_model.specs.run.Run.{RunEvent, KnownSets, IsReply, after_reply}
 use Rattle.docker_model.specs.run.Knowledge.{Holds}
@@ -6,11 +6,12 @@ use Rattle.docker_office.specs.declared.reply.Reply.{Reply}
 use Rattle.docker_office.specs.declared.steps.Holdings.{Holdings}
 use Rattle.docker_office.specs.RunMeaning.{IsRunReply, reply_meant, texts_of}
 
--- the states and messages that are held are exactly what is known
+-- the offices and messages hold exactly what is known
 abbrev pub AreOf : KnownSets → Holdings → Type 0
 AreOf known held = Holds dks_2 known held.offices.items (texts_of held.messages.items)
 
--- the reply is one that the event may have there, and what is held afterwards is what is known then
+-- the event may have this reply there, and after it the offices and messages hold exactly what is
+-- known then
 pub record MeetsEvent (known : KnownSets) (event : RunEvent) (reply : Reply) (held : Holdings) : Type 0 where
   pub told : IsRunReply reply
   pub may : IsReply known event (reply_meant reply)

@@ -1,39 +1,39 @@
-//! What may happen at offices.
+//! Events at offices.
 use cif_line::Day;
 
-/// An event at an office. Offices and messages are numbered from 0. A lost message is one that no
-/// event delivers.
+/// An event at an office. Offices and messages are numbered from 0. A message that no event
+/// delivers is lost.
 #[derive(Clone, Copy, Debug)]
 pub enum Event<'a> {
-    /// The office takes the file of a text, of at most `limit` records.
+    /// The office takes the file with this text.
     Take {
         /// The office.
         office: usize,
-        /// The text.
+        /// The text of the file.
         text: &'a [u8],
-        /// The most records that the file may have, 4,294,967,294 at most.
+        /// The most records that the file may have. It is at most 4,294,967,294.
         limit: u32,
     },
-    /// The office sends its state, as one new message.
+    /// The office sends its state, as a new message.
     Send {
         /// The office.
         office: usize,
     },
-    /// A message is delivered to the office, which joins its state with the message's.
+    /// A message is delivered: the office joins its state with the message's.
     Deliver {
         /// The office.
         office: usize,
         /// The message.
         message: usize,
     },
-    /// The office goes back to the state in a message.
+    /// The office goes back to a message's state.
     Reload {
         /// The office.
         office: usize,
         /// The message.
         message: usize,
     },
-    /// The office sets a horizon.
+    /// The office sets its horizon.
     Horizon {
         /// The office.
         office: usize,

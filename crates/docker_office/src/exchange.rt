@@ -1,4 +1,4 @@
-//! What a run leaves.
+//! The result of a run.
 ghost use Rattle.std.specs.Prelude.{◌≡◌, All, map};
 ghost use Rattle.docker_office.specs.RunMeaning.{IsRunReply, reply_meant, texts_of};
 
@@ -7,7 +7,7 @@ use crate::reply::Reply;
 use cif_line::Kept;
 use std::marker::Model;
 
-/// What a run leaves: the offices, the messages that were sent, and the replies to the events.
+/// The result of a run: the offices, all messages that were sent, and the replies to the events.
 #[derive(Debug, Drop)]
 pub struct Exchange {
     offices: Vec<Office>,
@@ -32,7 +32,7 @@ impl Model for Exchange {
 }
 
 impl Exchange {
-    /// The exchange with these parts.
+    /// The result with these parts.
     pub(crate) fn of(offices: Vec<Office>, messages: Vec<Kept>, replies: Vec<Reply>) -> Exchange
         requires { All IsRunReply replies.items }
         ensures { result ≡ record {
@@ -48,14 +48,14 @@ impl Exchange {
         }
     }
 
-    /// The offices, each with its state at the end.
+    /// The offices, with their states at the end.
     pub fn offices(&self) -> &[Office]
         ensures { result.now ≡ self.now.states }
     {
         self.offices.as_slice()
     }
 
-    /// The messages in the order in which they were sent, with those that no event delivered. Each
+    /// All messages, in the order in which they were sent, whether they were delivered or not. Each
     /// holds its whole text.
     pub fn messages(&self) -> &[Kept]
         ensures { texts_of result.now ≡ self.now.messages }
@@ -63,8 +63,8 @@ impl Exchange {
         self.messages.as_slice()
     }
 
-    /// The replies, one for each event, in the events' order. Each is a reply that a run can give:
-    /// its only office faults are a file's fault and out of memory.
+    /// The replies, one for each event, in the order of the events. The only office faults among
+    /// them are a file's fault and out of memory.
     pub fn replies(&self) -> &[Reply]
         ensures meant { map reply_meant result.now ≡ self.now.replies }
         ensures each { All IsRunReply result.now }

@@ -7,14 +7,15 @@ use thiserror::Error;
 /// Why an office refuses a request.
 #[derive(Clone, Copy, PartialEq, Eq, Debug, Error)]
 pub enum OfficeFault {
-    /// The source holds no text of a file: the first record at fault. The cause is never out of
+    /// The source holds no file: the fault is at the first bad record. The cause is never out of
     /// memory.
     #[error("file refused: {0}")]
     File(FileFault),
-    /// The source holds no text of a state: the first bad part. The cause is never out of memory.
+    /// The source holds no state: the fault is at the first bad part. The cause is never out of
+    /// memory.
     #[error("state refused: {0}")]
     State(StateFault),
-    /// The state has a horizon, and the requested day is before the horizon plus three days.
+    /// The state has a horizon, and the day is less than three days after it.
     #[error("day refused: before horizon plus three days")]
     Lapsed,
     /// The source failed.
@@ -23,7 +24,7 @@ pub enum OfficeFault {
     /// The sink failed.
     #[error("the sink failed")]
     Sink,
-    /// Out of memory: an allocation was refused.
+    /// Out of memory: the allocator refused to grow.
     #[error("want of memory")]
     Memory,
 }

@@ -1,4 +1,4 @@
-//! The text of the files that a state knows: for each file one line of 33 columns and a line feed.
+//! The list of a state's files, as text: for each file a line of 33 columns and a line feed.
 ghost use Rattle.std.specs.Prelude.{◌≡◌, ◌-◌, ◌^◌, ◌<◌, map, All, IsErr, OnOk, OnErr};
 ghost use Rattle.cif_line.specs.Device.{CountsFailure, Takes, TakesPart};
 ghost use Rattle.docker_model.specs.docker.DockerText.{ended, file_text, files_text};
@@ -11,10 +11,10 @@ use cif_line::{Failed, Sink, write_all};
 use docker_day::LedgerItem;
 use fixed_text::{put, whole};
 
-/// The bytes of a line: 33 columns and a line feed.
+/// The bytes of a line with its line feed.
 const WIDTH: usize = 34;
 
-/// Writes the lines of ledger items in their order.
+/// Writes the lines of these ledger items, in order.
 pub(crate) fn write_files<K: Sink>(items: &[LedgerItem], sink: &mut K) -> Result<(), Failed>
     requires failures { K.failures sink.old < 2 ^ 64 - 1 }
     requires good { All IsGoodItem (map item_meant items.now) }
@@ -30,8 +30,8 @@ pub(crate) fn write_files<K: Sink>(items: &[LedgerItem], sink: &mut K) -> Result
     Ok(())
 }
 
-/// The line of a ledger item with its line feed: day, minute, reference, update indicator and last
-/// reference.
+/// The line of a ledger item: day, minute, reference, update indicator and last reference, then a
+/// line feed.
 fn line_of(item: &LedgerItem) -> [u8; WIDTH]
     requires { item.now.minute < 1440 }
     ensures { result ≡ ended (file_text (item_meant item.now)) }
@@ -49,7 +49,7 @@ fn line_of(item: &LedgerItem) -> [u8; WIDTH]
     whole(text)
 }
 
-/// A minute of the day as HHMM.
+/// A minute of the day as hours and minutes, HHMM.
 fn clock_text(minute: u16) -> [u8; 4]
     requires { minute < 1440 }
     ensures { result ≡ minute_text minute }

@@ -1,6 +1,7 @@
-//! What holds of every run. Its offices may take, send, lose, repeat, reorder, receive or reload
-//! anything: the files and horizons that an office knows determine its bytes and its dockers. Each
-//! law is the contract of a function with an empty body, so it holds for every value that it names.
+//! The laws of runs. Offices may take files, send, receive and reload, and messages may be lost,
+//! repeated or reordered. In each run the files and the horizon that an office knows determine its
+//! bytes and its dockers. Each law is the contract of a function with an empty body, so it holds
+//! for every value that it names.
 ghost use Rattle.std.specs.Prelude.{◌≡◌, ℕ, List};
 ghost use Rattle.docker_model.specs.state.State.{State, live_table};
 ghost use Rattle.docker_model.specs.state.StateText.{dks_2, state_text};
@@ -12,8 +13,8 @@ ghost use Rattle.docker_model.specs.run.Run.{Known};
 ghost use Rattle.docker_model.specs.run.Knowledge.{AreOneKnowledge, HaveSameFiles};
 ghost use Rattle.docker_office.specs.RunEnds.{EndsWith, PrintsAs};
 
-/// Two offices, in one run or in two, that know the same files and the same horizon have equal
-/// states, and so equal bytes.
+/// Two offices that know the same files and the same horizon have equal states, and so equal bytes.
+/// They may be in one run or in two.
 pub fn known_files_fix_states()
     ensures state { (first second : Known) (one two : State) → EndsWith first one
         → EndsWith second two → AreOneKnowledge first second → one ≡ two }
@@ -22,8 +23,8 @@ pub fn known_files_fix_states()
         → state_text dks_2 one ≡ state_text dks_2 two }
 {}
 
-/// Two offices, in one run or in two, that know the same files print the same docker for each
-/// timing point and each day that neither refuses, whatever their horizons.
+/// Two offices that know the same files print the same dockers, whatever their horizons, for each
+/// timing point and each day that neither refuses. They may be in one run or in two.
 pub fn known_files_fix_dockers()
     ensures { (first second : Known) (one two : State) → EndsWith first one → EndsWith second two
         → HaveSameFiles first.files second.files → (place : List ℕ) (day : ℕ)
@@ -32,8 +33,8 @@ pub fn known_files_fix_dockers()
         → IsDockerText (live_table two) place day other → text ≡ other }
 {}
 
-/// If no two files that an office knows have the same moment, they have a plain table. It is made
-/// by applying the newest full extract and then all later updates in the order of their moments.
+/// If no two files that an office knows have the same moment, they have a plain table. That is the
+/// result of the newest full extract and then each later update, in the order of their moments.
 /// Each docker that the office prints is the docker of this table.
 pub fn dockers_are_of_the_plain_table()
     ensures { (known : Known) (state : State) → EndsWith known state

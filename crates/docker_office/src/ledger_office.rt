@@ -1,4 +1,4 @@
-//! An office that lists the files that a state knows, and keeps of the state only its ledger.
+//! An office that only lists the files of a state, and keeps only the state's ledger.
 ghost use Rattle.std.specs.Prelude.{◌≡◌, ◌-◌, ◌^◌, ◌<◌, IfOk, IfErr, OnOk, OnErr, Err};
 ghost use Rattle.cif_line.specs.Device.{CountsFailure, Takes, TakesPart};
 ghost use Rattle.docker_bytes.specs.SourceRead.{ReadsState};
@@ -15,8 +15,8 @@ use docker_bytes::{KeptLedger, read_ledger};
 use std::alloc::Global;
 use std::marker::Model;
 
-/// An office with the ledger of a state. Its value is the whole state. It lists the files, and does
-/// nothing else: no call writes, joins or sends its state.
+/// An office with the ledger of a state. In contracts its value is the whole state. It only lists
+/// the files: its state can't be written, joined or sent.
 #[derive(Debug, Drop)]
 pub struct LedgerOffice {
     ledger: KeptLedger,
@@ -31,9 +31,9 @@ impl Model for LedgerOffice {
 }
 
 impl LedgerOffice {
-    /// The office with the state whose text a source holds, of at most `limit` bytes. It refuses,
-    /// by `State`, `Source` or `Memory`, what `Office::reload` refuses: every part of the text is
-    /// judged, and no entry is kept.
+    /// The office with the state that a source holds, whose text has at most `limit` bytes. Like
+    /// `Office::reload`, it fails with `State`, `Source` or `Memory`: all parts of the text are
+    /// judged, though no entry is kept.
     pub fn read<S: Source>(
         alloc: Global,
         source: &mut S,
@@ -49,9 +49,8 @@ impl LedgerOffice {
         Ok(LedgerOffice { ledger })
     }
 
-    /// Writes a line for each file that the state knows, in the order of the ledger. Takes no
-    /// memory: only `Sink` refuses, and leaves the sink with a beginning of the text, and not all
-    /// of it.
+    /// Writes a line for each file that the state knows, in the order of the ledger. It allocates
+    /// nothing, so it fails only with `Sink`. Then the sink has gained a proper prefix of the text.
     pub fn files<K: Sink>(&self, sink: &mut K) -> Result<(), OfficeFault>
         requires { K.failures sink.old < 2 ^ 64 - 1 }
         ensures whole { OnOk result

@@ -1,16 +1,17 @@
 //! An office that prints the docker of one timing point on one day, and keeps no more of a state
 //! than may count there on that day.
-ghost use Rattle.std.specs.Prelude.{◌≡◌, ◌-◌, ◌^◌, ◌<◌, ◌⊎◌, ◌↔◌, IsOk, IfOk, IfErr, Err};
+ghost use Rattle.std.specs.Prelude.{◌≡◌, ◌-◌, ◌^◌, ◌<◌, ◌≤◌, ◌⊎◌, ◌↔◌, IsOk, IfOk, IfErr, Err};
 ghost use Rattle.cif_line.specs.Device.{CountsFailure};
 ghost use Rattle.docker_bytes.specs.SourceRead.{ReadsState};
 ghost use Rattle.docker_model.specs.state.Lapse.{IsDayRefused};
 ghost use Rattle.docker_model.specs.state.State as states;
 ghost use Rattle.docker_model.specs.state.StateText.{dks_2};
 ghost use Rattle.docker_office.specs.Faults.{IsOfDocker};
-ghost use Rattle.docker_office.specs.Office.{HoldsState, PrintsDocker, PrintsPart};
-ghost use Rattle.docker_office.specs.OfficeReads.{EndsReadingState};
+ghost use Rattle.docker_office.specs.Office.{HoldsState, PrintsDocker, PrintsPart, TakesFile, no_state};
+ghost use Rattle.docker_office.specs.OfficeReads.{EndsReadingState, EndsTakingFile};
 
 use crate::fault::OfficeFault;
+use cif_file::{MOST_RECORDS, read_thin};
 use cif_line::{Day, Sink, Source, Tiploc};
 use docker_bytes::{Excerpt, read_excerpt};
 use docker_day::write_docker;
@@ -56,6 +57,31 @@ impl PlaceOffice {
     {
         let excerpt = read_excerpt(alloc, source, place, day, limit)?;
         Ok(PlaceOffice { alloc, excerpt })
+    }
+
+    /// The office at a timing point for a day, with the state of the file whose text a source holds,
+    /// of at most `limit` records. It refuses, by `File`, `Source` or `Memory`, what `Office::take`
+    /// refuses: every record is judged, whether anything of it is kept or not.
+    pub fn take<S: Source>(
+        alloc: Global,
+        place: Tiploc,
+        day: Day,
+        source: &mut S,
+        limit: u32,
+    ) -> Result<PlaceOffice, OfficeFault>
+        requires failures { S.failures source.old < 2 ^ 64 - 1 }
+        requires limit { limit ≤ MOST_RECORDS }
+        ensures takes { EndsTakingFile S.left S.failures limit
+            (λ office. TakesFile limit (S.left source.old) no_state office.state)
+            source.old source.new result }
+        ensures place { IfOk result (λ office. office.place ≡ place) }
+        ensures day { IfOk result (λ office. office.day ≡ day) }
+    {
+        let file = read_thin(alloc, source, place, day, limit)?;
+        match Excerpt::of_file(alloc, place, day, file) {
+            Ok(excerpt) => Ok(PlaceOffice { alloc, excerpt }),
+            Err(_) => Err(OfficeFault::Memory),
+        }
     }
 
     /// Prints the docker of its timing point and its day, as an office with the whole state does.

@@ -1,4 +1,4 @@
-//! The replies to events.
+//! Replies to events.
 use crate::fault::OfficeFault;
 use thiserror::Error;
 
@@ -7,20 +7,20 @@ use thiserror::Error;
 pub enum Reply {
     /// The event was done.
     Done,
-    /// The event was refused, and changed nothing.
+    /// The event was refused, and had no effect.
     Refused(RunFault),
 }
 
 /// Why an event is refused.
 #[derive(Clone, Copy, PartialEq, Eq, Debug, Error)]
 pub enum RunFault {
-    /// There is no such office.
+    /// The office doesn't exist.
     #[error("no such office")]
     NoOffice,
-    /// The office exists, but there is no such message.
+    /// The office exists, but the message doesn't.
     #[error("no such message")]
     NoMessage,
-    /// The office refuses: at a `Take` for the file's fault, or because it is out of memory.
+    /// The office refuses: for the file's fault, at a `Take`, or because it is out of memory.
     #[error("{0}")]
     Office(OfficeFault),
 }

@@ -1,4 +1,4 @@
-//! A run of events at several offices.
+//! Runs of events at several offices.
 ghost use Rattle.std.specs.Prelude.{◌≡◌, ℕ, ◌<◌, All, length, IfOk};
 ghost use Rattle.docker_model.specs.run.Knowledge.{sent_count};
 ghost use Rattle.docker_office.specs.RunMeaning.{events_meant};
@@ -10,19 +10,18 @@ use crate::steps::Holdings;
 use cif_line::Memory;
 use std::alloc::Global;
 
-/// Runs events in their order at `offices` offices, which know nothing at first, and returns what
-/// the run leaves. Fails with `Memory` only before the first event, if room for the offices, the
-/// messages or the replies is refused. After that each event has one reply, and a refused event
-/// changes nothing.
+/// Runs the events in order at `offices` offices, which know nothing at first, and returns the
+/// result. Fails with `Memory` only before the first event, if there is no room for the offices,
+/// the messages or the replies. Afterwards each event has one reply. A refused event has no effect.
 ///
-/// Each reply is one that its event may have there. It is `NoOffice` if there is no such office,
-/// and `NoMessage` if there is such an office but no such message. Otherwise a Take is done, or
-/// refused for its text's fault or because memory ran out. A Send, a Deliver and a Reload are done
-/// or run out of memory. A Horizon is done. Each office has the state of exactly the files and the
-/// horizon that it knows. Each message holds what its office knew when it was sent.
+/// Each reply is one that its event may have at that point. It is `NoOffice` if the office doesn't
+/// exist, and otherwise `NoMessage` if the message doesn't. Otherwise a Take is done, or refused
+/// for its text's fault or because memory ran out. A Send, a Deliver or a Reload is done, or memory
+/// ran out. A Horizon is done. Each office has the state of exactly the files and the horizon that
+/// it knows. Each message has what its office knew when it was sent.
 ///
-/// So the files and horizons that an office knows determine its bytes and its dockers, whatever was
-/// lost, repeated or reordered. The laws of `headline` say this.
+/// So the files and the horizon that an office knows determine its bytes and its dockers, whatever
+/// was lost, repeated or reordered. The laws of `headline` say this.
 pub fn run(alloc: Global, offices: usize, events: &[Event<'_>]) -> Result<Exchange, Memory>
     requires { All HasGoodLimit (events_meant events.now) }
     ensures run { IfOk result (LeavesRun offices (events_meant events.now)) }

@@ -1,4 +1,4 @@
-//! The events of a run, one by one.
+//! The steps of a run: one event each.
 ghost use Rattle.std.specs.Prelude.{◌≡◌, ◌≢◌, ◌+◌, ◌^◌, ◌<◌, ◌≤◌, [], All, length, vec_len, vec_capacity, IfSome, IfNone, IsOk, IsErr, IfOk, IfErr, Some, Err};
 ghost use Rattle.cif_file.specs.SourceRead.{RefusesText};
 ghost use Rattle.docker_bytes.specs.SourceRead.{JoinsState, ReadsState, RefusesState};
@@ -20,7 +20,7 @@ use cif_line::{Bytes, Day, Kept, Memory, PIECE};
 use docker_bytes::encoded_len;
 use std::alloc::Global;
 
-/// Offices, and the messages that they have sent so far.
+/// The offices, and the messages that they have sent.
 #[derive(Debug, Drop)]
 pub(crate) struct Holdings {
     pub(crate) offices: Vec<Office>,
@@ -30,7 +30,7 @@ pub(crate) struct Holdings {
 impl Holdings {
     ghost use Rattle.docker_office.specs.RunSteps.{AreOf, MeetsEvent};
 
-    /// `offices` offices that know nothing, and room for `messages` messages.
+    /// This many offices, which know nothing, and room for this many messages.
     pub(crate) fn new(alloc: Global, offices: usize, messages: usize) -> Result<Holdings, Memory>
         ensures offices { IfOk result (λ held. length held.offices.items ≡ offices) }
         ensures each { IfOk result (λ held. All (IsSummary [] 0) held.offices.items) }
@@ -48,7 +48,7 @@ impl Holdings {
         })
     }
 
-    /// Does or refuses an event, and returns its reply.
+    /// Does or refuses an event. Returns its reply.
     pub(crate) fn meet(&mut self, alloc: Global, event: &Event<'_>) -> Reply
         requires limit { HasGoodLimit (event_meant event.now) }
         requires room { vec_len self.old.messages < vec_capacity self.old.messages }
@@ -71,7 +71,7 @@ impl Holdings {
         }
     }
 
-    /// Which of an office and a message is missing. The office is looked for first.
+    /// What doesn't exist: the office, or else the message. None if both exist.
     fn missing(&self, office: usize, message: usize) -> Option<RunFault>
         ensures some { IfSome result (IsMissing (length self.now.offices.items)
             (length self.now.messages.items) office message) }
@@ -87,7 +87,7 @@ impl Holdings {
         None
     }
 
-    /// An office takes the file of a text.
+    /// An office takes the file with this text.
     fn take(&mut self, office: usize, text: &[u8], limit: u32) -> Reply
         requires { limit ≤ MOST_RECORDS }
         ensures met { (known : KnownSets) → AreOf known self.old
@@ -100,7 +100,7 @@ impl Holdings {
         reply_to(take_text(&mut self.offices[office], text, limit))
     }
 
-    /// An office sends its state. If that is refused, there is no new message.
+    /// An office sends its state. If memory runs out, there is no new message.
     fn send(&mut self, alloc: Global, office: usize) -> Reply
         requires { vec_len self.old.messages < vec_capacity self.old.messages }
         ensures met { (known : KnownSets) → AreOf known self.old
@@ -135,7 +135,7 @@ impl Holdings {
         }
     }
 
-    /// An office goes back to the state in a message.
+    /// An office goes back to a message's state.
     fn reload(&mut self, office: usize, message: usize) -> Reply
         ensures met { (known : KnownSets) → AreOf known self.old
             → MeetsEvent known (reload office message) result self.new }
@@ -157,7 +157,7 @@ impl Holdings {
             → MeetsEvent known (horizon_event office day) result self.new }
         ensures messages { self.new.messages ≡ self.old.messages }
     {
-        // A day has a number of at most 36524.
+        // This call is for its contract: the number of a day is at most 36524.
         let _number = day.number();
         if office >= self.offices.len() {
             return Reply::Refused(RunFault::NoOffice);
@@ -167,7 +167,7 @@ impl Holdings {
     }
 }
 
-/// An office takes the file of a text.
+/// An office takes the file with this text.
 fn take_text(office: &mut Office, text: &[u8], limit: u32) -> Result<(), OfficeFault>
     requires { limit ≤ MOST_RECORDS }
     ensures ok { IsOk result → TakesFile limit (Some text.now) office.old office.new }
@@ -180,7 +180,7 @@ fn take_text(office: &mut Office, text: &[u8], limit: u32) -> Result<(), OfficeF
     office.take(&mut Bytes::new(text, PIECE), limit)
 }
 
-/// An office receives the state of a text. Every byte of the text is read.
+/// An office receives the state with this text, which is read to its end.
 fn receive_text(office: &mut Office, text: &[u8]) -> Result<(), OfficeFault>
     ensures ok { IsOk result
         → JoinsState dks_2 (length text.now) (Some text.now) office.old office.new }
@@ -193,7 +193,7 @@ fn receive_text(office: &mut Office, text: &[u8]) -> Result<(), OfficeFault>
     office.receive(&mut Bytes::new(text, PIECE), text.len() as u64)
 }
 
-/// An office goes back to the state of a text. Every byte of the text is read.
+/// An office goes back to the state with this text, which is read to its end.
 fn reload_text(office: &mut Office, text: &[u8]) -> Result<(), OfficeFault>
     ensures ok { IsOk result → ReadsState dks_2 (length text.now) (Some text.now) office.new }
     ensures unchanged { IsErr result → office.new ≡ office.old }
@@ -205,8 +205,8 @@ fn reload_text(office: &mut Office, text: &[u8]) -> Result<(), OfficeFault>
     office.reload(&mut Bytes::new(text, PIECE), text.len() as u64)
 }
 
-/// The message that an office sends: its whole text, in room that is reserved before a byte is
-/// written. A text too long for any room is reported as out of memory.
+/// The message that an office sends: its whole text. Room for it is reserved before any byte is
+/// written. If no room can be that large, this is out of memory.
 fn message_of(alloc: Global, office: &Office) -> Result<Kept, Memory>
     ensures { IfOk result (λ kept. kept.taken ≡ state_text dks_2 office.now) }
 {
@@ -214,7 +214,7 @@ fn message_of(alloc: Global, office: &Office) -> Result<Kept, Memory>
         return Err(Memory);
     };
     let mut message = Kept::new(alloc, room)?;
-    // A sink in memory fails only if its room is used up.
+    // A sink in memory fails only if it has no room left.
     match office.send(&mut message) {
         Ok(()) => Ok(message),
         Err(_) => Err(Memory),
@@ -230,7 +230,7 @@ fn text_at(messages: &[Kept], message: usize) -> &[u8]
     messages[message].bytes()
 }
 
-/// The reply to an event, from the office's result.
+/// The reply to an event, by the office's result.
 fn reply_to(answer: Result<(), OfficeFault>) -> Reply
     ensures { result ≡ reply_for answer }
 {

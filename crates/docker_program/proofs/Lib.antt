@@ -1,3 +1,7 @@
 pub mod JobSourcesLemmas
 pub mod JobOutputLemmas
 pub mod ProgramLemmas
+pub mod EndingLemmas
+pub mod CommandLemmas
+pub mod VersionLemmas
+pub mod ShelfRunLemmas

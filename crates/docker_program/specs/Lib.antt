@@ -1,5 +1,6 @@
-pub mod Devices
 pub mod SourceNames
-pub mod Past
+pub mod Sources
+pub mod Writing
 pub mod Program
-pub mod RealDevices
+pub mod Commands
+pub mod ShelfRuns

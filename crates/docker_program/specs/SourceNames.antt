@@ -63,8 +63,10 @@ sources_named reads.no_source output words = no_source
 sources_named reads.checked_file output words = only_source output (first_word words)
 sources_named reads.taken_file output words = only_source output (first_word words)
 sources_named (reads.one_state format) output words = only_source output (first_word words)
-sources_named reads.state_and_file output words = file_and_word (first_word words) (second_word words)
-sources_named reads.two_states output words = file_and_word (first_word words) (second_word words)
+sources_named reads.state_and_file output words =
+    file_and_word (first_word words) (second_word words)
+sources_named reads.two_states output words =
+    file_and_word (first_word words) (second_word words)
 
 -- the sources that the words of a job name
 abbrev pub names_of : JobView → SourceNames

@@ -1,14 +1,13 @@
 //! The program on the real devices.
 ghost use Rattle.std.specs.Prelude.{◌≤◌};
 ghost use Rattle.docker_cmd.specs.Words.{texts};
+ghost use Rattle.docker_host.specs.Host.{AreFew};
 ghost use Rattle.docker_program.specs.Program.{IsUsageStatus};
 
-use crate::devices::{InputDevice, OutputDevice};
 use crate::fault_report::tell;
-use crate::folder::Folder;
 use crate::program::perform;
-use crate::standard::hold_standard;
 use docker_cmd::{Fault, JobFault};
+use docker_host::{Host, InputDevice, OutputDevice, RealFolder, hold_standard};
 use std::env;
 use std::io::ErrorKind;
 use std::process::ExitCode;
@@ -24,16 +23,19 @@ pub fn run_words(rt: &HostRuntime, words: &[&str]) -> u8
     ensures usage { IsUsageStatus (texts words.now) result }
     ensures status { result ≤ 4 }
 {
-    perform(
-        rt.alloc(),
-        words,
-        &mut InputDevice::stdin(rt),
-        &mut InputDevice::without_file(rt),
-        &mut InputDevice::without_file(rt),
-        &mut Folder::new(rt),
-        &mut OutputDevice::stdout(rt),
-        &mut OutputDevice::stderr(rt),
-    )
+    perform(rt.alloc(), words, &mut real_host(rt))
+}
+
+/// The real devices: standard input, output and error, and the real files.
+fn real_host(rt: &HostRuntime) -> Host<InputDevice, RealFolder, OutputDevice, OutputDevice>
+    ensures { AreFew result }
+{
+    Host {
+        input: InputDevice::stdin(rt),
+        folder: RealFolder::new(rt),
+        output: OutputDevice::stdout(rt),
+        faults: OutputDevice::stderr(rt),
+    }
 }
 
 /// Does what the program's own words ask for, if they can be had.

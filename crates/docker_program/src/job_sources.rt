@@ -1,82 +1,100 @@
 //! The sources that a job reads.
-ghost use Rattle.std.specs.Prelude.{◌≡◌, ◌≢◌, ◌+◌, ◌-◌, ◌^◌, ◌<◌, OnOk, OnErr, Err, option_map};
-ghost use Rattle.cif_line.specs.Device.{CountsFailure};
-ghost use Rattle.docker_cmd.specs.Prepared.{DeviceBytes};
-ghost use Rattle.docker_program.specs.Devices.{AreOpened, FailsToOpen, IsCounted, device_of, given};
-ghost use Rattle.docker_program.specs.SourceNames.{names_meant, stored_by};
-ghost use Rattle.docker_program.specs.Program.{ReadsNamed, result_status};
+ghost use Rattle.std.specs.Prelude.{◌≡◌, ◌+◌, ◌-◌, ◌^◌, ◌<◌, OnOk};
+ghost use Rattle.docker_host.specs.History.{Bytes as HeldBytes};
+ghost use Rattle.docker_program.specs.Program.{IsCounted, result_status};
+ghost use Rattle.docker_program.specs.SourceNames.{file_and_input, two_files};
+ghost use Rattle.docker_program.specs.Sources.{ReadsBy, ReadsNamed, asking};
 
-use crate::files::{Files, OpenFault};
 use crate::job_names::names;
 use crate::names::SourceNames;
-use crate::stores::{Looked, Stores};
-use cif_line::Source;
+use crate::opening::fault_of_opening;
+use cif_line::{Bytes, Source};
 use docker_cmd::{Job, OfficeFault, Prepared, prepare};
+use docker_host::Folder;
 use std::alloc::Global;
 
-/// Opens the files of these names, all before anything is read from one.
-fn open_files<F: Files>(
-    names: &SourceNames<'_>,
-    first: &mut F,
-    second: &mut F,
-) -> Result<(), OpenFault>
-    requires first { F.failures first.old < 2 ^ 64 - 1 }
-    requires second { F.failures second.old < 2 ^ 64 - 1 }
-    ensures opened { OnOk result ((input rest : DeviceBytes) →
-        AreOpened (names_meant names.now) rest (given input rest
-        (device_of F.left F.held F.is_missing first.old first.new)
-        (device_of F.left F.held F.is_missing second.old second.new))) }
-    ensures unopened { OnErr result ((input rest : DeviceBytes) →
-        FailsToOpen (names_meant names.now) rest (given input rest
-        (device_of F.left F.held F.is_missing first.old first.new)
-        (device_of F.left F.held F.is_missing second.old second.new))) }
-    ensures failures { CountsFailure (result ≡ Err OpenFault.Failed)
-        (F.failures first.old + F.failures second.old)
-        (F.failures first.new + F.failures second.new) }
-    ensures unfailed { result ≢ Err OpenFault.Failed → (F.failures first.new ≡ F.failures first.old)
-        × (F.failures second.new ≡ F.failures second.old) }
+/// Opens the files that a job reads, each once, in the order of its words, and then reads its
+/// sources. One of them may be what is left of standard input.
+pub(crate) fn read_sources<'a, S: Source, D: Folder>(
+    alloc: Global,
+    job: &'a Job,
+    stdin: &mut S,
+    folder: &mut D,
+) -> Result<Prepared<'a>, OfficeFault>
+    requires stdin { S.failures stdin.old < 2 ^ 64 - 1 }
+    requires folder { D.failures folder.old < 2 ^ 64 - 1 }
+    ensures reads { ReadsNamed (asking (D.history folder.old) (D.history folder.new)
+        (S.left stdin.old) (S.left stdin.new)) job.now result }
+    ensures counted { IsCounted (result_status result)
+        (S.failures stdin.old + D.failures folder.old)
+        (S.failures stdin.new + D.failures folder.new) }
+    ensures stdin_kept { OnOk result (S.failures stdin.new ≡ S.failures stdin.old) }
+    ensures folder_kept { OnOk result (D.failures folder.new ≡ D.failures folder.old) }
 {
-    match names {
-        SourceNames::None | SourceNames::Stdin => Ok(()),
-        SourceNames::File(name) | SourceNames::FileAndStdin(name) => first.open(name),
-        SourceNames::Files(name, other) => {
-            first.open(name)?;
-            second.open(other)
-        }
+    match names(job) {
+        SourceNames::None => prepare(alloc, job, &mut Bytes::new(&[], 1), &mut Bytes::new(&[], 1)),
+        SourceNames::Stdin => prepare(alloc, job, stdin, &mut Bytes::new(&[], 1)),
+        SourceNames::File(name) => read_file(alloc, job, name, &mut Bytes::new(&[], 1), folder),
+        SourceNames::FileAndStdin(name) => read_file(alloc, job, name, stdin, folder),
+        SourceNames::Files(name, other) => read_files(alloc, job, name, other, folder),
     }
 }
 
-/// Opens the files that a job reads, in the order of its words, and then reads its sources. One of
-/// them may be what is left of standard input. The caller passes what the store saw of the file
-/// that the job writes. So nothing is read for a job whose file wasn't looked at before.
-pub(crate) fn read_sources<'a, W: Stores, S: Source, F: Files>(
+/// Opens the file of this name, and then reads it and the second source.
+fn read_file<'a, T: Source, D: Folder>(
     alloc: Global,
     job: &'a Job,
-    _looked: &Option<Looked<'_, W::Seen>>,
-    _store: &W,
-    stdin: &mut S,
-    first: &mut F,
-    second: &mut F,
+    name: &str,
+    second: &mut T,
+    folder: &mut D,
 ) -> Result<Prepared<'a>, OfficeFault>
-    requires looked { option_map (λ it. it.name.now) _looked.now ≡ stored_by job.now }
-    requires stdin { S.failures stdin.old < 2 ^ 64 - 1 }
-    requires first { F.failures first.old < 2 ^ 64 - 1 }
-    requires second { F.failures second.old < 2 ^ 64 - 1 }
-    ensures reads { (input : DeviceBytes) → ReadsNamed (given input (S.left stdin.new)
-        (device_of F.left F.held F.is_missing first.old first.new)
-        (device_of F.left F.held F.is_missing second.old second.new))
-        job.now (S.left stdin.old) result }
+    requires second { T.failures second.old < 2 ^ 64 - 1 }
+    requires folder { D.failures folder.old < 2 ^ 64 - 1 }
+    ensures reads { ReadsBy (file_and_input name.now) (asking (D.history folder.old)
+        (D.history folder.new) (T.left second.old) (T.left second.new)) job.now result }
     ensures counted { IsCounted (result_status result)
-        (S.failures stdin.old + F.failures first.old + F.failures second.old)
-        (S.failures stdin.new + F.failures first.new + F.failures second.new) }
+        (T.failures second.old + D.failures folder.old)
+        (T.failures second.new + D.failures folder.new) }
+    ensures second_kept { OnOk result (T.failures second.new ≡ T.failures second.old) }
+    ensures folder_kept { OnOk result (D.failures folder.new ≡ D.failures folder.old) }
 {
-    let names = names(job);
-    open_files(&names, first, second)?;
-    match names {
-        SourceNames::Stdin => prepare(alloc, job, stdin, second),
-        SourceNames::FileAndStdin(_) => prepare(alloc, job, first, stdin),
-        SourceNames::None | SourceNames::File(_) | SourceNames::Files(..) => prepare(
-            alloc, job, first, second,
-        ),
-    }
+    let mut file = match folder.open(name) {
+        Ok(file) => file,
+        Err(cause) => return Err(fault_of_opening(cause)),
+    };
+    let prepared = prepare(alloc, job, &mut file, second);
+    folder.close(file);
+    prepared
+}
+
+/// Opens the files of these names, one after the other, and then reads them.
+fn read_files<'a, D: Folder>(
+    alloc: Global,
+    job: &'a Job,
+    name: &str,
+    other: &str,
+    folder: &mut D,
+) -> Result<Prepared<'a>, OfficeFault>
+    requires { D.failures folder.old < 2 ^ 64 - 1 }
+    ensures reads { (rest : HeldBytes) → ReadsBy (two_files name.now other.now)
+        (asking (D.history folder.old) (D.history folder.new) rest rest) job.now result }
+    ensures counted { IsCounted (result_status result)
+        (D.failures folder.old) (D.failures folder.new) }
+    ensures kept { OnOk result (D.failures folder.new ≡ D.failures folder.old) }
+{
+    let mut first = match folder.open(name) {
+        Ok(first) => first,
+        Err(cause) => return Err(fault_of_opening(cause)),
+    };
+    let mut second = match folder.open(other) {
+        Ok(second) => second,
+        Err(cause) => {
+            folder.close(first);
+            return Err(fault_of_opening(cause));
+        }
+    };
+    let prepared = prepare(alloc, job, &mut first, &mut second);
+    folder.close(second);
+    folder.close(first);
+    prepared
 }

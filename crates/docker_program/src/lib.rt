@@ -1,27 +1,22 @@
-//! The program: what it does with its words and its devices, and the real devices that it runs on.
+//! The program: what it does with its words, on its devices.
 #![tactic(auto)]
 
-mod beside;
-mod devices;
 mod fault_report;
-mod files;
-mod folder;
 mod host;
 mod job_names;
 mod job_output;
 mod job_sources;
+pub mod laws;
+mod looks;
 mod names;
+mod opening;
 mod program;
 mod request;
-mod standard;
-mod stores;
+mod shelf_runs;
 
-pub use devices::{InputDevice, OutputDevice};
 pub use docker_cmd::{Fault, JobFault};
 pub use fault_report::tell;
-pub use files::{Files, OpenFault};
-pub use folder::{Draft, Folder, Seen};
 pub use host::{own_words, run, run_words};
+pub use opening::fault_of_opening;
 pub use program::perform;
-pub use standard::{Standard, hold_standard};
-pub use stores::{Looked, Stores};
+pub use shelf_runs::{check_on_a_shelf, take_on_a_shelf};

@@ -10,7 +10,7 @@ use Rattle.cif_laws.proofs.orders.AtMost.{at_most_trans}
 use Rattle.docker_join.specs.Greater.{IsGreater}
 
 module _ (left right : List LedgerItem) where
-  -- if two ledgers have no full extract, both together have none
+  -- if neither ledger has a full extract, both together have no floor
   pub neither_full : HasNoFull left → HasNoFull right → HasNoFull (left ++ right)
   neither_full one other item among full = by (Contains-append_cases left right item among)
     where
@@ -18,7 +18,7 @@ module _ (left right : List LedgerItem) where
       by (inl here) = one item here full
       by (inr here) = other item here full
 
-  -- the floor of the first ledger, if the second has none
+  -- if only the first ledger has a full extract, the floor is the first one's
   pub left_full : (stamp : stamps.FileStamp) → IsGreatestFull left stamp → HasNoFull right → IsGreatestFull (left ++ right) stamp
   left_full stamp one other = record {
     full = one.full;
@@ -32,7 +32,7 @@ module _ (left right : List LedgerItem) where
       by item full (inl here) = one.greatest item here full
       by item full (inr here) = absurd (other item here full)
 
-  -- the floor of the second ledger, if the first has none
+  -- if only the second ledger has a full extract, the floor is the second one's
   pub right_full : (stamp : stamps.FileStamp) → HasNoFull left → IsGreatestFull right stamp → IsGreatestFull (left ++ right) stamp
   right_full stamp one other = record {
     full = other.full;
@@ -46,7 +46,7 @@ module _ (left right : List LedgerItem) where
       by item full (inl here) = absurd (one item here full)
       by item full (inr here) = other.greatest item here full
 
-  -- the greater of the two floors
+  -- if both ledgers have a full extract, the floor is the greater of their floors
   pub both_full : (first second greater : stamps.FileStamp) → IsGreatestFull left first → IsGreatestFull right second
       → IsGreater file_stamp_cmp first second greater
       → IsGreatestFull (left ++ right) greater
@@ -72,7 +72,7 @@ module _ (left right : List LedgerItem) where
         greatest = λ item among full. up item full (Contains-append_cases left right item among);
       }
 
--- the greater of two in the code is the greater of what they mean
+-- the greater of two values in the code is the greater of their meanings
 pub greater_meant : {A B : Type 0} (f : A → B) (cmp : _) (a b c : A) → IsGreater (on f cmp) a b c → IsGreater cmp (f a) (f b) (f c)
 greater_meant f cmp a b c is = record { among = by is.among; first = is.first; second = is.second }
   where

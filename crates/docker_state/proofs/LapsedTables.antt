@@ -1,4 +1,4 @@
--- The join of two tables that lapsed under one horizon is the lapse of the join of the tables.
+-- Two tables that lapsed under one horizon join to what the join of the tables lapses to.
 use Rattle.std.proofs.Common.{◌≡◌, ℕ, List, ◌++◌, map, ap, sym, ◌∙◌, subst, Contains, Bool, true, false, cond}
 use Rattle.std.specs.Prelude.{◌↔◌, nat_lt}
 use Rattle.std.proofs.lemmas.List.{map-append}
@@ -19,7 +19,7 @@ use Rattle.docker_join.proofs.MeantOrder.{ascending_meant, meant_ascending}
 use Rattle.docker_state.specs.Meaning.{row_meant}
 use Rattle.docker_state.proofs.TableJoin.{Keyed, by_key, higher, value_in, same_value, joined_has, joined_greatest, greatest_joined}
 
--- an op of records that lapses is of records
+-- an op that has records still has them after it lapses
 pub lapse_records : (horizon : ℕ) (op : ops.Op) → HasRecords op → HasRecords (lapse horizon op)
 lapse_records horizon deleted good = tt
 lapse_records horizon lapsed good = tt
@@ -29,7 +29,7 @@ lapse_records horizon (put_with body) good = by (nat_lt (body_end body) horizon)
     by true = tt
     by false = good
 
--- rows that lapsed ascend as they did
+-- rows that have lapsed ascend as before
 pub lapsed_up : (horizon : ℕ) (rows after : List (Key × Entry)) → map row_meant after ≡ lapse_entries horizon (map row_meant rows) → AreAscending rows
     → AreAscending after
 lapsed_up horizon rows after is up =
@@ -60,7 +60,7 @@ module _ (horizon : ℕ) (first second left right : List (Key × Entry)) (up_fir
       let found = lapsed_from horizon Before pair.0 pair.1 (subst (λ (xs : List Keyed). Contains xs pair) all_lapsed among) in
       subst (λ (e : ops.Entry). HasRecords e.op) found.2 (lapse_records horizon found.0.op (records (pair.0, found.0) found.1))
 
-  -- the lapse of an entry of the join
+  -- an entry of the join, lapsed, is in the join of the lapsed tables
   lapse_in : (key : model.Key) (entry : ops.Entry) → Contains (map row_meant whole) (key, entry)
       → Contains (map row_meant joined) (key, lapse_entry horizon entry)
   lapse_in key entry among =
@@ -68,14 +68,14 @@ module _ (horizon : ℕ) (first second left right : List (Key × Entry)) (up_fir
       (subst (λ (xs : List Keyed). IsGreatestAmong xs key (lapse_entry horizon entry)) (sym all_lapsed)
       (greatest_lapses horizon Before key entry (joined_greatest first second whole up_first up_second whole_is key entry among)))
 
-  -- two entries of one key in the join are one
+  -- the join has one entry of each key
   one_there : (key : model.Key) (a b : ops.Entry) → Contains (map row_meant joined) (key, a) → Contains (map row_meant joined) (key, b) → a ≡ b
   one_there key a b first_in second_in =
       let one = value_in joined joined_is.ascends key a first_in in
       let two = value_in joined joined_is.ascends key b second_in in
       sym one.2 ∙ ap entry_meant (same_value one.0 two.0 (value_at joined key) one.1 two.1) ∙ two.2
 
-  -- its entries are the lapses of the entries of the tables' join
+  -- the join of the lapsed tables has just the lapsed entries of the tables' join
   pub joined_lapses : (key : model.Key) (entry : ops.Entry) → Contains (map row_meant joined) (key, entry)
       ↔ ((before : ops.Entry) × Contains (map row_meant whole) (key, before) × (lapse_entry horizon before ≡ entry))
   joined_lapses key entry = (

@@ -1,4 +1,4 @@
--- Among sorted rows, the last row of each run of rows of one key.
+-- Sorted rows: the last row of each key's run.
 use Rattle.std.proofs.Common.{◌≡◌, List, [], ◌∷◌, inl, inr, ◌⊎◌, refl, ap, sym, ◌∙◌, Bool, true, false, cond, subst, Contains}
 use Rattle.std.specs.List.{AllByRecursion}
 use Rattle.std.specs.declared.cmp.Ordering.{Ordering}
@@ -29,7 +29,7 @@ AreSorted rows = AllLater (IsAtMost by_entry) rows
 abbrev LaterKey : Key × Entry → Key × Entry → Type 0
 LaterKey a b = (row_cmp a b ≡ Less) ⊎ ((row_cmp a b ≡ Equal) × IsAtMost entry_cmp (entry_meant a.1) (entry_meant b.1))
 
--- of two rows in order, the second has a higher key, or the same key and no lesser entry
+-- of two sorted rows the later one has a higher key, or the same key and an entry that isn't lower
 pub later_key : (a b : Key × Entry) → IsAtMost by_entry a b → LaterKey a b
 later_key a b = by (row_cmp a b) refl
   where
@@ -38,7 +38,7 @@ later_key a b = by (row_cmp a b) refl
     by Equal is low = inr (is, low)
     by Greater is low = absurd (low refl)
 
--- what holds of all rows holds of the last row of each key
+-- what holds for all rows holds for the last ones
 pub lasts_all : (P : Key × Entry → Type 0) (rows : List (Key × Entry)) → AllByRecursion P rows → AllByRecursion P (last_rows rows)
 lasts_all P [] all = tt
 lasts_all P (row ∷ []) all = (all.0, tt)
@@ -48,7 +48,7 @@ lasts_all P (row ∷ next ∷ rows) all = by (is_eq (row_cmp next row)) (lasts_a
     by true rest = rest
     by false rest = (all.0, rest)
 
--- a row whose key is below the next row's key is below all rows that follow
+-- a row whose key is below the next row's key is below all rows after it
 below_all : (row next : Key × Entry) (rows : List (Key × Entry)) → row_cmp row next ≡ Less → AllByRecursion (IsAtMost by_entry next) rows
     → AllByRecursion (IsBelow row_cmp row) rows
 below_all row next [] below later = tt
@@ -83,12 +83,12 @@ lasts_ascend (row ∷ next ∷ rows) sorted = by (row_cmp next row) refl (lasts_
     by Less is rest = in_front (λ tied. cc) rest
     by Greater is rest = in_front (λ tied. cc) rest
 
--- a row whose key isn't the next row's key is below the next row
+-- a sorted row is below the next row if that has another key
 front_below : (row next : Key × Entry) → ¬ (row_cmp next row ≡ Equal) → LaterKey row next → row_cmp row next ≡ Less
 front_below row next apart (inl below) = below
 front_below row next apart (inr same) = absurd (apart (key_total.antisymm (key_meant next.0) (key_meant row.0) ∙ ap ordering_reverse same.0))
 
--- the only element
+-- the only element of a list of one
 alone : {A : Type 0} (x v : A) → Contains (x ∷ []) v → x ≡ v
 alone x v inside = by (Contains-cons x [] v inside)
   where
@@ -96,7 +96,7 @@ alone x v inside = by (Contains-cons x [] v inside)
     by (inl same) = same
     by (inr none) = absurd (nil-Contains v none)
 
--- of two rows of one key, the later has no lesser entry
+-- of two rows with one key, the later one's entry isn't lower
 of_one_key : (a b : Key × Entry) → IsAtMost by_entry a b → row_cmp a b ≡ Equal → IsAtMost entry_cmp (entry_meant a.1) (entry_meant b.1)
 of_one_key a b low tied = by (later_key a b low)
   where
@@ -104,13 +104,13 @@ of_one_key a b low tied = by (later_key a b low)
     by (inl less) = absurd (let bad : Less ≡ Equal = sym less ∙ tied in cc)
     by (inr same) = same.1
 
--- the last row of each key is among the rows
+-- each last row is one of the rows
 pub lasts_among : (rows : List (Key × Entry)) (z : Key × Entry) → Contains (last_rows rows) z → Contains rows z
 lasts_among rows z last =
     below_by_recursion (Contains rows) (last_rows rows) z
     (lasts_all (Contains rows) rows (recursion_from_All (Contains rows) rows (all_members (Contains rows) rows (λ x among. among)))) last
 
--- of rows of one key, the last is the greatest
+-- among the rows with one key the last row has the greatest entry
 pub lasts_top : (rows : List (Key × Entry)) → AreSorted rows → (z : Key × Entry) → Contains (last_rows rows) z → (w : Key × Entry) → Contains rows w
     → row_cmp w z ≡ Equal
     → IsAtMost entry_cmp (entry_meant w.1) (entry_meant z.1)

@@ -1,4 +1,4 @@
--- A state that has all that another would bring.
+-- A state that already has all that another would bring.
 use Rattle.std.proofs.Common.{◌≡◌, Bool, true, false, List, [], ◌∷◌, ◌++◌, map, length, refl, ap, sym, ◌∙◌, subst, inl, inr, ◌⊎◌, Contains, arith}
 use Rattle.std.specs.Prelude.{Option, ◌↔◌, IsTrue}
 use Rattle.std.specs.Ordering.{ordering_reverse}
@@ -15,11 +15,11 @@ use Rattle.state_laws.proofs.joins.StagedState.{join_with_staged}
 use Rattle.docker_state.specs.Staging.{HasKeptItems, HasNoneToStage}
 use Rattle.docker_state.proofs.StagingLemmas.{join_of_nothing_new}
 
--- what is below a floor isn't kept under it
+-- a stamp below the floor isn't kept
 pub not_kept : (stamp floor : FileStamp) → IsBelow file_stamp_cmp stamp floor → ¬ IsAtMost file_stamp_cmp floor stamp
 not_kept stamp floor below kept = kept (file_stamp_total.antisymm floor stamp ∙ ap ordering_reverse below)
 
--- if all files of a state are below the floor, nothing of it has to be staged
+-- if all files of a state are below the floor, none of its entries has to be staged
 pub below_brings_none : (own other : State) → IsValid other → (floor : Option FileStamp)
     → ((item : LedgerItem) → Contains other.ledger item → ¬ IsKept floor item.stamp) → HasNoneToStage own floor other.entries
 below_brings_none own other valid floor below key entry among to =
@@ -33,7 +33,7 @@ pub none_of_no_row : {A : Type 0} (meant : A → Key × Entry) (own : State) (fl
 none_of_no_row meant own floor [] none = λ key entry among. absurd (nil-Contains (key, entry) among)
 none_of_no_row meant own floor (row ∷ rows) some = absurd (omega arith)
 
--- if a row doesn't have to be staged, and none of the others does, none of all does
+-- if neither the first row has to be staged nor any other, none has
 pub none_of_more : (own : State) (floor : Option FileStamp) (row : Key × Entry) (rows : List (Key × Entry)) → ¬ IsToStage own floor row.0 row.1
     → HasNoneToStage own floor rows → HasNoneToStage own floor (row ∷ rows)
 none_of_more own floor row rows first others key entry among = by (Contains-cons row rows (key, entry) among)
@@ -48,12 +48,12 @@ pub none_of_rest : {A : Type 0} (meant : A → Key × Entry) (own : State) (floo
 none_of_rest meant own floor rows behind row is first others =
     subst (λ xs. HasNoneToStage own floor (map meant xs)) (sym is) (none_of_more own floor (meant row) (map meant behind) first others)
 
--- if a test fails, what it tests doesn't hold
+-- if a test fails, what it decides doesn't hold
 pub untold : {P : Type 0} (b : Bool) → b ≡ false → IsTrue b ↔ P → ¬ P
 untold b fails tells holds = let bad : false ≡ true = sym fails ∙ tells.1 holds in cc
 
--- if a state has each item that is kept, and nothing has to be staged for it, it is the join under
--- the greater horizon
+-- if a state has each item that is kept, and no entry has to be staged for it, then under the
+-- greater horizon it is the join
 pub covered : (own other : State) → IsValid own → IsValid other → (floor : Option FileStamp) → IsFloor (own.ledger ++ other.ledger) floor
     → HasKeptItems own.ledger other.ledger floor → HasNoneToStage own floor other.entries → IsJoin own other (raise_horizon other.horizon own)
 covered own other valid valid_too floor is_floor has none =

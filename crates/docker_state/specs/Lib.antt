@@ -2,6 +2,8 @@ pub mod Meaning
 pub mod Live
 pub mod Parts
 pub mod Rows
+pub mod MadeState
 pub mod Staging
 pub mod UidPiece
 pub mod Indexed
+pub use Rattle.state_index.specs.Counts

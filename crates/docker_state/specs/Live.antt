@@ -1,21 +1,21 @@
--- The keys of a state that are put, each with its body.
+-- The live keys of a state, each with its body.
 use Rattle.std.specs.Prelude.{List, [], ◌∷◌}
 use Rattle.docker_model.specs.file.Change.{Key, Body}
 use Rattle.std.specs.Ordering.{on}
 use Rattle.docker_model.specs.state.Order.{IsStrictlyAscending}
 use Rattle.docker_model.specs.state.Op.{Op, deleted, lapsed, put_with, Entry, key_cmp}
 
--- a key with its body, if the op is a put, before the rest
+-- puts a key with its body before the rest, if the op is a put
 abbrev pub put_before : Key → Op → List (Key × Body) → List (Key × Body)
 put_before key deleted rest = rest
 put_before key lapsed rest = rest
 put_before key (put_with body) rest = (key, body) ∷ rest
 
--- the keys of these entries that are put, each with its body; entries and keys are in key order
+-- the keys that these entries put, each with its body, in the same order
 abbrev pub live_rows : List (Key × Entry) → List (Key × Body)
 live_rows [] = []
 live_rows (entry ∷ entries) = put_before entry.0 entry.1.op (live_rows entries)
 
--- each key is below the keys after it
+-- the keys ascend
 abbrev pub AreInKeyOrder : List (Key × Body) → Type 0
 AreInKeyOrder rows = IsStrictlyAscending (on (λ (row : Key × Body). row.0) key_cmp) rows

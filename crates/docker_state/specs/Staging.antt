@@ -14,13 +14,13 @@ use Rattle.docker_join.specs.declared.entry.Entry.{Entry}
 use Rattle.docker_state.specs.declared.item.LedgerItem.{LedgerItem}
 use Rattle.docker_state.specs.Meaning.{floor_meant, item_meant, row_meant}
 
--- the floor of the union, the ledger items received, and the received entries that are staged
+-- the common floor of both ledgers, the received ledger items, and the entries that are staged
 pub record Staging : Type 0 where
   pub floor : Option stamps.FileStamp
   pub items : List stamps.LedgerItem
   pub staged : List (model.Key × ops.Entry)
 
--- what was received, as the code has it: a floor, a ledger and rows
+-- a staging, from the code's floor, ledger and rows
 abbrev pub staging_meant : Option FileStamp → List LedgerItem → List (Key × Entry) → Staging
 staging_meant floor items rows = record {
   floor = floor_meant floor;
@@ -28,7 +28,7 @@ staging_meant floor items rows = record {
   staged = map row_meant rows;
 }
 
--- what was received, with one more entry staged after the others
+-- the staging after one more entry is staged
 abbrev pub with_staged : Staging → model.Key → ops.Entry → Staging
 with_staged staging key entry = record {
   floor = staging.floor;
@@ -36,23 +36,23 @@ with_staged staging key entry = record {
   staged = staging.staged ++ (key, entry) ∷ [];
 }
 
--- an offered entry is staged if it has to be, and left out if not
+-- the entry was offered: it is staged if it has to be, and otherwise left out
 abbrev pub IsOffered : State → Staging → model.Key → ops.Entry → Staging → Type 0
 IsOffered own before key entry after =
     (IsToStage own before.floor key entry × (after ≡ with_staged before key entry))
     ⊎ (¬ IsToStage own before.floor key entry × (after ≡ before))
 
--- none of the entries has to be staged for a state
+-- none of these entries has to be staged for our state
 abbrev pub HasNoneToStage : State → Option stamps.FileStamp → List (model.Key × ops.Entry) → Type 0
 HasNoneToStage own floor entries =
     (key : model.Key) (entry : ops.Entry) → Contains entries (key, entry) → ¬ IsToStage own floor key entry
 
--- the key is above the keys of the staged entries
+-- the key is above each staged entry's key
 abbrev pub IsAboveStaged : List (model.Key × ops.Entry) → model.Key → Type 0
 IsAboveStaged staged key =
     (other : model.Key × ops.Entry) → Contains staged other → key_cmp other.0 key ≡ Less
 
--- the ledger has the item, if the item is kept under the floor
+-- the ledger has the item, or the item isn't kept under the floor
 abbrev pub HasIfKept : List stamps.LedgerItem → stamps.LedgerItem → Option stamps.FileStamp → Type 0
 HasIfKept ledger item floor = IsKept floor item.stamp → Contains ledger item
 
@@ -61,7 +61,7 @@ abbrev pub HasKeptItems : List stamps.LedgerItem → List stamps.LedgerItem → 
 HasKeptItems ledger items floor =
     (item : stamps.LedgerItem) → Contains items item → HasIfKept ledger item floor
 
--- nothing is staged, and the ledger has each item that is kept under the floor
+-- no entry is staged, and the ledger has each received item that is kept under the floor
 abbrev pub HasNothingNew : List stamps.LedgerItem → Staging → Type 0
 HasNothingNew ledger staging =
     (staging.staged ≡ []) × HasKeptItems ledger staging.items staging.floor

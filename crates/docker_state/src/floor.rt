@@ -1,4 +1,4 @@
-//! The floor of a ledger: the greatest file stamp of a full extract.
+//! The floor of a ledger: the file stamp of its newest full extract.
 ghost use Rattle.std.specs.Prelude.{◌≡◌, ◌==◌, ◌↔◌, ◌++◌, map, find, IsTrue};
 ghost use Rattle.std.specs.Option.{option_copied};
 ghost use Rattle.docker_model.specs.state.Stamp.{IsFloor, IsKept};
@@ -9,15 +9,15 @@ ghost use Rattle.docker_state.specs.Meaning.{floor_meant, item_meant};
 use crate::item::LedgerItem;
 use docker_join::{FileStamp, Pick};
 
-/// The first item of a full extract.
+/// The first item of a full extract, if there is one.
 fn first_full(items: &[LedgerItem]) -> Option<&LedgerItem>
     ensures { option_copied result ≡ find (λ item. (item_meant item).indicator == 70) items.now }
 {
     items.iter().find(|item| item.is_full())
 }
 
-/// The floor of a ledger: the file stamp of its first full extract, because the other items are
-/// kept under the same floor.
+/// The floor of a ledger: its first full extract's stamp. All items are kept under the floor, so
+/// the first is also the newest.
 pub(crate) fn floor_of(items: &[LedgerItem]) -> Option<FileStamp>
     requires { IsLedger (map item_meant items.now) }
     ensures { IsFloor (map item_meant items.now) (floor_meant result) }
@@ -28,7 +28,7 @@ pub(crate) fn floor_of(items: &[LedgerItem]) -> Option<FileStamp>
     }
 }
 
-/// The floor of two ledgers together, from the floor of each.
+/// The common floor of two ledgers, from the floor of each.
 pub(crate) fn common_floor(first: Option<FileStamp>, second: Option<FileStamp>) -> Option<FileStamp>
     ensures { (left right : _) → IsFloor left (floor_meant first)
         → IsFloor right (floor_meant second) → IsFloor (left ++ right) (floor_meant result) }
@@ -41,7 +41,7 @@ pub(crate) fn common_floor(first: Option<FileStamp>, second: Option<FileStamp>) 
     }
 }
 
-/// Whether what has this file stamp is kept under a floor.
+/// Whether a floor keeps this file stamp: it isn't below the floor, or there is none.
 pub(crate) fn is_kept(floor: &Option<FileStamp>, stamp: &FileStamp) -> bool
     ensures { IsTrue result ↔ IsKept (floor_meant floor.now) (file_stamp_meant stamp.now) }
 {

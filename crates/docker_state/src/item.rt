@@ -1,4 +1,4 @@
-//! What a state keeps of a file.
+//! Ledger items: what a state keeps of a file's header.
 ghost use Rattle.std.specs.Prelude.{◌≡◌, ◌==◌};
 ghost use Rattle.std.specs.Ordering.{on, as_partial_cmp, eq_by_cmp};
 ghost use Rattle.std.specs.Cmp.{partial_equiv_from_equiv, on_equiv, on_total, eq_by_cmp_equiv, partial_order_from_total};
@@ -13,8 +13,8 @@ use cif_line::{Day, Extract, Header};
 use docker_join::FileStamp;
 use std::cmp::Ordering;
 
-/// What a state keeps of a file. Ordered by file stamp, then by update indicator, then by last file
-/// reference.
+/// A ledger item: what a state keeps of a file's header. Ordered by file stamp, then by update
+/// indicator, then by last file reference.
 #[derive(Clone, Copy, Debug)]
 pub struct LedgerItem {
     /// The day of extract.
@@ -30,7 +30,7 @@ pub struct LedgerItem {
 }
 
 impl LedgerItem {
-    /// The file stamp of the file.
+    /// The file's stamp.
     pub fn stamp(&self) -> FileStamp
         ensures { file_stamp_meant result ≡ (item_meant self.now).stamp }
     {
@@ -49,7 +49,7 @@ impl LedgerItem {
     }
 }
 
-/// What a state keeps of the file with this header.
+/// The ledger item of the file with this header.
 pub(crate) fn item_of(header: &Header) -> LedgerItem
     ensures { (file : _) → header.now ≡ first_record file
         → item_meant result ≡ ledger_item_of file }

@@ -1,4 +1,4 @@
-//! The walk over the keys that are put.
+//! The walk over the live keys.
 ghost use Rattle.std.specs.Prelude.{◌≡◌, map};
 ghost use Rattle.std.specs.Iterator.{YieldsFirstBy, item_count};
 ghost use Rattle.cif_file.specs.Meaning.{key_meant, body_meant};
@@ -9,7 +9,7 @@ use cif_file::{Body, Key};
 use docker_join::{Entry, Op};
 use std::marker::Model;
 
-/// Walks the keys that are put, each with its body, in the order of the keys.
+/// Walks over the keys that are put, each with its body, in key order.
 #[derive(Clone, Debug, Drop)]
 pub struct Live<'a> {
     rows: &'a [(Key, Entry)],
@@ -27,7 +27,7 @@ impl<'a> Model for Live<'a> {
 }
 
 impl<'a> Live<'a> {
-    /// The walk over some rows.
+    /// The walk over these rows.
     pub(crate) fn of(rows: &'a [(Key, Entry)]) -> Live<'a>
         ensures { result ≡ live_rows (map row_meant rows.entry.now) }
     {

@@ -1,4 +1,4 @@
-//! Finds an entry where it is likely to stand.
+//! Finds an entry by looking first where it is likely to be.
 ghost use Rattle.std.specs.Prelude.{◌≡◌};
 ghost use Rattle.std.specs.Option.{option_copied};
 ghost use Rattle.cif_file.specs.Meaning.{key_meant};
@@ -7,9 +7,9 @@ ghost use Rattle.docker_join.specs.Rows.{AreAscending, value_at};
 use cif_file::Key;
 use docker_join::Entry;
 
-/// The entry of a key. None if no row is of the key. The row with this index is looked at first,
-/// and then comes a binary search. If the entry is found, the index becomes the index of the next
-/// row, where the next key in order is likely to stand.
+/// The entry of a key, or None if no row has the key. The row at index `near` is looked at first,
+/// and only then is there a binary search. If the entry is found, `near` becomes the index of the
+/// next row, which is likely to have the next key in order.
 pub(crate) fn entry_near<'a>(
     rows: &'a [(Key, Entry)],
     key: &Key,

@@ -3,7 +3,8 @@ ghost use Rattle.std.specs.Prelude.{◌≡◌, ℕ, ◌+◌, ◌≤◌, List, []
 ghost use Rattle.docker_model.specs.file.Change as model;
 ghost use Rattle.docker_model.specs.state.State as states;
 ghost use Rattle.state_laws.specs.Index.{AreCalling, AreLinked, AreOfUid};
-ghost use Rattle.state_index.specs.Noted.{AreNoted, items_of};
+ghost use Rattle.state_index.specs.Counts.{IsCallingCount};
+ghost use Rattle.state_index.specs.Noted.{AreNoted, HasNoted, items_of, items_put};
 ghost use Rattle.state_index.specs.Rooms.{HasRoomFor};
 ghost use Rattle.state_index.specs.Spots.{IsIndexOf};
 ghost use Rattle.docker_model.specs.state.State.{entry_at, live_table, raise_horizon, HaveLapsed, IsValid, IsJoin};
@@ -18,6 +19,9 @@ ghost use Rattle.docker_model.specs.state.Summary.{IsSummary, HaveDistinctMoment
 ghost use Rattle.docker_model.specs.state.Table as tables;
 ghost use Rattle.docker_model.specs.state.Table.{IsPlainTable};
 ghost use Rattle.cif_file.specs.FileRead.{IsOfRecords};
+ghost use Rattle.cif_file.specs.Meaning.{change_meant};
+ghost use Rattle.docker_laws.specs.Thinning.{IsStateOfChanges};
+ghost use Rattle.docker_state.specs.MadeState.{HaveRecords, IsMadeState, MakeValid};
 ghost use Rattle.docker_state.specs.Live.{live_rows, AreInKeyOrder};
 ghost use Rattle.docker_state.specs.Meaning.{floor_meant, item_meant, row_meant, state_meant};
 
@@ -28,8 +32,8 @@ use crate::live::Live;
 use crate::near::entry_near;
 use crate::rows::{are_many, greatest_rows, kept_rows, made_rows};
 use crate::uid_rows::rows_of_uid;
-use cif_file::{CifFile, FileParts, Key};
-use cif_line::{Day, Tiploc, Uid};
+use cif_file::{CifFile, FileParts, Key, ThinFile};
+use cif_line::{Day, Memory, Tiploc, Uid};
 use docker_join::{Entry, FileStamp, Merge, Table, join_rows, lapse_rows};
 use state_index::{Index, Moves, Notes, Room, Standing};
 use std::alloc::Global;
@@ -103,29 +107,62 @@ impl State {
             → IfOk result (IsSummary (records ∷ []) 0) }
         ensures err { IfErr result (λ back. back ≡ file) }
     {
-        let count = file.changes().len();
         let item = item_of(&file.header());
+        // Called for its contract: the file was read.
+        let _records = file.records();
+        match State::of_changes(alloc, item, file.into_parts()) {
+            Ok(state) => Ok(state),
+            Err(parts) => Err(parts.into_file()),
+        }
+    }
+
+    /// The state of what was kept of a file for the docker of a place on a day. It has the same
+    /// docker there on that day as the state of the file, and serves for nothing else. If memory
+    /// runs out, what was kept is dropped. `Memory` is also the answer to more than 4,294,967,295
+    /// kept changes or places.
+    pub fn of_thin(alloc: Global, file: ThinFile) -> Result<State, Memory>
+        ensures { (records : List (List ℕ)) → IsOfRecords file.file records
+            → IfOk result (IsStateOfChanges records file.kept) }
+    {
+        let item = item_of(&file.header());
+        match State::of_changes(alloc, item, file.into_parts()) {
+            Ok(state) => Ok(state),
+            Err(_) => Err(Memory),
+        }
+    }
+
+    /// The state that changes of the file with this ledger item make. If memory runs out, no change
+    /// was moved yet, and the parts come back as they were. More than 4,294,967,295 changes or
+    /// places, which are numbered in 32 bits, also come back.
+    fn of_changes(alloc: Global, item: LedgerItem, parts: FileParts) -> Result<State, FileParts>
+        requires records { HaveRecords (map change_meant parts.changes.items) }
+        requires noted { HasNoted (items_put (map change_meant parts.changes.items)) parts.notes }
+        requires valid { MakeValid (item_meant item) (map change_meant parts.changes.items) }
+        ensures ok { IfOk result
+            (IsMadeState (item_meant item) (map change_meant parts.changes.items)) }
+        ensures err { IfErr result (λ back. back ≡ parts) }
+    {
+        let count = parts.changes.len();
         if are_many(count) {
-            return Err(file);
+            return Err(parts);
         }
         let Ok(mut ledger) = Vec::with_capacity(alloc, 1) else {
-            return Err(file);
+            return Err(parts);
         };
         let Ok(made) = Vec::with_capacity(alloc, count) else {
-            return Err(file);
+            return Err(parts);
         };
         let Ok(rows) = Vec::with_capacity(alloc, count) else {
-            return Err(file);
+            return Err(parts);
         };
         let Ok(order) = Vec::with_capacity(alloc, count) else {
-            return Err(file);
+            return Err(parts);
         };
         let Ok(pieces) = Vec::with_capacity(alloc, count) else {
-            return Err(file);
+            return Err(parts);
         };
-        let parts = file.into_parts();
         let Ok(room) = Room::for_notes(alloc, &parts.notes) else {
-            return Err(parts.into_file());
+            return Err(parts);
         };
         ledger.push_reserved(item);
         let FileParts { changes, notes, .. } = parts;
@@ -234,6 +271,14 @@ impl State {
         ensures { AreCalling (live_table self.now) tiploc.now result }
     {
         self.index.calling(self.entries.as_slice(), tiploc)
+    }
+
+    /// How many live schedules call at a TIPLOC, by an LO, an LI or an LT: each counts once. The
+    /// index has them side by side, so no schedule is looked at.
+    pub fn count_calling(&self, tiploc: &Tiploc) -> usize
+        ensures { IsCallingCount (live_table self.now) tiploc.now result }
+    {
+        self.index.count_calling(tiploc)
     }
 
     /// The live associations at a location: each with its line, in the order of the keys. They are

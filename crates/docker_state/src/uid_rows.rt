@@ -1,4 +1,4 @@
-//! The rows of the schedules of a UID.
+//! The rows of a UID's schedules.
 ghost use Rattle.std.specs.Prelude.{◌≡◌, ◌≤◌, true, not, length, position};
 ghost use Rattle.std.specs.List.{position_or_len};
 ghost use Rattle.std.specs.Ordering.{is_le};
@@ -11,9 +11,8 @@ use cif_line::Uid;
 use docker_join::Entry;
 use std::cmp::Ordering;
 
-/// The rows of the schedules of a UID: one piece of rows in the order of their keys. A walk finds
-/// its end: a UID has few schedules, which stand together, and a search would look at rows far
-/// after them.
+/// The rows of a UID's schedules, which stand together among rows in key order. Their end is found
+/// by a walk, since a UID has few schedules, while a search would touch rows far away.
 pub(crate) fn rows_of_uid<'a>(
     rows: &'a [(Key, Entry)],
     uid: &Uid,
@@ -27,8 +26,8 @@ pub(crate) fn rows_of_uid<'a>(
     here
 }
 
-/// How many rows are before the schedules of a UID. If the row with this index is of one of them, a
-/// walk back finds the first, else a binary search does.
+/// How many rows are before the UID's schedules. If the row at index `near` is one of them, a walk
+/// back finds the first. Otherwise a binary search does.
 fn rows_before(rows: &[(Key, Entry)], uid: &Uid, near: usize) -> usize
     requires { AreAscending rows.now }
     ensures within { result ≤ length rows.now }
@@ -41,7 +40,7 @@ fn rows_before(rows: &[(Key, Entry)], uid: &Uid, near: usize) -> usize
     }
 }
 
-/// Whether the row with this index is of a schedule of a UID.
+/// Whether the row at this index is a schedule of the UID.
 fn is_of_uid_at(rows: &[(Key, Entry)], uid: &Uid, at: usize) -> bool
     ensures { result ≡ is_of_uid_at uid.now rows.now at }
 {
@@ -51,7 +50,7 @@ fn is_of_uid_at(rows: &[(Key, Entry)], uid: &Uid, at: usize) -> bool
     }
 }
 
-/// The first row of the schedules of a UID. A walk back from one of them finds it.
+/// The index of the UID's first schedule, by a walk back from one of them.
 fn first_back(rows: &[(Key, Entry)], uid: &Uid, from: usize) -> usize
     requires up { AreAscending rows.now }
     requires here { is_of_uid_at uid.now rows.now from ≡ true }
@@ -65,7 +64,7 @@ fn first_back(rows: &[(Key, Entry)], uid: &Uid, from: usize) -> usize
     first
 }
 
-/// How many rows at the front are not after the schedules of a UID.
+/// How many rows at the front aren't after the UID's schedules.
 fn rows_up_to(rows: &[(Key, Entry)], uid: &Uid) -> usize
     ensures { result
         ≡ position_or_len (λ row. not (is_le (to_uid (key_meant row.0) uid.now))) rows.now }
@@ -76,7 +75,7 @@ fn rows_up_to(rows: &[(Key, Entry)], uid: &Uid) -> usize
     }
 }
 
-/// Where the first row is that comes after the schedules of a UID.
+/// The index of the first row after the UID's schedules.
 fn first_behind(rows: &[(Key, Entry)], uid: &Uid) -> Option<usize>
     ensures { result
         ≡ position (λ row. not (is_le (to_uid (key_meant row.0) uid.now))) rows.now }
@@ -84,7 +83,7 @@ fn first_behind(rows: &[(Key, Entry)], uid: &Uid) -> Option<usize>
     rows.iter().position(|row| !to_uid(&row.0, uid).is_le())
 }
 
-/// How a key compares with the schedules of a UID.
+/// Compares a key with a UID's schedules.
 fn to_uid(key: &Key, uid: &Uid) -> Ordering
     ensures { result ≡ to_uid (key_meant key.now) uid.now }
 {

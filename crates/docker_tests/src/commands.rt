@@ -1,4 +1,4 @@
-//! Commands: from their words and the contents of their sources to their output.
+//! Commands: their words, what their sources give, and what they write.
 
 use crate::compare::{same, same_in, same_of};
 use crate::dockers::ASHFELD_0900;
@@ -11,7 +11,7 @@ use docker_cmd::{Fault, OfficeFault, emit, fault_text, job, job_line, prepare, s
 use std::alloc::Global;
 use std::process::Abort;
 
-/// What the job of these words writes for two sources.
+/// What the command with these words writes, if its sources give these two texts.
 pub(crate) fn written(
     rt: &impl Abort,
     alloc: Global,
@@ -28,7 +28,7 @@ pub(crate) fn written(
     sink
 }
 
-/// The words of a command that reads only a file, the file, and the output.
+/// For each command that reads only a file: its words, the file, and what it writes.
 const OF_FILES: &[(&[&str], File, &str)] = &[
     (&["check", "F"], MORNING, "accepted: 5 records, 1 changes\n"),
     (&["check", "F"], RENAMED, "accepted: 3 records, 2 changes\n"),
@@ -45,7 +45,7 @@ const OF_FILES: &[(&[&str], File, &str)] = &[
     ),
 ];
 
-/// Asserts what the command of these words writes for a file.
+/// Asserts what the command with these words writes for a file.
 fn writes_of_file(rt: &impl Abort, alloc: Global, words: &[&str], file: File, wanted: &str) {
     let text = text_of(rt, alloc, file);
     let sink = written(rt, alloc, words, text.as_slice(), b"");
@@ -59,8 +59,8 @@ fn commands_that_read_a_file(rt: HostRuntime) {
     }
 }
 
-/// The words of a command that reads a state, the state, the contents of the other source, and the
-/// output.
+/// For each command that reads a state: its words, the state, what the other source gives, and what
+/// it writes.
 const OF_STATES: &[(&[&str], Parts, Parts, Parts)] = &[
     (&["new", "S"], &[], &[], EMPTY_STATE),
     (
@@ -102,7 +102,7 @@ const OF_STATES: &[(&[&str], Parts, Parts, Parts)] = &[
     (&["migrate", "S"], OLD_STATE, &[], MORNING_STATE),
 ];
 
-/// Asserts what the command of these words writes for a state and the contents of the other source.
+/// Asserts what the command with these words writes, for a state and the text of the other source.
 fn writes_of_state(
     rt: &impl Abort,
     alloc: Global,
@@ -139,7 +139,7 @@ fn a_file_taken_into_a_state(rt: HostRuntime) {
     same(&rt, docker.bytes(), ASHFELD_0900.as_bytes());
 }
 
-/// Why the job of these words fails with this source.
+/// Why the command with these words fails, if its source gives this text.
 fn fault_of(rt: &impl Abort, alloc: Global, words: &[&str], first: &[u8]) -> Option<OfficeFault> {
     let job = job(alloc, words).expect(rt, "a job");
     let mut first = Bytes::new(first, 7);

@@ -1,5 +1,5 @@
-//! Rows compare values with these functions, which end the test if they differ. An assertion in its
-//! own function is proved once for all rows.
+//! Tests compare values with these functions, which end the test if they differ. As they are
+//! functions, their assertions are proved only once.
 
 use std::fmt::Debug;
 use std::process::Abort;
@@ -9,12 +9,12 @@ pub(crate) fn same<T: PartialEq + Debug + Drop>(rt: &impl Abort, got: T, wanted:
     assert_eq!(rt; got, wanted);
 }
 
-/// Asserts that two values are equal, in a row with this name.
+/// Asserts that two values are equal. The message has this name.
 pub(crate) fn same_in<T: PartialEq + Debug + Drop>(rt: &impl Abort, name: &str, got: T, wanted: T) {
     assert_eq!(rt; got, wanted, "{name}");
 }
 
-/// Asserts that two values are equal, in the row with these words.
+/// Asserts that two values are equal. The message has these words.
 pub(crate) fn same_of<T: PartialEq + Debug + Drop>(
     rt: &impl Abort,
     words: &[&str],

@@ -1,4 +1,4 @@
-//! Devices that fail in mid-stream, that are full, or that never end.
+//! Devices that fail midway, that are full, or that never end.
 ghost use Rattle.std.specs.Prelude.{◌<◌};
 
 use crate::compare::same;
@@ -11,8 +11,8 @@ use docker_office::{LedgerOffice, Office, OfficeFault, PlaceOffice, StateCause, 
 use std::alloc::Global;
 use std::process::Abort;
 
-/// Asserts what an office returns when it sends to a sink that takes one byte per write and fails
-/// at only this write, and which bytes the sink has.
+/// Asserts the result and the sink's bytes when an office sends its state. The sink takes one byte
+/// per write, and fails only at this write.
 fn sends(
     rt: &impl Abort,
     alloc: Global,
@@ -45,29 +45,29 @@ fn a_sink_that_fails_once(rt: HostRuntime) {
     sends(&rt, alloc, &office, 312, Ok(()), text.as_slice());
 }
 
-/// What an office returns when it takes a file from a source that gives one byte per read and fails
-/// at only this read.
+/// The result when an office takes a file. The source gives one byte per read, and fails only at
+/// this read.
 fn taken(office: &mut Office, text: &[u8], read: u64) -> Result<(), OfficeFault>
     requires { 0 < read }
 {
     office.take(&mut Fuse::new(Bytes::new(text, 1), read), 1000)
 }
 
-/// What an office returns when it receives a state from such a source.
+/// The result when an office receives a state from such a source.
 fn received(office: &mut Office, text: &[u8], read: u64) -> Result<(), OfficeFault>
     requires { 0 < read }
 {
     office.receive(&mut Fuse::new(Bytes::new(text, 1), read), 1000)
 }
 
-/// What an office returns when it reloads a state from such a source.
+/// The result when an office reloads a state from such a source.
 fn reloaded(office: &mut Office, text: &[u8], read: u64) -> Result<(), OfficeFault>
     requires { 0 < read }
 {
     office.reload(&mut Fuse::new(Bytes::new(text, 1), read), 1000)
 }
 
-/// Why an office at Ashfeld isn't made of a state from such a source, if it isn't.
+/// The fault of making an office at Ashfeld from such a source. None if it is made.
 fn read_at_place(rt: &impl Abort, alloc: Global, text: &[u8], read: u64) -> Option<OfficeFault>
     requires { 0 < read }
 {
@@ -76,7 +76,7 @@ fn read_at_place(rt: &impl Abort, alloc: Global, text: &[u8], read: u64) -> Opti
     PlaceOffice::read(alloc, place, day, &mut source, 1000).err()
 }
 
-/// Why an office with a ledger isn't.
+/// The fault of making an office with a ledger from such a source. None if it is made.
 fn read_ledger(alloc: Global, text: &[u8], read: u64) -> Option<OfficeFault>
     requires { 0 < read }
 {
@@ -113,7 +113,7 @@ fn a_source_that_fails_once(rt: HostRuntime) {
     has(&rt, alloc, &office, MORNING_STATE);
 }
 
-/// Asserts that sending to a sink with room for twenty bytes fills it.
+/// Asserts that an office that sends its state fills a sink with room for twenty bytes.
 fn fills_by_send(rt: &impl Abort, alloc: Global, office: &Office) {
     let text = text_of_parts(rt, alloc, MORNING_STATE);
     let mut kept = Kept::new(alloc, 20).expect(rt, "room");
@@ -124,7 +124,7 @@ fn fills_by_send(rt: &impl Abort, alloc: Global, office: &Office) {
 /// The first seventy bytes of the docker of Ashfeld.
 const FRONT: &[u8] = b"DOCKER ASHFELD 2024-06-10                               \n0900  D 1A10 ";
 
-/// Asserts that printing to a sink with room for seventy bytes fills it.
+/// Asserts that an office that prints fills a sink with room for seventy bytes.
 fn fills_by_print(rt: &impl Abort, alloc: Global, office: &Office) {
     let place = place_of(rt, "ASHFELD");
     let day = day_of(rt, "2024-06-10");
@@ -134,7 +134,7 @@ fn fills_by_print(rt: &impl Abort, alloc: Global, office: &Office) {
     same(rt, kept.bytes(), FRONT);
 }
 
-/// Asserts that printing at Ashfeld to such a sink fills it.
+/// Asserts that an office at Ashfeld that prints fills such a sink.
 fn fills_at_place(rt: &impl Abort, alloc: Global, office: &Office) {
     let (place, day) = (place_of(rt, "ASHFELD"), day_of(rt, "2024-06-10"));
     let office = at_place(rt, alloc, office, place, day);
@@ -144,14 +144,14 @@ fn fills_at_place(rt: &impl Abort, alloc: Global, office: &Office) {
     same(rt, kept.bytes(), FRONT);
 }
 
-/// Asserts that listing files to a sink with room for ten bytes fills it.
+/// Asserts that an office that lists its files fills a sink with room for ten bytes.
 fn fills_by_files(rt: &impl Abort, alloc: Global, office: &Office) {
     let mut kept = Kept::new(alloc, 10).expect(rt, "room");
     same(rt, office.files(&mut kept), Err(OfficeFault::Sink));
     same(rt, kept.bytes(), b"2024-06-09".as_slice());
 }
 
-/// Asserts that listing by the ledger to such a sink fills it.
+/// Asserts that an office with a ledger that lists its files fills such a sink.
 fn fills_by_ledger(rt: &impl Abort, alloc: Global, office: &Office) {
     let ledger = ledger_of(rt, alloc, office);
     let mut kept = Kept::new(alloc, 10).expect(rt, "room");

@@ -1,4 +1,4 @@
-//! Numbers that look random and are the same in each run of the tests.
+//! Numbers that look random, and are the same each time the tests run.
 ghost use Rattle.std.specs.Prelude.{◌<◌};
 
 /// A linear congruential generator, which returns the upper bits of its numbers.
@@ -8,7 +8,7 @@ pub(crate) struct Dice {
 }
 
 impl Dice {
-    /// The generator with this first number.
+    /// A generator that starts from this number.
     pub(crate) fn new(number: u64) -> Dice {
         Dice { number }
     }

@@ -1,11 +1,12 @@
 //! The dockers that offices print.
 
 use crate::files::*;
-use crate::offices::{office_of, prints};
+use crate::offices::{office_of, prints, prints_of_file};
 use std::alloc::Global;
 use std::process::Abort;
 
-/// The files that an office took in turn, a place, a day, and the docker printed there.
+/// The files that an office takes one after the other, a place, a day, and the docker that it
+/// prints.
 type Row = (&'static [File], &'static str, &'static str, &'static str);
 
 /// The morning train leaves Ashfeld.
@@ -55,14 +56,14 @@ DOCKER COLWELL 2024-06-10
 END                                                     
 ";
 
-/// A train ends at Colwell and becomes no other train.
+/// A train ends at Colwell, and has no next working.
 const COLWELL_ONLY: &str = "\
 DOCKER COLWELL 2024-06-10                               
 2350  A 4D40 C40001 P   1                ASHFELD COLWELL
 END                                                     
 ";
 
-/// It becomes a train that doesn't run.
+/// A train ends at Colwell, and its next working doesn't run.
 const COLWELL_UNKNOWN: &str = "\
 DOCKER COLWELL 2024-06-10                               
 2350  A 4D40 C40001 P   1                ASHFELD COLWELL
@@ -76,14 +77,17 @@ DOCKER ASHFELD 2024-06-18
 END                                                     
 ";
 
-/// Asserts that this docker is printed.
+/// Asserts that an office prints this row's docker.
 fn is_printed(rt: &impl Abort, alloc: Global, row: &Row) {
     let (files, place, day, docker) = *row;
     let office = office_of(rt, alloc, files);
     prints(rt, alloc, &office, place, day, docker);
+    if let [file] = files {
+        prints_of_file(rt, alloc, file, place, day, docker);
+    }
 }
 
-/// Asserts that each of these dockers is printed.
+/// Asserts that offices print these rows' dockers.
 fn are_printed(rt: &impl Abort, alloc: Global, rows: &[Row]) {
     for row in rows {
         is_printed(rt, alloc, row);
@@ -210,7 +214,20 @@ fn one_train(rt: HostRuntime) {
     are_printed(&rt, rt.alloc(), ONE_TRAIN);
 }
 
-/// Dockers of files in two orders.
+/// Dockers of a train that one file changes more than once.
+const CHANGED: &[Row] = &[
+    (&[PUT_AND_REVISED], "ASHFELD", "2024-06-10", NONE_AT_ASHFELD),
+    (&[REVISED_AND_PUT], "ASHFELD", "2024-06-10", ASHFELD_0900),
+    (&[PUT_AGAIN], "ASHFELD", "2024-06-10", ASHFELD_0905),
+    (&[PUT_AND_DELETED], "ASHFELD", "2024-06-10", NONE_AT_ASHFELD),
+];
+
+#[test]
+fn a_train_that_is_changed_again(rt: HostRuntime) {
+    are_printed(&rt, rt.alloc(), CHANGED);
+}
+
+/// Dockers of two files, taken in either order.
 const ORDERS: &[Row] = &[
     (&[MORNING, REVISION], "ASHFELD", "2024-06-10", ASHFELD_0905),
     (&[REVISION, MORNING], "ASHFELD", "2024-06-10", ASHFELD_0905),
@@ -338,7 +355,7 @@ fn a_week(rt: HostRuntime) {
     are_printed(&rt, rt.alloc(), WEEKS);
 }
 
-/// Dockers of trains that run past midnight.
+/// Dockers of trains that pass midnight.
 const NIGHTS: &[Row] = &[
     (&[NIGHT], "COLWELL", "2024-06-10", NONE_AT_COLWELL),
     (
@@ -389,7 +406,7 @@ fn past_midnight(rt: HostRuntime) {
     are_printed(&rt, rt.alloc(), NIGHTS);
 }
 
-/// Dockers of distant days, and dockers with descriptions.
+/// Dockers of days far away, and dockers with a description.
 const OTHERS: &[Row] = &[
     (
         &[NO_END],
@@ -490,7 +507,7 @@ fn associations(rt: HostRuntime) {
     are_printed(&rt, rt.alloc(), LINKS);
 }
 
-/// Dockers of entries with one stamp.
+/// Dockers of entries with equal stamps.
 const TIES: &[Row] = &[
     (&[MORNING, LONGER], "ASHFELD", "2024-06-10", ASHFELD_0850),
     (&[LONGER, MORNING], "ASHFELD", "2024-06-10", ASHFELD_0850),
@@ -505,7 +522,7 @@ fn equal_stamps(rt: HostRuntime) {
     are_printed(&rt, rt.alloc(), TIES);
 }
 
-/// Dockers of a train that changes its identity.
+/// Dockers of a train whose identity changes.
 const IDENTITIES: &[Row] = &[
     (
         &[IDENTITY],

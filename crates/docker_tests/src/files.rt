@@ -1,9 +1,22 @@
-//! The files of the worked rows, given by their records.
+//! The files of the worked examples, each as its records.
 
 use crate::records::*;
 
 /// The records of a file, in order.
 pub(crate) type File = &'static [&'static str];
+
+/// A train that is put, and then revised so that it runs on Friday 14 June only. In a docker of 10
+/// June it then can't count.
+pub(crate) const PUT_AND_REVISED: File = &[HD, BS, LO, LT, BS_FRIDAY, LO_0905, LT_0935, ZZ];
+
+/// The same records, the revision first.
+pub(crate) const REVISED_AND_PUT: File = &[HD, BS_FRIDAY, LO_0905, LT_0935, BS, LO, LT, ZZ];
+
+/// A train that is put, deleted and put again.
+pub(crate) const PUT_AGAIN: File = &[HD, BS, LO, LT, BS_DELETED, BS, LO_0905, LT_0935, ZZ];
+
+/// A train that is put and then deleted.
+pub(crate) const PUT_AND_DELETED: File = &[HD, BS, LO, LT, BS_DELETED, ZZ];
 
 /// One train from Ashfeld to Brayton, on weekdays from 10 to 14 June 2024.
 pub(crate) const MORNING: File = &[HD, BS, LO, LT, ZZ];
@@ -11,7 +24,7 @@ pub(crate) const MORNING: File = &[HD, BS, LO, LT, ZZ];
 /// The same file without its trailer.
 pub(crate) const OPEN: File = &[HD, BS, LO, LT];
 
-/// The same train, as a revision.
+/// The same train, in a record with the transaction `R`.
 pub(crate) const REVISED: File = &[HD, BS_REVISED, LO, LT, ZZ];
 
 /// The same train, leaving in the evening.
@@ -20,35 +33,35 @@ pub(crate) const EVENING: File = &[HD, BS, LO_2355, LT_0005, ZZ];
 /// The same train, in a full extract.
 pub(crate) const FULL: File = &[HD_FULL, BS, LO, LT, ZZ];
 
-/// The revision of that train, a day later.
+/// A revision of that train, a day later.
 pub(crate) const REVISION: File = &[HD_10B, BS_REVISED, LO_0905, LT_0935, ZZ];
 
-/// An update of 5 June: C10003 is deleted.
+/// An update of 5 June: it deletes C10003 and puts C10001.
 pub(crate) const FIFTH: File = &[HD_5A, BS_C10003, BS, LO, LT, ZZ];
 
-/// A full extract of 7 June: only C10002.
+/// A full extract of 7 June, in which C10002 is the only train.
 pub(crate) const SEVENTH: File = &[HD_7B, BS_C10002, LO_1000, LT_1030, ZZ];
 
-/// An update of 9 June: C10001 two hours later.
+/// An update of 9 June, in which C10001 runs two hours later.
 pub(crate) const NINTH: File = &[HD_9C, BS, LO_1100, LT_1130, ZZ];
 
 /// That update without its trailer.
 pub(crate) const NINTH_OPEN: File = &[HD_9C, BS, LO_1100, LT_1130];
 
-/// A deletion of C10001.
+/// A file that deletes C10001.
 pub(crate) const DELETION: File = &[HD_9B, BS_DELETED, ZZ];
 
-/// C10001, a day before the deletion.
+/// C10001, in a file of the day before that deletion.
 pub(crate) const EIGHTH: File = &[HD_8A, BS, LO, LT, ZZ];
 
 /// A timing point.
 pub(crate) const PLACE: File = &[HD, TI, ZZ];
 
-/// The new code of that timing point, a day later.
+/// A new code for that timing point, a day later.
 pub(crate) const RENAMED: File = &[HD_10B, TA, ZZ];
 
-/// A file of a train with an overlay on two days, a cancellation on another day, and further
-/// records.
+/// A file of a train with an overlay on two days and a cancellation on a third, and of these
+/// further records.
 macro_rules! week {
     ($($more:expr),*) => {
         &[
@@ -66,19 +79,19 @@ macro_rules! week {
     };
 }
 
-/// A train with an overlay on two days, and a cancellation on another.
+/// A train with an overlay on two days and a cancellation on a third.
 pub(crate) const WEEK: File = week!();
 
-/// The same train, with another schedule at its end.
+/// The same train, and a further schedule of it for the weekend.
 pub(crate) const WEEKEND: File = week!(BS_WEEKEND, LO_0910, LT);
 
-/// A train past midnight that calls at Colwell and passes Dunmere.
+/// A train that passes midnight, calls at Colwell and passes Dunmere.
 pub(crate) const NIGHT: File = &[HD, BS_NIGHT, LO_2355, LI_0000, LI_0010, LT_0020, ZZ];
 
-/// A train past two midnights.
+/// A train that passes midnight twice.
 pub(crate) const TWO_NIGHTS: File = &[HD, BS_NIGHT, LO_2355, LI_0010, LI_COLWELL_0005, LT_0006, ZZ];
 
-/// A train past three midnights, which no schedule may pass.
+/// A train that passes midnight three times, which no schedule may do.
 pub(crate) const THREE_NIGHTS: File = &[
     HD,
     BS_NIGHT,
@@ -89,7 +102,7 @@ pub(crate) const THREE_NIGHTS: File = &[
     ZZ,
 ];
 
-/// A train that calls at Colwell twice and divides at its second call.
+/// A train that calls at Colwell twice, where another divides from it at the second call.
 pub(crate) const DIVISION: File = &[
     HD,
     BS_C30001,
@@ -104,7 +117,7 @@ pub(crate) const DIVISION: File = &[
     ZZ,
 ];
 
-/// A train that changes its identity on the way.
+/// A train whose identity changes on the way.
 pub(crate) const IDENTITY: File = &[
     HD,
     BS_C50001,
@@ -115,25 +128,26 @@ pub(crate) const IDENTITY: File = &[
     ZZ,
 ];
 
-/// The morning train up to a later day, ten minutes earlier.
+/// The morning train until a later day, ten minutes earlier.
 pub(crate) const LONGER: File = &[HD, BS_LONGER, LO_0850, LT, ZZ];
 
 /// The morning train, five minutes later.
 pub(crate) const LATER: File = &[HD, BS, LO_0905, LT, ZZ];
 
-/// A deletion of the morning train under the same header.
+/// A deletion of the morning train, in a file with the same header.
 pub(crate) const DELETED: File = &[HD, BS_DELETED, ZZ];
 
-/// The morning train up to the end of July, from a file of the day before.
+/// The morning train until the end of July, in a file of the day before.
 pub(crate) const JULY: File = &[HD_8A, BS_JULY, LO, LT, ZZ];
 
-/// A train without a public time that leaves Ashfeld at a half minute.
+/// A train that leaves Ashfeld half a minute past 09:00, without a public time.
 pub(crate) const HALF: File = &[HD, BS, LO_HALF, LT, ZZ];
 
-/// A train from Ashfeld to Ashfeld that arrives when it leaves.
+/// A train from Ashfeld to Ashfeld that arrives at the time at which it leaves.
 pub(crate) const ROUND: File = &[HD, BS, LO, LT_ASHFELD_0900, ZZ];
 
-/// A file of a train to Colwell, a train from there past midnight, and further records.
+/// A file of a train to Colwell, whose basic schedule is given first, a train from there past
+/// midnight, and these further records.
 macro_rules! two_trains {
     ($first:expr, $($more:expr),*) => {
         &[
@@ -150,16 +164,16 @@ macro_rules! two_trains {
     };
 }
 
-/// A train to Colwell that becomes another train there on the next day.
+/// A train to Colwell, whose next working there starts on the next day.
 pub(crate) const NEXT_DAY: File = two_trains!(BS_C40001, AA_N);
 
-/// The same trains, associated on the same day.
+/// The same trains, but the next working starts on the same day.
 pub(crate) const SAME_DAY: File = two_trains!(BS_C40001, AA_S);
 
-/// The same trains, without a date indicator.
+/// The same trains, with a space as the date indicator.
 pub(crate) const NO_INDICATOR: File = two_trains!(BS_C40001, AA_BLANK);
 
-/// The same trains, associated on the day before.
+/// The same trains, but the next working starts a day earlier.
 pub(crate) const DAY_BEFORE: File = two_trains!(BS_C40001, AA_P);
 
 /// The same trains, with an unknown date indicator.
@@ -171,19 +185,20 @@ pub(crate) const UNKNOWN_CATEGORY: File = two_trains!(BS_C40001, AA_OTHER);
 /// The same trains, on the last day of the calendar.
 pub(crate) const LAST_DAY: File = two_trains!(BS_C40001_LAST, AA_LAST);
 
-/// The same trains, with the second one cancelled.
+/// The same trains, with the next working cancelled.
 pub(crate) const PARTNER_CANCELLED: File = two_trains!(BS_C40001, AA_N, BS_C40002_CANCELLED);
 
-/// The same trains, with the first one cancelled.
+/// The same trains, with the first train cancelled.
 pub(crate) const BASE_CANCELLED: File = two_trains!(BS_C40001, AA_N, BS_C40001_CANCELLED);
 
 /// The morning train, and its deletion in the same file.
 pub(crate) const WITHDRAWN: File = &[HD, BS, LO, LT, BS_DELETED, ZZ];
 
-/// The deletion of the morning train, with an origin whose time isn't a time of day. It isn't read.
+/// A deletion of the morning train, with an origin whose time isn't a time of day. That time isn't
+/// read.
 pub(crate) const DELETED_AT_NO_TIME: File = &[HD, BS_DELETED, LO_2400, LT, ZZ];
 
-/// An update from another century, without changes.
+/// An update of the year 2000, without changes.
 pub(crate) const EARLY: File = &[HD_EARLY, ZZ];
 
 /// A train on Wednesdays, without an end.

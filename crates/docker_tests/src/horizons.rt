@@ -14,8 +14,8 @@ fn set(rt: &impl Abort, office: &mut Office, date: &str) {
     office.set_horizon(day_of(rt, date));
 }
 
-/// A horizon to set, the size that the state then has, a day that is refused, the next day, and its
-/// docker, which has no line.
+/// A horizon to set, the size of the state after that, a day that is refused, the next day, and
+/// that day's docker, which has no lines.
 type Row = (
     &'static str,
     usize,
@@ -57,7 +57,7 @@ DOCKER ASHFELD 2024-06-24
 END                                                     
 ";
 
-/// Asserts that an office answers like this row after its horizon is set.
+/// Asserts that an office does what this row says once the horizon is set.
 fn is_after(rt: &impl Abort, alloc: Global, office: &mut Office, row: &Row) {
     let (horizon, bytes, refused, printed, docker) = *row;
     set(rt, office, horizon);

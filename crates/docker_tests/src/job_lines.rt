@@ -7,7 +7,7 @@ use docker_cmd::{Job, JobFault, Subcommand, Task, job_line};
 use std::alloc::Global;
 use std::process::Abort;
 
-/// Asserts the words of a job that follow its subcommand.
+/// Asserts which words of a job follow its subcommand.
 fn words_are(rt: &impl Abort, job: &Job, wanted: &[&str]) {
     same(rt, job.words().len(), wanted.len());
     for (word, wanted) in job.words().iter().zip(wanted) {
@@ -15,7 +15,7 @@ fn words_are(rt: &impl Abort, job: &Job, wanted: &[&str]) {
     }
 }
 
-/// Asserts that a job asks for the docker of this timing point on the day with this number.
+/// Asserts that a job is for the docker of this timing point, on the day with this number.
 fn asks_for(rt: &impl Abort, job: &Job, tiploc: &[u8; 7], number: u16) {
     match job.task() {
         Task::Day { place, day } => {
@@ -44,7 +44,7 @@ fn spaces_around_words(rt: HostRuntime) {
     words_are(&rt, &job, &["state", "stdin"]);
 }
 
-/// A line of `day` with `spaces` spaces in it, and this end.
+/// A line with the subcommand `day`, this many spaces after that word, and this end.
 fn line_of(rt: &impl Abort, alloc: Global, spaces: usize, end: &[u8]) -> Vec<u8> {
     let mut line = Vec::new(alloc);
     line.extend_from_slice(b"day").expect(rt, "room");
@@ -57,7 +57,7 @@ fn line_of(rt: &impl Abort, alloc: Global, spaces: usize, end: &[u8]) -> Vec<u8>
     line
 }
 
-/// Asserts that such a line names a job, or names none and gives this fault.
+/// Asserts that such a line names a job, or gives this fault.
 fn fault_is(
     rt: &impl Abort,
     alloc: Global,
@@ -80,7 +80,7 @@ fn lengths_of_a_job_line(rt: HostRuntime) {
     fault_is(&rt, rt.alloc(), 1, b"", usage, "no line feed");
 }
 
-// A source without end that can't show its bytes. It gives the letter a at each read.
+// An endless source that can't name the bytes that are left. Each read gives the letter a.
 #[derive(Drop)]
 struct Endless {
     reads: u16,

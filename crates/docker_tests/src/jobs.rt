@@ -6,7 +6,7 @@ use docker_cmd::{JobFault, Subcommand, job};
 use std::alloc::Global;
 use std::process::Abort;
 
-/// Words, and the job that they name: its subcommand, its timing point and its day's number.
+/// Words, and the job that they name: its subcommand, its timing point and the number of its day.
 type Row = (
     &'static [&'static str],
     Subcommand,
@@ -66,7 +66,7 @@ fn number_of(day: Option<Day>) -> Option<u16> {
     }
 }
 
-/// Asserts that words name such a job.
+/// Asserts that this row's words name its job.
 fn is_job(rt: &impl Abort, alloc: Global, row: &Row) {
     let (words, subcommand, tiploc, day) = *row;
     let job = job(alloc, words).expect(rt, "a job");

@@ -1,5 +1,5 @@
-//! What offices know in a run, computed only from its events and replies, and the state that this
-//! gives without an office.
+//! What offices know in a run, found only from its events and replies. The state of what is known,
+//! made without an office.
 
 use crate::files::*;
 use crate::offices::text_of;
@@ -14,7 +14,7 @@ use std::process::Abort;
 /// How many offices there are.
 pub(crate) const OFFICES: usize = 3;
 
-/// The files that may be taken. The first two are refused.
+/// The files that an office may take. The first two are refused.
 pub(crate) const FILES: [File; 18] = [
     OPEN,
     THREE_NIGHTS,
@@ -58,36 +58,36 @@ pub(crate) fn texts_of_files(rt: &impl Abort, alloc: Global) -> Vec<Vec<u8>> {
     texts
 }
 
-/// What happens at an office. A file is named by its place.
+/// An event at an office. A file is given by its index.
 #[derive(Clone, Copy)]
 pub(crate) enum Step {
-    /// It takes a file.
+    /// The office takes a file.
     Take {
         /// The office.
         office: usize,
         /// The file.
         file: usize,
     },
-    /// It sends its state.
+    /// The office sends its state.
     Send {
         /// The office.
         office: usize,
     },
-    /// A message is delivered to it.
+    /// A message is delivered to the office.
     Deliver {
         /// The office.
         office: usize,
         /// The message.
         message: usize,
     },
-    /// It reloads a message.
+    /// The office reloads a message.
     Reload {
         /// The office.
         office: usize,
         /// The message.
         message: usize,
     },
-    /// It sets a horizon.
+    /// A horizon is set at the office.
     Horizon {
         /// The office.
         office: usize,
@@ -108,7 +108,7 @@ impl Step {
         }
     }
 
-    /// The message that is delivered or reloaded.
+    /// The message that is delivered or reloaded, if there is one.
     fn message(&self) -> Option<usize> {
         match self {
             Step::Deliver { message, .. } | Step::Reload { message, .. } => Some(*message),
@@ -116,7 +116,7 @@ impl Step {
         }
     }
 
-    /// Why the file that is taken is refused, if it is.
+    /// Why the office refuses the file, if it does.
     fn refusal(&self) -> Option<FileFault> {
         match self {
             Step::Take { file, .. } => REFUSED.get(*file).copied(),
@@ -125,7 +125,7 @@ impl Step {
     }
 }
 
-/// What an office knows or a message carries: which of the files, by their places, and the horizon.
+/// What an office or a message knows: which of the files, by their indexes, and the horizon.
 #[derive(Clone, Copy)]
 pub(crate) struct Known {
     files: [bool; FILES.len()],
@@ -133,7 +133,7 @@ pub(crate) struct Known {
 }
 
 impl Known {
-    /// Nothing is known.
+    /// Knowledge of nothing.
     fn nothing() -> Known {
         Known {
             files: [false; FILES.len()],
@@ -148,14 +148,14 @@ impl Known {
         }
     }
 
-    /// Adds a horizon.
+    /// Adds a horizon, which counts if it is greater.
     fn raise(&mut self, horizon: Option<Day>) {
         if self.horizon < horizon {
             self.horizon = horizon;
         }
     }
 
-    /// Adds what another office or message knows.
+    /// Adds what another office or a message knows.
     fn join(&mut self, other: &Known) {
         for file in 0..FILES.len() {
             self.files[file] |= other.files[file];
@@ -195,7 +195,7 @@ fn state_of(rt: &impl Abort, alloc: Global, text: &[u8]) -> State {
     State::of_file(alloc, file).expect(rt, "room")
 }
 
-/// What each office knows and each message carries.
+/// What each office and each message knows.
 #[derive(Drop)]
 pub(crate) struct Knowledge {
     pub(crate) offices: [Known; OFFICES],
@@ -203,7 +203,7 @@ pub(crate) struct Knowledge {
 }
 
 impl Knowledge {
-    /// No office knows anything, and nothing was sent.
+    /// No office knows anything, and no message has been sent.
     pub(crate) fn new(alloc: Global) -> Knowledge {
         Knowledge {
             offices: [Known::nothing(); OFFICES],
@@ -211,7 +211,7 @@ impl Knowledge {
         }
     }
 
-    /// The expected reply if memory suffices.
+    /// The reply that the event should get if memory doesn't run out.
     pub(crate) fn due(&self, step: &Step) -> Reply {
         if step.office() >= OFFICES {
             return Reply::Refused(RunFault::NoOffice);
@@ -227,14 +227,14 @@ impl Knowledge {
         }
     }
 
-    /// Follows a step by its reply. A refused step changes nothing.
+    /// Follows an event with its reply: a refused event changes nothing.
     pub(crate) fn follow(&mut self, rt: &impl Abort, step: &Step, reply: Reply) {
         if reply == Reply::Done {
             self.follow_done(rt, step);
         }
     }
 
-    /// Follows a step that was done.
+    /// Follows an event that was done.
     fn follow_done(&mut self, rt: &impl Abort, step: &Step) {
         let known = self.offices.get_mut(step.office()).expect(rt, "an office");
         match step {

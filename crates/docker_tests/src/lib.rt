@@ -1,5 +1,5 @@
-//! Worked rows that cross several crates: what offices print, send and do in runs of events, and
-//! what commands write. This crate holds only tests.
+//! Worked examples that need several crates: what offices print and send, what runs of events
+//! leave, and what commands write. This crate holds only tests.
 #![tactic(auto)]
 
 #[cfg(test)]

@@ -1,4 +1,4 @@
-//! Offices over devices in memory.
+//! Offices that read and write in memory.
 
 use crate::compare::{same, same_in};
 use crate::files::File;
@@ -8,7 +8,7 @@ use docker_office::{LedgerOffice, Office, OfficeFault, PlaceOffice};
 use std::alloc::Global;
 use std::process::Abort;
 
-/// The greatest length of a text of these rows.
+/// The most bytes that a text of the worked examples has.
 const ROOM: usize = 1000;
 
 /// Lines as one text, with a line feed after each.
@@ -21,14 +21,14 @@ pub(crate) fn text_of(rt: &impl Abort, alloc: Global, lines: &[&str]) -> Vec<u8>
     text
 }
 
-/// Takes a file.
+/// Lets an office take a file.
 pub(crate) fn take(rt: &impl Abort, alloc: Global, office: &mut Office, file: File) {
     let text = text_of(rt, alloc, file);
     let mut source = Bytes::new(text.as_slice(), 100);
     office.take(&mut source, 1000).expect(rt, "a file");
 }
 
-/// An office that took these files in turn.
+/// An office that has taken these files, one after the other.
 pub(crate) fn office_of(rt: &impl Abort, alloc: Global, files: &[File]) -> Office {
     let mut office = Office::new(alloc);
     for file in files {
@@ -37,7 +37,7 @@ pub(crate) fn office_of(rt: &impl Abort, alloc: Global, files: &[File]) -> Offic
     office
 }
 
-/// Receives the state of another office that took this file.
+/// Lets an office receive the state of another office, which has taken this file.
 fn receive_of(rt: &impl Abort, alloc: Global, office: &mut Office, file: File) {
     let mut other = Office::new(alloc);
     take(rt, alloc, &mut other, file);
@@ -46,7 +46,8 @@ fn receive_of(rt: &impl Abort, alloc: Global, office: &mut Office, file: File) {
     office.receive(&mut source, 1000).expect(rt, "a state");
 }
 
-/// An office that received the states of others in turn, each of which took one of these files.
+/// An office that has received other offices' states, one after the other. Each of those has taken
+/// one of these files.
 pub(crate) fn merged(rt: &impl Abort, alloc: Global, files: &[File]) -> Office {
     let mut office = Office::new(alloc);
     for file in files {
@@ -55,14 +56,14 @@ pub(crate) fn merged(rt: &impl Abort, alloc: Global, files: &[File]) -> Office {
     office
 }
 
-/// What an office sends.
+/// The text that an office sends.
 pub(crate) fn sent(rt: &impl Abort, alloc: Global, office: &Office) -> Kept {
     let mut kept = Kept::new(alloc, ROOM).expect(rt, "room");
     office.send(&mut kept).expect(rt, "the state");
     kept
 }
 
-/// An office at a timing point for a day that reads the state of another office.
+/// An office at a timing point, for a day, that has read the state of another office.
 pub(crate) fn at_place(
     rt: &impl Abort,
     alloc: Global,
@@ -75,20 +76,20 @@ pub(crate) fn at_place(
     PlaceOffice::read(alloc, place, day, &mut source, 1000).expect(rt, "a state")
 }
 
-/// An office with the ledger of the state of another office.
+/// An office that has read only the ledger of another office.
 pub(crate) fn ledger_of(rt: &impl Abort, alloc: Global, office: &Office) -> LedgerOffice {
     let text = sent(rt, alloc, office);
     let mut source = Bytes::new(text.bytes(), 7);
     LedgerOffice::read(alloc, &mut source, 1000).expect(rt, "a state")
 }
 
-/// Asserts that an office has the state with this text.
+/// Asserts that the state of an office has this text.
 pub(crate) fn has_text(rt: &impl Abort, alloc: Global, office: &Office, text: &[u8]) {
     let own = sent(rt, alloc, office);
     same(rt, own.bytes(), text);
 }
 
-/// Asserts that an office has the state with this text, given in parts.
+/// Asserts that the state of an office has the text of these parts.
 pub(crate) fn has(rt: &impl Abort, alloc: Global, office: &Office, parts: Parts) {
     let text = text_of_parts(rt, alloc, parts);
     has_text(rt, alloc, office, text.as_slice());
@@ -104,8 +105,8 @@ pub(crate) fn day_of(rt: &impl Abort, date: &str) -> Day {
     Day::from_iso(date).expect(rt, "a day")
 }
 
-/// Asserts that an office prints this docker for a place and a day, and so does an office at the
-/// place for the day.
+/// Asserts that an office prints this docker for a place and a day, and that an office at the place
+/// for that day prints it too.
 pub(crate) fn prints(
     rt: &impl Abort,
     alloc: Global,
@@ -124,7 +125,24 @@ pub(crate) fn prints(
     prints_there(rt, alloc, &office, date, docker);
 }
 
-/// Asserts that an office at a place for a day of this date prints this docker.
+/// Asserts that an office at a place, for a day, that takes this file prints this docker.
+pub(crate) fn prints_of_file(
+    rt: &impl Abort,
+    alloc: Global,
+    file: File,
+    place: &str,
+    date: &str,
+    docker: &str,
+) {
+    let text = text_of(rt, alloc, file);
+    let mut source = Bytes::new(text.as_slice(), 100);
+    let place = place_of(rt, place);
+    let office = PlaceOffice::take(alloc, place, day_of(rt, date), &mut source, 1000);
+    let office = office.expect(rt, "a file");
+    prints_there(rt, alloc, &office, date, docker);
+}
+
+/// Asserts that an office at a place, for the day of this date, prints this docker.
 fn prints_there(rt: &impl Abort, alloc: Global, office: &PlaceOffice, date: &str, docker: &str) {
     let mut kept = Kept::new(alloc, ROOM).expect(rt, "room");
     let answer = office.print(&mut kept);
@@ -132,7 +150,8 @@ fn prints_there(rt: &impl Abort, alloc: Global, office: &PlaceOffice, date: &str
     same_in(rt, date, kept.bytes(), docker.as_bytes());
 }
 
-/// Asserts that an office refuses to print a docker of Ashfeld on a day, and so does one at Ashfeld.
+/// Asserts that an office refuses to print a docker of Ashfeld on a day, and that one at Ashfeld
+/// does too.
 pub(crate) fn refuses_day(rt: &impl Abort, alloc: Global, office: &Office, date: &str) {
     let place = place_of(rt, "ASHFELD");
     let day = day_of(rt, date);

@@ -9,19 +9,19 @@ use std::alloc::Global;
 use std::fmt::Display;
 use std::process::Abort;
 
-/// Asserts the text that a value prints.
+/// Asserts how a value is printed.
 fn prints<T: Display + Drop>(rt: &impl Abort, alloc: Global, value: T, wanted: &str) {
     let text = format!(in alloc; "{value}").expect(rt, "the text");
     same(rt, text.as_str(), wanted);
 }
 
-/// A refused file.
+/// The fault of a refused file.
 const REFUSED_FILE: OfficeFault = OfficeFault::File(FileFault {
     number: 2,
     cause: FileCause::Field(11),
 });
 
-/// A refused state.
+/// The fault of a refused state.
 const REFUSED_STATE: OfficeFault = OfficeFault::State(StateFault {
     at: 31,
     cause: StateCause::Order,

@@ -1,5 +1,5 @@
-//! A thousand random runs of three offices. At the end of each, every office and every message has
-//! the text of the state that is made of what it knows.
+//! A thousand random runs of three offices. At the end of each run, every office and every message
+//! has the text of the state that is made from what it knows.
 ghost use Rattle.docker_office.specs.RunEnds.{HasGoodLimit};
 ghost use Rattle.docker_office.specs.RunMeaning.{event_meant};
 
@@ -16,13 +16,13 @@ use std::process::Abort;
 /// How many events a run has.
 const STEPS: usize = 16;
 
-/// The number of 10 June 2024, and how many days after it a horizon may be.
+/// The day number of 10 June 2024, and how many days from there on may be horizons.
 const FIRST_HORIZON: usize = 23537;
 
 const HORIZONS: usize = 16;
 
-/// One step, at one of the offices or at an office that doesn't exist, with a message that was
-/// sent, or with the next one, which wasn't.
+/// One event. It is at an office, or at one that doesn't exist. It names a message that was sent,
+/// or the next one, which wasn't.
 fn random_step(rt: &impl Abort, dice: &mut Dice, sent: u16) -> Step {
     let office = if dice.roll(12) == 0 {
         OFFICES
@@ -45,14 +45,14 @@ fn random_step(rt: &impl Abort, dice: &mut Dice, sent: u16) -> Step {
     }
 }
 
-/// A day that may be a horizon.
+/// A random day for a horizon.
 fn random_day(rt: &impl Abort, dice: &mut Dice) -> Day {
     let number = FIRST_HORIZON + dice.roll(HORIZONS);
     let number = u16::try_from(number).expect(rt, "a number");
     Day::from_number(number).expect(rt, "a day")
 }
 
-/// The steps of a run.
+/// The events of a run.
 fn random_steps(rt: &impl Abort, alloc: Global, dice: &mut Dice) -> Vec<Step> {
     let mut steps = Vec::new(alloc);
     let mut sent: u16 = 0;
@@ -66,8 +66,8 @@ fn random_steps(rt: &impl Abort, alloc: Global, dice: &mut Dice) -> Vec<Step> {
     steps
 }
 
-/// The event at a place, with the text of its file. If there is no such step, an office that
-/// doesn't exist sends.
+/// The event with this index, where a file is given as its text. If there is none, an office that
+/// doesn't exist sends its state.
 fn event_at<'a>(steps: &[Step], place: usize, texts: &'a [Vec<u8>]) -> Event<'a>
     ensures { HasGoodLimit (event_meant result) }
 {
@@ -102,7 +102,7 @@ fn text_at(texts: &[Vec<u8>], file: usize) -> &[u8] {
     }
 }
 
-/// What a run of these steps leaves.
+/// What a run of these events leaves.
 fn left_by(rt: &impl Abort, alloc: Global, steps: &[Step], texts: &[Vec<u8>]) -> Exchange {
     let events = [
         event_at(steps, 0, texts),
@@ -125,7 +125,7 @@ fn left_by(rt: &impl Abort, alloc: Global, steps: &[Step], texts: &[Vec<u8>]) ->
     run(alloc, OFFICES, &events).expect(rt, "memory")
 }
 
-/// How often events of one kind got each reply.
+/// How often events of one kind have got each reply.
 #[derive(Clone, Copy)]
 struct Count {
     done: u32,
@@ -135,7 +135,7 @@ struct Count {
 }
 
 impl Count {
-    /// No reply yet.
+    /// No event so far.
     const NONE: Count = Count {
         done: 0,
         no_office: 0,
@@ -155,7 +155,7 @@ impl Count {
     }
 }
 
-/// How often each kind of event happened, by its replies.
+/// How often events of each kind have got each reply.
 #[derive(Clone, Copy)]
 struct Tally {
     takes: Count,
@@ -166,7 +166,7 @@ struct Tally {
 }
 
 impl Tally {
-    /// No event yet.
+    /// No event so far.
     const NONE: Tally = Tally {
         takes: Count::NONE,
         sends: Count::NONE,
@@ -203,7 +203,7 @@ impl Tally {
     }
 }
 
-/// What is known at the end of a run. Asserts that its replies are the expected ones.
+/// What is known at the end of a run. Asserts that each reply is the one due.
 fn known_at_end(
     rt: &impl Abort,
     alloc: Global,
@@ -222,7 +222,7 @@ fn known_at_end(
     known
 }
 
-/// Asserts that a text is the text of the state that is made of what is known.
+/// Asserts that a text is the text of the state that is made from what is known.
 fn is_of_known(
     rt: &impl Abort,
     alloc: Global,
@@ -243,7 +243,7 @@ fn text_of_office(rt: &impl Abort, alloc: Global, office: &Office) -> Kept {
     kept
 }
 
-/// Asserts that each office has the text of the state that is made of what it knows.
+/// Asserts that each office has the text of the state that is made from what it knows.
 fn offices_are_of_known(
     rt: &impl Abort,
     alloc: Global,
@@ -259,7 +259,7 @@ fn offices_are_of_known(
     }
 }
 
-/// Asserts that each message has the text of the state that is made of what it carries.
+/// Asserts that each message has the text of the state that is made from what it knows.
 fn messages_are_of_known(
     rt: &impl Abort,
     alloc: Global,
@@ -274,7 +274,7 @@ fn messages_are_of_known(
     }
 }
 
-/// Runs random events, and checks what they leave.
+/// Runs random events, and asserts what they leave.
 fn random_run(
     rt: &impl Abort,
     alloc: Global,

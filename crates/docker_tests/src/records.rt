@@ -1,4 +1,4 @@
-//! The records of the worked rows, column by column as in a file.
+//! The records of the worked examples, as they stand in a file.
 
 /// The header of an update of 9 June 2024, 21:00.
 pub(crate) const HD: &str =
@@ -16,11 +16,11 @@ pub(crate) const HD_10B: &str =
 pub(crate) const BS: &str =
     "BSNC100012406102406141111100 POO1A10                                           P";
 
-/// Its revision.
+/// A revision of that schedule.
 pub(crate) const BS_REVISED: &str =
     "BSRC100012406102406141111100 POO1A10                                           P";
 
-/// Its deletion.
+/// A deletion of that schedule.
 pub(crate) const BS_DELETED: &str =
     "BSDC10001240610              POO                                               P";
 
@@ -28,11 +28,15 @@ pub(crate) const BS_DELETED: &str =
 pub(crate) const BS_WEEK: &str =
     "BSNC100012406102406161111111 POO1A10                                           P";
 
+/// A revision of C10001's permanent schedule, which now runs on Friday 14 June only.
+pub(crate) const BS_FRIDAY: &str =
+    "BSRC100012406102406140000100 POO1A10                                           P";
+
 /// An overlay of C10001 on 11 and 13 June.
 pub(crate) const BS_OVERLAY: &str =
     "BSNC100012406112406130101000 POO1A10                                           O";
 
-/// A cancellation of C10001 on 14 June, a single record.
+/// A cancellation of C10001 on 14 June, without a journey.
 pub(crate) const BS_CANCELLED: &str =
     "BSNC100012406142406140000100 POO1A10                                           C";
 
@@ -128,15 +132,15 @@ pub(crate) const LT_ASHFELD_0930: &str =
 pub(crate) const LT_ASHFELD_0005: &str =
     "LTASHFELD 0005 00062  FL                                                        ";
 
-/// C30001 divides at its second call at Colwell, and C30002 goes on.
+/// C30002 divides from C30001 at its second call at Colwell.
 pub(crate) const AA_DIVIDE: &str =
     "AANC30001C300022406102406101000000VVSCOLWELL2 TP                               P";
 
-/// Its amendment: another code and description.
+/// An amendment of Ashfield Central: another code and description.
 pub(crate) const TA: &str =
     "TAASHFELD         ASHFIELD NEW                                          ASHFLDN ";
 
-/// The header of an update of 9 June that names another file.
+/// The header of another update of that minute.
 pub(crate) const HD_9B: &str =
     "HDTPS.UDFROC1.PD2406090906242100DFROC1BDFROC1AUA                                ";
 
@@ -224,7 +228,7 @@ pub(crate) const LT_0006: &str =
 pub(crate) const BS_C40001: &str =
     "BSNC400012406102406101000000 POO4D40                                           P";
 
-/// Its cancellation.
+/// A cancellation of C40001 on that day.
 pub(crate) const BS_C40001_CANCELLED: &str =
     "BSNC400012406102406101000000 POO4D40                                           C";
 
@@ -236,7 +240,7 @@ pub(crate) const BS_C40001_LAST: &str =
 pub(crate) const LO_2300: &str =
     "LOASHFELD 2300     1                                                            ";
 
-/// Colwell at 23:50, the end of the train.
+/// Colwell at 23:50, the train's terminus.
 pub(crate) const LT_COLWELL_2350: &str =
     "LTCOLWELL 2350     1                                                            ";
 
@@ -244,43 +248,43 @@ pub(crate) const LT_COLWELL_2350: &str =
 pub(crate) const BS_C40002: &str =
     "BSNC400022406112406110100000 POO4D42                                           P";
 
-/// Its cancellation.
+/// A cancellation of C40002 on that day.
 pub(crate) const BS_C40002_CANCELLED: &str =
     "BSNC400022406112406110100000 POO4D42                                           C";
 
-/// Colwell at 00:10, the start of the train.
+/// Colwell at 00:10, the train's origin.
 pub(crate) const LO_COLWELL_0010: &str =
     "LOCOLWELL 0010     1                                                            ";
 
-/// Ashfeld at 01:00, the end of the train.
+/// Ashfeld at 01:00, the train's terminus.
 pub(crate) const LT_ASHFELD_0100: &str =
     "LTASHFELD 0100     1                                                            ";
 
-/// C40001 becomes C40002, on the next day.
+/// C40001 works on as C40002, which starts on the next day.
 pub(crate) const AA_N: &str =
     "AANC40001C400022406102406101000000NPNCOLWELL  TP                               P";
 
-/// C40001 becomes C40002, on the same day.
+/// C40001 works on as C40002, which starts on the same day.
 pub(crate) const AA_S: &str =
     "AANC40001C400022406102406101000000NPSCOLWELL  TP                               P";
 
-/// C40001 becomes C40002, without a date indicator.
+/// C40001 works on as C40002, with a space as the date indicator.
 pub(crate) const AA_BLANK: &str =
     "AANC40001C400022406102406101000000NP COLWELL  TP                               P";
 
-/// C40001 becomes C40002, on the day before.
+/// C40001 works on as C40002, which starts on the day before.
 pub(crate) const AA_P: &str =
     "AANC40001C400022406102406101000000NPPCOLWELL  TP                               P";
 
-/// C40001 becomes C40002, with an unknown date indicator.
+/// C40001 works on as C40002, with an unknown date indicator.
 pub(crate) const AA_X: &str =
     "AANC40001C400022406102406101000000NPXCOLWELL  TP                               P";
 
-/// C40001 and C40002, associated with an unknown category.
+/// C40001 and C40002, with an unknown category.
 pub(crate) const AA_OTHER: &str =
     "AANC40001C400022406102406101000000XXNCOLWELL  TP                               P";
 
-/// C40001 becomes C40002, on 31 December 2059.
+/// C40001 works on as C40002 on 31 December 2059.
 pub(crate) const AA_LAST: &str =
     "AANC40001C400025912315912310010000NPNCOLWELL  TP                               P";
 
@@ -292,7 +296,7 @@ pub(crate) const BS_C50001: &str =
 pub(crate) const LO_1200: &str =
     "LOASHFELD 1200                                                                  ";
 
-/// A change of identity at Colwell.
+/// A change en route at Colwell, with another identity.
 pub(crate) const CR_5E51: &str =
     "CRCOLWELL OO5E51                                                                ";
 
@@ -308,7 +312,7 @@ pub(crate) const LT_1230: &str =
 pub(crate) const HD_EARLY: &str =
     "HDTPS.UDFROC1.PD2406090101000307DFROC1ADFROC1ZUA                                ";
 
-/// A header with an unknown indicator.
+/// A header with an unknown update indicator.
 pub(crate) const HD_X: &str =
     "HDTPS.UDFROC1.PD2406090906242100DFROC1ADFROC1ZXA                                ";
 
@@ -320,7 +324,7 @@ pub(crate) const SHORT: &str =
 pub(crate) const TI_TAB: &str =
     "TIASHFELD         A\tHFIELD CENTRAL                                              ";
 
-/// A note of a location, which isn't allowed in a file.
+/// A location note, which isn't allowed in a file.
 pub(crate) const LN: &str =
     "LN                                                                              ";
 
@@ -328,7 +332,7 @@ pub(crate) const LN: &str =
 pub(crate) const LO_2400: &str =
     "LOASHFELD 2400 09001  SL                                                        ";
 
-/// A schedule of C10001 from a date that isn't in the calendar.
+/// A schedule of C10001 from 29 February 2023, which doesn't exist.
 pub(crate) const BS_NO_DAY: &str =
     "BSNC100012302292406141111100 POO1A10                                           P";
 

@@ -1,4 +1,4 @@
-//! Refused texts of files, and what they leave of the office.
+//! Files that an office refuses, and the state that this leaves.
 
 use crate::compare::same;
 use crate::files::*;
@@ -11,7 +11,8 @@ use docker_office::{Office, OfficeFault};
 use std::alloc::Global;
 use std::process::Abort;
 
-/// Refused files, each under a limit of records, with the number of the record and the cause.
+/// A file that is refused, the limit on its records, the number of the record at fault, and the
+/// cause.
 type Row = (File, u16, u32, FileCause);
 
 const REFUSED: &[Row] = &[
@@ -34,12 +35,12 @@ const REFUSED: &[Row] = &[
     (&[], 0, 1, FileCause::NoEnd),
 ];
 
-/// What an office returns when it takes a text of at most `limit` records.
+/// The result when an office takes a text of at most `limit` records.
 fn taken(office: &mut Office, text: &[u8], limit: u16) -> Result<(), OfficeFault> {
     office.take(&mut Bytes::new(text, 9), u32::from(limit))
 }
 
-/// Asserts that an office which knows the revision refuses such a file and stays as it was.
+/// Asserts that an office that knows the revision refuses this row's file, and doesn't change.
 fn is_refused(rt: &impl Abort, alloc: Global, office: &mut Office, row: &Row) {
     let (file, limit, number, cause) = *row;
     let text = text_of(rt, alloc, file);

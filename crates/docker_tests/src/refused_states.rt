@@ -1,4 +1,4 @@
-//! Refused texts of states, and what they leave of the office.
+//! States that an office refuses, and the state that this leaves.
 
 use crate::compare::same;
 use crate::files::*;
@@ -9,7 +9,7 @@ use docker_office::{LedgerOffice, Office, OfficeFault, PlaceOffice, StateCause, 
 use std::alloc::Global;
 use std::process::Abort;
 
-/// How an office reads a state.
+/// How a state is read.
 #[derive(Clone, Copy, PartialEq, Eq, Debug)]
 enum Ask {
     Receive,
@@ -19,14 +19,14 @@ enum Ask {
     Ledger,
 }
 
-/// How an office reads a state of the new format.
+/// The ways of reading a state in the new format.
 const NEWER: &[Ask] = &[Ask::Receive, Ask::Reload, Ask::Place, Ask::Ledger];
 
-/// How an office reads a state of the older format.
+/// The ways of reading a state in the older format.
 const OLDER: &[Ask] = &[Ask::Migrate];
 
-/// Asks an office, or one at a place or with a ledger, to read a text of at most `limit` bytes, in
-/// pieces of 9 bytes.
+/// The result when an office, or one at a place or with a ledger, reads a text of at most `limit`
+/// bytes. It reads 9 bytes at a time.
 fn read_in(
     rt: &impl Abort,
     alloc: Global,
@@ -47,8 +47,8 @@ fn read_in(
     }
 }
 
-/// Asserts that an office which knows the revision refuses a text for this fault and stays as it
-/// was.
+/// Asserts that an office that knows the revision refuses a text for this fault, and doesn't
+/// change.
 fn refuses(rt: &impl Abort, alloc: Global, how: Ask, text: &[u8], limit: u64, fault: StateFault) {
     let mut office = office_of(rt, alloc, &[REVISION]);
     let answer = read_in(rt, alloc, how, &mut office, text, limit);
@@ -56,7 +56,7 @@ fn refuses(rt: &impl Abort, alloc: Global, how: Ask, text: &[u8], limit: u64, fa
     has(rt, alloc, &office, REVISION_STATE);
 }
 
-/// Asserts that the office refuses the text in each of these ways.
+/// Asserts that a text is refused for this fault in each of these ways.
 fn refuses_by(
     rt: &impl Abort,
     alloc: Global,
@@ -75,7 +75,7 @@ fn fault(at: u64, cause: StateCause) -> StateFault {
     StateFault { at, cause }
 }
 
-/// A text with these bytes at an offset.
+/// A text in which these bytes replace those at an offset.
 fn changed(rt: &impl Abort, alloc: Global, text: &[u8], at: usize, bytes: &[u8]) -> Vec<u8> {
     let front = text.get(..at).expect(rt, "an offset");
     let after = at.saturating_add(bytes.len());
@@ -87,11 +87,11 @@ fn changed(rt: &impl Abort, alloc: Global, text: &[u8], at: usize, bytes: &[u8])
     other
 }
 
-/// An offset, the bytes to put there, and the fault.
+/// An offset, the bytes to put there, and the offset and the cause of the fault.
 type Change = (usize, &'static [u8], u64, StateCause);
 
-/// Changes of the text of the state of one file: of the mark, the horizon, the ledger's day, the
-/// tag, the stamp, the op, the first line and the number of entries.
+/// Changes of the text of one file's state. They are of the mark, the horizon, the ledger's day,
+/// the tag, the stamp, the op, the first line and the number of entries.
 const CHANGED: &[Change] = &[
     (3, b"1", 0, StateCause::Mark),
     (4, b"\x8e\xad", 4, StateCause::Horizon),
@@ -110,7 +110,7 @@ const CHANGED: &[Change] = &[
     ),
 ];
 
-/// Asserts that a text with this change is refused in these ways.
+/// Asserts that a text is refused in these ways after this change.
 fn refuses_change(rt: &impl Abort, alloc: Global, ways: &[Ask], text: &[u8], change: &Change) {
     let (offset, bytes, at, cause) = *change;
     let other = changed(rt, alloc, text, offset, bytes);
@@ -118,7 +118,7 @@ fn refuses_change(rt: &impl Abort, alloc: Global, ways: &[Ask], text: &[u8], cha
     refuses_by(rt, alloc, ways, other.as_slice(), 1000, found);
 }
 
-/// Asserts that a text is refused with each of these changes.
+/// Asserts that a text is refused in these ways after each of these changes.
 fn refuses_changed(rt: &impl Abort, alloc: Global, ways: &[Ask], parts: Parts, changes: &[Change]) {
     let text = text_of_parts(rt, alloc, parts);
     for change in changes {
@@ -152,9 +152,9 @@ fn changed_older_states(rt: HostRuntime) {
     refuses_changed(&rt, rt.alloc(), OLDER, OLD_STATE, OLD_CHANGED);
 }
 
-/// What follows the mark, the limit, and the fault in the older format: an item twice, a full
-/// extract above the first item, an entry twice, a byte after the state, and a limit that is too
-/// low.
+/// The text after the mark, the limit, and the fault in the older format. The texts are an item
+/// twice, a full extract above the first item, an entry twice, a byte after the state, and one
+/// under a limit that is too low.
 type Other = (Parts, u64, u64, StateCause);
 
 const OTHERS: &[Other] = &[
@@ -204,7 +204,7 @@ const OTHERS: &[Other] = &[
     (train_after!(ONE, ITEM, ONE), 308, 308, StateCause::Long),
 ];
 
-/// These parts after a mark.
+/// A mark, and then these parts.
 fn marked(rt: &impl Abort, alloc: Global, mark: &str, parts: Parts) -> Vec<u8> {
     let mut text = text_of_parts(rt, alloc, &[mark]);
     let rest = text_of_parts(rt, alloc, parts);
@@ -212,7 +212,7 @@ fn marked(rt: &impl Abort, alloc: Global, mark: &str, parts: Parts) -> Vec<u8> {
     text
 }
 
-/// Asserts that such a text is refused in the older format.
+/// Asserts that this row's text is refused in the older format.
 fn refuses_older(rt: &impl Abort, alloc: Global, row: &Other) {
     let (parts, limit, at, cause) = *row;
     let text = marked(rt, alloc, OLD_MARK, parts);
@@ -220,7 +220,8 @@ fn refuses_older(rt: &impl Abort, alloc: Global, row: &Other) {
     refuses_by(rt, alloc, OLDER, text.as_slice(), limit, found);
 }
 
-/// Asserts that it is refused in the new format, whose mark is two bytes longer.
+/// Asserts that this row's text is refused in the new format, where mark and horizon have two bytes
+/// more.
 fn refuses_newer(rt: &impl Abort, alloc: Global, row: &Other) {
     let (parts, limit, at, cause) = *row;
     let text = marked(rt, alloc, MARK, parts);
@@ -237,7 +238,7 @@ fn items_and_entries_out_of_place(rt: HostRuntime) {
     }
 }
 
-/// How many bytes of the text there are, and the offset at which it is too short.
+/// How many bytes of the text there are, and at which offset it is reported as too short.
 const CUT: &[(usize, u64)] = &[
     (0, 0),
     (3, 0),
@@ -267,7 +268,7 @@ const OLD_CUT: &[(usize, u64)] = &[
     (308, 39),
 ];
 
-/// Asserts that the first `bytes` bytes of a text are refused in these ways as too short at this
+/// Asserts that the first `bytes` bytes of a text are refused in these ways, as too short at this
 /// offset.
 fn refuses_front(rt: &impl Abort, alloc: Global, ways: &[Ask], text: &[u8], bytes: usize, at: u64) {
     let front = text.get(..bytes).expect(rt, "a length");
@@ -275,7 +276,7 @@ fn refuses_front(rt: &impl Abort, alloc: Global, ways: &[Ask], text: &[u8], byte
     refuses_by(rt, alloc, ways, front, 1000, found);
 }
 
-/// Asserts that a text is refused in these ways wherever it is cut.
+/// Asserts that a text is refused in these ways if it is cut at each of these places.
 fn refuses_cut(rt: &impl Abort, alloc: Global, ways: &[Ask], parts: Parts, cuts: &[(usize, u64)]) {
     let text = text_of_parts(rt, alloc, parts);
     for (bytes, at) in cuts {

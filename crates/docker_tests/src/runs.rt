@@ -1,4 +1,4 @@
-//! Runs of events: their replies, and what is known at the end.
+//! Runs of events: the replies, and what is left at the end.
 ghost use Rattle.std.specs.Prelude.{All};
 ghost use Rattle.docker_office.specs.RunEnds.{HasGoodLimit};
 ghost use Rattle.docker_office.specs.RunMeaning.{event_meant, events_meant};
@@ -14,7 +14,7 @@ use docker_office::{Event, Exchange, Office, OfficeFault, Reply, RunFault, run};
 use std::alloc::Global;
 use std::process::Abort;
 
-/// A Take of a text under the greatest limit.
+/// The event `Take` with this text, under the greatest limit.
 fn take(office: usize, text: &[u8]) -> Event<'_>
     ensures { HasGoodLimit (event_meant result) }
 {
@@ -25,28 +25,28 @@ fn take(office: usize, text: &[u8]) -> Event<'_>
     }
 }
 
-/// A Send.
+/// The event `Send`.
 fn send<'a>(office: usize) -> Event<'a>
     ensures { HasGoodLimit (event_meant result) }
 {
     Event::Send { office }
 }
 
-/// A Deliver of a message.
+/// The event `Deliver` with this message.
 fn deliver<'a>(office: usize, message: usize) -> Event<'a>
     ensures { HasGoodLimit (event_meant result) }
 {
     Event::Deliver { office, message }
 }
 
-/// A Reload of a message.
+/// The event `Reload` with this message.
 fn reload<'a>(office: usize, message: usize) -> Event<'a>
     ensures { HasGoodLimit (event_meant result) }
 {
     Event::Reload { office, message }
 }
 
-/// A Horizon.
+/// The event `Horizon` with this day.
 fn horizon<'a>(office: usize, day: Day) -> Event<'a>
     ensures { HasGoodLimit (event_meant result) }
 {
@@ -60,12 +60,12 @@ fn left_by(rt: &impl Abort, alloc: Global, offices: usize, events: &[Event<'_>])
     run(alloc, offices, events).expect(rt, "memory")
 }
 
-/// An office at the end.
+/// The office with this index, at the end of a run.
 fn office_at<'a>(rt: &impl Abort, left: &'a Exchange, office: usize) -> &'a Office {
     left.offices().get(office).expect(rt, "an office")
 }
 
-/// Asserts that an office prints this docker for Ashfeld on a day.
+/// Asserts that an office, at the end of a run, prints this docker for Ashfeld on a day.
 fn prints_there(
     rt: &impl Abort,
     alloc: Global,
@@ -78,7 +78,7 @@ fn prints_there(
     prints(rt, alloc, office, "ASHFELD", day, docker);
 }
 
-/// Asserts that an office has this text at the end.
+/// Asserts that the state of an office has this text at the end of a run.
 fn ends(rt: &impl Abort, alloc: Global, left: &Exchange, office: usize, parts: Parts) {
     has(rt, alloc, office_at(rt, left, office), parts);
 }
@@ -90,8 +90,7 @@ fn message_is(rt: &impl Abort, alloc: Global, left: &Exchange, message: usize, p
     same(rt, (message, kept.bytes()), (message, wanted.as_slice()));
 }
 
-/// Asserts that the first `done` replies say that the event was done, and that the remaining
-/// replies are these.
+/// Asserts that the first `done` replies are `Done`, and that these others follow.
 fn replies(rt: &impl Abort, left: &Exchange, done: usize, others: &[Reply]) {
     let (first, rest) = left.replies().split_at(left.replies().len().min(done));
     same(rt, first.len(), done);
@@ -109,7 +108,7 @@ fn no_office(rt: HostRuntime) {
     same(&rt, left.messages().len(), 0);
 }
 
-/// The events of three offices up to the reload of the first office, and further events.
+/// The events at three offices up to the first office's reload, and then these.
 macro_rules! up_to_reload {
     ([$early:expr, $full:expr, $late:expr], $($more:expr),*) => {
         &[
@@ -131,7 +130,7 @@ macro_rules! up_to_reload {
     };
 }
 
-/// The end of a run of three offices that ends with a refused file.
+/// What is left by a run of three offices, whose last event is a refused file.
 fn three_left(rt: &impl Abort, alloc: Global) -> Exchange {
     let early = text_of(rt, alloc, FIFTH);
     let full = text_of(rt, alloc, SEVENTH);
@@ -171,7 +170,7 @@ fn three_offices(rt: HostRuntime) {
     message_is(&rt, alloc, &left, 4, LATE_STATE);
 }
 
-/// The end of that run at the reload.
+/// What is left by the same run, if it ends with the reload.
 fn reload_left(rt: &impl Abort, alloc: Global) -> Exchange {
     let early = text_of(rt, alloc, FIFTH);
     let full = text_of(rt, alloc, SEVENTH);
@@ -191,7 +190,7 @@ fn three_offices_up_to_a_reload(rt: HostRuntime) {
     ends(&rt, alloc, &left, 1, LATE_STATE);
 }
 
-/// The end of a run of two offices that ends with a horizon of a third.
+/// What is left by a run of two offices, whose last event sets a horizon at a third.
 fn horizon_left(rt: &impl Abort, alloc: Global) -> Exchange {
     let text = text_of(rt, alloc, MORNING);
     let day = day_of(rt, "2024-06-15");
@@ -222,7 +221,8 @@ fn two_offices_and_a_horizon(rt: HostRuntime) {
     prints_there(&rt, alloc, &left, 0, "2024-06-10", ASHFELD_0900);
 }
 
-/// The end of a run in which the delivered state was sent before the horizon was set.
+/// What is left by a run in which a state is sent, then a horizon is set, and then the state is
+/// delivered.
 fn delivery_left(rt: &impl Abort, alloc: Global) -> Exchange {
     let text = text_of(rt, alloc, MORNING);
     let day = day_of(rt, "2024-06-15");
@@ -243,7 +243,7 @@ fn a_delivery_before_the_horizon(rt: HostRuntime) {
     prints_there(&rt, rt.alloc(), &left, 1, "2024-06-10", ASHFELD_0900);
 }
 
-/// The events of one office up to the reload of its first message, and further events.
+/// The events at one office up to the reload of its first message, and then these.
 macro_rules! up_to_loss {
     ([$text:expr, $revision:expr], $($more:expr),*) => {
         &[
@@ -257,7 +257,7 @@ macro_rules! up_to_loss {
     };
 }
 
-/// What is left after a reload lost the revision.
+/// What is left if the reload has lost the revision.
 fn lost_left(rt: &impl Abort, alloc: Global) -> Exchange {
     let text = text_of(rt, alloc, MORNING);
     let revision = text_of(rt, alloc, REVISION);
@@ -265,7 +265,7 @@ fn lost_left(rt: &impl Abort, alloc: Global) -> Exchange {
     left_by(rt, alloc, 1, events)
 }
 
-/// What is left after the revision comes again.
+/// What is left if the revision is taken again after that.
 fn found_left(rt: &impl Abort, alloc: Global) -> Exchange {
     let text = text_of(rt, alloc, MORNING);
     let revision = text_of(rt, alloc, REVISION);
@@ -285,8 +285,8 @@ fn what_a_reload_lost_comes_again(rt: HostRuntime) {
     ends(&rt, alloc, &found, 0, REVISED_STATE);
 }
 
-/// The end of a run of five offices: the first takes three files, and the last receives them from
-/// the others.
+/// What is left by a run of five offices: the first takes three files, and the last receives them
+/// from the other three.
 fn five_left(rt: &impl Abort, alloc: Global, files: [File; 3]) -> Exchange {
     let first = text_of(rt, alloc, files[0]);
     let second = text_of(rt, alloc, files[1]);
@@ -308,7 +308,7 @@ fn five_left(rt: &impl Abort, alloc: Global, files: [File; 3]) -> Exchange {
     left_by(rt, alloc, 5, events)
 }
 
-/// A full extract that arrives late, in each order.
+/// A full extract that comes late, in each order of the files.
 const ORDERS: &[[File; 3]] = &[
     [FIFTH, SEVENTH, NINTH],
     [FIFTH, NINTH, SEVENTH],
@@ -318,7 +318,8 @@ const ORDERS: &[[File; 3]] = &[
     [NINTH, SEVENTH, FIFTH],
 ];
 
-/// Asserts that the first office and the last know the same three files, taken in this order.
+/// Asserts that the first office and the last know the same three files, if they are taken in this
+/// order.
 fn is_late(rt: &impl Abort, alloc: Global, files: [File; 3]) {
     let left = five_left(rt, alloc, files);
     replies(rt, &left, 12, &[]);

@@ -1,20 +1,20 @@
-//! The texts of states, worked out by hand, part by part. Each character of a part stands for one
-//! byte, the one with its number.
+//! The texts of states, worked out by hand part by part. Each character of a part stands for the
+//! byte with its number.
 
 use crate::records::*;
 use std::alloc::Global;
 use std::process::Abort;
 
-/// The parts of a text, in turn.
+/// The parts of a text, one after the other.
 pub(crate) type Parts = &'static [&'static str];
 
-/// The mark of a text, and no horizon.
+/// The mark of the new format, and no horizon.
 pub(crate) const MARK: &str = "DKS2\0\0";
 
-/// The mark of a text under the horizon of 15 June 2024.
+/// The mark of the new format, and the horizon of 15 June 2024.
 const MARK_15: &str = "DKS2\x5b\u{f6}";
 
-/// The mark of a text of the older format.
+/// The mark of the older format.
 pub(crate) const OLD_MARK: &str = "DKS1";
 
 /// How many items or entries there are: zero, one or two.
@@ -43,33 +43,32 @@ const ITEM_9B: &str = "\x5b\u{f0}\x04\u{ec}DFROC1BUDFROC1A";
 
 const ITEM_9C: &str = "\x5b\u{f0}\x04\u{ec}DFROC1CUDFROC1B";
 
-/// The entry of C10001 in the update of 9 June, up to its op, and the same entry as its fifth
-/// record.
+/// The entry of C10001 in the update of 9 June, up to its op. Also the same entry, from record 5.
 pub(crate) const ENTRY: &str = "\x03C10001\x5b\u{f1}P\x5b\u{f0}\x04\u{ec}DFROC1A\0\0\0\x02";
 
 const ENTRY_FIFTH: &str = "\x03C10001\x5b\u{f1}P\x5b\u{f0}\x04\u{ec}DFROC1A\0\0\0\x05";
 
-/// The entries of C10001 in other files, up to the op.
+/// The entries of C10001 in other files, up to their ops.
 const ENTRY_10B: &str = "\x03C10001\x5b\u{f1}P\x5b\u{f1}\x04\u{ec}DFROC1B\0\0\0\x02";
 
 const ENTRY_9B: &str = "\x03C10001\x5b\u{f1}P\x5b\u{f0}\x04\u{ec}DFROC1B\0\0\0\x02";
 
 const ENTRY_9C: &str = "\x03C10001\x5b\u{f1}P\x5b\u{f0}\x04\u{ec}DFROC1C\0\0\0\x02";
 
-/// Entries of the update of 5 June.
+/// Entries of the update of 5 June, up to their ops.
 const ENTRY_5A: &str = "\x03C10001\x5b\u{f1}P\x5b\u{ec}\x04\u{ec}DFROC1A\0\0\0\x03";
 
 const C10003_5A: &str = "\x03C10003\x5b\u{f1}P\x5b\u{ec}\x04\u{ec}DFROC1A\0\0\0\x02";
 
-/// The entry of C10002 in the full extract.
+/// The entry of C10002 in the full extract, up to its op.
 const ENTRY_7B: &str = "\x03C10002\x5b\u{f1}P\x5b\u{ee}\x04\u{ec}DFROC1B\0\0\0\x02";
 
-/// The entries of two codes of a timing point, up to their ops.
+/// The entries of a timing point's two codes, up to their ops.
 const ASHFELD_10B: &str = "\x01ASHFELD\x5b\u{f1}\x04\u{ec}DFROC1B\0\0\0\x02";
 
 const ASHFLDN_10B: &str = "\x01ASHFLDN\x5b\u{f1}\x04\u{ec}DFROC1B\0\0\0\x02";
 
-/// The ops of a deletion, a lapsed entry and a put, and a put of three lines.
+/// The bytes of ops: deleted, lapsed and put. Also a put of three lines.
 const GONE: &str = "\0";
 
 const PASSED: &str = "\x02";
@@ -78,7 +77,7 @@ const PUT: &str = "\x01";
 
 pub(crate) const THREE_LINES: &str = "\x01\0\0\0\x03";
 
-/// Columns 10 to 72 of a timing point's record.
+/// The body of a timing point: columns 10 to 72 of its record.
 const DESCRIBED: &str = "         ASHFIELD NEW                                          ";
 
 /// Lines of schedules.
@@ -88,7 +87,7 @@ pub(crate) const FROM_ASHFELD: &str = LO;
 
 pub(crate) const TO_BRAYTON: &str = LT;
 
-/// Parts, followed by the schedule of the morning train.
+/// These parts, and then the put of the morning train.
 macro_rules! train_after {
     ($($part:expr),*) => {
         &[$($part,)* ENTRY, THREE_LINES, FIRST, FROM_ASHFELD, TO_BRAYTON]
@@ -97,19 +96,19 @@ macro_rules! train_after {
 
 pub(crate) use train_after;
 
-/// The state that knows no file.
+/// The state of no file.
 pub(crate) const EMPTY_STATE: Parts = &[MARK, NONE, NONE];
 
-/// The state that knows the morning train: 311 bytes.
+/// The state of the morning train: 311 bytes.
 pub(crate) const MORNING_STATE: Parts = train_after!(MARK, ONE, ITEM, ONE);
 
-/// The state that knows the morning train, in the older format: 309 bytes.
+/// The state of the morning train in the older format: 309 bytes.
 pub(crate) const OLD_STATE: Parts = train_after!(OLD_MARK, ONE, ITEM, ONE);
 
-/// The state that knows the morning train, under a horizon after its last day: 67 bytes.
+/// The state of the morning train under a horizon after its last day: 67 bytes.
 pub(crate) const LAPSED_STATE: Parts = &[MARK_15, ONE, ITEM, ONE, ENTRY, PASSED];
 
-/// The state that knows only the revision: 311 bytes.
+/// The state of the revision only: 311 bytes.
 pub(crate) const REVISION_STATE: Parts = &[
     MARK,
     ONE,
@@ -122,7 +121,7 @@ pub(crate) const REVISION_STATE: Parts = &[
     LT_0935,
 ];
 
-/// The state that knows the train and its revision: 330 bytes.
+/// The state of the morning train and its revision: 330 bytes.
 pub(crate) const REVISED_STATE: Parts = &[
     MARK,
     TWO,
@@ -136,7 +135,7 @@ pub(crate) const REVISED_STATE: Parts = &[
     LT_0935,
 ];
 
-/// The state that knows the update of 5 June: 337 bytes.
+/// The state of the update of 5 June: 337 bytes.
 pub(crate) const FIFTH_STATE: Parts = &[
     MARK,
     ONE,
@@ -151,8 +150,8 @@ pub(crate) const FIFTH_STATE: Parts = &[
     GONE,
 ];
 
-/// The state that knows the update of 5 June, the full extract of 7 June and the update of 9 June:
-/// 600 bytes.
+/// The state of three files: the update of 5 June, the full extract of 7 June and the update of 9
+/// June. It has 600 bytes.
 pub(crate) const LATE_STATE: Parts = &[
     MARK,
     TWO,
@@ -171,13 +170,13 @@ pub(crate) const LATE_STATE: Parts = &[
     LT_1030,
 ];
 
-/// A train of the day before, and its deletion: 86 bytes.
+/// The state of a train of the day before and its deletion: 86 bytes.
 pub(crate) const DELETED_STATE: Parts = &[MARK, TWO, ITEM_8A, ITEM_9B, ONE, ENTRY_9B, GONE];
 
-/// A train that its own file deletes: 67 bytes.
+/// The state of a file that puts a train and deletes it: 67 bytes.
 pub(crate) const WITHDRAWN_STATE: Parts = &[MARK, ONE, ITEM, ONE, ENTRY_FIFTH, GONE];
 
-/// A timing point, and its new code: 171 bytes.
+/// The state of a timing point and its new code: 171 bytes.
 pub(crate) const RENAMED_STATE: Parts = &[
     MARK,
     TWO,
@@ -191,7 +190,8 @@ pub(crate) const RENAMED_STATE: Parts = &[
     DESCRIBED,
 ];
 
-/// Two files with one stamp, of which the train that runs longer wins: 311 bytes.
+/// The state of two files with equal stamps, in which the train that runs until a later day wins:
+/// 311 bytes.
 pub(crate) const LONGER_STATE: Parts = &[
     MARK,
     ONE,
@@ -204,7 +204,8 @@ pub(crate) const LONGER_STATE: Parts = &[
     TO_BRAYTON,
 ];
 
-/// Two files with one stamp, of which the train with the greater bytes wins: 311 bytes.
+/// The state of two files with equal stamps, in which the train with the greater bytes wins: 311
+/// bytes.
 pub(crate) const LATER_STATE: Parts = &[
     MARK,
     ONE,
@@ -217,7 +218,7 @@ pub(crate) const LATER_STATE: Parts = &[
     TO_BRAYTON,
 ];
 
-/// An update and a full extract with one stamp: 330 bytes.
+/// The state of an update and a full extract with equal file stamps: 330 bytes.
 pub(crate) const BOTH_STATE: Parts = train_after!(MARK, TWO, ITEM_FULL, ITEM, ONE);
 
 /// Adds a part to a text, one byte per character.
@@ -229,7 +230,7 @@ fn add_part(rt: &impl Abort, text: &mut Vec<u8>, part: &str) {
     }
 }
 
-/// The parts joined, one byte per character.
+/// The text of these parts, one byte per character.
 pub(crate) fn text_of_parts(rt: &impl Abort, alloc: Global, parts: &[&str]) -> Vec<u8> {
     let mut text = Vec::new(alloc);
     for part in parts {

@@ -1,4 +1,4 @@
-//! The texts of states that offices send.
+//! The texts of states, as offices send them.
 ghost use Rattle.std.specs.Prelude.{◌<◌};
 
 use crate::compare::same;
@@ -10,7 +10,7 @@ use docker_office::Office;
 use std::alloc::Global;
 use std::process::Abort;
 
-/// Files in some order, files in another order, how many bytes the state has for both, and its
+/// Files in one order, the same files in another, the number of bytes that their state has, and its
 /// parts.
 type Row = (&'static [File], &'static [File], usize, Parts);
 
@@ -51,8 +51,8 @@ const ROWS: &[Row] = &[
     (&[MORNING, FULL], &[FULL, MORNING], 330, BOTH_STATE),
 ];
 
-/// Asserts that an office which takes these files in turn has this text, and so has an office that
-/// receives the states of others, each of which took one file.
+/// Asserts the text of an office that takes these files one after the other. An office that
+/// receives each file's state from another office has the same text.
 fn have(rt: &impl Abort, alloc: Global, files: &[File], parts: Parts) {
     has(rt, alloc, &office_of(rt, alloc, files), parts);
     has(rt, alloc, &merged(rt, alloc, files), parts);
@@ -73,7 +73,7 @@ fn states_in_any_order(rt: HostRuntime) {
     }
 }
 
-/// The files that states list.
+/// Files, and what the command `files` lists of their state.
 const LISTS: &[(&[File], &str)] = &[
     (&[], ""),
     (
@@ -91,7 +91,7 @@ const LISTS: &[(&[File], &str)] = &[
     (&[EARLY], "2000-01-01 0307 DFROC1A U DFROC1Z\n"),
 ];
 
-/// Asserts what an office lists that took these files in turn, and what one with its ledger lists.
+/// Asserts what an office lists after it has taken these files, and what one with its ledger lists.
 fn lists(rt: &impl Abort, alloc: Global, files: &[File], wanted: &str) {
     let office = office_of(rt, alloc, files);
     let mut text = Kept::new(alloc, 100).expect(rt, "room");
@@ -110,8 +110,8 @@ fn files_of_states(rt: HostRuntime) {
     }
 }
 
-/// Asserts that an office which takes this text in pieces of `step` bytes has the state of the
-/// morning train.
+/// Asserts that an office has the state of the morning train after it takes this text, `step` bytes
+/// at a time.
 fn is_taken(rt: &impl Abort, alloc: Global, text: &[u8], step: usize)
     requires { 0 < step }
 {
@@ -121,7 +121,7 @@ fn is_taken(rt: &impl Abort, alloc: Global, text: &[u8], step: usize)
     has(rt, alloc, &office, MORNING_STATE);
 }
 
-/// The morning train with other line ends.
+/// The text of the morning train, with a carriage return before each line feed.
 fn text_of_returns(rt: &impl Abort, alloc: Global) -> Vec<u8> {
     let mut returns = Vec::new(alloc);
     for record in MORNING {

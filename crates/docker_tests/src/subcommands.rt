@@ -1,4 +1,4 @@
-//! Each subcommand once, with the bytes that it reads and writes.
+//! Each subcommand once: the bytes that it reads and those that it writes.
 
 use crate::commands::written;
 use crate::compare::same_of;
@@ -11,10 +11,10 @@ HDTPS.UDFROC1.PD2406090906242100DFROC1ADFROC1ZUA
 ZZ                                                                              
 ";
 
-/// The state that knows no file.
+/// The state of no file.
 const EMPTY: &[u8] = b"DKS2\0\0\0\0\0\0\0\0\0\0\0\0\0\0\0\0\0\0";
 
-/// The state of that file: days 23536, minute 1260.
+/// The state of that file: day 23536, minute 1260.
 const STATE: &[u8] = b"DKS2\0\0\0\0\0\0\0\0\0\x01\x5b\xf0\x04\xecDFROC1AUDFROC1Z\0\0\0\0\0\0\0\0";
 
 /// The state of that file in the older format.
@@ -30,7 +30,7 @@ DOCKER ASHFELD 2024-06-10
 END                                                     
 ";
 
-/// Asserts what a job of these words writes for two sources.
+/// Asserts what the command with these words writes, if its sources give these two texts.
 fn writes(
     rt: &impl Abort,
     alloc: Global,

@@ -1,4 +1,4 @@
--- What a state answers for a UID and a day, and what a sink gained of the answer's text.
+-- What is found in a state for a UID and a day, and what a sink gets of its text.
 use Rattle.std.specs.Prelude.{◌≡◌, ℕ, List, Option}
 use Rattle.cif_line.specs.Device.{Takes, TakesPart}
 use Rattle.docker_model.specs.state.State.{State}
@@ -10,23 +10,23 @@ pub record Answer : Type 0 where
   pub day : ℕ
   pub found : Option Stamped
 
--- it is what the state answers for the UID and the day
+-- this is what is found in the state for the UID and the day
 pub record IsAnswerOf (state : State) (uid : List ℕ) (day : ℕ) (answer : Answer) : Type 0 where
   pub uid_is : answer.uid ≡ uid
   pub day_is : answer.day ≡ day
   pub is_found : IsFoundFor state uid day answer.found
 
--- the text of the answer
+-- the text of what was found
 abbrev pub text_of : Answer → List ℕ
 text_of answer = train_text answer.uid answer.day answer.found
 
--- the sink gained the train text of the state, the UID and the day
+-- the sink got the train text for the state, the UID and the day
 pub record PrintsTrain (state : State) (uid : List ℕ) (day : ℕ) (old new : Option (List ℕ)) : Type 0 where
   pub text : List ℕ
   pub is : IsTrainText state uid day text
   pub gained : Takes old text new
 
--- the sink gained a beginning of that text, and not all of it
+-- the sink got a first part of that text, but not all of it
 pub record PrintsPart (state : State) (uid : List ℕ) (day : ℕ) (old new : Option (List ℕ)) : Type 0 where
   pub text : List ℕ
   pub is : IsTrainText state uid day text

@@ -1,4 +1,4 @@
--- Which schedule is chosen for a UID on a day, where it came from, and the text that says so. Days
+-- Which schedule is chosen for a UID on a day, where it comes from, and the text that says so. Days
 -- are from 0 to 36524.
 use Rattle.std.specs.Prelude.{◌≡◌, ℕ, ◌-◌, if◌then◌else◌, List, [], ◌∷◌, ◌++◌, length, codes, decimal, Option, Some, None}
 use Rattle.std.specs.List.{flat_map}
@@ -11,18 +11,19 @@ use Rattle.docker_model.specs.docker.Choice.{Train, IsChosenOn}
 use Rattle.docker_model.specs.docker.DockerText.{ended}
 use Rattle.train_choice.specs.Ranked.{is_cancellation}
 
--- a schedule, with the stamp of the change that put it: its file, and its record's number there
+-- a schedule, with the stamp of the change that put it: its file, and the number of its record
+-- there
 pub record Stamped : Type 0 where
   pub schedule : Train
   pub stamp : Stamp
 
--- the state's entry of the schedule's key has this stamp, and puts the schedule's lines
+-- the state's entry at the schedule's key has this stamp, and puts the schedule's lines
 abbrev pub IsStampOf : State → Train → Stamp → Type 0
 IsStampOf state schedule stamp =
     entry_at state (schedule_key schedule.key) ≡ Some (record { stamp = stamp; op = put_with (schedule_body schedule.lines) })
 
--- what is found is the schedule that is chosen for the UID on the day, with its stamp; nothing is
--- found if no schedule runs
+-- this is found: the schedule chosen for the UID on the day, with its stamp. None if no schedule
+-- runs
 abbrev pub IsFoundFor : State → List ℕ → ℕ → Option Stamped → Type 0
 IsFoundFor state uid day None = IsChosenOn (live_table state) uid day None
 IsFoundFor state uid day (Some found) =
@@ -38,8 +39,8 @@ stamp_text stamp =
     day_text stamp.file.moment.day ++ spaces 1 ++ minute_text stamp.file.moment.minute ++ spaces 1 ++ stamp.file.reference ++ spaces 1
     ++ number_text stamp.number
 
--- whether a train runs by a chosen schedule with this STP indicator: a cancellation's cancels it,
--- and by any other it runs
+-- the word that says whether a train runs by a schedule with this STP indicator: by a cancellation
+-- it doesn't
 abbrev pub running_text : ℕ → List ℕ
 running_text indicator = if is_cancellation indicator then codes "CANCELLED" else codes "RUNS     "
 
@@ -53,11 +54,11 @@ found_text (Some found) =
 unfoldable pub heading_with : List ℕ → ℕ → List ℕ → List ℕ
 heading_with uid day found = codes "TRAIN  " ++ uid ++ spaces 2 ++ day_text day ++ spaces 1 ++ found ++ spaces 8
 
--- the heading
+-- the 80 columns of the heading
 abbrev pub heading : List ℕ → ℕ → Option Stamped → List ℕ
 heading uid day found = heading_with uid day (found_text found)
 
--- the lines of what is found, each with 80 columns
+-- the lines of the schedule found, each with 80 columns
 abbrev pub lines_of : Option Stamped → List (List ℕ)
 lines_of None = []
 lines_of (Some found) = found.schedule.lines
@@ -66,10 +67,10 @@ lines_of (Some found) = found.schedule.lines
 abbrev pub last_line : List ℕ
 last_line = codes "END" ++ spaces 77
 
--- the text for a UID, a day and what is found
+-- the text for a UID, a day and what was found
 abbrev pub train_text : List ℕ → ℕ → Option Stamped → List ℕ
 train_text uid day found = ended (heading uid day found) ++ flat_map ended (lines_of found) ++ ended last_line
 
--- this is the train text of a state, a UID and a day
+-- this is the train text for a state, a UID and a day
 abbrev pub IsTrainText : State → List ℕ → ℕ → List ℕ → Type 0
 IsTrainText state uid day text = (found : Option Stamped) × IsFoundFor state uid day found × (text ≡ train_text uid day found)

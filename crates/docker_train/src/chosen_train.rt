@@ -1,4 +1,4 @@
-//! What a state says of a UID on a day.
+//! The schedule that is chosen for a UID on a day.
 ghost use Rattle.std.specs.Prelude.{◌≡◌};
 ghost use Rattle.std.specs.Option.{option_copied, option_map};
 ghost use Rattle.docker_join.specs.Meaning.{stamp_meant};
@@ -32,7 +32,7 @@ impl<'a> Model for ChosenTrain<'a> {
 }
 
 impl<'a> ChosenTrain<'a> {
-    /// What is found for a UID and a day.
+    /// What was found for a UID and a day.
     pub(crate) fn of(uid: Uid, day: Day, found: Option<Stamped<'a>>) -> ChosenTrain<'a>
         ensures { result ≡ record { uid = uid; day = day; found = found.entry } }
     {
@@ -53,7 +53,7 @@ impl<'a> ChosenTrain<'a> {
         self.day
     }
 
-    /// The chosen schedule: its key and its lines. It may be a cancellation. `None` if no schedule
+    /// The chosen schedule, with its key and lines. It may be a cancellation. `None` if no schedule
     /// runs.
     pub fn schedule(&self) -> Option<&ScheduleView<'a>>
         ensures { option_copied result
@@ -65,8 +65,8 @@ impl<'a> ChosenTrain<'a> {
         }
     }
 
-    /// Where the schedule came from: the date, the time and the reference of the extract, and the
-    /// record's number there. `None` if no schedule runs.
+    /// Where the schedule comes from: the date, time and reference of its extract, and the number
+    /// of its record there. `None` if no schedule runs.
     pub fn stamp(&self) -> Option<&'a Stamp>
         ensures { option_map stamp_meant (option_copied result)
             ≡ option_map (λ (it : text.Stamped). it.stamp) self.now.found }
@@ -77,14 +77,14 @@ impl<'a> ChosenTrain<'a> {
         }
     }
 
-    /// What is found.
+    /// What was found: the schedule and its stamp.
     pub(crate) fn found(&self) -> Option<&Stamped<'a>>
         ensures { option_copied result ≡ self.now.found }
     {
         self.found.as_ref()
     }
 
-    /// The lines of the schedule. There are none if no schedule runs.
+    /// The lines of the schedule; none if no schedule runs.
     pub(crate) fn lines(&self) -> &[Line]
         ensures { result.now ≡ lines_of self.now.found }
     {

@@ -1,5 +1,5 @@
-//! What the answers for a UID and a day say. Each law is the contract of a function with no body,
-//! so it is true of everything that it names.
+//! What the text for a UID and a day says. Each law is the contract of a function with an empty
+//! body, so it holds for all values of its variables.
 ghost use Rattle.std.specs.Prelude.{◌≡◌, ◌≤◌, ℕ, List, Option, Some, option_map};
 ghost use Rattle.docker_model.specs.records.Date.{IsDay};
 ghost use Rattle.docker_model.specs.state.Lapse.{IsDayRefused};
@@ -13,22 +13,22 @@ ghost use Rattle.docker_model.specs.docker.Choice.{IsChosenOn};
 ghost use Rattle.docker_train.specs.TrainText.{IsFoundFor, IsTrainText, Stamped};
 ghost use Rattle.docker_train.specs.Origin.{CameFrom, IsFoundToRun};
 
-/// A state, a UID and a day have at most one train text.
+/// A state has at most one train text for a UID and a day.
 pub fn one_train_text()
     ensures { (state : State) (uid : List ℕ) (day : ℕ) (text other : List ℕ)
         → IsTrainText state uid day text → IsTrainText state uid day other → text ≡ other }
 {}
 
-/// A schedule found in the summary of some files came from one of them: the file with its date,
-/// time and reference makes the change with its record number.
+/// A schedule found in the summary of some files comes from one of them. That file has the date,
+/// time and reference of the stamp, and makes the change with its record number.
 pub fn train_came_from_a_file()
     ensures { (files : List (List (List ℕ))) (horizon : ℕ) (state : State) (uid : List ℕ) (day : ℕ)
         (found : Stamped) → IsSummary files horizon state → IsFoundFor state uid day (Some found)
         → CameFrom files found }
 {}
 
-/// If the files of a set have distinct moments, what is found in their summary on a day from the
-/// horizon on is what their plain table has then.
+/// If the files of a set have distinct moments, their summary gives the same schedule as their
+/// plain table, on each day from the horizon on.
 pub fn found_train_is_plain()
     ensures { (files : List (List (List ℕ))) (horizon : ℕ) (state : State) (table : Table)
         (uid : List ℕ) (day : ℕ) (found : Option Stamped) → IsSummary files horizon state
@@ -36,9 +36,8 @@ pub fn found_train_is_plain()
         → IsChosenOn table uid day (option_map (λ (it : Stamped). it.schedule) found) }
 {}
 
-/// Each event on a docker that isn't refused belongs to the train that is found for its UID on its
-/// start day, and that train runs then. Each association on it belongs to a base train of which the
-/// same is true.
+/// For each event on a docker that isn't refused, the event's train is found for its UID on its
+/// start day, and runs then. The same is true of the base train of each association on the docker.
 pub fn trains_of_a_docker()
     ensures events { (state : State) (place : List ℕ) (day : ℕ) (line : DockerLine)
         → IsValid state → ¬ IsDayRefused state.horizon day

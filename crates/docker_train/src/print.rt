@@ -23,12 +23,12 @@ use docker_join::Stamp;
 use fixed_text::{put, whole};
 use itoa::Buffer;
 
-/// The bytes of a line: 80 columns and a line feed.
+/// How many bytes a line has: 80 columns and a line feed.
 const WIDTH: usize = 81;
 
-/// Prints the schedule that is chosen for a UID on a day, or that none is. It is found before the
-/// first byte is written. So `Lapsed` writes nothing; it means that the day is before the horizon.
-/// `Sink` leaves the sink with a beginning of the text, and not all of it. It takes no memory.
+/// Prints the schedule chosen for a UID on a day, or that there is none. The schedule is found
+/// before the first byte is written. `Lapsed` means that the day is before the horizon; nothing is
+/// written then. After `Sink` the sink has only a first part of the text. It allocates nothing.
 pub fn print_train<K: Sink>(
     state: &State,
     uid: &Uid,
@@ -51,8 +51,8 @@ pub fn print_train<K: Sink>(
     }
 }
 
-/// Writes what was found for a UID and a day as it is printed. If a write fails, the sink has a
-/// beginning of the text, and not all of it.
+/// Writes what was found for a UID and a day. If a write fails, the sink has only a first part of
+/// the text.
 pub fn write_train<K: Sink>(train: &ChosenTrain<'_>, sink: &mut K) -> Result<(), Failed>
     requires { K.failures sink.old < 2 ^ 64 - 1 }
     ensures whole { OnOk result (Takes (K.taken sink.old) (text_of train.now) (K.taken sink.new)) }
@@ -101,7 +101,7 @@ fn heading(uid: &Uid, day: Day, found: &[u8; 46]) -> [u8; WIDTH]
     whole(text)
 }
 
-/// What the heading says of the schedule that was found, or that none was.
+/// The columns of the heading that name the schedule found, or say that there is none.
 #[tactic(auto, unfolding(crate::specs::TrainText::found_text))]
 fn text_of_found(found: Option<&Stamped<'_>>) -> [u8; 46]
     ensures { result ≡ found_text (option_copied found.entry) }
@@ -112,7 +112,7 @@ fn text_of_found(found: Option<&Stamped<'_>>) -> [u8; 46]
     }
 }
 
-/// What the heading says of a schedule that was found.
+/// The columns of the heading that name the schedule found.
 #[tactic(auto, unfolding(crate::specs::TrainText::found_text))]
 fn text_of_stamped(stamped: &Stamped<'_>) -> [u8; 46]
     ensures { result ≡ found_text (Some stamped.now) }
@@ -126,7 +126,7 @@ fn text_of_stamped(stamped: &Stamped<'_>) -> [u8; 46]
     whole(text)
 }
 
-/// Whether a train runs by a schedule with this STP indicator, or is cancelled.
+/// The word that says whether a train runs by a schedule with this STP indicator.
 fn running(stp: Stp) -> &'static [u8; 9]
     ensures { result.now ≡ running_text (stp_letter stp) }
 {
@@ -136,7 +136,7 @@ fn running(stp: Stp) -> &'static [u8; 9]
     }
 }
 
-/// A stamp: the date and the time of extract, the current file reference and the record number.
+/// The columns of a stamp: date and time of extract, current file reference and record number.
 #[tactic(auto, unfolding(crate::specs::TrainText::stamp_text))]
 fn text_of_stamp(stamp: &Stamp) -> [u8; 34]
     requires { stamp.now.file.minute < 1440 }

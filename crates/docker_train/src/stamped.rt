@@ -1,4 +1,4 @@
-//! A schedule and where it came from.
+//! A schedule, and where it comes from.
 ghost use Rattle.std.specs.Prelude.{◌≡◌, ◌<◌};
 ghost use Rattle.docker_join.specs.Meaning.{stamp_meant};
 
@@ -47,8 +47,8 @@ impl<'a> Stamped<'a> {
         &self.schedule
     }
 
-    /// The stamp of the change that put it: the date, the time and the reference of its file, and
-    /// its record's number there.
+    /// The stamp of the change that put it: the date, time and reference of its file, and the
+    /// number of its record there.
     pub(crate) fn stamp(&self) -> &'a Stamp
         ensures stamp { stamp_meant result.now ≡ self.now.stamp }
         ensures minute { result.now.file.minute < 1440 }

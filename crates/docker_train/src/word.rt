@@ -1,4 +1,4 @@
-//! UIDs in words.
+//! The UID that a word names.
 ghost use Rattle.std.specs.Prelude.{◌≡◌, ◌↔◌, IsSome, IfSome};
 ghost use Rattle.docker_model.specs.records.Record.{IsTextOfLength};
 

@@ -1,44 +1,23 @@
 ghost use Rattle.std.specs.Prelude.{◌<◌};
 
+use self::compare::{prints, same, same_in};
 use cif_file::{
     Act, Body, Change, CifFile, FileCause, FileFault, FileParser, Journey, Key, Lines, ReadFault,
     ScheduleKey, judge_file, read_pieces,
 };
 use cif_line::{Bytes, Day, Extract, Line, Stp, Tiploc, Uid};
 use std::alloc::Global;
-use std::fmt::{Debug, Display};
 use std::process::Abort;
+use test_records::{
+    AA_DIVIDE, BODY_OF_TA, BODY_OF_TI, BS, BS_CANCELLED, BS_DELETED, BS_NIGHT, BS_NO_DAY,
+    BS_OVERLAY, CR_5E51, HD, HD_10B, HD_X, LI_0000, LI_0005, LI_0010, LN, LO, LO_0915, LO_2355,
+    LO_2400, LT, LT_0020, TA, TA_SAME, TI, ZZ, text,
+};
 
+mod compare;
 mod counts;
 mod sources;
-
-/// A header: an update of 9 June 2024, 21:00.
-const HD: &[u8] =
-    b"HDTPS.UDFROC1.PD2406090906242100DFROC1ADFROC1ZUA                                ";
-
-/// A new permanent schedule of C10001, from 10 to 14 June 2024.
-const BS: &[u8] =
-    b"BSNC100012406102406141111100 POO1A10                                           P";
-
-/// Its origin: Ashfeld, 09:00.
-const LO: &[u8] =
-    b"LOASHFELD 0900 09001  SL                                                        ";
-
-/// Its terminus: Brayton, 09:30.
-const LT: &[u8] =
-    b"LTBRAYTON 0930 09322  FL                                                        ";
-
-/// A trailer.
-const ZZ: &[u8] =
-    b"ZZ                                                                              ";
-
-/// The header of an update a day later.
-const HD_10B: &[u8] =
-    b"HDTPS.UDFROC1.PD2406091006242100DFROC1BDFROC1AUA                                ";
-
-/// A header with an unknown update indicator.
-const HD_OTHER: &[u8] =
-    b"HDTPS.UDFROC1.PD2406090906242100DFROC1ADFROC1ZXA                                ";
+mod thin;
 
 /// A line of 79 characters.
 const SHORT: &[u8] =
@@ -48,42 +27,6 @@ const SHORT: &[u8] =
 const TAB: &[u8] =
     b"TIASHFELD         A\tHFIELD CENTRAL                                              ";
 
-/// A note, which is a kind of record that isn't read.
-const LN: &[u8] =
-    b"LN                                                                              ";
-
-/// An origin at 24:00, which isn't a time.
-const LO_2400: &[u8] =
-    b"LOASHFELD 2400 09001  SL                                                        ";
-
-/// The deletion of the schedule.
-const BS_DELETED: &[u8] =
-    b"BSDC10001240610              POO                                               P";
-
-/// A schedule from 29 February 2023, which isn't a date.
-const BS_FEBRUARY: &[u8] =
-    b"BSNC100012302292406141111100 POO1A10                                           P";
-
-/// A schedule of C20001 on 10 June 2024.
-const BS_NIGHT: &[u8] =
-    b"BSNC200012406102406101000000 POO2B20                                           P";
-
-/// The origin of C20001, at 23:55.
-const LO_2355: &[u8] =
-    b"LOASHFELD 2355 23551  SL                                                        ";
-
-/// A call half a minute past midnight.
-const LI_0000: &[u8] =
-    b"LICOLWELL 0000H0000H     000000012  SL FL                                       ";
-
-/// A pass at 00:10.
-const LI_0010: &[u8] =
-    b"LIDUNMERE           0010                                                        ";
-
-/// A pass at 00:05.
-const LI_0005: &[u8] =
-    b"LIDUNMERE           0005                                                        ";
-
 /// A terminus at 00:01.
 const LT_0001: &[u8] =
     b"LTBRAYTON 0001     2  FL                                                        ";
@@ -92,80 +35,12 @@ const LT_0001: &[u8] =
 const LT_0006: &[u8] =
     b"LTBRAYTON 0006     2  FL                                                        ";
 
-/// A terminus at 00:20.
-const LT_0020: &[u8] =
-    b"LTBRAYTON 0020 00212  FL                                                        ";
-
-/// An overlay of the schedule.
-const BS_OVERLAY: &[u8] =
-    b"BSNC100012406112406130101000 POO1A10                                           O";
-
-/// The origin of the overlay, at 09:15.
-const LO_0915: &[u8] =
-    b"LOASHFELD 0915 09151  SL                                                        ";
-
-/// A cancellation of the schedule, a single record.
-const BS_CANCELLED: &[u8] =
-    b"BSNC100012406142406140000100 POO1A10                                           C";
-
-/// An association of C30001 and C30002: the train divides.
-const AA: &[u8] =
-    b"AANC30001C300022406102406101000000VVSCOLWELL2 TP                               P";
-
-/// A change of identity en route.
-const CR: &[u8] =
-    b"CRCOLWELL OO5E51                                                                ";
-
-/// The insertion of Ashfield Central.
-const TI: &[u8] =
-    b"TIASHFELD         ASHFIELD CENTRAL                                              ";
-
 /// An insertion of Ashfeld without a description.
 const TI_BLANK: &[u8] =
     b"TIASHFELD                                                                       ";
 
-/// The amendment of Ashfield Central: another code and description.
-const TA_RENAMED: &[u8] =
-    b"TAASHFELD         ASHFIELD NEW                                          ASHFLDN ";
-
-/// An amendment that keeps the code.
-const TA_SAME: &[u8] =
-    b"TAASHFELD         ASHFIELD CENTRAL                                      ASHFELD ";
-
-/// The body that the insertion gives Ashfield Central.
-const CENTRAL: [u8; 63] = *b"         ASHFIELD CENTRAL                                      ";
-
-/// The body that the renaming amendment gives it.
-const NEW: [u8; 63] = *b"         ASHFIELD NEW                                          ";
-
 /// The records of the file of one schedule.
 const F2: [&[u8]; 5] = [HD, BS, LO, LT, ZZ];
-
-// Tests compare values with these functions, which end the test if they differ. An assertion in its
-// own function is proved once for all rows.
-
-fn same<T: PartialEq + Debug + Drop>(rt: &impl Abort, got: T, wanted: T) {
-    assert_eq!(rt; got, wanted);
-}
-
-fn same_in<T: PartialEq + Debug + Drop>(rt: &impl Abort, name: &str, got: T, wanted: T) {
-    assert_eq!(rt; got, wanted, "{name}");
-}
-
-fn prints<T: Display + Drop>(rt: &impl Abort, alloc: Global, value: T, wanted: &str) {
-    let text = format!(in alloc; "{value}").expect(rt, "the text");
-    same(rt, text.as_str(), wanted);
-}
-
-/// The text of these records, each followed by this line end.
-fn text(rt: &impl Abort, alloc: Global, records: &[&[u8]], end: &[u8]) -> Vec<u8> {
-    let mut text = Vec::new(alloc);
-    for record in records {
-        text.extend_from_slice(record).expect(rt, "room");
-        text.extend_from_slice(end).expect(rt, "room");
-    }
-    text
-}
 
 /// A fault with this cause at this record.
 fn at(number: u32, cause: FileCause) -> FileFault {
@@ -278,7 +153,7 @@ fn check_again(rt: &impl Abort, parser: &mut FileParser, fault: FileFault, name:
 
 /// The changes of the file of these records.
 fn changes(rt: &impl Abort, alloc: Global, records: &[&[u8]]) -> Vec<Change> {
-    let text = text(rt, alloc, records, b"\n");
+    let text = text(alloc, records, b"\n").expect(rt, "room");
     let file = read_pieces(alloc, &[text.as_slice()], 1000).expect(rt, "a file");
     same(rt, file.records() as usize, records.len());
     file.into_changes()
@@ -293,7 +168,7 @@ fn is_refused(
     cause: FileCause,
     name: &str,
 ) {
-    let text = text(rt, alloc, records, b"\n");
+    let text = text(alloc, records, b"\n").expect(rt, "room");
     let fault = at(number, cause);
     check_fault(rt, alloc, text.as_slice(), Some(fault), name);
 }
@@ -304,7 +179,7 @@ type Refused = (&'static [&'static [u8]], u32, FileCause, &'static str);
 const REFUSED: &[Refused] = &[
     (&[], 1, FileCause::NoEnd, "empty"),
     (&[BS], 1, FileCause::Place, "BS first"),
-    (&[HD_OTHER], 1, FileCause::Field(47), "indicator X"),
+    (&[HD_X], 1, FileCause::Field(47), "indicator X"),
     (&[HD, SHORT], 2, FileCause::Length, "79 characters"),
     (&[HD, TAB], 2, FileCause::Byte(20), "a tab"),
     (&[HD, LN], 2, FileCause::Kind, "LN"),
@@ -314,7 +189,7 @@ const REFUSED: &[Refused] = &[
     (&[HD, BS, LO_2400], 3, FileCause::Field(11), "2400"),
     (&[HD, BS], 3, FileCause::NoEnd, "an end after BS"),
     (&[HD, BS, LO, LT], 5, FileCause::NoEnd, "no ZZ"),
-    (&[HD, BS_FEBRUARY], 2, FileCause::Field(10), "29 February"),
+    (&[HD, BS_NO_DAY], 2, FileCause::Field(10), "29 February"),
     (
         &[HD, BS_NIGHT, LO_2355, LI_0010, LI_0005, LT_0001, ZZ],
         6,
@@ -325,7 +200,7 @@ const REFUSED: &[Refused] = &[
 
 /// Asserts that the file of one schedule has too many records for a limit of three.
 fn check_limit(rt: &impl Abort, alloc: Global) {
-    let text = text(rt, alloc, &F2, b"\n");
+    let text = text(alloc, &F2, b"\n").expect(rt, "room");
     let fault = read_pieces(alloc, &[text.as_slice()], 3).err();
     same(rt, fault, Some(at(4, FileCause::TooMany)));
 }
@@ -389,7 +264,7 @@ const ACCEPTED: &[Accepted] = &[
     ),
     (
         &[
-            HD, BS, LO, LT, AA, BS_NIGHT, LO_2355, CR, LI_0010, LT_0020, ZZ,
+            HD, BS, LO, LT, AA_DIVIDE, BS_NIGHT, LO_2355, CR_5E51, LI_0010, LT_0020, ZZ,
         ],
         &[2, 5, 6],
     ),
@@ -417,20 +292,20 @@ fn check_f2_text(rt: &impl Abort, alloc: Global, text: &[u8]) {
 
 /// Asserts that the records of the file of one schedule are accepted with this line end.
 fn check_f2_ends(rt: &impl Abort, alloc: Global, end: &[u8]) {
-    let whole = text(rt, alloc, &F2, end);
+    let whole = text(alloc, &F2, end).expect(rt, "room");
     check_f2_text(rt, alloc, whole.as_slice());
 }
 
 /// Asserts that they are accepted without the last line feed.
 fn check_f2_open(rt: &impl Abort, alloc: Global) {
-    let mut whole = text(rt, alloc, &F2, b"\n");
+    let mut whole = text(alloc, &F2, b"\n").expect(rt, "room");
     whole.pop();
     check_f2_text(rt, alloc, whole.as_slice());
 }
 
 /// Asserts that they are accepted in pieces of one byte.
 fn check_f2_bytes(rt: &impl Abort, alloc: Global) {
-    let whole = text(rt, alloc, &F2, b"\n");
+    let whole = text(alloc, &F2, b"\n").expect(rt, "room");
     let mut parser = FileParser::new(alloc, 4_294_967_294);
     for byte in &whole {
         parser.feed(&[*byte]).expect(rt, "a good byte");
@@ -457,10 +332,10 @@ fn renames(rt: HostRuntime) {
     let alloc = rt.alloc();
     let old = tiploc(&rt, "ASHFELD");
     let new = tiploc(&rt, "ASHFLDN");
-    changes_are(&rt, alloc, &[HD, TI, ZZ], &[put(&old, CENTRAL)]);
-    let renamed = [deletion(&old), put(&new, NEW)];
-    changes_are(&rt, alloc, &[HD_10B, TA_RENAMED, ZZ], &renamed);
-    changes_are(&rt, alloc, &[HD, TA_SAME, ZZ], &[put(&old, CENTRAL)]);
+    changes_are(&rt, alloc, &[HD, TI, ZZ], &[put(&old, BODY_OF_TI)]);
+    let renamed = [deletion(&old), put(&new, BODY_OF_TA)];
+    changes_are(&rt, alloc, &[HD_10B, TA, ZZ], &renamed);
+    changes_are(&rt, alloc, &[HD, TA_SAME, ZZ], &[put(&old, BODY_OF_TI)]);
 }
 
 /// The fault of the first `length` bytes of the file of one schedule, whose lines have `width`
@@ -489,7 +364,7 @@ fn cut_fault(length: u32, width: u32) -> Option<FileFault>
 fn check_cuts(rt: &impl Abort, alloc: Global, end: &[u8], width: u32)
     requires { 80 < width }
 {
-    let whole = text(rt, alloc, &F2, end);
+    let whole = text(alloc, &F2, end).expect(rt, "room");
     let mut cut = Vec::new(alloc);
     let mut length: u32 = 0;
     for byte in &whole {

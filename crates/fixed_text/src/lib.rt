@@ -1,4 +1,4 @@
-//! Texts of a fixed width, put together piece by piece.
+//! Texts of fixed width, put together piece by piece.
 #![tactic(auto)]
 
 mod text;

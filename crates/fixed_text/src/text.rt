@@ -1,10 +1,10 @@
-//! Bytes in a text of a fixed capacity.
+//! Texts in arrays of a fixed capacity.
 ghost use Rattle.std.specs.Prelude.{◌≡◌, ◌+◌, ◌≤◌, ◌++◌, length};
 ghost use Rattle.arrayvec.specs.ArrayVec.{array_vec_len};
 
 use arrayvec::ArrayVec;
 
-/// Appends bytes that there is room for.
+/// Appends the bytes. The text has to have room for them.
 pub fn put<const N: usize>(text: &mut ArrayVec<u8, N>, bytes: &[u8])
     requires room { array_vec_len text.old + length bytes.now ≤ N }
     ensures items { text.new.items ≡ text.old.items ++ bytes.now }
@@ -15,7 +15,7 @@ pub fn put<const N: usize>(text: &mut ArrayVec<u8, N>, bytes: &[u8])
     }
 }
 
-/// The bytes of a full text.
+/// The bytes of a text that is full.
 pub fn whole<const N: usize>(text: ArrayVec<u8, N>) -> [u8; N]
     requires full { array_vec_len text ≡ N }
     ensures { result ≡ text.entry.items }

@@ -1,27 +1,27 @@
-//! Answers to a row of a table.
+//! What comes of a row of a table.
 
 use crate::desk::Desk;
 use docker_cmd::{Fault, fault_text};
 
-/// An answer, or what is wrong with it.
+/// What comes of a call.
 #[derive(Clone, Copy, PartialEq, Eq)]
 pub(crate) enum Answer {
-    /// Done, with the result that the row names.
+    /// The call was done, with the result that the row names.
     Done,
-    /// Refused, with nothing changed.
+    /// The call was refused, and nothing changed.
     Refused(Fault),
-    /// The answers differ with the number of bytes per read.
+    /// The answer depends on the number of bytes per read.
     Uneven,
-    /// Refused, but the office has another state.
+    /// The call was refused, but the office's state changed.
     Changed,
-    /// The result isn't the one that the row names.
+    /// The call was done, but its result isn't the one that the row names.
     Unlike,
-    /// A second try with good devices gave another answer.
+    /// Once the devices were good, a second try ended differently.
     Stuck,
 }
 
 impl Answer {
-    /// Prints it.
+    /// Prints the answer.
     pub(crate) fn report(self, desk: &Desk) {
         match self {
             Answer::Done => desk.print(b"done\n"),

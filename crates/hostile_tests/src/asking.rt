@@ -1,4 +1,4 @@
-//! The calls with which an office reads a source.
+//! The calls in which an office reads a source.
 ghost use Rattle.std.specs.Prelude.{◌<◌, ◌^◌, ◌-◌};
 
 use crate::texts::MOST_RECORDS;
@@ -8,13 +8,13 @@ use docker_office::{Office, OfficeFault};
 /// What an office does with a source.
 #[derive(Clone, Copy, PartialEq, Eq)]
 pub(crate) enum Call {
-    /// It takes a file.
+    /// The office takes a file.
     Take,
-    /// It receives a state.
+    /// The office receives a state.
     Receive,
-    /// It reloads a state.
+    /// The office reloads a state.
     Reload,
-    /// It reloads a state of the older format.
+    /// The office reloads a state of the older format.
     Migrate,
 }
 
@@ -28,7 +28,7 @@ pub(crate) fn call_of(name: &str) -> Call {
     }
 }
 
-/// Asks an office, under a limit of records or of bytes.
+/// Makes this call at an office, under a limit on records or bytes.
 pub(crate) fn ask<S: Source>(
     call: Call,
     office: &mut Office,
@@ -45,7 +45,7 @@ pub(crate) fn ask<S: Source>(
     }
 }
 
-/// A limit of records, at most the greatest possible one.
+/// The limit as a number of records: at most the greatest that is possible.
 fn records_of(limit: u64) -> u32
     ensures { result < 2 ^ 32 - 1 }
 {

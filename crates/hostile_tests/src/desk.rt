@@ -1,11 +1,11 @@
-//! Where a row runs: the texts that it names, and what is printed about it.
+//! Where a row is run: the texts that it names, and what is printed for it.
 
 use crate::endings::Ending;
 use std::alloc::Global;
 use std::fs;
 use std::io::Write;
 
-/// A row, and the runtime in which it runs.
+/// A row, and the runtime that runs it.
 #[derive(Drop)]
 pub(crate) struct Desk<'a> {
     rt: HostRuntime,
@@ -47,8 +47,8 @@ impl<'a> Desk<'a> {
         let _ = self.rt.stdout().write_all(bytes);
     }
 
-    /// Prints the row with one write. What takes memory between this and the next write is the
-    /// row's call.
+    /// Prints the row with one write. Whatever allocates memory between this and the next write is
+    /// the row's call.
     pub(crate) fn begin(&self) {
         let row = self.row;
         match format!(in self.alloc(); "{row}\n") {
@@ -57,18 +57,18 @@ impl<'a> Desk<'a> {
         }
     }
 
-    /// Prints how the call ended, without taking memory.
+    /// Prints how the call ended, without allocating memory.
     pub(crate) fn end(&self, ending: Ending) {
         self.print(ending.line());
     }
 
-    /// Prints that something holds, or that it doesn't.
+    /// Prints that something is so, or that it isn't.
     pub(crate) fn report(&self, holds: bool, what: &str) {
         let front = if holds { "" } else { "not so: " };
         let _ = println!(self.rt; "  {front}{what}");
     }
 
-    /// Prints why the row can't run.
+    /// Prints why the row can't be run.
     pub(crate) fn trouble(&self, what: &str) {
         let _ = println!(self.rt; "  trouble: {what}");
     }
@@ -78,7 +78,7 @@ impl<'a> Desk<'a> {
         let _ = println!(self.rt; "  out of memory at record {number}");
     }
 
-    /// Prints the numbers of a span, before its answer.
+    /// Prints the first and the last number of a span, before its answer.
     pub(crate) fn print_span(&self, from: u64, to: u64) {
         if from == to {
             let _ = print!(self.rt; "  {from}: ");
@@ -87,12 +87,12 @@ impl<'a> Desk<'a> {
         }
     }
 
-    /// Whether these bytes are the text with this name in the folder `data`.
+    /// Whether these bytes are the text with this name, in the folder `data`.
     pub(crate) fn is_text(&self, bytes: &[u8], name: &str) -> bool {
         self.text(name).as_slice() == bytes
     }
 
-    /// Prints the name of a text in the folder `data`, if these bytes are that text.
+    /// Prints the name of a text in the folder `data`, and whether these bytes are that text.
     pub(crate) fn compare(&self, bytes: &[u8], name: &str) {
         self.report(self.is_text(bytes, name), name);
     }

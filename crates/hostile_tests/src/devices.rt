@@ -1,5 +1,5 @@
-//! Devices that move one byte per call and fail at only one call: at the first, then at the second,
-//! and so on.
+//! Devices that move one byte per call and fail at one call. That is first the first call, then the
+//! second, and so on.
 ghost use Rattle.std.specs.Prelude.{◌<◌, ◌^◌, ◌-◌};
 
 use crate::answers::Answer;
@@ -12,7 +12,7 @@ use cif_line::{Day, Fuse, Sink, Source, Tiploc};
 use docker_cmd::{Fault, job_line};
 use docker_office::{Office, OfficeFault};
 
-/// More calls than any row makes.
+/// More calls than any row needs.
 const MOST_CALLS: u64 = 5000;
 
 /// `CALL STATE TEXT STATE`: the office reads the text from a source that fails at a read.
@@ -31,7 +31,7 @@ pub(crate) fn source(desk: &Desk, words: &[&str]) {
     sources(desk, asked, text.as_slice());
 }
 
-/// Prints the answers if the first read fails, the second, and so on, up to a source that doesn't
+/// Prints the answer for each read that may fail, from the first on, up to a source that doesn't
 /// fail.
 fn sources(desk: &Desk, asked: Asked<'_>, text: &[u8]) {
     let good = asked.answer_to(desk, text);
@@ -46,8 +46,8 @@ fn sources(desk: &Desk, asked: Asked<'_>, text: &[u8]) {
     spans.report(desk);
 }
 
-/// The answer if a source fails at this call, and whether it failed. After a failure the office is
-/// asked again with a good source.
+/// The answer if the source fails at this call, and whether it did fail. After a failure the office
+/// is asked again, with a good source.
 fn fused(desk: &Desk, asked: Asked<'_>, text: &[u8], call: u64, good: Answer) -> (Answer, bool)
     requires { 0 < call }
 {
@@ -68,13 +68,13 @@ fn fused(desk: &Desk, asked: Asked<'_>, text: &[u8], call: u64, good: Answer) ->
 enum Output {
     /// A docker.
     Docker(Tiploc, Day),
-    /// Its state.
+    /// The state of the office.
     State,
-    /// Its files.
+    /// The files of the office's ledger.
     Files,
 }
 
-/// Lets an office write.
+/// Lets an office write its docker, its state or its files.
 fn write<K: Sink>(output: &Output, office: &Office, sink: &mut K) -> Result<(), OfficeFault>
     requires { K.failures sink.old < 2 ^ 64 - 1 }
 {
@@ -111,8 +111,8 @@ pub(crate) fn files(desk: &Desk, words: &[&str]) {
     sinks(desk, own, Output::Files, wanted);
 }
 
-/// Lets an office write to sinks that fail at the first call, the second, and so on, up to a sink
-/// that doesn't fail.
+/// Lets an office write to sinks that fail at the first call, at the second, and so on, up to a
+/// sink that doesn't fail.
 fn sinks(desk: &Desk, own: &str, output: Output, wanted: &str) {
     let (before, wanted) = (desk.text(own), desk.text(wanted));
     let office = office_of(desk, before.as_slice());
@@ -120,7 +120,7 @@ fn sinks(desk: &Desk, own: &str, output: Output, wanted: &str) {
     write_all(desk, &office, output, before.as_slice(), wanted.as_slice());
 }
 
-/// Prints the answers for each of these sinks. The office keeps its state.
+/// Prints the answer for each of these sinks. The office's state has to stay.
 fn write_all(desk: &Desk, office: &Office, output: Output, before: &[u8], wanted: &[u8]) {
     let mut spans = Spans::new();
     for call in 1..=MOST_CALLS {
@@ -134,8 +134,8 @@ fn write_all(desk: &Desk, office: &Office, output: Output, before: &[u8], wanted
     spans.report(desk);
 }
 
-/// The answer if a sink fails at this call, and whether it failed. The sink has the bytes before,
-/// and a good sink then receives the whole text.
+/// The answer if the sink fails at this call, and whether it did fail. The sink has the bytes of
+/// the earlier calls, and a good sink then gets the whole text.
 fn written(
     desk: &Desk,
     office: &Office,
@@ -158,8 +158,8 @@ fn written(
     (if again { answer } else { Answer::Stuck }, true)
 }
 
-/// The answer for a sink that received these bytes: the whole text, or the bytes of the calls
-/// before the one that failed.
+/// The answer for a sink with these bytes. They have to be the whole text, or the bytes of the
+/// calls before the failure.
 fn written_answer(done: Result<(), OfficeFault>, bytes: &[u8], wanted: &[u8], call: u64) -> Answer {
     match done {
         Ok(()) => {
@@ -179,7 +179,7 @@ fn written_answer(done: Result<(), OfficeFault>, bytes: &[u8], wanted: &[u8], ca
     }
 }
 
-/// Whether a good sink receives the whole text.
+/// Whether a good sink gets the whole text.
 fn is_written(desk: &Desk, office: &Office, output: &Output, wanted: &[u8]) -> bool {
     match sink(desk) {
         Some(mut good) => write(output, office, &mut good).is_ok() && good.bytes() == wanted,
@@ -187,7 +187,7 @@ fn is_written(desk: &Desk, office: &Office, output: &Output, wanted: &[u8]) -> b
     }
 }
 
-/// Whether these are the bytes that a sink receives before this call.
+/// Whether a sink that fails at this call has these bytes: one for each earlier call.
 fn is_front(bytes: &[u8], wanted: &[u8], call: u64) -> bool {
     bytes.len() as u64 == call.saturating_sub(1) && wanted.starts_with(bytes)
 }
@@ -210,8 +210,8 @@ pub(crate) fn line(desk: &Desk, words: &[&str]) {
     spans.report(desk);
 }
 
-/// The answer if the source of a line fails at this call, and whether it failed. A good source then
-/// gives a job.
+/// The answer if the source of the line fails at this call, and whether it did fail. A good source
+/// then has to give a job.
 fn line_read(desk: &Desk, text: &[u8], call: u64) -> (Answer, bool)
     requires { 0 < call }
 {

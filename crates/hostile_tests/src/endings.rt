@@ -1,4 +1,4 @@
-//! How a call ends for which a growth may be refused.
+//! How a call ends while the allocator may refuse memory.
 
 use cif_file::{FileCause, FileFault};
 use cif_line::Memory;
@@ -10,11 +10,11 @@ use docker_office::OfficeFault;
 /// How a call ended.
 #[derive(Clone, Copy, PartialEq, Eq)]
 pub(crate) enum Ending {
-    /// It was done.
+    /// The call was done.
     Done,
-    /// It ran out of memory, as its type reports that.
+    /// Memory ran out, and the fault says so.
     Memory,
-    /// It was refused for another reason.
+    /// The call was refused for another reason.
     Other,
 }
 
@@ -29,9 +29,9 @@ impl Ending {
     }
 }
 
-/// A fault that may be out of memory.
+/// A fault that may say out of memory.
 pub(crate) trait MayWant {
-    /// Whether the fault is out of memory.
+    /// Whether the fault says out of memory.
     fn is_memory(&self) -> bool;
 }
 

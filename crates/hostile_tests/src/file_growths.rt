@@ -1,4 +1,4 @@
-//! Growths of the reader of files, and of the state of a file.
+//! Calls that allocate: the reader of files, and the state of a file.
 
 use crate::desk::Desk;
 use crate::endings::{Ending, ending_of};
@@ -19,7 +19,7 @@ fn feed_all(parser: &mut FileParser, text: &[u8]) -> Result<(), FileFault> {
     Ok(())
 }
 
-/// Whether a parser returns the same fault from each later call.
+/// Whether each later call of a parser gives the same fault again.
 fn repeats(mut parser: FileParser, fault: FileFault) -> bool {
     let fed = parser.feed(b"");
     let again = parser.feed(b"ZZ\n");
@@ -27,7 +27,7 @@ fn repeats(mut parser: FileParser, fault: FileFault) -> bool {
     fed == Err(fault) && again == Err(fault) && finished == Some(fault)
 }
 
-/// Compares the text of the state of a file.
+/// Compares the text of a file's state with this one.
 fn compare(desk: &Desk, file: CifFile, wanted: &str) {
     match State::of_file(desk.alloc(), file) {
         Ok(state) => compare_state(desk, &state, wanted),
@@ -35,7 +35,7 @@ fn compare(desk: &Desk, file: CifFile, wanted: &str) {
     }
 }
 
-/// Compares the text of the state of the file that a fed parser returns.
+/// Compares the text of the state of the file that a parser returns.
 fn compare_fed(desk: &Desk, parser: FileParser, wanted: &str) {
     match parser.finish() {
         Ok(file) => compare(desk, file, wanted),
@@ -43,7 +43,7 @@ fn compare_fed(desk: &Desk, parser: FileParser, wanted: &str) {
     }
 }
 
-/// Feeds a file to another parser.
+/// Feeds a text to a new parser.
 fn feed_again(desk: &Desk, text: &[u8], wanted: &str) {
     let mut parser = new_parser(desk);
     match feed_all(&mut parser, text) {
@@ -52,7 +52,7 @@ fn feed_again(desk: &Desk, text: &[u8], wanted: &str) {
     }
 }
 
-/// `FILE STATE`: the parser is fed the file.
+/// `FILE STATE`: a parser is fed the file.
 pub(crate) fn feed(desk: &Desk, words: &[&str]) {
     let [name, wanted] = words else {
         return desk.trouble("FILE STATE");
@@ -71,7 +71,7 @@ pub(crate) fn feed(desk: &Desk, words: &[&str]) {
     }
 }
 
-/// `FILE STATE`: the parser, which was fed the file, is asked for it.
+/// `FILE STATE`: a parser that has been fed the file is asked for it.
 pub(crate) fn finish(desk: &Desk, words: &[&str]) {
     let [name, wanted] = words else {
         return desk.trouble("FILE STATE");
@@ -90,7 +90,7 @@ pub(crate) fn finish(desk: &Desk, words: &[&str]) {
     }
 }
 
-/// The file that a parser returns which is fed these pieces.
+/// The file of a parser that is fed these pieces.
 fn fed(desk: &Desk, pieces: &[&[u8]]) -> Result<CifFile, FileFault> {
     let mut parser = new_parser(desk);
     for piece in pieces {
@@ -99,8 +99,8 @@ fn fed(desk: &Desk, pieces: &[&[u8]]) -> Result<CifFile, FileFault> {
     parser.finish()
 }
 
-/// `FILE STATE`: the file is read from its pieces by `read_pieces`, or by a parser that is fed them.
-/// If memory runs out, both have to name the same record, and no clause says so.
+/// `FILE STATE`: the file is read from its pieces, by `read_pieces` or by a parser that is fed
+/// them. If memory runs out, both have to name the same record, which no clause says.
 pub(crate) fn read(desk: &Desk, call: &str, words: &[&str]) {
     let [name, wanted] = words else {
         return desk.trouble("FILE STATE");
@@ -143,7 +143,7 @@ fn are_same_headers(one: &CifFile, other: &CifFile) -> bool {
         && first.extract() == second.extract()
 }
 
-/// `FILE STATE`: the state of the file.
+/// `FILE STATE`: the state of the file is made.
 pub(crate) fn of_file(desk: &Desk, words: &[&str]) {
     let [name, wanted] = words else {
         return desk.trouble("FILE STATE");
@@ -154,7 +154,7 @@ pub(crate) fn of_file(desk: &Desk, words: &[&str]) {
     }
 }
 
-/// Makes the state of a file with this text.
+/// Makes the state of a file, whose text this is.
 fn of_this_file(desk: &Desk, file: CifFile, text: &[u8], wanted: &str) {
     desk.begin();
     let made = State::of_file(desk.alloc(), file);
@@ -171,7 +171,7 @@ fn of_this_file(desk: &Desk, file: CifFile, text: &[u8], wanted: &str) {
     }
 }
 
-/// Prints whether a returned file is the file of the text.
+/// Prints whether a file that was returned is the file with this text.
 fn report_returned(desk: &Desk, back: &CifFile, text: &[u8]) {
     if let Some(file) = file_of(desk, text) {
         desk.report(are_same(back, &file), "the file is handed back");

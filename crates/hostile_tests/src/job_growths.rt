@@ -1,4 +1,4 @@
-//! Growths of jobs.
+//! Calls that allocate: jobs.
 
 use crate::desk::Desk;
 use crate::endings::ending_of;
@@ -46,7 +46,7 @@ fn is_of(job: &Job, words: &[&str]) -> bool {
     are_same(first, name_of(job.subcommand()))
 }
 
-/// Prints whether the fault has the status for out of memory.
+/// Prints whether a fault has the status for out of memory.
 fn report_status(desk: &Desk, fault: Fault) {
     desk.report(status(&fault) == 3, "status 3");
 }
@@ -59,7 +59,7 @@ fn report_job(desk: &Desk, named: Result<Job, JobFault>, words: &[&str]) {
     }
 }
 
-/// `WORDS`: the job that words name.
+/// `WORDS`: the job that these words name.
 pub(crate) fn words_of_job(desk: &Desk, words: &[&str]) {
     desk.begin();
     let named = job(desk.alloc(), words);
@@ -73,7 +73,7 @@ pub(crate) fn words_of_job(desk: &Desk, words: &[&str]) {
     }
 }
 
-/// A line of these words; none if memory runs out.
+/// The line of these words. None if memory runs out.
 fn line_of(desk: &Desk, words: &[&str]) -> Option<Vec<u8>> {
     let mut line = Vec::new(desk.alloc());
     for word in words {
@@ -94,7 +94,7 @@ pub(crate) fn line_of_job(desk: &Desk, words: &[&str]) {
     }
 }
 
-/// The job that a line of these words names.
+/// Reads the job from the line of these words.
 fn job_of_line(desk: &Desk, line: &[u8], words: &[&str]) {
     desk.begin();
     let named = job_line(desk.alloc(), &mut source_of(line));
@@ -108,7 +108,7 @@ fn job_of_line(desk: &Desk, line: &[u8], words: &[&str]) {
     }
 }
 
-/// What a job has read from two texts.
+/// What a job prepares from two texts.
 fn prepared<'a>(
     desk: &Desk,
     job: &'a Job,
@@ -123,8 +123,8 @@ fn prepared<'a>(
     )
 }
 
-/// Writes what a job has prepared, and compares it. Returns the fault if it is refused and nothing
-/// is written.
+/// Writes what a job has prepared, and compares it with this text. Returns the fault if the call is
+/// refused and nothing is written.
 fn has_written(
     desk: &Desk,
     prepared: &Prepared<'_>,
@@ -148,14 +148,14 @@ fn has_written(
     None
 }
 
-/// Writes what a job has prepared, with enough memory.
+/// Writes what a job has prepared, while memory doesn't run out.
 fn write_again(desk: &Desk, prepared: &Prepared<'_>, wanted: &str) {
     if has_written(desk, prepared, wanted, false).is_some() {
         desk.trouble("refused again");
     }
 }
 
-/// The job of these words. If there is none, that is printed.
+/// The job of these words. If there is none, a line says so.
 fn job_of(desk: &Desk, words: &[&str]) -> Option<Job> {
     match job(desk.alloc(), words) {
         Ok(named) => Some(named),

@@ -1,4 +1,4 @@
-//! What offices know after events, computed from the replies.
+//! What offices know after events, found from the replies.
 
 use cif_file::{FileCause, FileFault};
 use docker_office::{OfficeFault, Reply, RunFault};
@@ -7,7 +7,7 @@ use std::alloc::{AllocError, Global};
 /// How many offices there are.
 pub(crate) const OFFICES: usize = 3;
 
-/// Which of the three files are known.
+/// Which of the three files an office or a message knows.
 #[derive(Clone, Copy, PartialEq, Eq)]
 pub(crate) struct Known {
     /// The update of 5 June.
@@ -18,7 +18,7 @@ pub(crate) struct Known {
     pub(crate) ninth: bool,
 }
 
-/// No file.
+/// None of the files.
 const NONE: Known = Known {
     fifth: false,
     seventh: false,
@@ -47,7 +47,7 @@ const NINTH: Known = Known {
 };
 
 impl Known {
-    /// The files known to either.
+    /// The files that either knows.
     fn with(self, other: Known) -> Known {
         Known {
             fifth: self.fifth | other.fifth,
@@ -56,7 +56,7 @@ impl Known {
         }
     }
 
-    /// The name of the text of their state. The full extract is the floor.
+    /// The name of the text of their state. The full extract is the floor, if it is known.
     pub(crate) fn state<'a>(self) -> &'a str {
         if self.seventh {
             return if self.ninth {
@@ -90,12 +90,12 @@ impl Known {
     }
 }
 
-/// An event.
+/// An event of the run.
 #[derive(Clone, Copy, PartialEq, Eq)]
 pub(crate) enum Step {
     /// An office takes a file.
     Take(usize, Known),
-    /// An office takes the file of 9 June without its end.
+    /// An office takes the file of 9 June without its trailer.
     TakeOpen(usize),
     /// An office sends its state.
     Send(usize),
@@ -127,10 +127,10 @@ pub(crate) const STEPS: [Step; 18] = [
     Step::TakeOpen(2),
 ];
 
-/// The reply to an event that runs out of memory.
+/// The reply to an event for which memory runs out.
 const OUT_OF_MEMORY: Reply = Reply::Refused(RunFault::Office(OfficeFault::Memory));
 
-/// What each office knows and each message carries, so far.
+/// What each office and each message knows so far.
 #[derive(Drop)]
 pub(crate) struct Book {
     /// The offices.
@@ -139,12 +139,12 @@ pub(crate) struct Book {
     pub(crate) messages: Vec<Known>,
     /// Whether each reply so far is one that its event may get.
     pub(crate) fits: bool,
-    /// How many replies were out of memory.
+    /// How many replies say out of memory.
     pub(crate) wanting: u32,
 }
 
 impl Book {
-    /// Nothing is known.
+    /// No office knows anything, and no message has been sent.
     pub(crate) fn new(alloc: Global) -> Book {
         Book {
             offices: [NONE; OFFICES],
@@ -154,7 +154,7 @@ impl Book {
         }
     }
 
-    /// Records an event and its reply.
+    /// Enters an event with its reply.
     pub(crate) fn enter(&mut self, step: Step, reply: Reply) -> Result<(), AllocError> {
         let wanted = self.reply_to(step);
         if reply == OUT_OF_MEMORY {
@@ -169,7 +169,7 @@ impl Book {
         Ok(())
     }
 
-    /// The reply to an event if memory suffices.
+    /// The reply that an event should get if memory doesn't run out.
     fn reply_to(&self, step: Step) -> Reply {
         match step {
             Step::Take(_, _) | Step::Send(_) => Reply::Done,
@@ -189,7 +189,7 @@ impl Book {
         }
     }
 
-    /// Records what an event that was done changed.
+    /// Enters what an event that was done has changed.
     fn meet(&mut self, step: Step) -> Result<(), AllocError> {
         match step {
             Step::Take(office, file) => self.learn(office, file),
@@ -215,7 +215,7 @@ impl Book {
         self.offices.get(office).copied().unwrap_or(NONE)
     }
 
-    /// What a message carries.
+    /// What a message knows.
     fn known_by(&self, message: usize) -> Known {
         self.messages.get(message).copied().unwrap_or(NONE)
     }
@@ -226,7 +226,7 @@ impl Book {
         self.set(office, all);
     }
 
-    /// Sets what an office knows to these files only.
+    /// Sets what an office knows to just these files.
     fn set(&mut self, office: usize, files: Known) {
         if let Some(known) = self.offices.get_mut(office) {
             *known = files;
@@ -234,12 +234,12 @@ impl Book {
     }
 }
 
-/// Whether a reply is out of memory.
+/// Whether a reply says out of memory.
 pub(crate) fn is_out_of_memory(reply: &Reply) -> bool {
     *reply == OUT_OF_MEMORY
 }
 
-/// Whether an event with this reply is tried at all, so that it may run out of memory.
+/// Whether an event that should get this reply does any work, so that memory may run out.
 fn is_tried(reply: Reply) -> bool {
     match reply {
         Reply::Done => true,

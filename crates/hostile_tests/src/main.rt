@@ -1,8 +1,10 @@
-//! The rows of hostile use. Each line of standard input is a row: it names the call, the texts in
-//! the folder `data` on which it runs, and the text that must come out. The program prints what
-//! came out, and what went wrong too, which then differs from the file `stdout`. A row of `growth`
-//! makes its call once, and once more if memory ran out. It is meant to run while the growths of
-//! that call are refused in turn.
+//! The rows of hostile use, one per line of standard input. A row names a call, the texts in the
+//! folder `data` that it gets, and the text that has to come out. The program prints what comes
+//! out. If something is wrong it prints that too, and then differs from the file `stdout`.
+//!
+//! A row that begins with `growth` is a call that allocates. It is made once, and once more if
+//! memory runs out. The program is meant to be run while the allocations of the first call are
+//! refused, one after the other.
 #![tactic(auto)]
 
 mod answers;
@@ -34,7 +36,7 @@ fn main(rt: HostRuntime) {
     }
 }
 
-/// Runs a row. Its first word says whether it is a growth.
+/// Runs a row. Its first word says whether its call is one that allocates.
 fn do_row(desk: &Desk) {
     let words = desk.words();
     match words.as_slice() {

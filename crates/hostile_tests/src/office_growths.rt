@@ -1,4 +1,4 @@
-//! Growths of offices.
+//! Calls that allocate: offices.
 
 use crate::asking::{ask, call_of};
 use crate::desk::Desk;
@@ -38,7 +38,7 @@ pub(crate) fn read(desk: &Desk, call: &str, words: &[&str]) {
     compare_state(desk, office.state(), wanted);
 }
 
-/// Prints whether an office has this state.
+/// Prints whether the state of an office has this text.
 fn report_same(desk: &Desk, office: &Office, before: &[u8]) {
     let same = has_text(desk, office.state(), before);
     desk.report(same, "the office is as it was");
@@ -84,12 +84,12 @@ fn has_printed(desk: &Desk, office: &Office, words: [&str; 3], is_first: bool) -
     true
 }
 
-/// An office at a timing point for a day with the state of a text.
+/// An office at a timing point, for a day, that has read the state with this text.
 fn at_place(desk: &Desk, text: &[u8], place: Tiploc, day: Day) -> Result<PlaceOffice, OfficeFault> {
     PlaceOffice::read(desk.alloc(), place, day, &mut source_of(text), MOST_BYTES)
 }
 
-/// Compares what an office at a timing point prints.
+/// Compares the docker of an office at a timing point.
 fn compare_docker(desk: &Desk, office: &PlaceOffice, wanted: &str) {
     if let Some(mut kept) = sink(desk) {
         let done = office.print(&mut kept).is_ok();
@@ -97,8 +97,8 @@ fn compare_docker(desk: &Desk, office: &PlaceOffice, wanted: &str) {
     }
 }
 
-/// `STATE TIPLOC DATE DOCKER`: an office at the timing point for the day reads the state. It prints
-/// then.
+/// `STATE TIPLOC DATE DOCKER`: an office at the timing point, for the day, reads the state. Then it
+/// prints.
 pub(crate) fn read_at_place(desk: &Desk, words: &[&str]) {
     let [name, place, day, wanted] = words else {
         return desk.trouble("STATE TIPLOC DATE DOCKER");
@@ -119,8 +119,8 @@ pub(crate) fn read_at_place(desk: &Desk, words: &[&str]) {
     }
 }
 
-/// `STATE TIPLOC DATE DOCKER`: an office at the timing point for the day, which has read the state,
-/// prints.
+/// `STATE TIPLOC DATE DOCKER`: an office at the timing point, for the day, which has read the
+/// state, prints.
 pub(crate) fn print_at_place(desk: &Desk, words: &[&str]) {
     let [name, place, day, wanted] = words else {
         return desk.trouble("STATE TIPLOC DATE DOCKER");
@@ -135,7 +135,7 @@ pub(crate) fn print_at_place(desk: &Desk, words: &[&str]) {
     }
 }
 
-/// Has an office at a timing point print, once more if nothing is written.
+/// Lets an office at a timing point print, and once more if nothing is written.
 fn print_there(desk: &Desk, office: &PlaceOffice, wanted: &str) {
     let Some(mut kept) = sink(desk) else {
         return;
@@ -150,7 +150,7 @@ fn print_there(desk: &Desk, office: &PlaceOffice, wanted: &str) {
     desk.report(done.is_ok() && desk.is_text(kept.bytes(), wanted), wanted);
 }
 
-/// An office with the ledger of the state of a text.
+/// An office that has read only the ledger of the state with this text.
 fn with_ledger(desk: &Desk, text: &[u8]) -> Result<LedgerOffice, OfficeFault> {
     LedgerOffice::read(desk.alloc(), &mut source_of(text), MOST_BYTES)
 }
@@ -163,7 +163,7 @@ fn compare_files(desk: &Desk, office: &LedgerOffice, wanted: &str) {
     }
 }
 
-/// `STATE FILES`: an office reads the ledger of the state. It lists the files then.
+/// `STATE FILES`: an office reads the ledger of the state. Then it lists the files.
 pub(crate) fn read_ledger(desk: &Desk, words: &[&str]) {
     let [name, wanted] = words else {
         return desk.trouble("STATE FILES");

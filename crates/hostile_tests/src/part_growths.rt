@@ -1,4 +1,4 @@
-//! Growths of states that are built from their parts, and of received parts.
+//! Calls that allocate: building states from their parts, and receiving their parts.
 
 ghost use Rattle.std.specs.Prelude.{◌++◌};
 ghost use Rattle.docker_model.specs.state.Stamp.{IsFloor};
@@ -10,7 +10,7 @@ use crate::texts::{compare_state, has_text, state_of};
 use cif_line::Memory;
 use docker_state::{Parts, Staging, State};
 
-/// Which call is the call of the row.
+/// Which of several calls the row is about.
 #[derive(Clone, Copy, PartialEq, Eq)]
 enum At {
     Item,
@@ -32,21 +32,21 @@ fn call_of(call: &str) -> At {
     }
 }
 
-/// Prints the row when its call begins.
+/// Prints the row, if it is about this call.
 fn begin(desk: &Desk, here: bool) {
     if here {
         desk.begin();
     }
 }
 
-/// Prints how the call of the row ended.
+/// Prints how the call ended, if the row is about it.
 fn end<T>(desk: &Desk, here: bool, done: &Result<T, Memory>) {
     if here {
         desk.end(ending_of(done));
     }
 }
 
-/// The state of one item and one entry, built from its parts. Prints how the call `at` ends.
+/// The state of one item and one entry, built from its parts. Prints how the call `at` ended.
 fn rebuilt(desk: &Desk, one: &State, at: At) -> Result<State, Memory> {
     let (items, rows) = (one.ledger(), one.entries());
     if items.len() != 1 {
@@ -95,7 +95,7 @@ pub(crate) fn parts(desk: &Desk, call: &str, words: &[&str]) {
     }
 }
 
-/// Receives a state of one item and one entry.
+/// Lets a state receive one of one item and one entry.
 fn receive(desk: &Desk, own: &mut State, other: &State, at: At) -> Result<(), Memory> {
     let (items, rows) = (other.ledger(), other.entries());
     if items.len() != 1 {

@@ -1,4 +1,4 @@
-//! Growths of a run of three offices.
+//! Calls that allocate: a run of three offices.
 
 use crate::desk::Desk;
 use crate::endings::Ending;
@@ -17,7 +17,7 @@ struct Files {
     open: Vec<u8>,
 }
 
-/// A Take of a text.
+/// The event `Take` with this text.
 macro_rules! take {
     ($office:expr, $text:expr) => {
         Event::Take {
@@ -28,14 +28,14 @@ macro_rules! take {
     };
 }
 
-/// A Send.
+/// The event `Send`.
 macro_rules! send {
     ($office:expr) => {
         Event::Send { office: $office }
     };
 }
 
-/// A Deliver of a message.
+/// The event `Deliver` with this message.
 macro_rules! deliver {
     ($office:expr, $message:expr) => {
         Event::Deliver {
@@ -45,7 +45,7 @@ macro_rules! deliver {
     };
 }
 
-/// The results of the run.
+/// What the run leaves.
 fn left_by_run(alloc: Global, files: &Files) -> Result<Exchange, Memory> {
     run(
         alloc,
@@ -76,7 +76,7 @@ fn left_by_run(alloc: Global, files: &Files) -> Result<Exchange, Memory> {
     )
 }
 
-/// What is known from the replies of a run.
+/// What is known after a run, by its replies.
 fn book_of(desk: &Desk, left: &Exchange) -> Book {
     let mut book = Book::new(desk.alloc());
     for (step, reply) in STEPS.iter().zip(left.replies()) {
@@ -106,7 +106,7 @@ fn knows(desk: &Desk, office: &Office, known: Known) -> bool {
     has_text(desk, office.state(), text.as_slice()) && prints(desk, office, known.docker())
 }
 
-/// Whether offices and messages are as the book says.
+/// Whether offices and messages are left as the book says.
 fn is_left(desk: &Desk, left: &Exchange, book: &Book) -> bool {
     let mut same = book.fits
         && left.replies().len() == STEPS.len()
@@ -133,7 +133,7 @@ fn word_of<'a>(reply: &Reply) -> &'a str {
     }
 }
 
-/// Prints the replies, the final state of each office, and what each message carries.
+/// Prints the replies, and the name of the state of each office and each message.
 fn report_left(desk: &Desk, left: &Exchange) {
     let book = book_of(desk, left);
     for reply in left.replies() {
@@ -148,7 +148,7 @@ fn report_left(desk: &Desk, left: &Exchange) {
     report_same(desk, left, &book, 0);
 }
 
-/// Prints whether `wanting` replies are out of memory, and whether all else is as the replies say.
+/// Prints whether `wanting` replies say out of memory, and everything else is as the replies say.
 fn report_same(desk: &Desk, left: &Exchange, book: &Book, wanting: u32) {
     let same = book.wanting == wanting && is_left(desk, left, book);
     desk.report(
@@ -157,8 +157,8 @@ fn report_same(desk: &Desk, left: &Exchange, book: &Book, wanting: u32) {
     );
 }
 
-/// `FIFTH SEVENTH NINTH OPEN`: three offices meet the files. They send, lose, repeat, reload, and
-/// are asked for what doesn't exist.
+/// `FIFTH SEVENTH NINTH OPEN`: three offices take the files and send their states. Messages are
+/// lost, repeated and reloaded. Some events name an office or a message that doesn't exist.
 pub(crate) fn run_events(desk: &Desk, words: &[&str]) {
     let [fifth, seventh, ninth, open] = words else {
         return desk.trouble("FIFTH SEVENTH NINTH OPEN");
@@ -178,7 +178,7 @@ pub(crate) fn run_events(desk: &Desk, words: &[&str]) {
     }
 }
 
-/// Prints how a run ended. If an event ran out of memory, prints whether the run left what its
+/// Prints how a run ended. If memory ran out for an event, it prints whether the run left what its
 /// replies say.
 fn report_first(desk: &Desk, left: Result<Exchange, Memory>) {
     match left {
@@ -190,7 +190,7 @@ fn report_first(desk: &Desk, left: Result<Exchange, Memory>) {
     }
 }
 
-/// Like `report_first`, for a run that met its events.
+/// Like `report_first`, for a run that replied to all events.
 fn report_ended(desk: &Desk, left: &Exchange) {
     if !ran_out_of_memory(left) {
         return desk.end(Ending::Done);
@@ -201,7 +201,7 @@ fn report_ended(desk: &Desk, left: &Exchange) {
     report_same(desk, left, &book, 1);
 }
 
-/// Whether a reply is out of memory.
+/// Whether a reply says out of memory.
 fn ran_out_of_memory(left: &Exchange) -> bool {
     left.replies().iter().any(is_out_of_memory)
 }

@@ -1,4 +1,4 @@
-//! Answers to consecutive numbers, printed as spans with equal answers.
+//! Answers for consecutive numbers, printed as spans of equal answers.
 
 use crate::answers::Answer;
 use crate::desk::Desk;
@@ -21,7 +21,7 @@ impl Spans {
         }
     }
 
-    /// Adds the answer to the next number.
+    /// Adds the answer for the next number.
     pub(crate) fn add(&mut self, desk: &Desk, number: u64, answer: Answer) {
         if self.answer != Some(answer) {
             self.report(desk);

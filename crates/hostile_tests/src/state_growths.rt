@@ -1,4 +1,4 @@
-//! Growths of the join of states, of the readers of their texts, of dockers, and of a sink in
+//! Calls that allocate: the join of states, the readers of their texts, dockers, and a sink in
 //! memory.
 
 use crate::desk::Desk;
@@ -29,7 +29,7 @@ pub(crate) fn join(desk: &Desk, words: &[&str]) {
     }
 }
 
-/// Joins two states, and compares the result. If memory runs out, both are returned.
+/// Joins two states, and compares the result. If memory runs out, it returns both.
 fn joined(desk: &Desk, one: State, other: State, wanted: &str) -> Result<(), (State, State)> {
     match one.join(desk.alloc(), other) {
         Ok(state) => {
@@ -65,7 +65,7 @@ fn feed_all(parser: &mut StateParser, text: &[u8]) -> Result<(), StateFault> {
     Ok(())
 }
 
-/// Whether a parser returns the same fault from each later call.
+/// Whether each later call of a parser gives the same fault again.
 fn repeats(mut parser: StateParser, fault: StateFault) -> bool {
     let fed = parser.feed(b"").err();
     let again = parser.feed(b"DKS2").err();
@@ -73,7 +73,7 @@ fn repeats(mut parser: StateParser, fault: StateFault) -> bool {
     fed == Some(fault) && again == Some(fault) && finished == Some(fault)
 }
 
-/// Compares the text of the state that a fed parser returns.
+/// Compares the text of the state that a parser returns.
 fn compare_fed(desk: &Desk, parser: StateParser, wanted: &str) {
     match parser.finish() {
         Ok(state) => compare_state(desk, &state, wanted),
@@ -81,7 +81,7 @@ fn compare_fed(desk: &Desk, parser: StateParser, wanted: &str) {
     }
 }
 
-/// Feeds a text to another parser.
+/// Feeds a text to a new parser.
 fn feed_again(desk: &Desk, text: &[u8], wanted: &str) {
     let mut parser = new_parser(desk);
     match feed_all(&mut parser, text) {
@@ -90,7 +90,7 @@ fn feed_again(desk: &Desk, text: &[u8], wanted: &str) {
     }
 }
 
-/// `STATE`: the parser is fed the text.
+/// `STATE`: a parser is fed the text.
 pub(crate) fn feed(desk: &Desk, words: &[&str]) {
     let [name] = words else {
         return desk.trouble("STATE");
@@ -109,7 +109,7 @@ pub(crate) fn feed(desk: &Desk, words: &[&str]) {
     }
 }
 
-/// `STATE`: the parser, which was fed the text, is asked for its state.
+/// `STATE`: a parser that has been fed the text is asked for its state.
 pub(crate) fn finish(desk: &Desk, words: &[&str]) {
     let [name] = words else {
         return desk.trouble("STATE");
@@ -143,12 +143,12 @@ pub(crate) fn read(desk: &Desk, words: &[&str]) {
     }
 }
 
-/// Lets a state receive the state of a text.
+/// Lets a state receive the state with this text.
 fn receive(desk: &Desk, state: &mut State, text: &[u8]) -> Result<(), ReadFault> {
     join_state(desk.alloc(), state, &mut source_of(text), MOST_BYTES)
 }
 
-/// `STATE OTHER JOINED`: a state receives the state from a source.
+/// `STATE OTHER JOINED`: a state receives another from a source.
 pub(crate) fn join_text(desk: &Desk, words: &[&str]) {
     let [own, other, wanted] = words else {
         return desk.trouble("STATE OTHER JOINED");
@@ -168,7 +168,7 @@ pub(crate) fn join_text(desk: &Desk, words: &[&str]) {
     compare_state(desk, &state, wanted);
 }
 
-/// The state of a text of the older format.
+/// The state of a text in the older format.
 fn migrated(desk: &Desk, text: &[u8]) -> Result<State, ReadFault> {
     migrate(desk.alloc(), &mut source_of(text), MOST_BYTES)
 }
@@ -199,7 +199,7 @@ fn compare_docker(desk: &Desk, docker: &Docker<'_>, wanted: &str) {
     }
 }
 
-/// `STATE TIPLOC DATE DOCKER`: the docker for a place and a day.
+/// `STATE TIPLOC DATE DOCKER`: the docker for a place and a day is made.
 pub(crate) fn make_docker(desk: &Desk, words: &[&str]) {
     let [name, place, day, wanted] = words else {
         return desk.trouble("STATE TIPLOC DATE DOCKER");
@@ -243,7 +243,7 @@ fn room_for(desk: &Desk, text: &[u8]) -> Result<Kept, Memory> {
     Kept::new(desk.alloc(), text.len())
 }
 
-/// Compares a text with what a sink keeps.
+/// Writes a text to a sink, and compares what the sink keeps.
 fn compare_kept(desk: &Desk, kept: Result<Kept, Memory>, text: &[u8], name: &str) {
     match kept {
         Ok(mut kept) => {
@@ -254,7 +254,7 @@ fn compare_kept(desk: &Desk, kept: Result<Kept, Memory>, text: &[u8], name: &str
     }
 }
 
-/// A text this many times. If there is none, that is printed.
+/// A text, this many times. None if that can't be made, which is printed.
 fn repeated(desk: &Desk, name: &str, times: &str) -> Option<Vec<u8>> {
     let text = desk.text(name);
     let mut all = Vec::new(desk.alloc());

@@ -1,4 +1,4 @@
-//! The tables: texts that are cut, limits, sources without end, and failing devices.
+//! The tables of rows: texts that are cut, limits, sources without end, and devices that fail.
 ghost use Rattle.std.specs.Prelude.{◌<◌, length};
 
 use crate::answers::Answer;
@@ -11,25 +11,25 @@ use cif_line::{Bytes, Endless};
 use docker_cmd::Fault;
 use docker_office::{Office, OfficeFault};
 
-/// How many bytes a read gives at most: these numbers are tried, and one.
+/// The numbers of bytes per read that are tried, besides 1.
 const STEPS: [usize; 2] = [7, 4096];
 
-/// What an office is asked to do: a call under a limit, for an office with the state of one text,
-/// which then must have the state of another text.
+/// A call for an office with the state of one text, under a limit. After it the office has the
+/// state of another text.
 #[derive(Clone, Copy, Drop)]
 pub(crate) struct Asked<'a> {
-    /// The call.
+    /// The call to make.
     pub(crate) call: Call,
-    /// The text before.
+    /// The text of the office's state before the call.
     pub(crate) before: &'a [u8],
-    /// The text after, if the call is done.
+    /// The text of its state after the call, if that is done.
     pub(crate) after: &'a [u8],
-    /// The most records, or bytes.
+    /// The most records or bytes.
     pub(crate) limit: u64,
 }
 
 impl<'a> Asked<'a> {
-    /// The answer of an office that was asked.
+    /// The answer for an office after the call.
     pub(crate) fn judge(
         &self,
         desk: &Desk,
@@ -54,7 +54,7 @@ impl<'a> Asked<'a> {
         }
     }
 
-    /// The answer if a source gives this text, `step` bytes per read.
+    /// The answer if a source gives this text, at most `step` bytes per read.
     fn answer(&self, desk: &Desk, text: &[u8], step: usize) -> Answer
         requires { 0 < step }
     {
@@ -68,7 +68,7 @@ impl<'a> Asked<'a> {
         self.judge(desk, &office, done)
     }
 
-    /// The answer, if it is the same for each number of bytes per read.
+    /// The answer, if it doesn't depend on the number of bytes per read.
     pub(crate) fn answer_to(&self, desk: &Desk, text: &[u8]) -> Answer {
         let mut answer = self.answer(desk, text, 1);
         for step in STEPS {
@@ -79,7 +79,7 @@ impl<'a> Asked<'a> {
         answer
     }
 
-    /// The answer if a source gives one text, and then another without end.
+    /// The answer if a source gives one text, and then another over and over.
     fn answer_without_end(&self, desk: &Desk, front: &[u8], again: &[u8], step: usize) -> Answer
         requires step { 0 < step }
         requires again { 0 < length again.now }
@@ -90,7 +90,7 @@ impl<'a> Asked<'a> {
         self.judge(desk, &office, done)
     }
 
-    /// Like `answer_to`, for a text without end.
+    /// Like `answer_to`, for a source without end.
     fn answer_to_endless(&self, desk: &Desk, front: &[u8], again: &[u8]) -> Answer
         requires { 0 < length again.now }
     {
@@ -104,7 +104,7 @@ impl<'a> Asked<'a> {
     }
 }
 
-/// Runs the row of a table.
+/// Runs a table's row.
 pub(crate) fn do_row(desk: &Desk, table: &str, words: &[&str]) {
     match table {
         "cut" => cut(desk, words),
@@ -135,7 +135,7 @@ fn cut(desk: &Desk, words: &[&str]) {
     cut_all(desk, asked, text.as_slice());
 }
 
-/// Prints the answers to each front of a text.
+/// Prints the answer for each prefix of a text.
 fn cut_all(desk: &Desk, asked: Asked<'_>, text: &[u8]) {
     let mut spans = Spans::new();
     for n in 0..=text.len() {
@@ -144,12 +144,12 @@ fn cut_all(desk: &Desk, asked: Asked<'_>, text: &[u8]) {
     spans.report(desk);
 }
 
-/// A limit. A word that isn't a number gives 0.
+/// A limit; 0 if the word isn't a number.
 fn limit_of(word: &str) -> u64 {
     word.parse::<u64>().unwrap_or(0)
 }
 
-/// `CALL STATE TEXT LIMIT`: the text is read under a limit, and refused.
+/// `CALL STATE TEXT LIMIT`: the text is read under the limit, and refused.
 fn limit(desk: &Desk, words: &[&str]) {
     let [call, own, name, limit] = words else {
         return desk.trouble("CALL STATE TEXT LIMIT");
@@ -166,7 +166,7 @@ fn limit(desk: &Desk, words: &[&str]) {
     asked.answer_to(desk, text.as_slice()).report(desk);
 }
 
-/// `CALL STATE FRONT AGAIN LIMIT`: a front, then another text repeated without end, under a limit.
+/// `CALL STATE FRONT AGAIN LIMIT`: a first text, and then another over and over, under a limit.
 fn endless(desk: &Desk, words: &[&str]) {
     let [call, own, front, again, limit] = words else {
         return desk.trouble("CALL STATE FRONT AGAIN LIMIT");
@@ -183,7 +183,7 @@ fn endless(desk: &Desk, words: &[&str]) {
     endless_texts(desk, asked, front.as_slice(), again.as_slice());
 }
 
-/// Prints the answer to a text without end.
+/// Prints the answer for a source without end.
 fn endless_texts(desk: &Desk, asked: Asked<'_>, front: &[u8], again: &[u8]) {
     if again.is_empty() {
         return desk.trouble("nothing comes again");

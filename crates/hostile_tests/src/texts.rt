@@ -1,4 +1,4 @@
-//! What is made from texts, and the texts of what was made.
+//! What is made from texts, and the texts of what is made.
 ghost use Rattle.std.specs.Prelude.{◌≡◌, IfSome};
 
 use crate::desk::Desk;
@@ -12,10 +12,10 @@ use docker_state::State;
 /// The greatest length of a written text.
 pub(crate) const ROOM: usize = 2000;
 
-/// How many bytes a source gives per read, if the number doesn't matter.
+/// How many bytes a source gives per read, if that doesn't matter.
 pub(crate) const STEP: usize = 100;
 
-/// The most bytes of a state, if the number doesn't matter.
+/// The most bytes that a state may have, if that doesn't matter.
 pub(crate) const MOST_BYTES: u64 = 1_099_511_627_776;
 
 /// A source that gives this text.
@@ -34,7 +34,7 @@ pub(crate) fn file_of(desk: &Desk, text: &[u8]) -> Option<CifFile> {
     }
 }
 
-/// The state of a text.
+/// The state with this text.
 pub(crate) fn state_of(desk: &Desk, text: &[u8]) -> State {
     match read_state(desk.alloc(), &mut source_of(text), MOST_BYTES) {
         Ok(state) => state,
@@ -45,7 +45,7 @@ pub(crate) fn state_of(desk: &Desk, text: &[u8]) -> State {
     }
 }
 
-/// An office with the state of a text.
+/// An office that has the state with this text.
 pub(crate) fn office_of(desk: &Desk, text: &[u8]) -> Office {
     let mut office = Office::new(desk.alloc());
     if office.reload(&mut source_of(text), MOST_BYTES).is_err() {
@@ -54,7 +54,7 @@ pub(crate) fn office_of(desk: &Desk, text: &[u8]) -> Office {
     office
 }
 
-/// A sink with room for each written text.
+/// A sink that has room for any text written here.
 pub(crate) fn sink(desk: &Desk) -> Option<Kept>
     ensures { IfSome result (λ kept. kept.failures ≡ 0) }
 {
@@ -75,7 +75,7 @@ pub(crate) fn has_text(desk: &Desk, state: &State, text: &[u8]) -> bool {
     }
 }
 
-/// Prints the name of a text in the folder `data`, if it is the text of a state.
+/// Prints the name of a text in the folder `data`, and whether a state has that text.
 pub(crate) fn compare_state(desk: &Desk, state: &State, name: &str) {
     let text = desk.text(name);
     desk.report(has_text(desk, state, text.as_slice()), name);

@@ -1,4 +1,4 @@
--- How many spots rows have: no more than what the rows were made from has.
+-- Rows have at most as many spots as the changes or rows from which they were made.
 use Rattle.std.proofs.Common.{◌≡◌, ℕ, ◌+◌, ◌≤◌, List, [], ◌∷◌, ◌++◌, map, length, refl, ap, sym, ◌∙◌, subst, inl, inr, ◌⊎◌, Contains, arith}
 use Rattle.std.specs.declared.cmp.Ordering.TheVariants.{Less, Equal}
 use Rattle.std.specs.Ordering.{on}
@@ -16,11 +16,11 @@ use Rattle.state_index.specs.Spots.{Places, call_places, link_places, spot_at, s
 use Rattle.state_index.specs.Rooms.{AreMadeBy}
 use Rattle.state_index.proofs.Positions.{Keyed}
 
--- a key with its op
+-- a key and its op
 abbrev pub Pair : Type 0
 Pair = Key × Op
 
--- how many places they have in all
+-- how many places these have in all
 abbrev pub total : (Key → Op → ℕ) → List Pair → ℕ
 total count [] = 0
 total count (pair ∷ pairs) = count pair.0 pair.1 + total count pairs
@@ -40,7 +40,7 @@ total-append : (count : Key → Op → ℕ) (first second : List Pair) → total
 total-append count [] second = omega arith
 total-append count (pair ∷ first) second = let rest = total-append count first second in omega arith
 
--- a member cuts a list in two
+-- a list around one of its members
 cut_at : (pairs : List Pair) (pair : Pair) → Contains pairs pair → (front : List Pair) × (back : List Pair) × (pairs ≡ front ++ (pair ∷ back))
 cut_at [] pair among = absurd (nil-Contains pair among)
 cut_at (first ∷ pairs) pair among = by (cut_at pairs pair) (Contains-cons first pairs pair among)
@@ -50,7 +50,7 @@ cut_at (first ∷ pairs) pair among = by (cut_at pairs pair) (Contains-cons firs
     by rest (inl same) = ([], pairs, (λ i. same i ∷ pairs))
     by rest (inr inside) = let found = rest inside in (first ∷ found.0, found.1, (λ i. first ∷ found.2 i))
 
--- rows of different keys, each of them among some pairs, have no more places than the pairs
+-- rows with different keys, all among some pairs, have no more places than the pairs
 fewer : (count : Key → Op → ℕ) (rows : List Keyed) → AreAscending rows → (pairs : List Pair) →
     ((row : Keyed) → Contains rows row → Contains {X = Pair} pairs (row.0, row.1.op))
     → total count (pairs_of rows) ≤ total count pairs
@@ -105,11 +105,11 @@ at_most_all (pair ∷ pairs) = let one = few_links pair.0 pair.1 in let rest = a
 abbrev pub changed : List model.Change → List Pair
 changed changes = map (λ (change : model.Change). (change.key, op_of change.act)) changes
 
--- rows have as many calls as their keys and ops do
+-- rows have as many calls as their keys and ops
 pub places_of_rows : (rows : List Keyed) → length (spots_of call_places rows) ≡ total (λ key op. length (call_places key op)) (pairs_of rows)
 places_of_rows rows = spots_total call_places 0 rows
 
--- rows have at most one link each
+-- each row has at most one link
 pub links_of_rows : (rows : List Keyed) → length (spots_of link_places rows) ≤ length rows
 links_of_rows rows =
     let one = spots_total link_places 0 rows in
@@ -117,7 +117,7 @@ links_of_rows rows =
     let three = length-map {B = Pair} rows (λ (row : Keyed). (row.0, row.1.op)) in
     omega arith
 
--- rows that changes make have no more calls than the changes
+-- the rows that changes make have no more calls than the changes
 pub places_of_changes : (rows : List Keyed) (changes : List model.Change) → AreAscending rows → AreMadeBy changes rows
     → length (spots_of call_places rows) ≤ total (λ key op. length (call_places key op)) (changed changes)
 places_of_changes rows changes up made =

@@ -1,4 +1,4 @@
--- The spots that stay after a lapse are the spots of the lapsed rows.
+-- After a lapse, the spots that stay are the spots of the lapsed rows.
 use Rattle.std.proofs.Common.{◌≡◌, ℕ, List, [], refl, ap, sym, ◌∙◌, subst, Bool, true, false, Some, None, Contains}
 use Rattle.std.specs.Prelude.{Option, filter, slice_get, option_map, option_and_then}
 use Rattle.std.specs.Option.{is_some}
@@ -39,7 +39,7 @@ module _ (places : Places) (none : (key : Key) (op : Op) → is_put op ≡ false
   lapsed_at at row is = ap (λ (all : List Keyed). slice_get all at) are ∙ slice_get-map (lapse_keyed horizon) before at ∙ ap
       (option_map (lapse_keyed horizon)) is
 
-  -- each lapsed row was a row before
+  -- each lapsed row comes from a row before the lapse
   was_at : (at : ℕ) (row : Keyed) → slice_get rows at ≡ Some row → (old : Keyed) × (slice_get before at ≡ Some old) × (lapse_keyed horizon old ≡ row)
   was_at at row is = by (slice_get before at) refl
     where
@@ -87,7 +87,7 @@ module _ (places : Places) (none : (key : Key) (op : Op) → is_put op ≡ false
           subst (λ zs. Contains zs spot) (sym is)
           (filter_forth (is_put_at rows) spots spot ((of.members spot).1 there) (put_row rows spot row at ∙ put))
 
-  -- like the lemma of spots, for marks
+  -- after a lapse, the marks that stay are the marks of the lapsed rows
   pub lapsed_marks : (names : List (List ℕ)) (marks after : List Mark) → after ≡ filter (is_put_at_mark rows) marks → AreMarksOf places before names marks
       → AreMarksOf places rows names after
   lapsed_marks names marks after is of = record {

@@ -7,6 +7,7 @@ pub mod RisingMoves
 pub mod JoinedSpots
 pub mod RowPlaces
 pub mod LiveIndexes
+pub mod CountedCalls
 pub mod JoinedRows
 pub mod LapsedSpots
 pub mod PutRows

@@ -1,4 +1,4 @@
--- The marks of a place are one piece of marks that ascend.
+-- The marks of one place stand together among ascending marks.
 use Rattle.std.proofs.Common.{◌≡◌, ℕ, zero, suc, ◌<◌, ◌≤◌, List, [], ◌∷◌, ◌++◌, take, drop, length, get_or, refl, ap, sym, ◌∙◌, subst, inl, inr, ◌⊎◌, Bool, true, false, Contains, arith}
 use Rattle.std.specs.List.{AllByRecursion}
 use Rattle.std.specs.List.Sorted.{IsPartitionedBy, IsPartitionPoint}
@@ -17,7 +17,7 @@ use Rattle.state_index.specs.MarkOrder.{mark_cmp}
 use Rattle.state_index.specs.StandingRows.{IsPieceOf}
 
 module _ {A : Type 0} (P : A → Type 0) where
-  -- what holds of the first elements holds of the front
+  -- a property of the first n elements holds for what is taken
   taken : (xs : List A) (n : ℕ) → n ≤ length xs → ((k : ℕ) (d : A) → 0 ≤ k → k < n → P (get_or xs k d)) → (z : A) → Contains (take n xs) z → P z
   taken xs zero bound all z among = absurd (nil-Contains z among)
   taken [] (suc n) bound all z among = absurd (let none : suc n ≤ 0 = bound in omega arith)
@@ -28,7 +28,7 @@ module _ {A : Type 0} (P : A → Type 0) where
       by rest (inl same) = subst P same (all 0 x (omega arith) (omega arith))
       by rest (inr inside) = rest inside
 
-  -- what holds of the other elements holds of the rest
+  -- a property of the others holds for what is left
   dropped : (xs : List A) (n : ℕ) → n ≤ length xs → ((k : ℕ) (d : A) → n ≤ k → k < length xs → P (get_or xs k d)) → (z : A) → Contains (drop n xs) z → P z
   dropped [] zero bound all z among = absurd (nil-Contains z among)
   dropped [] (suc n) bound all z among = absurd (let none : suc n ≤ 0 = bound in omega arith)
@@ -40,7 +40,7 @@ module _ {A : Type 0} (P : A → Type 0) where
       by rest (inr inside) = rest inside
   dropped (x ∷ xs) (suc n) bound all z among = dropped xs n (omega arith) (λ k d low high. all (suc k) d (omega arith) (omega arith)) z among
 
--- ---- a test that holds up to a place
+-- ---- a test that holds up to some place
 
 above_at : (low : Mark) (marks : List Mark) (j : ℕ) (d : Mark) → AllByRecursion (IsBelow mark_cmp low) marks → j < length marks → mark_cmp low
     (get_or marks j d) ≡ Less
@@ -55,11 +55,12 @@ below_at (mark ∷ marks) i zero d up before within = absurd (omega arith)
 below_at (mark ∷ marks) zero (suc j) d up before within = above_at mark marks j d up.0 (omega arith)
 below_at (mark ∷ marks) (suc i) (suc j) d up before within = below_at marks i j d up.1 (omega arith) (omega arith)
 
--- how a mark's place compares with a place
+-- compares a mark's place with this place
 abbrev by_place : ℕ → Mark → Ordering
 by_place place mark = nat_cmp mark.place place
 
--- a test that holds of what is less, if it holds of what is equal, and of nothing that is greater
+-- a test of how places compare, which fails for greater, and which holds for less if it holds for
+-- equal
 abbrev GoesDown : (Ordering → Bool) → Type 0
 GoesDown test = (test Greater ≡ false) × (test Equal ≡ true → test Less ≡ true)
 
@@ -90,17 +91,17 @@ module _ (test : Ordering → Bool) (down : GoesDown test) (place : ℕ) where
           let same : j ≡ i = omega arith in
           subst (λ k. test (by_place place (get_or marks k d)) ≡ true) same passes
 
--- what is left after a front ascends
+-- if marks ascend, so do those that come after the first n
 pub behind_ascends : (marks : List Mark) (n : ℕ) → IsStrictlyAscending mark_cmp marks → IsStrictlyAscending mark_cmp (drop n marks)
 behind_ascends marks zero up = up
 behind_ascends [] (suc n) up = tt
 behind_ascends (mark ∷ marks) (suc n) up = behind_ascends marks n up.1
 
--- whether a mark's place is below this place
+-- the mark's place is below this place
 abbrev pub is_before : ℕ → Mark → Bool
 is_before place mark = is_lt (nat_cmp mark.place place)
 
--- whether a mark's place is this place or below it
+-- the mark's place is this place or below it
 abbrev pub is_up_to : ℕ → Mark → Bool
 is_up_to place mark = is_le (nat_cmp mark.place place)
 
@@ -137,7 +138,7 @@ here_is place mark fails passes = by (nat_cmp mark.place place) refl fails passe
     by Less is told up = absurd (let bad : true ≡ false = told in cc)
     by Greater is told up = absurd (let bad : false ≡ true = up in cc)
 
--- the marks are cut in three where the two tests end
+-- the two ends that these tests find enclose the place's marks
 pub piece_is : (place : ℕ) (marks rest piece : List Mark) (from to : ℕ) → from ≤ length marks → rest ≡ drop from marks → to ≤ length rest → piece
     ≡ take to rest
     → IsPartitionPoint (λ mark. is_before place mark ≡ true) (λ mark. is_before place mark ≡ false) marks from

@@ -1,4 +1,4 @@
--- Marks, and the spots that they stand for.
+-- Marks and the spots that they stand for.
 use Rattle.std.proofs.Common.{◌≡◌, ℕ, List, [], ◌∷◌, ◌++◌, refl, ap, sym, ◌∙◌, subst, Some, None, Contains, Bool, true, false, cond, append-nil}
 use Rattle.std.specs.Prelude.{Option, ◌↔◌, filter, slice_get, option_map, option_and_then}
 use Rattle.std.specs.List.{cons_option}
@@ -23,7 +23,7 @@ use Rattle.state_index.proofs.Positions.{Keyed, some_is, at_member, at_ascends, 
 none_some : {A : Type 0} (a : A) → None ≡ Some a → ⊥
 none_some a h = cc
 
--- the place and the row of a mark's spot
+-- a mark names its spot's place and row
 pub spot_named : (names : List (List ℕ)) (mark : Mark) (spot : Spot) → mark_spot names mark ≡ Some spot
     → (slice_get names mark.place ≡ Some spot.place) × (spot.at ≡ mark.at)
 spot_named names mark spot is = by (slice_get names mark.place) refl is
@@ -36,7 +36,7 @@ spot_named names mark spot is = by (slice_get names mark.place) refl is
         (at ∙ ap (λ (s : Spot). Some s.place) same, sym (ap (λ (s : Spot). s.at) same))
 
 module _ (names : List (List ℕ)) (up : IsStrictlyAscending bytes_cmp names) where
-  -- places that ascend compare like their indexes
+  -- ascending places compare like their indexes
   pub place_order : (i j : ℕ) (x y : List ℕ) → slice_get names i ≡ Some x → slice_get names j ≡ Some y → bytes_cmp x y ≡ nat_cmp i j
   place_order i j x y is_x is_y = by (nat_cmp i j) refl
     where
@@ -58,15 +58,15 @@ module _ (names : List (List ℕ)) (up : IsStrictlyAscending bytes_cmp names) wh
       let rows : nat_cmp x.at y.at ≡ nat_cmp a.at b.at = λ i. nat_cmp ((spot_named names a x is_x).1 i) ((spot_named names b y is_y).1 i) in
       λ i. ordering_then (same_order a b x y is_x is_y i) (rows i)
 
-  -- the spots of marks that ascend also ascend
+  -- the spots of ascending marks ascend
   pub spots_ascend : (marks : List Mark) → IsStrictlyAscending mark_cmp marks → IsStrictlyAscending spot_cmp (spots_in names marks)
   spots_ascend marks rise = chosen_ascends (mark_spot names) mark_cmp spot_cmp (λ a b c d below is_c is_d. same_cmp a b c d is_c is_d ∙ below) marks rise
 
-  -- a place has one index
+  -- a place has only one index
   one_rank : (i j : ℕ) (place : List ℕ) → slice_get names i ≡ Some place → slice_get names j ≡ Some place → i ≡ j
   one_rank i j place is_i is_j = exact_unsigned i j (sym (place_order i j place place is_i is_j) ∙ tied_itself nat_list_cmp_total place)
 
-  -- the marks of a place stand for its spots
+  -- a place's marks stand for its spots
   pub piece_at : (rank : ℕ) (place : List ℕ) (marks piece : List Mark) → slice_get names rank ≡ Some place → IsPieceOf rank marks piece
       → IsPieceAt place (spots_in names marks) (spots_in names piece)
   piece_at rank place marks piece at is = record {
@@ -86,7 +86,7 @@ module _ (names : List (List ℕ)) (up : IsStrictlyAscending bytes_cmp names) wh
         is.none_behind found.0 found.1 (one_rank found.0.place rank place ((spot_named names found.0 spot found.2).0 ∙ ap Some same) at);
   }
 
--- a place that is not named has no spot
+-- a place without an index has no spot
 pub no_piece : (names : List (List ℕ)) (marks : List Mark) (place : List ℕ) → ¬ (Contains names place) → (all : List Spot) → all ≡ spots_in names marks
     → IsPieceAt place all []
 no_piece names marks place never all all_is = record {
@@ -100,7 +100,7 @@ no_piece names marks place never all all_is = record {
   none_behind = λ spot among. absurd (nil-Contains spot among);
 }
 
--- marks of one place name the rows that their spots name
+-- a place's marks name the same rows as its spots
 pub same_rows : (names : List (List ℕ)) (rank : ℕ) (place : List ℕ) → slice_get names rank ≡ Some place → (piece : List Mark)
     → ((mark : Mark) → Contains piece mark → mark.place ≡ rank) → (rows : List Keyed) → standing_marks rows piece ≡ standing_rows rows (spots_in names piece)
 same_rows names rank place at [] here rows = refl
@@ -115,14 +115,14 @@ same_rows names rank place at (mark ∷ piece) here rows =
         let same : spot ≡ spot_at mark.at place = some_is spot (spot_at mark.at place) told in
         λ i. cons_option (option_and_then live_row (slice_get rows (sym (ap (λ (s : Spot). s.at) same) i))) (rest i)
 
--- equal marks stand for equal spots
+-- if all marks of a list are in another, all its spots are
 pub same_spots : (names : List (List ℕ)) (marks others : List Mark) → ((mark : Mark) → Contains marks mark → Contains others mark) → (spot : Spot)
     → Contains (spots_in names marks) spot → Contains (spots_in names others) spot
 same_spots names marks others same spot among =
     let found = chosen_from (mark_spot names) marks spot among in
     chosen_to (mark_spot names) others found.0 spot (same found.0 found.1) found.2
 
--- marks in order, if they are the marks made from the rows
+-- sorted marks of some rows' spots are the marks of the rows
 pub marks_made : (places : Places) (rows : List Keyed) (names : List (List ℕ)) (made marks : List Mark) → IsStrictlyAscending bytes_cmp names
     → spots_in names made ≡ spots_of places rows → IsStrictlyAscending mark_cmp marks → ((mark : Mark) → Contains marks mark ↔ Contains made mark)
     → AreMarksOf places rows names marks
@@ -137,7 +137,7 @@ marks_made places rows names made marks named are up same = record {
   };
 }
 
--- the marks that stay stand for the spots that stay
+-- after a lapse, the marks that stay stand for the spots that stay
 pub kept_spots : (names : List (List ℕ)) (rows : List Keyed) (marks : List Mark)
     → spots_in names (filter (is_put_at_mark rows) marks) ≡ filter (is_put_at rows) (spots_in names marks)
 kept_spots names rows [] = refl

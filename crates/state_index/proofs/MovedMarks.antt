@@ -1,4 +1,4 @@
--- Marks, moved to where their places and their rows go in a join.
+-- Marks, moved to where their places and rows go in a join.
 use Rattle.std.proofs.Common.{◌≡◌, ℕ, suc, ◌≤◌, List, [], ◌∷◌, length, refl, ap, sym, ◌∙◌, subst, inl, inr, ◌⊎◌, Some, None, Contains, arith}
 use Rattle.std.specs.Prelude.{Option, ◌↔◌, slice_get, option_map, option_and_then}
 use Rattle.std.specs.List.{filter_map, cons_option}
@@ -21,7 +21,7 @@ use Rattle.state_index.proofs.MovedSpots.{joined_spots}
 none_some : {A : Type 0} (a : A) → None ≡ Some a → ⊥
 none_some a h = cc
 
--- two choices, one after the other, are one choice
+-- two filters that also map, one after the other, are one
 fused : {A B C : Type 0} (f : A → Option B) (g : B → Option C) (xs : List A) → filter_map g (filter_map f xs) ≡ filter_map (λ x. option_and_then g (f x)) xs
 fused f g [] = refl
 fused {A} {B} {C} f g (x ∷ xs) = by (f x) (fused f g xs)
@@ -31,7 +31,7 @@ fused {A} {B} {C} f g (x ∷ xs) = by (f x) (fused f g xs)
     by None rest = rest
     by (Some y) rest = ap (cons_option (g y)) rest
 
--- no more marks go into the join than there are
+-- moving marks makes no more of them
 pub moved_few : (ranks : List ℕ) (moves : List (Option ℕ)) (marks : List Mark) → length (moved_marks ranks moves marks) ≤ length marks
 moved_few ranks moves [] = omega arith
 moved_few ranks moves (mark ∷ marks) = by (moved_mark ranks moves mark) (moved_few ranks moves marks)
@@ -79,7 +79,7 @@ module _ (names others : List (List ℕ)) (ranks : List ℕ) (are : AreRanks oth
       ∙ (λ i. filter_map (λ mark. same_move mark i) marks)
       ∙ sym (fused (mark_spot names) (moved_spot moves) marks)
 
-  -- a mark that goes is moved with its place and its row
+  -- a mark is moved only if its place has a rank and its row goes into the join
   went : (mark moved : Mark) → moved_mark ranks moves mark ≡ Some moved
       → (slice_get ranks mark.place ≡ Some moved.place) × (slice_get moves mark.at ≡ Some (Some moved.at))
   went mark moved is = by (slice_get ranks mark.place) refl (slice_get moves mark.at) refl is
@@ -94,7 +94,7 @@ module _ (names others : List (List ℕ)) (ranks : List ℕ) (are : AreRanks oth
           let same : record { place = rank; at = p } ≡ moved = some_is (record { place = rank; at = p }) moved told in
           (at ∙ ap (λ (m : Mark). Some m.place) same, there ∙ ap (λ (m : Mark). Some (Some m.at)) same)
 
-  -- the place that has a rank
+  -- the place with this rank
   placed : (i rank : ℕ) → slice_get ranks i ≡ Some rank → (place : List ℕ) × (slice_get names i ≡ Some place) × (slice_get others rank ≡ Some place)
   placed i rank is = by (slice_get names i) refl
     where
@@ -137,7 +137,7 @@ module _ (names others : List (List ℕ)) (ranks : List ℕ) (are : AreRanks oth
     pub moved_ascends : (marks : List Mark) → IsStrictlyAscending mark_cmp marks → IsStrictlyAscending mark_cmp (moved_marks ranks moves marks)
     moved_ascends marks rising = chosen_ascends (moved_mark ranks moves) mark_cmp mark_cmp moved_below marks rising
 
--- the marks of both sides, merged, are the marks of the joined rows
+-- the moved marks of both tables, merged, are the marks of the joined rows
 module _ (places : Places) (rows others joined : List Keyed) (moves other_moves : List (Option ℕ)) (names other_names all : List (List ℕ))
     (ranks other_ranks : List ℕ) (are : AreRanks all names ranks) (others_are : AreRanks all other_names other_ranks)
     (up : IsStrictlyAscending bytes_cmp names) (others_up : IsStrictlyAscending bytes_cmp other_names) (all_up : IsStrictlyAscending bytes_cmp all)

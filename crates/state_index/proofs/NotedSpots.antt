@@ -1,4 +1,4 @@
--- The marks of noted rows stand for the spots of the rows.
+-- The marks of noted rows stand for the rows' spots.
 use Rattle.std.proofs.Common.{◌≡◌, ℕ, zero, suc, ◌+◌, ◌≤◌, List, [], ◌∷◌, ◌++◌, map, take, drop, length, refl, ap, sym, ◌∙◌, subst, Bool, true, false, Some, None, arith, get_or}
 use Rattle.std.specs.Prelude.{Option, slice_get, option_map}
 use Rattle.std.specs.List.{cons_option}
@@ -25,7 +25,7 @@ use Rattle.state_index.proofs.CountedSpots.{places_of_rows, places_of_changes, r
 none_some : {A : Type 0} (a : A) → None ≡ Some a → ⊥
 none_some a h = cc
 
--- ---- the marks of a row
+-- ---- the marks of one row
 
 module _ (names sorted : List (List ℕ)) (ranks : List ℕ) (are : AreRanks sorted names ranks) where
   rank_is : (number : ℕ) (place : List ℕ) → slice_get names number ≡ Some place → slice_get sorted (get_or ranks number 0) ≡ Some place
@@ -99,7 +99,7 @@ module _ (names sorted : List (List ℕ)) (ranks : List ℕ) (are : AreRanks sor
             → AreSpots at (row ∷ rows) (piece ∷ pieces) × (length (row ∷ rows) ≡ length (piece ∷ pieces))
         by rest = ((all_here (let len = rest.1 in omega arith) rest.0.0, len_here rest.0.1), ap suc rest.1)
 
--- the marks of the calls of noted rows
+-- the marks of calls
 calls_noted : (names sorted : List (List ℕ)) (ranks numbers : List ℕ) → AreRanks sorted names ranks → (count : ℕ) (rows : List Keyed) (pieces : List Piece)
     → count ≡ length rows → AreNoted names numbers (items_of rows) pieces
     → (spots_in sorted (noted_marks false ranks numbers count pieces) ≡ spots_of call_places rows)
@@ -107,7 +107,7 @@ calls_noted : (names sorted : List (List ℕ)) (ranks numbers : List ℕ) → Ar
 calls_noted names sorted ranks numbers are count rows pieces count_is noted =
     (all_spots names sorted ranks are call_places false (λ ns item piece is. is.calls) numbers count 0 rows pieces noted (omega arith)).0
 
--- the marks of the links of noted rows
+-- the marks of links
 links_noted : (names sorted : List (List ℕ)) (ranks numbers : List ℕ) → AreRanks sorted names ranks → (count : ℕ) (rows : List Keyed) (pieces : List Piece)
     → count ≡ length rows → AreNoted names numbers (items_of rows) pieces
     → (spots_in sorted (noted_marks true ranks numbers count pieces) ≡ spots_of link_places rows)
@@ -115,7 +115,7 @@ links_noted : (names sorted : List (List ℕ)) (ranks numbers : List ℕ) → Ar
 links_noted names sorted ranks numbers are count rows pieces count_is noted =
     (all_spots names sorted ranks are link_places true (λ ns item piece is. is.links) numbers count 0 rows pieces noted (omega arith)).0
 
--- marks in the order of their rows, which stand for the spots of the rows
+-- these marks are in row order, and stand for the rows' spots
 pub record IsWalk (places : Places) (rows : List Keyed) (sorted : List (List ℕ)) (walk : List Mark) : Type 0 where
   pub spots : spots_in sorted walk ≡ spots_of places rows
   pub len : length walk ≡ length (spots_of places rows)
@@ -134,7 +134,7 @@ walked places rows sorted walk marks same told = subst (IsWalk places rows sorte
     in_order : AreBelow (length sorted) marks × AreFrom 0 marks
     in_order = made_of_rows places rows sorted marks told.0 (ap length told.0 ∙ sym told.1)
 
--- the walk over the calls of noted rows
+-- a walk over the calls of noted rows
 pub calls_walk : (names sorted : List (List ℕ)) (ranks numbers : List ℕ) → AreRanks sorted names ranks → (count : ℕ) (rows : List Keyed) (pieces : List Piece)
     → count ≡ length rows → AreNoted names numbers (items_of rows) pieces → (walk : List Mark) → walk ≡ noted_marks false ranks numbers count pieces
     → IsWalk call_places rows sorted walk
@@ -142,7 +142,7 @@ calls_walk names sorted ranks numbers are count rows pieces count_is noted walk 
     walked call_places rows sorted walk (noted_marks false ranks numbers count pieces) walk_is
     (calls_noted names sorted ranks numbers are count rows pieces count_is noted)
 
--- the walk over the links of noted rows
+-- a walk over the links of noted rows
 pub links_walk : (names sorted : List (List ℕ)) (ranks numbers : List ℕ) → AreRanks sorted names ranks → (count : ℕ) (rows : List Keyed) (pieces : List Piece)
     → count ≡ length rows → AreNoted names numbers (items_of rows) pieces → (walk : List Mark) → walk ≡ noted_marks true ranks numbers count pieces
     → IsWalk link_places rows sorted walk
@@ -150,7 +150,7 @@ links_walk names sorted ranks numbers are count rows pieces count_is noted walk 
     walked link_places rows sorted walk (noted_marks true ranks numbers count pieces) walk_is
     (links_noted names sorted ranks numbers are count rows pieces count_is noted)
 
--- ---- the room
+-- ---- the room for an index
 
 -- room for many marks is room for fewer
 less_slots : (places few many : ℕ) (slots : Slots) → few ≤ many → HasSlots places many slots → HasSlots places few slots
@@ -163,7 +163,7 @@ less_slots places few many slots less has = record {
   room = (let all = has.room in omega arith);
 }
 
--- room for at least as many calls and rows is room for the index of the rows
+-- if the rows have no more calls and links than a room is for, the room is enough for their index
 fits : (rows : List Keyed) (names : List (List ℕ)) (calls count : ℕ) (room : Room) → IsRoom names calls count room
     → length (spots_of call_places rows) ≤ calls → length (spots_of link_places rows) ≤ count → length rows ≤ count → HasRoomFor rows names room
 fits rows names calls count room is few_calls few_links few_rows = record {
@@ -174,8 +174,8 @@ fits rows names calls count room is few_calls few_links few_rows = record {
   links = less_slots (length room.places.items) (length (spots_of link_places rows)) count room.links few_links is.links;
 }
 
--- pieces have at least as many numbers as their items have calls, and there are as many pieces as
--- items
+-- the pieces have at least as many numbers as their items have calls, and there are as many pieces
+-- as items
 pieces_fit : (names : List (List ℕ)) (numbers : List ℕ) (items : List Item) (pieces : List Piece) → AreNoted names numbers items pieces
     → (total (λ key op. length (call_places key op)) items ≤ numbers_in pieces) × (length items ≡ length pieces)
 pieces_fit names numbers [] [] are = (omega arith, refl)
@@ -199,7 +199,7 @@ pieces_fit names numbers (item ∷ items) (piece ∷ pieces) are =
         taken (suc n) [] = omega arith
         taken (suc n) (x ∷ xs) = let rest = taken n xs in omega arith
 
--- room for all numbers is room for the index of the noted rows
+-- room for all noted numbers is room for the index of the noted rows
 pub room_of_rows : (rows : List Keyed) (notes : Notes) (calls count : ℕ) (room : Room) → calls ≡ length notes.numbers.items → count ≡ length notes.pieces.items
     → IsRoom notes.names.list.items calls count room → HasNoted (items_of rows) notes → HasRoomFor rows notes.names.list.items room
 room_of_rows rows notes calls count room calls_is count_is is has =
@@ -212,7 +212,7 @@ room_of_rows rows notes calls count room calls_is count_is is has =
     let all = places_of_rows rows in
     fits rows notes.names.list.items calls count room is (omega arith) (omega arith) (omega arith)
 
--- it is also room for the index of the rows that the noted changes make
+-- room for all noted numbers is room for the index of the rows that the noted changes make
 pub room_of_changes : (changes : List model.Change) (rows : List Keyed) (notes : Notes) (calls count : ℕ) (room : Room) → calls ≡ length notes.numbers.items
     → count ≡ length notes.pieces.items → IsRoom notes.names.list.items calls count room → HasNoted (items_put changes) notes → AreAscending rows
     → AreMadeBy changes rows → HasRoomFor rows notes.names.list.items room

@@ -1,4 +1,4 @@
--- A table that says of each row whether it is put.
+-- A table with one flag for each row: whether it is put.
 use Rattle.std.proofs.Common.{◌≡◌, List, refl, ap, sym, ◌∙◌, Bool, Some, None}
 use Rattle.std.specs.Prelude.{Option, slice_get, option_map, option_and_then}
 use Rattle.std.specs.Option.{is_some}
@@ -9,7 +9,7 @@ use Rattle.state_index.specs.Turns.{is_put}
 use Rattle.state_index.proofs.Positions.{Keyed}
 use Rattle.state_index.proofs.LapsedSpots.{live_is}
 
--- the table says of the row of a mark whether it is put
+-- the flag of a mark's row says whether that row is put
 pub told_put : (rows : List Keyed) (puts : List Bool) (mark : Mark) → puts ≡ puts_in rows
     → put_among puts mark ≡ is_put_at_mark rows mark
 told_put rows puts mark is =

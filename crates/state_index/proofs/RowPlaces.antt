@@ -40,7 +40,7 @@ location_forth line (inl is) = ap is_location is
 location_forth line (inr (inl is)) = ap is_location is
 location_forth line (inr (inr is)) = ap is_location is
 
--- a row whose schedule calls at a place
+-- the row is a schedule that calls at this place
 abbrev pub Calls : Key → Op → List ℕ → Type 0
 Calls key op place = (schedule : ScheduleKey) × (lines : List (List ℕ)) × (key ≡ schedule_key schedule) × (op ≡ put_with (schedule_body lines))
     × CallsAt place lines
@@ -68,7 +68,7 @@ call_forth schedule lines place calls =
     (map-Contains (columns 3 9) (filter (λ line. is_location (kind_of line)) lines) calls.line
     (filter_forth (λ line. is_location (kind_of line)) lines calls.line calls.among (location_forth calls.line calls.kind)))
 
--- a row whose association is at a place
+-- the row is an association at this place
 abbrev pub IsThere : Key → Op → List ℕ → Type 0
 IsThere key op place = (association : AssociationKey) × (line : List ℕ) × (key ≡ association_key association) × (op ≡ put_with (association_body line)) ×
     (association.location ≡ place)

@@ -1,4 +1,4 @@
--- The turns of a walk over two tables: whose rows they have, which rows win, and where the winning
+-- The turns of a walk over two tables: the rows they have, the rows that win, and where the winning
 -- rows go.
 use Rattle.std.proofs.Common.{◌≡◌, ℕ, suc, ◌+◌, ◌≤◌, List, [], ◌∷◌, map, length, refl, ap, Bool, true, false, cond, None, arith}
 use Rattle.std.specs.Prelude.{Option, ⊤}
@@ -21,17 +21,17 @@ use Rattle.state_index.specs.Turns.{AtKey, in_first, in_second, in_both, firsts,
 abbrev pub Row : Type 0
 Row = Key × Entry
 
--- the winning entry of two
+-- the entry that wins: the greater one
 abbrev pub picked : Entry → Entry → Entry
 picked = ord_max (on entry_meant entry_cmp)
 
--- the winning row of a turn
+-- the row that wins a turn
 abbrev pub winner : AtKey → Row
 winner (in_first one) = one
 winner (in_second other) = other
 winner (in_both one other) = (one.0, picked one.1 other.1)
 
--- if a turn has two rows, they are of one key
+-- if both tables have a row at this turn, the rows have one key
 abbrev pub IsLevel : AtKey → Type 0
 IsLevel (in_first one) = ⊤
 IsLevel (in_second other) = ⊤
@@ -109,12 +109,12 @@ pub winners_are : (xs ys : List Row) → map winner (turns_of xs ys) ≡ walk pi
 winners_are [] ys = all_winners ys
 winners_are (x ∷ xs) ys = winners_from x xs (turns_of xs) (walk picked xs) (winners_are xs) ys
 
--- at each turn, two rows are of one key
+-- at each turn all rows have one key
 pub turns_level : (xs ys : List Row) → AllByRecursion IsLevel (turns_of xs ys)
 turns_level [] ys = all_level ys
 turns_level (x ∷ xs) ys = level_from x xs (turns_of xs) (turns_level xs) ys
 
--- there are no more turns than rows
+-- there are at most as many turns as rows
 pub few_turns : (turns : List AtKey) → length turns ≤ length (firsts turns) + length (seconds turns)
 few_turns [] = omega arith
 few_turns (in_first one ∷ turns) = let rest = few_turns turns in omega arith

@@ -1,4 +1,4 @@
--- The rows of the join of two tables, and where they come from.
+-- The rows of two tables' join, and the tables that they come from.
 use Rattle.std.specs.Prelude.{◌≡◌, ℕ, ◌+◌, ◌<◌, ◌≤◌, ◌^◌, [], ◌↔◌, ◌⊎◌, List, map, slice_get, Option, Some, option_map, option_and_then, Contains}
 use Rattle.std.specs.List.{filter_map}
 use Rattle.std.specs.Vec.{vec_len, vec_capacity}
@@ -20,25 +20,24 @@ use Rattle.state_index.specs.declared.mark.Mark.{Mark}
 use Rattle.state_index.specs.declared.moves.Moves.{Moves}
 use Rattle.state_index.specs.Spots.{Places, call_places, link_places, spots_of}
 
--- the floor that the code stands for
+-- a floor as the definitions have it
 abbrev pub floor_meant : Option stamp.FileStamp → Option FileStamp
 floor_meant floor = option_map file_stamp_meant floor
 
--- among these entries of the key, one is kept under the floor and lapses under the horizon to this
--- one
+-- one of these entries has this key, is kept under the floor, and lapses under the horizon to this
+-- entry
 abbrev pub LapsesTo : List (model.Key × ops.Entry) → Option FileStamp → ℕ → model.Key → ops.Entry → Type 0
 LapsesTo entries floor horizon key entry =
     (before : ops.Entry) × Contains entries (key, before) × IsKept floor before.stamp.file × (lapse_entry horizon before ≡ entry)
 
--- the entries are the ones that the join of two tables keeps under the floor, each lapsed under the
--- horizon
+-- these are the rows of two tables' join that the floor keeps, lapsed under the horizon
 pub record AreJoined (first second : List (Key × Entry)) (floor : Option FileStamp) (horizon : ℕ) (joined : List (model.Key × ops.Entry)) : Type 0 where
   pub whole : List (Key × Entry)
   pub is_join : IsJoinOfRows (ord_max (on entry_meant entry_cmp)) first second whole
   pub ascending : states.AreAscending joined
   pub members : (key : model.Key) (entry : ops.Entry) → Contains joined (key, entry) ↔ LapsesTo (map row_meant whole) floor horizon key entry
 
--- a spot, moved to where its row goes, if the row stands live in the join
+-- a spot, moved to where its row goes. None if the row isn't live in the join
 abbrev pub moved_spot : List (Option ℕ) → Spot → Option Spot
 moved_spot moves spot =
     option_map (λ at. record { place = spot.place; at = at }) (option_and_then (λ (move : Option ℕ). move) (slice_get moves spot.at))
@@ -47,34 +46,34 @@ moved_spot moves spot =
 abbrev pub moved_spots : List (Option ℕ) → List Spot → List Spot
 moved_spots moves spots = filter_map (moved_spot moves) spots
 
--- a mark, moved to where its place and its row go; `ranks` has the indexes of its places among
--- other places
+-- a mark, moved to where its place and its row go. `ranks` has, for each of the old places, its
+-- index among the new ones
 abbrev pub moved_mark : List ℕ → List (Option ℕ) → Mark → Option Mark
 moved_mark ranks moves mark = option_and_then
     (λ rank. option_map (λ at. record { place = rank; at = at }) (option_and_then (λ (move : Option ℕ). move) (slice_get moves mark.at)))
     (slice_get ranks mark.place)
 
--- marks, moved to where their places and their rows go
+-- marks, moved to where their places and rows go
 abbrev pub moved_marks : List ℕ → List (Option ℕ) → List Mark → List Mark
 moved_marks ranks moves marks = filter_map (moved_mark ranks moves) marks
 
--- of two rows that go into the join, the first goes before the second
+-- of two rows that go into the join, the earlier one goes to the lower index
 abbrev pub AreRising : List (Option ℕ) → Type 0
 AreRising moves = (i j p q : ℕ) → i < j → slice_get moves i ≡ Some (Some p) → slice_get moves j ≡ Some (Some q) → p < q
 
--- the spots of the joined rows are the spots of both sides, moved to where their rows go
+-- the joined rows' spots are the spots of both tables, moved to where their rows go
 abbrev pub HasMovedSpots : Places → List (model.Key × ops.Entry) → List (model.Key × ops.Entry) → List (model.Key × ops.Entry) → Moves → Type 0
 HasMovedSpots places first second joined moves = (spot : Spot) → Contains (spots_of places joined) spot
     ↔ (Contains (moved_spots moves.first.items (spots_of places first)) spot ⊎ Contains (moved_spots moves.second.items (spots_of places second)) spot)
 
--- the moves of the rows of two tables into their join
+-- these are the moves of two tables' rows into their join
 pub record AreMoves (first second joined : List (model.Key × ops.Entry)) (moves : Moves) : Type 0 where
   pub first_rise : AreRising moves.first.items
   pub second_rise : AreRising moves.second.items
   pub calls : HasMovedSpots call_places first second joined moves
   pub links : HasMovedSpots link_places first second joined moves
 
--- no move is made yet, and there is room for the moves of this many rows on both sides
+-- there is no move yet, and room for the moves of this many rows of each table
 pub record HasRows (first second : ℕ) (moves : Moves) : Type 0 where
   pub first_none : moves.first.items ≡ []
   pub first_empty : vec_len moves.first ≡ 0

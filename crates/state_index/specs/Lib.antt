@@ -8,5 +8,6 @@ pub mod Turns
 pub mod Joined
 pub mod StandingRows
 pub mod Noted
+pub mod Counts
 pub use Rattle.cif_change.specs.declared.notes.Notes
 pub use Rattle.cif_change.specs.declared.names.PlaceNames

@@ -4,20 +4,20 @@ use Rattle.cif_change.specs.declared.piece.Piece.{Piece}
 pub use Rattle.cif_change.specs.Noted.{Item, items_of, items_put, Keeps, if_asked, numbers_of, IsNoted, AreNoted, numbers_in, HasNoted, IsNext, no_piece, ArePicked}
 use Rattle.state_index.specs.declared.mark.Mark.{Mark}
 
--- the mark of a number in a row, by the indexes of the places that have numbers
+-- the mark of a noted number, for the row at this index. `ranks` has the final index of each place
 abbrev pub mark_of : List ℕ → ℕ → ℕ → Mark
 mark_of ranks at number = record { place = get_or ranks number 0; at = at }
 
--- the index of the last of this many rows that isn't among the rows left
+-- the index of the row before the rows that are left, out of this many rows
 abbrev pub row_before : ℕ → List Piece → ℕ
 row_before rows left = rows - length left - 1
 
--- the marks of this many rows, if these pieces are left
+-- the marks of the rows that are left, out of this many rows
 abbrev pub noted_marks : Bool → List ℕ → List ℕ → ℕ → List Piece → List Mark
 noted_marks links ranks numbers rows [] = []
 noted_marks links ranks numbers rows (piece ∷ pieces) =
     map (mark_of ranks (row_before rows pieces)) (numbers_of links numbers piece) ++ noted_marks links ranks numbers rows pieces
 
--- the marks of these numbers of a row, and of the rows after it
+-- the marks of these numbers of the current row, and then the marks of the rows that are left
 abbrev pub marks_left : Bool → List ℕ → List ℕ → ℕ → List Piece → List ℕ → List Mark
 marks_left links ranks numbers rows pieces here = map (mark_of ranks (row_before rows pieces)) here ++ noted_marks links ranks numbers rows pieces

@@ -1,4 +1,4 @@
--- The room for an index.
+-- The memory that an index needs.
 use Rattle.std.specs.Prelude.{◌≡◌, ℕ, ◌<◌, ◌≤◌, ◌^◌, List, [], length, map, Contains}
 use Rattle.std.specs.Vec.{vec_len, vec_capacity}
 use Rattle.docker_model.specs.file.Change as model
@@ -11,7 +11,7 @@ use Rattle.state_index.specs.ByPlace.{AreCounts}
 use Rattle.state_index.specs.Joined.{AreRanks}
 use Rattle.state_index.specs.Spots.{call_places, link_places, spots_of}
 
--- nothing is counted yet, and there is room for this many places and this many marks
+-- there are no counts yet, and there is room for this many places and marks
 pub record HasSlots (places marks : ℕ) (slots : Slots) : Type 0 where
   pub none : AreCounts [] slots.counts.items
   pub len : length slots.counts.items ≡ places
@@ -20,8 +20,8 @@ pub record HasSlots (places marks : ℕ) (slots : Slots) : Type 0 where
   pub room_next : places ≤ vec_capacity slots.next
   pub room : marks ≤ length slots.marks.items
 
--- room for the index of the rows: their places, in order, the index of each place that has a
--- number, and slots for the marks
+-- there is room for these rows' index: all their places in order, the index of each place that has
+-- a number, and slots for the marks
 pub record HasRoomFor (rows : List (model.Key × ops.Entry)) (names : List (List ℕ)) (room : Room) : Type 0 where
   pub named : IsStrictlyAscending bytes_cmp room.places.items
   pub ranks : AreRanks room.places.items names room.ranks.items
@@ -29,11 +29,11 @@ pub record HasRoomFor (rows : List (model.Key × ops.Entry)) (names : List (List
   pub calls : HasSlots (length room.places.items) (length (spots_of call_places rows)) room.calls
   pub links : HasSlots (length room.places.items) (length (spots_of link_places rows)) room.links
 
--- each place of the first list is in the second
+-- all places of the first list are in the second
 abbrev pub Includes : List (List ℕ) → List (List ℕ) → Type 0
 Includes few many = (place : List ℕ) → Contains few place → Contains many place
 
--- the places of names, ascending, and room for this many calls and this many rows
+-- all named places in order, and room for this many calls and the links of this many rows
 pub record IsRoom (names : List (List ℕ)) (most_calls most_rows : ℕ) (room : Room) : Type 0 where
   pub named : IsStrictlyAscending bytes_cmp room.places.items
   pub ranks : AreRanks room.places.items names room.ranks.items
@@ -41,7 +41,7 @@ pub record IsRoom (names : List (List ℕ)) (most_calls most_rows : ℕ) (room :
   pub calls : HasSlots (length room.places.items) most_calls room.calls
   pub links : HasSlots (length room.places.items) most_rows room.links
 
--- each row is one that a change makes
+-- each of these rows is made by one of these changes
 abbrev pub AreMadeBy : List model.Change → List (model.Key × ops.Entry) → Type 0
 AreMadeBy changes rows = (row : model.Key × ops.Entry) → Contains rows row
     → Contains {X = model.Key × ops.Op} (map (λ (change : model.Change). (change.key, op_of change.act)) changes) (row.0, row.1.op)

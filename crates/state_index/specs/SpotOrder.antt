@@ -1,4 +1,4 @@
--- Spots, and their order: by place, then by row.
+-- Spots and their order.
 use Rattle.std.specs.Prelude.{ℕ, List}
 use Rattle.std.specs.declared.cmp.Ordering.{Ordering}
 use Rattle.std.specs.Ordering.{ordering_then, nat_cmp}
@@ -6,15 +6,15 @@ use Rattle.std.specs.Cmp.{IsTotalOrder, then_total, on_total, nat_cmp_total}
 use Rattle.std.specs.Cmp.Lexicographic.{nat_list_cmp_total}
 use Rattle.docker_model.specs.state.Order.{bytes_cmp}
 
--- a TIPLOC, and the index of a row that calls or is linked there
+-- a spot: a TIPLOC, and the index of a row that calls or is linked there
 pub record Spot : Type 0 where
   pub place : List ℕ
   pub at : ℕ
 
--- by place, then by row
+-- the order of spots: by place, then by row
 abbrev pub spot_cmp : Spot → Spot → Ordering
 spot_cmp a b = ordering_then (bytes_cmp a.place b.place) (nat_cmp a.at b.at)
 
--- it is an order of all spots
+-- the order of spots is total
 pub spot_total : IsTotalOrder spot_cmp
 spot_total = then_total (on_total (λ (s : Spot). s.place) nat_list_cmp_total) (on_total (λ (s : Spot). s.at) nat_cmp_total)

@@ -1,4 +1,4 @@
--- The live rows at spots.
+-- The live rows that spots and marks name.
 use Rattle.std.specs.Prelude.{◌≡◌, ℕ, Bool, false, List, ◌++◌, map, Contains, Option, Some, None, slice_get, option_and_then}
 use Rattle.std.specs.List.{filter_map}
 use Rattle.std.specs.Option.{is_some}
@@ -9,7 +9,7 @@ use Rattle.state_index.specs.SpotOrder.{Spot}
 use Rattle.state_index.specs.Turns.{is_put}
 use Rattle.state_index.specs.declared.mark.Mark.{Mark}
 
--- the key of a row with its body, if it is put
+-- a row's key with its body, if the row is put
 abbrev pub live_row : Key × Entry → Option Row
 live_row row = option_and_then (λ body. Some (row.0, body)) (body_of row.1.op)
 
@@ -29,7 +29,8 @@ live_at_mark rows mark = option_and_then live_row (slice_get rows mark.at)
 abbrev pub standing_marks : List (Key × Entry) → List Mark → List Row
 standing_marks rows marks = filter_map (live_at_mark rows) marks
 
--- the marks of the place that has this index; no mark before or after them is of that place
+-- the piece is the marks of one place, by the place's index; no mark before or after it has that
+-- place
 pub record IsPieceOf (rank : ℕ) (marks piece : List Mark) : Type 0 where
   pub before : List Mark
   pub behind : List Mark
@@ -38,7 +39,7 @@ pub record IsPieceOf (rank : ℕ) (marks piece : List Mark) : Type 0 where
   pub here : (mark : Mark) → Contains piece mark → mark.place ≡ rank
   pub none_behind : (mark : Mark) → Contains behind mark → ¬ (mark.place ≡ rank)
 
--- the spots of the place; no spot before or after them is of that place
+-- the piece is the spots of one place; no spot before or after it has that place
 pub record IsPieceAt (place : List ℕ) (spots piece : List Spot) : Type 0 where
   pub before : List Spot
   pub behind : List Spot
@@ -47,23 +48,23 @@ pub record IsPieceAt (place : List ℕ) (spots piece : List Spot) : Type 0 where
   pub here : (spot : Spot) → Contains piece spot → spot.place ≡ place
   pub none_behind : (spot : Spot) → Contains behind spot → ¬ (spot.place ≡ place)
 
--- the row of a spot is put
+-- the row that a spot names is put
 abbrev pub is_put_at : List (Key × Entry) → Spot → Bool
 is_put_at rows spot = is_some (live_at rows spot)
 
--- the row of a mark is put
+-- the row that a mark names is put
 abbrev pub is_put_at_mark : List (Key × Entry) → Mark → Bool
 is_put_at_mark rows mark = is_some (live_at_mark rows mark)
 
--- whether each row is put
+-- for each row, whether it is put
 abbrev pub puts_in : List (Key × Entry) → List Bool
 puts_in rows = map (λ (row : Key × Entry). is_put row.1.op) rows
 
--- what was said of a row, or false if nothing was
+-- a row's flag, or false if it has none
 abbrev pub or_not : Option Bool → Bool
 or_not None = false
 or_not (Some put) = put
 
--- whether the row of a mark is put, by what is said of each row
+-- the row that a mark names is put, according to these flags
 abbrev pub put_among : List Bool → Mark → Bool
 put_among puts mark = or_not (slice_get puts mark.at)

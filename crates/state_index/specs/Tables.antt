@@ -6,20 +6,20 @@ use Rattle.docker_model.specs.state.Op.{Entry}
 use Rattle.state_laws.specs.Index.{CallingRow, LinkedRow}
 use Rattle.state_index.specs.SpotOrder.{Spot}
 
--- a place with the schedule that has the key
+-- the index row of a place and a schedule key
 abbrev pub calling_row : List ℕ → Key → Option CallingRow
 calling_row place (schedule_key key) = Some (place, key)
 calling_row _ _ = None
 
--- a place with the association that has the key
+-- the index row of a place and an association key
 abbrev pub linked_row : List ℕ → Key → Option LinkedRow
 linked_row place (association_key key) = Some (place, key)
 linked_row _ _ = None
 
--- the rows of an index of calls that spots stand for
+-- the index rows of calls that spots stand for
 abbrev pub calling_rows : List (Key × Entry) → List Spot → List CallingRow
 calling_rows rows spots = filter_map (λ (spot : Spot). option_and_then (λ (row : Key × Entry). calling_row spot.place row.0) (slice_get rows spot.at)) spots
 
--- the rows of an index of associations that spots stand for
+-- the index rows of links that spots stand for
 abbrev pub linked_rows : List (Key × Entry) → List Spot → List LinkedRow
 linked_rows rows spots = filter_map (λ (spot : Spot). option_and_then (λ (row : Key × Entry). linked_row spot.place row.0) (slice_get rows spot.at)) spots

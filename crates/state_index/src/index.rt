@@ -1,11 +1,14 @@
-//! The index of some rows: where their live schedules call, and where their live associations are.
+//! The index of rows: where their live schedules call, and where their live associations are.
 ghost use Rattle.std.specs.Prelude.{◌≡◌, ℕ, ◌+◌, List, [], map, IfOk};
 ghost use Rattle.docker_model.specs.file.Change as model;
 ghost use Rattle.docker_model.specs.state.Op as ops;
 ghost use Rattle.docker_model.specs.state.Lapse.{lapse_entries};
+ghost use Rattle.docker_model.specs.state.Order.{bytes_cmp, IsStrictlyAscending};
 ghost use Rattle.docker_model.specs.state.State.{State, AreAscending, live_table};
 ghost use Rattle.state_laws.specs.Index.{AreCalling, AreLinked};
 ghost use Rattle.docker_join.specs.Meaning.{row_meant};
+ghost use Rattle.state_index.specs.Counts.{IsCallingCount};
+ghost use Rattle.state_index.specs.MarkOrder.{mark_cmp};
 ghost use Rattle.state_index.specs.Spots.{IsIndexOf};
 ghost use Rattle.docker_join.specs.Room.{HasRoomOf};
 ghost use Rattle.state_index.specs.Rooms.{HasRoomFor};
@@ -24,20 +27,20 @@ use cif_change::{Key, Memory, Notes, Tiploc};
 use docker_join::Entry;
 use std::alloc::Global;
 
-/// An index of rows, each a key with its entry: which rows call or are linked at a place.
+/// An index of rows by place: which rows call or are linked there.
 #[derive(Debug, Drop)]
 pub struct Index {
-    /// The TIPLOCs that are named, ascending, each once.
+    /// The TIPLOCs that rows name, in ascending order, each once.
     pub places: Vec<[u8; 7]>,
-    /// Each place with each live schedule that calls there (by an LO, an LI or an LT), once,
-    /// ascending.
+    /// For each place the live schedules that call there, by an LO, an LI or an LT. In ascending
+    /// order, each once.
     pub calls: Vec<Mark>,
-    /// Each place with each live association there, once, ascending.
+    /// For each place the live associations there. In ascending order, each once.
     pub links: Vec<Mark>,
 }
 
 impl Index {
-    /// The index of no rows.
+    /// The index without rows.
     pub fn new(alloc: Global) -> Index
         ensures { IsIndexOf [] result }
     {
@@ -48,8 +51,8 @@ impl Index {
         }
     }
 
-    /// The index of these rows, made from what was noted of them, in the room for it. It takes no
-    /// memory.
+    /// The index of these rows, made from their notes in the room that was reserved. It allocates
+    /// nothing.
     pub fn of_rows(room: Room, notes: Notes, rows: &[(Key, Entry)]) -> Index
         requires room { HasRoomFor (map row_meant rows.now) notes.names.list.items room }
         requires noted { AreNoted notes.names.list.items notes.numbers.items
@@ -77,8 +80,9 @@ impl Index {
         }
     }
 
-    /// Makes this the index of these rows, in place: a horizon was set, and some rows lapsed. It
-    /// may take one byte per row for a time. If the allocator refuses them, it takes longer.
+    /// Makes this the index of these rows, in place, after a horizon was set and some rows have
+    /// lapsed. The call may allocate one byte per row for a time; if the allocator refuses, it
+    /// takes longer.
     pub fn lapse(&mut self, rows: &[(Key, Entry)])
         ensures { (before : List (model.Key × ops.Entry)) (horizon : ℕ)
             → map row_meant rows.now ≡ lapse_entries horizon before
@@ -89,8 +93,8 @@ impl Index {
         keep_put(&mut self.links, rows, &puts);
     }
 
-    /// The index of the join of two tables, from the indexes of the two. It takes time linear in
-    /// both. `Memory` if the allocator refuses it.
+    /// The index of two tables' join, from their indexes. The time is linear in both. `Memory` if
+    /// the allocator refuses.
     pub fn of_join(
         alloc: Global,
         first: &Index,
@@ -137,8 +141,8 @@ impl Index {
         })
     }
 
-    /// Walks the live schedules that call at a TIPLOC, among the rows that this is the index of. It
-    /// finds them by a binary search.
+    /// The live schedules that call at a TIPLOC, found by a binary search. `rows` are the rows of
+    /// this index.
     pub fn calling<'a>(&'a self, rows: &'a [(Key, Entry)], tiploc: &Tiploc) -> Standing<'a>
         requires index { IsIndexOf (map row_meant rows.now) self.now }
         requires ascending { AreAscending (map row_meant rows.now) }
@@ -155,8 +159,24 @@ impl Index {
         )
     }
 
-    /// Walks the live associations at a location, among the rows that this is the index of. It
-    /// finds them by a binary search.
+    /// How many live schedules call at a TIPLOC. Binary searches find the first and the last of
+    /// them, and no row is looked at.
+    pub fn count_calling(&self, tiploc: &Tiploc) -> usize
+        requires named { IsStrictlyAscending bytes_cmp self.now.places.items }
+        requires up { IsStrictlyAscending mark_cmp self.now.calls.items }
+        ensures { (state : State) → AreAscending state.entries → IsIndexOf state.entries self.now
+            → IsCallingCount (live_table state) tiploc.now result }
+    {
+        marks_at(
+            self.places.as_slice(),
+            self.calls.as_slice(),
+            tiploc.bytes(),
+        )
+        .len()
+    }
+
+    /// The live associations at a location, found by a binary search. `rows` are the rows of this
+    /// index.
     pub fn linked<'a>(&'a self, rows: &'a [(Key, Entry)], tiploc: &Tiploc) -> Standing<'a>
         requires index { IsIndexOf (map row_meant rows.now) self.now }
         requires ascending { AreAscending (map row_meant rows.now) }
@@ -174,8 +194,7 @@ impl Index {
     }
 }
 
-/// An empty vector with room for this many marks of each of two indexes. `Memory` if the allocator
-/// refuses it.
+/// An empty vector with room for the marks of both indexes. `Memory` if the allocator refuses.
 fn room_for(alloc: Global, first: usize, second: usize) -> Result<Vec<Mark>, Memory>
     ensures { IfOk result (HasRoomOf (first + second)) }
 {

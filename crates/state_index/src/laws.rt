@@ -1,5 +1,5 @@
-//! The spots of an index, as indexes of the live table. Each law is the contract of a function with
-//! no body: it holds of all that it names.
+//! The laws of an index: its spots stand for the indexes of the live table. Each law is the
+//! contract of a function without a body.
 ghost use Rattle.std.specs.Prelude.{◌≡◌, List};
 ghost use Rattle.docker_model.specs.file.Change.{Key};
 ghost use Rattle.docker_model.specs.state.Op.{Entry};
@@ -9,7 +9,7 @@ ghost use Rattle.state_index.specs.declared.index.Index.{Index};
 ghost use Rattle.state_index.specs.Spots.{IsIndexOf, call_spots, link_spots};
 ghost use Rattle.state_index.specs.Tables.{calling_rows, linked_rows};
 
-/// The spots of a state's rows stand for the two indexes of its live table.
+/// The spots of a state's rows stand for the two indexes of the state's live table.
 pub fn indexes_of_rows()
     ensures calls { (state : State) (index : Index)
         → AreAscending state.entries → IsIndexOf state.entries index
@@ -19,7 +19,7 @@ pub fn indexes_of_rows()
         → IsLinkedIndex (live_table state) (linked_rows state.entries (link_spots index)) }
 {}
 
-/// Rows have one index.
+/// Rows have only one index.
 pub fn one_index_of_rows()
     ensures calls { (rows : List (Key × Entry)) (first second : Index)
         → IsIndexOf rows first → IsIndexOf rows second → call_spots first ≡ call_spots second }

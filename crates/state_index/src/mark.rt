@@ -1,4 +1,4 @@
-//! The marks of an index: a place, and a row that has to do with it.
+//! The marks of an index: each is a place, and a row that calls or is linked there.
 ghost use Rattle.std.specs.Ordering.{as_partial_cmp, eq_by_cmp};
 ghost use Rattle.std.specs.Cmp.{partial_equiv_from_equiv, eq_by_cmp_equiv, partial_order_from_total};
 ghost use Rattle.std.proofs.Common.{refl};
@@ -6,13 +6,12 @@ ghost use Rattle.state_index.specs.MarkOrder.{mark_cmp, mark_total};
 
 use std::cmp::Ordering;
 
-/// A place, as an index into the places of an index of rows, and a row that calls or is linked
-/// there. Ordered by place, then by row.
+/// An index entry: a row that calls or is linked at a place. Ordered by place, then by row.
 #[derive(Clone, Copy, Debug)]
 pub struct Mark {
-    /// The index of the place among the places, from 0.
+    /// The place's index among the places, from 0.
     pub place: u32,
-    /// The index of the row among the rows, from 0.
+    /// The row's index among the rows, from 0.
     pub at: u32,
 }
 

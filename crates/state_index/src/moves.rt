@@ -1,4 +1,4 @@
-//! Where the rows of two tables go in their join.
+//! Finds where the rows of two tables go in their join.
 ghost use Rattle.std.specs.Prelude.{◌≡◌, ◌+◌, ◌<◌, ◌≤◌, ◌^◌, List, [], ◌∷◌, ◌++◌, vec_len, vec_capacity, length, map, IfOk};
 ghost use Rattle.docker_model.specs.file.Change as model;
 ghost use Rattle.docker_model.specs.state.Op as ops;
@@ -13,19 +13,19 @@ use cif_change::{Key, Memory};
 use docker_join::{Entry, FileStamp, Op};
 use std::alloc::Global;
 
-/// For each row of two tables, in order, its index among the rows of their join. None if the other
-/// table's entry wins, if the floor doesn't keep the entry, or if the entry isn't live there.
+/// For each row of two tables, its index among the rows of the join. None if the other table's
+/// entry wins, if the floor doesn't keep this one, or if it isn't live after the lapse.
 #[derive(Debug, Drop)]
 pub struct Moves {
-    /// The indexes of the first table's rows.
+    /// The new indexes of the first table's rows.
     pub first: Vec<Option<u32>>,
-    /// The indexes of the second table's rows.
+    /// The new indexes of the second table's rows.
     pub second: Vec<Option<u32>>,
 }
 
 impl Moves {
-    /// No moves yet, with room for the moves of this many rows of each table. `Memory` if the
-    /// allocator refuses it.
+    /// No moves yet, but room for the moves of this many rows of each table. `Memory` if the
+    /// allocator refuses.
     pub fn with_room(alloc: Global, first: usize, second: usize) -> Result<Moves, Memory>
         ensures { IfOk result (HasRows first second) }
     {
@@ -38,9 +38,9 @@ impl Moves {
         Ok(Moves { first, second })
     }
 
-    /// The moves of the rows of two tables into their join, which keeps what the floor keeps, each
-    /// lapsed under a horizon. A horizon is a day number from 0 for 1960-01-01. The moves need room
-    /// for the rows of both tables. It takes no memory.
+    /// The moves of two tables' rows into their join, as far as the floor keeps them, lapsed under
+    /// a horizon. The horizon is a day number, counted from 0 for 1960-01-01. There has to be room
+    /// for the moves of all rows. It allocates nothing.
     pub fn of_tables(
         self,
         first: &[(Key, Entry)],
@@ -58,7 +58,7 @@ impl Moves {
         self.walk(first, second, floor, horizon)
     }
 
-    /// The moves of each row, turn by turn of the walk over both tables.
+    /// The moves of all rows, by a walk over both tables.
     fn walk(
         self,
         first: &[(Key, Entry)],
@@ -80,8 +80,8 @@ impl Moves {
         moves
     }
 
-    /// Takes a turn of the walk over both tables, after this many rows. Returns how many rows there
-    /// are with it.
+    /// Takes one turn of the walk, if the join has `at` rows so far. Returns how many it has with
+    /// this turn.
     fn take(&mut self, turn: Turn<'_>, floor: &Option<FileStamp>, horizon: u16, at: u32) -> u32
         requires few { at + 1 < 2 ^ 32 }
         requires first_room { vec_len self.old.first + length (firsts (turn_meant turn ∷ []))
@@ -132,14 +132,15 @@ impl Moves {
     }
 }
 
-/// Whether the first of two entries of a key wins. If they are equal, the second wins.
+/// Whether the first of two entries with one key wins. If they are equal, the second does.
 fn wins(one: &Entry, other: &Entry) -> bool
     ensures { result ≡ wins one.now other.now }
 {
     other < one
 }
 
-/// The index that a winning entry gets, after this many rows. None if it isn't kept, or isn't live.
+/// The index of a winning entry in the join, if there are `at` rows so far. None if it isn't kept,
+/// or isn't live after the lapse.
 fn index_of(entry: &Entry, floor: &Option<FileStamp>, horizon: u16, at: u32) -> Option<u32>
     ensures { result ≡ goes (floor_meant floor.now) horizon at entry.now }
 {
@@ -150,7 +151,7 @@ fn index_of(entry: &Entry, floor: &Option<FileStamp>, horizon: u16, at: u32) -> 
     }
 }
 
-/// How many rows there are with a winning entry, after this many rows.
+/// How many rows the join has with a winning entry, if there are `at` rows so far.
 fn index_after(entry: &Entry, floor: &Option<FileStamp>, at: u32) -> u32
     requires { at + 1 < 2 ^ 32 }
     ensures { result ≡ after (floor_meant floor.now) at entry.now }
@@ -162,7 +163,7 @@ fn index_after(entry: &Entry, floor: &Option<FileStamp>, at: u32) -> u32
     }
 }
 
-/// Whether a floor keeps what has this file stamp.
+/// Whether a floor keeps this file stamp.
 fn is_kept(floor: &Option<FileStamp>, stamp: &FileStamp) -> bool
     ensures { result ≡ is_kept (floor_meant floor.now) (file_stamp_meant stamp.now) }
 {

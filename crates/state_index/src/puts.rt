@@ -1,4 +1,4 @@
-//! Which rows are put, and the marks of those rows.
+//! Which rows are put, and the marks that name them.
 ghost use Rattle.std.specs.Prelude.{◌≡◌, filter, map, IfSome};
 ghost use Rattle.docker_join.specs.Meaning.{op_meant, row_meant};
 ghost use Rattle.state_index.specs.Turns.{is_put};
@@ -10,7 +10,7 @@ use cif_change::Key;
 use docker_join::{Entry, Op};
 use std::alloc::Global;
 
-/// Whether each of these rows is put, in one byte per row. None if the allocator refuses them.
+/// Whether each of these rows is put, in one byte per row. None if the allocator refuses.
 pub(crate) fn puts_of(alloc: Global, rows: &[(Key, Entry)]) -> Option<Vec<bool>>
     ensures { IfSome result (λ puts. puts.items ≡ puts_in (map row_meant rows.now)) }
 {
@@ -25,8 +25,8 @@ pub(crate) fn puts_of(alloc: Global, rows: &[(Key, Entry)]) -> Option<Vec<bool>>
     Some(puts)
 }
 
-/// Keeps the marks whose rows are put. It looks into the table of the rows that are put, which is
-/// small, or into the rows if there is no table.
+/// Keeps only the marks whose rows are put. It looks that up in the table `puts`, which is small.
+/// Without the table it looks into the rows.
 pub(crate) fn keep_put(marks: &mut Vec<Mark>, rows: &[(Key, Entry)], puts: &Option<Vec<bool>>)
     requires { IfSome puts.now (λ puts. puts.items ≡ puts_in (map row_meant rows.now)) }
     ensures { marks.new.items
@@ -41,7 +41,7 @@ pub(crate) fn keep_put(marks: &mut Vec<Mark>, rows: &[(Key, Entry)], puts: &Opti
     }
 }
 
-/// Whether the row of a mark is put, by the table of the rows that are put.
+/// Whether the row that a mark names is put, by the table.
 fn is_put_in(puts: &[bool], mark: &Mark) -> bool
     ensures { result ≡ put_among puts.now mark.now }
 {

@@ -1,4 +1,4 @@
-//! The room for an index.
+//! The memory that an index needs.
 ghost use Rattle.std.specs.Prelude.{◌<◌, List, IfOk};
 ghost use Rattle.docker_model.specs.file.Change as model;
 ghost use Rattle.docker_model.specs.state.Op as ops;
@@ -12,22 +12,22 @@ use crate::slots::Slots;
 use cif_change::{Memory, Notes};
 use std::alloc::Global;
 
-/// The places of an index that will be made, and room for the rest of it.
+/// The places of an index that is to be made, and room for its marks.
 #[derive(Debug, Drop)]
 pub struct Room {
-    /// The TIPLOCs that the rows name, ascending.
+    /// The TIPLOCs that the rows name, in ascending order.
     pub places: Vec<[u8; 7]>,
-    /// For each place that has a provisional number, its index among the places.
+    /// For each provisional number, its place's index in `places`.
     pub ranks: Vec<u32>,
-    /// Where the calls are sorted.
+    /// Room to sort the calls.
     pub calls: Slots,
-    /// Where the links are sorted.
+    /// Room to sort the links.
     pub links: Slots,
 }
 
 impl Room {
-    /// Room for the index of the rows that were noted. If changes were noted, room for the index of
-    /// the rows that they make, one for each key. `Memory` if the allocator refuses it.
+    /// Room for the index of the noted rows. If changes were noted, it is for the rows that they
+    /// make, one for each key. `Memory` if the allocator refuses.
     pub fn for_notes(alloc: Global, notes: &Notes) -> Result<Room, Memory>
         ensures rows { (rows : List (model.Key × ops.Entry)) → HasNoted (items_of rows) notes.now
             → IfOk result (HasRoomFor rows notes.now.names.list.items) }
@@ -43,7 +43,7 @@ impl Room {
         )
     }
 
-    /// The places of names, with room for this many calls and for the links of this many rows.
+    /// These places in order, and room for this many calls and for the links of this many rows.
     fn for_names(
         alloc: Global,
         names: &[[u8; 7]],

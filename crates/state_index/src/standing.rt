@@ -1,5 +1,5 @@
-//! The rows that stand at a place.
-ghost use Rattle.std.specs.Prelude.{◌≡◌, List, map};
+//! The rows that call or are linked at a place.
+ghost use Rattle.std.specs.Prelude.{◌≡◌, List, length, map};
 ghost use Rattle.std.specs.Iterator.{YieldsFirstBy, item_count};
 ghost use Rattle.cif_change.specs.Meaning.{key_meant, body_meant};
 ghost use Rattle.docker_join.specs.Meaning.{row_meant};
@@ -18,9 +18,9 @@ use cif_change::{Body, Key};
 use docker_join::{Entry, Op};
 use std::marker::Model;
 
-/// Walks the live rows at a place, in the order of the keys: each an index and a key with its body.
-/// The index is the row's index among the rows, but no clause says so: it is where to look first,
-/// and no answer rests on it.
+/// Walks over the live rows at a place, in key order. It gives each row's index, key and body. No
+/// clause says that the index is right: it only says where to look first, and no result depends on
+/// it.
 #[derive(Clone, Debug, Drop)]
 pub struct Numbered<'a> {
     rows: &'a [(Key, Entry)],
@@ -58,7 +58,7 @@ impl<'a> Iterator for Numbered<'a> {
     }
 }
 
-/// Walks the live rows at a place, in the order of the keys: each a key with its body.
+/// Walks over the live rows at a place, in key order. It gives each row's key and body.
 #[derive(Clone, Debug, Drop)]
 pub struct Standing<'a> {
     numbered: Numbered<'a>,
@@ -74,7 +74,7 @@ impl<'a> Model for Standing<'a> {
 }
 
 impl<'a> Standing<'a> {
-    /// The walk over the rows that some marks name.
+    /// The walk over the rows that these marks name.
     pub(crate) fn of(rows: &'a [(Key, Entry)], marks: &'a [Mark]) -> Standing<'a>
         ensures { result ≡ standing_marks (map row_meant rows.entry.now) marks.entry.now }
     {
@@ -83,7 +83,7 @@ impl<'a> Standing<'a> {
         }
     }
 
-    /// The same walk, with the index of each row, from 0.
+    /// The same walk, with each row's index, counted from 0.
     pub fn numbered(self) -> Numbered<'a>
         ensures { result ≡ self.entry }
     {
@@ -107,7 +107,7 @@ impl<'a> Iterator for Standing<'a> {
     }
 }
 
-/// The live row that a mark names.
+/// The live row that a mark names. None if it isn't put.
 fn live_at<'a>(rows: &'a [(Key, Entry)], mark: &Mark) -> Option<(&'a Key, &'a Body)>
     ensures { option_map (λ row. (key_meant row.0.now, body_meant row.1.now)) result
         ≡ live_at_mark (map row_meant rows.entry.now) mark.now }
@@ -121,7 +121,7 @@ fn live_at<'a>(rows: &'a [(Key, Entry)], mark: &Mark) -> Option<(&'a Key, &'a Bo
     }
 }
 
-/// Whether the row of a mark is put.
+/// Whether the row that a mark names is put.
 pub(crate) fn is_put_at(rows: &[(Key, Entry)], mark: &Mark) -> bool
     ensures { result ≡ is_put_at_mark (map row_meant rows.now) mark.now }
 {
@@ -131,8 +131,8 @@ pub(crate) fn is_put_at(rows: &[(Key, Entry)], mark: &Mark) -> bool
     }
 }
 
-/// The marks of the place that has an index, among marks that ascend. It finds them by a binary
-/// search.
+/// The marks of one place among ascending marks, found by a binary search. `rank` is the place's
+/// index.
 pub(crate) fn marks_of<'a>(marks: &'a [Mark], rank: usize) -> &'a [Mark]
     requires { IsStrictlyAscending mark_cmp marks.now }
     ensures { IsPieceOf rank marks.entry.now result.now }
@@ -142,27 +142,28 @@ pub(crate) fn marks_of<'a>(marks: &'a [Mark], rank: usize) -> &'a [Mark]
     here
 }
 
-/// Whether the place of a mark has an index below this one.
+/// Whether a mark's place has an index below this one.
 fn is_before(mark: &Mark, rank: usize) -> bool
     ensures { result ≡ is_lt (nat_cmp mark.now.place rank) }
 {
     (mark.place as usize).cmp(&rank).is_lt()
 }
 
-/// Whether the place of a mark has this index, or one below it.
+/// Whether a mark's place has this index, or one below it.
 fn is_up_to(mark: &Mark, rank: usize) -> bool
     ensures { result ≡ is_le (nat_cmp mark.now.place rank) }
 {
     (mark.place as usize).cmp(&rank).is_le()
 }
 
-/// The marks at a place, among marks that ascend. It finds them by a binary search; none if the
+/// The marks at a place, among ascending marks, found by a binary search. There are none if the
 /// place isn't named.
 pub(crate) fn marks_at<'a>(places: &[[u8; 7]], marks: &'a [Mark], place: &[u8; 7]) -> &'a [Mark]
     requires named { IsStrictlyAscending bytes_cmp places.now }
     requires up { IsStrictlyAscending mark_cmp marks.now }
     ensures piece { IsPieceAt place.now (spots_in places.now marks.entry.now)
         (spots_in places.now result.now) }
+    ensures each { length (spots_in places.now result.now) ≡ length result.now }
     ensures rows { (rows : List (model.Key × ops.Entry)) → standing_marks rows result.now
         ≡ standing_rows rows (spots_in places.now result.now) }
 {

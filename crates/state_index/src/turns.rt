@@ -1,4 +1,4 @@
-//! The walk over the rows of two tables, key by key.
+//! A walk over the rows of two tables, key by key.
 ghost use Rattle.std.specs.Iterator.{YieldsFirstBy, item_count};
 ghost use Rattle.state_index.specs.Turns.{turn_meant};
 
@@ -7,18 +7,18 @@ use docker_join::Entry;
 use std::cmp::Ordering;
 use std::marker::Model;
 
-/// What two tables have at one key.
+/// One turn of the walk: what two tables have at one key.
 #[derive(Clone, Copy, Debug)]
 pub(crate) enum Turn<'a> {
     /// Only the first table has the key.
     First(&'a (Key, Entry)),
-    /// Only the second table has it.
+    /// Only the second table has the key.
     Second(&'a (Key, Entry)),
-    /// Both have it.
+    /// Both tables have the key.
     Both(&'a (Key, Entry), &'a (Key, Entry)),
 }
 
-/// Walks the keys of two tables in order, with what the tables have at each key.
+/// Walks over the keys of two tables in order, and gives what the tables have at each key.
 #[derive(Clone, Debug, Drop)]
 pub(crate) struct Turns<'a> {
     first: &'a [(Key, Entry)],

@@ -6,11 +6,11 @@ use Rattle.docker_model.specs.state.Op.{Entry}
 use Rattle.docker_model.specs.state.State.{State, IsValid}
 use Rattle.state_laws.specs.Staging.{IsStaged, IsCommit}
 
--- the file stamp of the first full item of a ledger, if there is one
+-- the file stamp of a ledger's first full extract, if it has one
 abbrev pub first_full_stamp : List LedgerItem → Option FileStamp
 first_full_stamp ledger = option_map (λ (item : LedgerItem). item.stamp) (find (λ (item : LedgerItem). item.indicator == 70) ledger)
 
--- a fact that holds for valid states once each entry of the received one was staged under the floor
+-- the fact holds for valid states if all entries of the received one were staged, under the floor
 -- of the union, and then committed
 abbrev pub HoldsOnceCommitted : State → State → Option FileStamp → List (Key × Entry) → State → Type 0 → Type 0
 HoldsOnceCommitted own received floor staged after Fact =

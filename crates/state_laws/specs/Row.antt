@@ -1,4 +1,4 @@
--- A live table as rows: each key that is put with its body, in key order.
+-- A live table as rows: each live key with its body, in key order.
 use Rattle.std.specs.Ordering.{on}
 use Rattle.std.specs.Prelude.{List, ◌≡◌, ◌↔◌, Some, Contains}
 use Rattle.docker_model.specs.file.Change.{Key, Body}
@@ -6,11 +6,11 @@ use Rattle.docker_model.specs.state.Order.{IsStrictlyAscending}
 use Rattle.docker_model.specs.state.Op.{key_cmp}
 use Rattle.docker_model.specs.state.Table.{Table}
 
--- a key with the body that it is put with
+-- a row: a key, with the body that it is put with
 abbrev pub Row : Type 0
 Row = Key × Body
 
--- each key is below every later one
+-- the rows are in key order, no key twice
 abbrev pub AreInKeyOrder : List Row → Type 0
 AreInKeyOrder rows = IsStrictlyAscending (on (λ (row : Row). row.0) key_cmp) rows
 

@@ -9,8 +9,8 @@ ghost use Rattle.docker_model.specs.state.Lapse.{lapse_table};
 ghost use Rattle.state_laws.specs.Row.{Row, AreRowsOf};
 ghost use Rattle.state_laws.specs.Index.{CallingRow, LinkedRow, calling_cmp, linked_cmp, calls_of, links_of, IsCallingIndex, IsLinkedIndex, IsFromEither, IsCallingFromEither, IsLinkedFromEither, AreCalling, AreLinked, AreOfUid};
 
-/// A live table has one index of each kind, and one list of rows for each walk. What its rows give,
-/// sorted and without duplicates, makes the indexes.
+/// A live table has one index of each kind, and one list of rows for each walk. An index is what
+/// all rows give, sorted and without duplicates.
 pub fn one_index()
     ensures calling { (live : Table) (first second : List CallingRow)
         → IsCallingIndex live first → IsCallingIndex live second → first ≡ second }
@@ -33,9 +33,8 @@ pub fn one_index()
         ↔ Contains (flat_map (λ (r : Row). links_of r.0 r.1) rows) row) → IsLinkedIndex live index }
 {}
 
-/// The indexes of a join, made from the indexes of the two states. They have the index rows of
-/// either state whose keys have the same body in the join as in that state. After a horizon is set,
-/// the indexes have the rows whose keys keep their bodies.
+/// The indexes of a join, made from the indexes of the two states: an index row stays if the join
+/// has the same body at its key. If a horizon is set, an index row stays if its key keeps its body.
 pub fn index_of_join()
     ensures either { (own other joined : State) → AreAscending own.entries
         → AreAscending other.entries → IsJoin own other joined → IsFromEither (live_table own)

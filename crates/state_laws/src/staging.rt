@@ -1,5 +1,5 @@
-//! Laws of receiving from the stream: what is staged, and what a commit leaves. Each is the
-//! contract of a function with an empty body, so it holds for all values of its variables.
+//! Laws of receiving from a stream: what is staged, and what a commit leaves. Each is the contract
+//! of a function with an empty body, so it holds for all values of its variables.
 ghost use Rattle.std.specs.Prelude.{◌≡◌, ◌+◌, List, [], ◌∷◌, ◌++◌, ◌↔◌, Contains, Option, Some};
 ghost use Rattle.docker_model.specs.file.Change.{Key};
 ghost use Rattle.docker_model.specs.state.Stamp.{LedgerItem, FileStamp, IsFloor, IsKept};
@@ -9,9 +9,9 @@ ghost use Rattle.std.specs.declared.cmp.Ordering.TheVariants.{Less};
 ghost use Rattle.state_laws.specs.Staging.{IsGreaterThan, IsToStage, IsStaged, IsCommit, staged_state};
 ghost use Rattle.state_laws.specs.LawTerms.{HoldsOnceCommitted};
 
-/// Stage all entries of a received state under the floor of the union, commit, and then set the
-/// received horizon: this leaves the join. The commit itself leaves the join with the state that
-/// has the received items, the staged entries and no horizon.
+/// Stage all entries of a received state, commit, and then set the received horizon: this leaves
+/// the join. The commit by itself leaves the join with the received items and the staged entries,
+/// as a state without a horizon.
 pub fn staging_and_commit_is_join()
     ensures join { (own received : State) (floor : Option FileStamp) (staged : List (Key × Entry))
         (after : State)
@@ -40,7 +40,7 @@ pub fn staging_and_commit_is_join()
         → first ≡ second }
 {}
 
-/// The horizon of a state that is read may be set last: on the state read without it, or on the
+/// The horizon of a state that is read may be set last: on that state read without it, or on the
 /// join with that state.
 pub fn horizon_is_set_last()
     ensures state { (state : State) → IsValid state
@@ -49,8 +49,8 @@ pub fn horizon_is_set_last()
         → IsJoin own received (raise_horizon received.horizon joined) }
 {}
 
-/// What is staged, offer by offer. At first nothing is. An offered entry is staged if it is kept
-/// and is greater than what the state has at its key.
+/// Entries are staged as they are offered. At first nothing is staged. An entry is staged if it is
+/// kept and is greater than the state's entry at its key.
 pub fn offers_are_staged()
     ensures none { (own : State) (floor : Option FileStamp) → IsStaged own floor [] [] }
     ensures test { (own : State) → AreAscending own.entries → (floor : Option FileStamp) (key : Key)

@@ -13,15 +13,15 @@ ghost use Rattle.docker_model.specs.state.Table.{Table, IsPlainTable};
 ghost use Rattle.docker_model.specs.file.File.{IsFile, most_records};
 ghost use Rattle.state_laws.specs.LawTerms.{first_full_stamp};
 
-/// A set of files has at most one summary under each horizon, whichever list gives the set.
+/// A set of files has at most one summary under each horizon, in whatever order a list has them.
 pub fn one_summary()
     ensures { (files others : List (List (List ℕ)))
         → ((file : List (List ℕ)) → Contains files file ↔ Contains others file) → (horizon : ℕ)
         (one two : State) → IsSummary files horizon one → IsSummary others horizon two → one ≡ two }
 {}
 
-/// Take the summaries of two sets of files, each under a horizon of its own. Their join is the
-/// summary of the union under the greater horizon.
+/// Two sets of files have summaries, each under its own horizon. Their join is the summary of the
+/// union under the greater horizon.
 pub fn join_of_summaries()
     ensures { (files others : List (List (List ℕ))) (g h : ℕ) (one two joined : State)
         → IsSummary files g one → IsSummary others h two → IsJoin one two joined
@@ -63,8 +63,8 @@ pub fn join_is_valid()
         → IsJoin first second joined → IsValid joined }
 {}
 
-/// The ledger of a valid state has one floor: the file stamp of its first full item, or none if no
-/// item is full.
+/// The ledger of a valid state has one floor: the file stamp of its first full extract, or none if
+/// it has no full extract.
 pub fn floor_of_ledger()
     ensures one { (state : State) (first second : Option FileStamp)
         → IsValid state → IsFloor state.ledger first → IsFloor state.ledger second
@@ -73,7 +73,7 @@ pub fn floor_of_ledger()
         → IsFloor state.ledger (first_full_stamp state.ledger) }
 {}
 
-/// The summary of files under a horizon is a valid state if each file has at most 4,294,967,294
+/// The summary of files under a horizon is a valid state, if each file has at most 4,294,967,294
 /// records.
 pub fn summary_is_valid()
     ensures { (files : List (List (List ℕ))) (horizon : ℕ) (state : State)
@@ -81,9 +81,9 @@ pub fn summary_is_valid()
         → IsSummary files horizon state → IsValid state }
 {}
 
-/// The lapse keeps the order of ops, so the lapse of the greatest op is the greatest of the lapses.
-/// Lapsing again under the same horizon changes nothing. Lapsing under two horizons is lapsing
-/// under the greater. Without a horizon nothing lapses.
+/// The lapse keeps the order of ops, so the greatest op lapses to the greatest of the lapsed ops. A
+/// second lapse under the same horizon changes nothing. A lapse under two horizons is one under the
+/// greater. Without a horizon nothing lapses.
 pub fn laws_of_lapse()
     ensures order { (horizon : ℕ) (first second : Op) → IsAtMost op_cmp first second
         → IsAtMost op_cmp (lapse horizon first) (lapse horizon second) }
@@ -101,8 +101,8 @@ pub fn laws_of_lapse()
         → IsGreatestAmong (lapse_entries horizon entries) key (lapse_entry horizon entry) }
 {}
 
-/// A valid state stays valid when a greater horizon is set. Setting one that is not greater changes
-/// nothing: no entry of a valid state lapses under the state's own horizon.
+/// A valid state stays valid if a greater horizon is set. One that isn't greater changes nothing:
+/// no entry of a valid state lapses under the state's own horizon.
 pub fn laws_of_setting()
     ensures valid { (horizon : ℕ) (state : State) → IsDay horizon → IsValid state
         → IsValid (raise_horizon horizon state) }
@@ -113,7 +113,7 @@ pub fn laws_of_setting()
         → lapse_entry state.horizon entry ≡ entry }
 {}
 
-/// Setting a horizon on a summary gives the summary under the greater of the two horizons.
+/// If a horizon is set on a summary, it becomes the summary under the greater of the two horizons.
 pub fn setting_on_summary()
     ensures { (files : List (List (List ℕ))) (g h : ℕ) (state : State)
         → IsSummary files g state → IsSummary files (max g h) (raise_horizon h state) }

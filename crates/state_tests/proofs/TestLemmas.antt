@@ -1,4 +1,4 @@
--- A valid state of one ledger item and one entry, given part by part.
+-- A valid state with one ledger item and one entry, given item by item and entry by entry.
 use Rattle.std.proofs.Common.{◌≡◌, List, [], ◌∷◌, ◌++◌, map, length, get_or, ap, sym, ◌∙◌, subst, arith}
 use Rattle.docker_model.specs.state.Stamp as stamps
 use Rattle.docker_model.specs.state.State.{State, IsLedger, IsValid, IsGoodEntry}
@@ -10,7 +10,7 @@ use Rattle.docker_join.specs.Meaning.{entry_meant}
 use Rattle.docker_state.specs.declared.item.LedgerItem.{LedgerItem}
 use Rattle.docker_state.specs.Meaning.{item_meant, row_meant}
 
--- the one element of a list
+-- a list of one element, written out
 only_element : {A : Type 0} (xs : List A) (x d : A) → length xs ≡ 1 → x ≡ get_or xs 0 d → xs ≡ x ∷ []
 only_element [] x d one is = absurd (let bad : 0 ≡ 1 = one in omega arith)
 only_element (y ∷ []) x d one is = ap (λ v. v ∷ []) (sym is)

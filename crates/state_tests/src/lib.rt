@@ -1,5 +1,5 @@
-//! Worked rows for entries, tables and states: made of files, merged, joined, with horizons, and
-//! staged; the calls at a place; and indexes of rows. This crate holds only tests.
+//! Worked examples of entries, tables and states: made from files, joined, under horizons, and
+//! staged. Also the calls at a place, and indexes of rows. This crate holds only tests.
 #![tactic(auto)]
 
 #[cfg(test)]

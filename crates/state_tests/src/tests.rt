@@ -1,47 +1,32 @@
+use self::compare::same;
 use cif_file::{CifFile, read_pieces};
 use cif_line::Day;
 use docker_join::Merge;
 use docker_state::State;
 use std::alloc::Global;
-use std::fmt::Debug;
 use std::process::Abort;
+use test_records::text;
 
+mod compare;
 mod entries;
 mod files;
 mod horizons;
 mod indexes;
 mod parts;
 mod places;
-mod records;
 mod shown;
 mod staging;
 mod tables;
 
-use shown::{add_line, shown};
-
-// Tests compare values with this function, which ends the test if they differ. An assertion in its
-// own function is proved once for all rows.
-
-fn same<T: PartialEq + Debug + Drop>(rt: &impl Abort, got: T, wanted: T) {
-    assert_eq!(rt; got, wanted);
-}
-
-/// The text of these records.
-fn text(rt: &impl Abort, alloc: Global, records: &[&[u8]]) -> Vec<u8> {
-    let mut text = Vec::new(alloc);
-    for record in records {
-        add_line(rt, &mut text, record);
-    }
-    text
-}
+use shown::shown;
 
 /// The file of these records.
 fn file(rt: &impl Abort, alloc: Global, records: &[&[u8]]) -> CifFile {
-    let text = text(rt, alloc, records);
+    let text = text(alloc, records, b"\n").expect(rt, "memory");
     read_pieces(alloc, &[text.as_slice()], 1000).expect(rt, "a file")
 }
 
-/// The state of the file of these records.
+/// The state of a file of these records.
 fn state(rt: &impl Abort, alloc: Global, records: &[&[u8]]) -> State {
     State::of_file(alloc, file(rt, alloc, records)).expect(rt, "memory")
 }
@@ -57,7 +42,7 @@ fn pair(rt: &impl Abort, alloc: Global, one: &[&[u8]], other: &[&[u8]]) -> State
     joined(rt, alloc, first, state(rt, alloc, other))
 }
 
-/// A state after these days are set as its horizon, one by one.
+/// A state on which these days have been set as horizons, one by one.
 fn set(rt: &impl Abort, mut state: State, days: &[&str]) -> State {
     for day in days {
         state.set_horizon(Day::from_iso(day).expect(rt, "a day"));
@@ -65,7 +50,7 @@ fn set(rt: &impl Abort, mut state: State, days: &[&str]) -> State {
     state
 }
 
-/// The state of a file after these days are set.
+/// The state of a file on which these days have been set as horizons.
 fn set_on(rt: &impl Abort, alloc: Global, file: &[&[u8]], days: &[&str]) -> State {
     set(rt, state(rt, alloc, file), days)
 }
@@ -73,11 +58,11 @@ fn set_on(rt: &impl Abort, alloc: Global, file: &[&[u8]], days: &[&str]) -> Stat
 /// Asserts that a state is shown as these lines.
 fn shown_is(rt: &impl Abort, alloc: Global, state: &State, lines: &[&[u8]]) {
     let shown = shown(rt, alloc, state);
-    let wanted = text(rt, alloc, lines);
+    let wanted = text(alloc, lines, b"\n").expect(rt, "memory");
     same(rt, shown.as_slice(), wanted.as_slice());
 }
 
-/// Asserts that a state is shown as these lines, and returns the entry of each of its keys.
+/// Asserts that a state is shown as these lines, and that each of its keys gives its entry.
 fn state_is(rt: &impl Abort, alloc: Global, state: &State, lines: &[&[u8]]) {
     shown_is(rt, alloc, state, lines);
     for row in state.entries() {
@@ -85,7 +70,7 @@ fn state_is(rt: &impl Abort, alloc: Global, state: &State, lines: &[&[u8]]) {
     }
 }
 
-/// Asserts that a state was made, and is shown as these lines.
+/// Asserts that a state is shown as these lines, and that each of its keys gives its entry.
 fn made_is(rt: &impl Abort, alloc: Global, made: State, lines: &[&[u8]]) {
     state_is(rt, alloc, &made, lines);
 }

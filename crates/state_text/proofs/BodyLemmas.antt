@@ -1,4 +1,4 @@
--- How associations and the first lines of schedules are judged.
+-- How the bodies of associations and the first lines of schedules are judged.
 use Rattle.std.proofs.Common.{◌≡◌, ℕ, List, sym, subst, Bool, true, false, ◌∙◌}
 use Rattle.std.specs.Prelude.{IsTrue, ◌↔◌}
 use Rattle.docker_model.specs.records.Record.{IsRecord, HasKind, association, basic_schedule, columns}
@@ -9,7 +9,8 @@ use Rattle.docker_model.specs.state.State.{IsAssociationOf}
 use Rattle.cif_laws.proofs.records.Columns.{good_fields}
 use Rattle.state_text.specs.Judged.{IsFirstOf}
 
--- a good association record that is new and has a key is that key's line
+-- an association record with good fields is this key's body if and only if it is new and names the
+-- key
 pub association_test : (key : AssociationKey) (line view : List ℕ) (test : Bool) → IsRecord line → HasKind association line → HasGoodFields line → view ≡ line
     → IsTrue test ↔ (HasNewTransaction view × (association_named view ≡ association_key key)) → IsTrue test ↔ IsAssociationOf key line
 association_test key line view test is kind fields same tested = (
@@ -19,7 +20,7 @@ association_test key line view test is kind fields same tested = (
   (λ of. tested.1 (subst (λ l. HasNewTransaction l × (association_named l ≡ association_key key)) (sym same) (of.new, of.key_is))),
 )
 
--- a line that isn't new, or doesn't name the key, is no first line
+-- a line that isn't new, or names another key, isn't a first line
 pub not_named : (horizon : ℕ) (key : ScheduleKey) (line : List ℕ) (test : Bool)
     → IsTrue test ↔ (HasNewTransaction line × IsTrue (is_date (columns 10 15 line)) × (schedule_named line ≡ schedule_key key)) → test ≡ false
     → ¬ IsFirstOf horizon key line

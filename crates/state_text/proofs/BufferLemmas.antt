@@ -1,4 +1,4 @@
--- Pieces that are given to a sink through a buffer, one after another.
+-- Pieces that are given to a sink through a buffer, one after the other.
 use Rattle.std.proofs.Common.{◌≡◌, ℕ, suc, ◌+◌, ◌<◌, ◌≤◌, List, [], ◌∷◌, ◌++◌, length, take, drop, get_or, map, refl, ap, sym, ◌∙◌, subst, arith, append_assoc, append-nil, length-append, Some, None, Ok, Err, Result}
 use Rattle.std.specs.Prelude.{Option, IsErr, IsErrAnd, OnOk, OnErr}
 use Rattle.std.specs.List.{concat, flat_map}
@@ -8,7 +8,7 @@ use Rattle.cif_device.proofs.DeviceLemmas.{counts_error}
 use Rattle.cif_line.specs.Device.{CountsFailure, Takes, TakesPart}
 use Rattle.state_text.specs.Written.{Gathers, Gives, Flushes}
 
--- the bytes that a sink took, or nothing if it doesn't name them
+-- the bytes that a sink has taken, or None if it can't name them
 abbrev Told : Type 0
 Told = Option (List ℕ)
 
@@ -31,11 +31,11 @@ takes_then (Some taken) x y c e first second =
     longer None = None
     longer (Some t) = Some (t ++ y)
 
--- a piece was added to the buffer
+-- a piece goes into the buffer
 pub gathers_add : (start : Told) (held piece more : List ℕ) → more ≡ held ++ piece → Gathers start held piece start more
 gathers_add start held piece more is = ([], is, takes_none start)
 
--- two pieces, one after the other
+-- two pieces are gathered one after the other
 pub gathers_then : (a : Told) (b p : List ℕ) (c : Told) (d q : List ℕ) (e : Told) (f : List ℕ)
     → Gathers a b p c d → Gathers c d q e f → Gathers a b (p ++ q) e f
 gathers_then a b p c d q e f first second = (
@@ -51,7 +51,7 @@ take_past (x ∷ xs) ys n =
     let same : length (x ∷ xs) + n ≡ suc (length xs + n) = omega arith in
     ap (λ k. take k (x ∷ xs ++ ys)) same ∙ ap (λ zs. x ∷ zs) (take_past xs ys n)
 
--- a part of some bytes is a part of these bytes and more
+-- a part of some bytes is also a part of longer ones
 part_longer : (a : Told) (x y : List ℕ) (e : Told) → TakesPart a x e → TakesPart a (x ++ y) e
 part_longer a x y e part =
     let size = length-append x y in
@@ -59,7 +59,7 @@ part_longer a x y e part =
     let within : part.0 ≤ length x = omega arith in
     (part.0, omega arith, subst (λ xs. Takes a xs e) (sym (take-append-le part.0 x y within)) part.2)
 
--- a part after a piece that was gathered
+-- a part is taken after a piece was gathered
 gathers_part : (a : Told) (b p : List ℕ) (c : Told) (d q : List ℕ) (e : Told)
     → Gathers a b p c d → TakesPart c (d ++ q) e → TakesPart a (b ++ (p ++ q)) e
 gathers_part a b p c d q e first part =
@@ -76,14 +76,14 @@ gathers_part a b p c d q e first part =
 -- ---- what is given, by the result
 
 module _ {S A E : Type 0} (taken : S → Told) (failures : S → ℕ) where
-  -- a buffer that is written is given to the sink
+  -- when a buffer is written, its bytes are given to the sink
   pub flush_gives : (old new : S) (held holds : List ℕ) (result : Result A E) → Flushes taken failures old held result new
       → OnOk result (holds ≡ []) → Gives taken failures old held [] result new holds
   flush_gives old new held holds (Ok done) whole empty = ((held, ap (λ xs. held ++ xs) empty, whole.0), whole.1)
   flush_gives old new held holds (Err failed) part empty =
       (subst (λ xs. TakesPart (taken old) xs (taken new)) (sym (append-nil held)) part.0, part.1)
 
-  -- one more piece after a piece that was gathered
+  -- one more piece is given after a piece that was gathered
   pub then_gives : (old mid new : S) (b p d q h : List ℕ) (result : Result A E) → Gathers (taken old) b p (taken mid) d
       → failures mid ≡ failures old → Gives taken failures mid d q result new h → Gives taken failures old b (p ++ q) result new h
   then_gives old mid new b p d q h (Ok done) first same second =
@@ -91,7 +91,7 @@ module _ {S A E : Type 0} (taken : S → Told) (failures : S → ℕ) where
   then_gives old mid new b p d q h (Err failed) first same second =
       (gathers_part (taken old) b p (taken mid) d q (taken new) first second.0, second.1 ∙ ap (λ n. n + 1) same)
 
-  -- a failure at the first piece is a failure at all of it
+  -- a failure at a first piece is a failure at the whole
   pub fails_first : (old new : S) (b p q holds : List ℕ) (result : Result A E) (Q : E → Type 0) → IsErrAnd result Q
       → TakesPart (taken old) (b ++ p) (taken new) × (failures new ≡ failures old + 1)
       → Gives taken failures old b (p ++ q) result new holds
@@ -102,14 +102,14 @@ module _ {S A E : Type 0} (taken : S → Told) (failures : S → ℕ) where
     part.1,
   )
 
-  -- what holds of bytes that are written, clause by clause
+  -- the two cases of a write, each as a clause
   pub flushed : (old new : S) (bytes : List ℕ) (result : Result A E) → Flushes taken failures old bytes result new
       → OnOk result (Takes (taken old) bytes (taken new)) × OnErr result (TakesPart (taken old) bytes (taken new))
       × CountsFailure (IsErr result) (failures old) (failures new)
   flushed old new bytes (Ok done) told = (told.0, tt, counts_error {A = A} {E = E} (Ok done) (failures old) (failures new) told.1 tt)
   flushed old new bytes (Err failed) told = (tt, told.0, counts_error {A = A} {E = E} (Err failed) (failures old) (failures new) tt told.1)
 
-  -- what was gathered of a text is written in full, or in part
+  -- what was gathered of a text is written, in full or in part
   pub flush_written : (old mid new : S) (b p d whole : List ℕ) (result : Result A E) → Gathers (taken old) b p (taken mid) d
       → failures mid ≡ failures old → b ++ p ≡ whole → Flushes taken failures mid d result new → Flushes taken failures old whole result new
   flush_written old mid new b p d whole (Ok done) first same is second = (
@@ -124,16 +124,16 @@ module _ {S A E : Type 0} (taken : S → Told) (failures : S → ℕ) where
     second.1 ∙ ap (λ n. n + 1) same,
   )
 
-  -- a failure while the whole was gathered
+  -- a failure while a text was gathered leaves a part of it written
   pub part_written : (old new : S) (b p whole : List ℕ) (result : Result A E) (Q : E → Type 0) → IsErrAnd result Q → b ++ p ≡ whole
       → TakesPart (taken old) (b ++ p) (taken new) × (failures new ≡ failures old + 1) → Flushes taken failures old whole result new
   part_written old new b p whole (Ok done) Q fails is part = absurd fails
   part_written old new b p whole (Err failed) Q fails is part = (subst (λ xs. TakesPart (taken old) xs (taken new)) is part.0, part.1)
 
--- ---- a list whose elements each give their bytes
+-- ---- the bytes of a list, element by element
 
 module _ {X : Type 0} (bytes : List X → List ℕ) (joined : (xs ys : List X) → bytes (xs ++ ys) ≡ bytes xs ++ bytes ys) where
-  -- the bytes of one more element
+  -- the bytes of the first elements and one more
   pub one_more : (xs : List X) (i : ℕ) (x : X) (piece : List ℕ) → i < length xs → x ≡ get_or xs i x → bytes (x ∷ []) ≡ piece
       → bytes (take (i + 1) xs) ≡ bytes (take i xs) ++ piece
   one_more xs i x piece below at is =
@@ -141,13 +141,13 @@ module _ {X : Type 0} (bytes : List X → List ℕ) (joined : (xs ys : List X) �
       ∙ ap (λ p. bytes (take i xs) ++ p) is
 
   module _ (xs : List X) (i : ℕ) (x : X) (piece : List ℕ) (below : i < length xs) (at : x ≡ get_or xs i x) (is : bytes (x ∷ []) ≡ piece) where
-    -- after the elements so far, one more was given
+    -- after the first elements, one more is gathered
     pub each_given : (a : Told) (b : List ℕ) (c : Told) (d : List ℕ) (e : Told) (f : List ℕ)
         → Gathers a b (bytes (take i xs)) c d → Gathers c d piece e f → Gathers a b (bytes (take (i + 1) xs)) e f
     each_given a b c d e f first second =
         subst (λ p. Gathers a b p e f) (sym (one_more xs i x piece below at is)) (gathers_then a b (bytes (take i xs)) c d piece e f first second)
 
-    -- after the elements so far, one more was given in part
+    -- after the first elements, a part of one more is taken
     pub each_part : (a : Told) (b : List ℕ) (c : Told) (d : List ℕ) (e : Told)
         → Gathers a b (bytes (take i xs)) c d → TakesPart c (d ++ piece) e → TakesPart a (b ++ bytes xs) e
     each_part a b c d e first part =
@@ -159,7 +159,7 @@ module _ {X : Type 0} (bytes : List X → List ℕ) (joined : (xs ys : List X) �
         subst (λ ys. TakesPart a ys e) whole
         (part_longer a (b ++ now) rest e (subst (λ p. TakesPart a (b ++ p) e) (sym (one_more xs i x piece below at is)) so_far))
 
-    -- a failure to make room for one more element is a failure at all of them
+    -- a failure to make room for one more element is a failure at the whole list
     pub each_room_fails : {S A E : Type 0} (taken : S → Told) (failures : S → ℕ) (old now new : S) (b d holds : List ℕ) (result : Result A E) (Q : E → Type 0)
         → Gathers (taken old) b (bytes (take i xs)) (taken now) d → failures now ≡ failures old → IsErrAnd result Q
         → TakesPart (taken now) (d ++ []) (taken new) × (failures new ≡ failures now + 1) → Gives taken failures old b (bytes xs) result new holds
@@ -170,7 +170,7 @@ module _ {X : Type 0} (bytes : List X → List ℕ) (joined : (xs ys : List X) �
       part.1 ∙ ap (λ n. n + 1) same,
     )
 
-    -- a failure at one more element is a failure at all of them
+    -- a failure at one more element is a failure at the whole list
     pub each_fails : {S A E : Type 0} (taken : S → Told) (failures : S → ℕ) (old now new : S) (b d holds : List ℕ) (result : Result A E) (Q : E → Type 0)
         → Gathers (taken old) b (bytes (take i xs)) (taken now) d → failures now ≡ failures old → IsErrAnd result Q
         → TakesPart (taken now) (d ++ piece) (taken new) × (failures new ≡ failures now + 1) → Gives taken failures old b (bytes xs) result new holds
@@ -178,16 +178,16 @@ module _ {X : Type 0} (bytes : List X → List ℕ) (joined : (xs ys : List X) �
     each_fails taken failures old now new b d holds (Err failed) Q first same is part =
         (each_part (taken old) b (taken now) d (taken new) first part.0, part.1 ∙ ap (λ n. n + 1) same)
 
--- the bytes of two lists together
+-- the bytes of two joined lists
 pub mapped_join : {A B : Type 0} (f : B → List ℕ) (m : A → B) (xs ys : List A)
     → flat_map f (map m (xs ++ ys)) ≡ flat_map f (map m xs) ++ flat_map f (map m ys)
 mapped_join f m xs ys = ap (flat_map f) (map-append m xs ys) ∙ flat_map-append f (map m xs) (map m ys)
 
--- two lists of lines, joined, have the bytes of the first and then of the second
+-- the bytes of two joined lists of lines
 pub concat_join : (xs ys : List (List ℕ)) → concat (xs ++ ys) ≡ concat xs ++ concat ys
 concat_join [] ys = refl
 concat_join (x ∷ xs) ys = ap (λ zs. x ++ zs) (concat_join xs ys) ∙ sym (append_assoc x (concat xs) (concat ys))
 
--- room was made, then a piece was added
+-- room was made, and then a piece was added
 pub room_then_add : (a : Told) (b : List ℕ) (c : Told) (d piece f : List ℕ) → Gathers a b [] c d → f ≡ d ++ piece → Gathers a b piece c f
 room_then_add a b c d piece f room is = gathers_then a b [] c d piece c f room (gathers_add c d piece f is)

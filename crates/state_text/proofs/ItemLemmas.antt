@@ -1,4 +1,4 @@
--- What the bytes of a ledger item say.
+-- How the bytes of a ledger item are read.
 use Rattle.std.proofs.Common.{◌≡◌, ℕ, ◌+◌, ◌-◌, ◌<◌, ◌≤◌, List, length, take, drop, refl, ap, ◌∙◌, subst, arith, true, length-drop}
 use Rattle.std.specs.Prelude.{slice_range, slice_index, slice_get, option_map, Some, ◌==◌, ◌||◌, IsTrue, ◌↔◌, map, Bool}
 use Rattle.std.specs.List.{AllPass}
@@ -19,7 +19,7 @@ use Rattle.cif_line.specs.declared.letter.Extract.TheVariants as letter
 use Rattle.cif_line.specs.Letter.{extract_letter}
 use Rattle.state_text.proofs.LastElement.{above_last}
 
--- a range of `n` bytes has length `n`
+-- a range of n bytes has length n
 pub range_length : (bytes : List ℕ) (from n : ℕ) → from + n ≤ length bytes → length (slice_range bytes from (from + n)) ≡ n
 range_length bytes from n within =
     let behind = length-drop from bytes in
@@ -27,7 +27,7 @@ range_length bytes from n within =
     let same : from + n - from ≡ n = omega arith in
     ap (λ k. length (take k (drop from bytes))) same ∙ length-take-le n (drop from bytes) size
 
--- the fields that were read are the fields of the item in the bytes, and the item is good
+-- the fields that were read are the fields of a good item, which has these bytes
 pub item_told : (bytes : List ℕ) (day minute : ℕ) (reference : List ℕ) (indicator : ℕ) (last : List ℕ) → length bytes ≡ 19
     → day ≡ from_be_bytes w16 (slice_range bytes 0 2) → minute ≡ from_be_bytes w16 (slice_range bytes 2 4) → reference ≡ slice_range bytes 4 11
     → indicator ≡ slice_index bytes 11 → last ≡ slice_range bytes 12 19
@@ -58,7 +58,7 @@ item_told bytes day minute reference indicator last size d m r i l is_day is_min
       last_reference = (ap length l ∙ range_length bytes 12 7 (omega arith), last_text);
     }
 
--- an item above the last one of a ledger is above the ledger, in the definitions' terms
+-- an item above the last item of a ledger is above all its items
 pub items_above : {A : Type 0} (item : A → LedgerItem) (items : List A) (last : A) (next : LedgerItem) (test : Bool) → IsLedger (map item items)
     → slice_get items (length items - 1) ≡ Some last → test ≡ is_lt (ledger_item_cmp (item last) next) → IsTrue test ↔ IsAboveItems (map item items) next
 items_above item items last next test is at tested =
@@ -66,7 +66,7 @@ items_above item items last next test is at tested =
     above_last (λ (it : LedgerItem). it) ledger_item_cmp ledger_item_total (map item items) (item last) next test is.ascending
     (ap (λ n. slice_get (map item items) (n - 1)) size ∙ slice_get-map item items (length items - 1) ∙ (λ k. option_map item (at k))) tested
 
--- each letter of an extract is F or U
+-- the letter of an extract indicator is F or U
 pub is_letter : (extract : Extract) → ((extract_letter extract == 70) || (extract_letter extract == 85)) ≡ true
 is_letter letter.Full = refl
 is_letter letter.Update = refl

@@ -18,14 +18,14 @@ equal_by_test Less is = cc
 equal_by_test Equal is = refl
 equal_by_test Greater is = cc
 
--- keys that compare as equal are equal
+-- keys that compare equal are equal
 pub same_key : (first second : Key) (test : Bool) → test ≡ is_eq (key_cmp first second) → IsTrue test ↔ (first ≡ second)
 same_key first second test tested = (
   (λ yes. exact_key first second (equal_by_test (key_cmp first second) (sym tested ∙ yes))),
   (λ same. tested ∙ ap is_eq (subst (λ k. key_cmp first k ≡ Equal) same (tied_itself key_total first))),
 )
 
--- a key above the last entry's key is above the keys of all entries
+-- a key above the last entry's key is above all entries' keys
 pub keys_above : (state : State) (last key : Key) (test : Bool) → AreAscending state.entries → Some last ≡ last_key state.entries
     → test ≡ is_lt (key_cmp last key)
     → IsTrue test ↔ IsAboveEntries state key
@@ -38,7 +38,7 @@ keys_above state last key test up is tested = by (slice_get state.entries (lengt
         let same : last ≡ entry.0 = cc in
         above_last (λ (e : Key × Entry). e.0) key_cmp key_total state.entries entry key test up at (tested ∙ ap (λ k. is_lt (key_cmp k key)) same)
 
--- if there are no entries, any key is above their keys
+-- if there are no entries, each key is above their keys
 pub none_above : (state : State) (key : Key) → None ≡ last_key state.entries → IsTrue true ↔ IsAboveEntries state key
 none_above state key is = by (slice_get state.entries (length state.entries - 1)) refl is
   where

@@ -1,4 +1,4 @@
--- In an ascending list, all elements are below what the last element is below.
+-- In an ascending list, whatever is above the last element is above all elements.
 use Rattle.std.proofs.Common.{◌≡◌, suc, ◌-◌, List, [], ◌∷◌, length, refl, ap, sym, ◌∙◌, subst, inl, inr, ◌⊎◌, arith, Bool, true, All, Some, None}
 use Rattle.std.specs.Prelude.{slice_get, IsTrue, ◌↔◌}
 use Rattle.std.specs.List.{AllByRecursion}
@@ -9,7 +9,7 @@ use Rattle.std.specs.Cmp.{IsTotalOrder}
 use Rattle.std.proofs.lemmas.List.Elements.{All-from_recursion, recursion_from_All}
 use Rattle.docker_model.specs.state.Order.{IsBelow, IsStrictlyAscending}
 
--- an ordering that tests as less is less
+-- an order that tests as less is less
 pub less_by_test : (o : Ordering) → is_lt o ≡ true → o ≡ Less
 less_by_test Less is = refl
 less_by_test Equal is = cc
@@ -41,7 +41,7 @@ module _ {A K : Type 0} (key : A → K) (cmp : K → K → Ordering) (total : Is
       by (inl same) = subst (λ z. IsBelow cmp (key z) k) (sym same) low
       by (inr below) = total.trans (key x) (key last) k below low
 
-  -- what is above the last of an ascending list is above all
+  -- whatever is above the last element is above all
   pub above_last : (xs : List A) (last : A) (k : K) (test : Bool) → IsStrictlyAscending (on key cmp) xs → slice_get xs (length xs - 1) ≡ Some last
       → test ≡ is_lt (cmp (key last) k) → IsTrue test ↔ All (λ x. IsBelow cmp (key x) k) xs
   above_last xs last k test up is tested = (
@@ -55,7 +55,7 @@ module _ {A K : Type 0} (key : A → K) (cmp : K → K → Ordering) (total : Is
   some_there z (w ∷ zs) none = let down : length (z ∷ w ∷ zs) - 1 ≡ suc (length (w ∷ zs) - 1) = omega arith in
       some_there w zs (sym (ap (slice_get (z ∷ w ∷ zs)) down) ∙ none)
 
-  -- anything is above all of an empty list
+  -- in an empty list, anything is above all elements
   pub above_none : (xs : List A) (k : K) → slice_get xs (length xs - 1) ≡ None → IsTrue true ↔ All (λ x. IsBelow cmp (key x) k) xs
   above_none [] k is = ((λ yes. All-from_recursion (λ x. IsBelow cmp (key x) k) [] tt), (λ all. refl))
   above_none (x ∷ xs) k is = absurd (some_there x xs is)

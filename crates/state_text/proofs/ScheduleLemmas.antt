@@ -20,7 +20,7 @@ first_kind line begin =
     let same : line ≡ begin.1.basic = ap first_record begin.1.whole in
     (subst (HasKind basic_schedule) (sym same) begin.1.kind, subst HasGoodFields (sym same) begin.1.fields)
 
--- a line that isn't a first line for the key begins no schedule of the key
+-- a line that isn't a first line for the key begins none of the key's schedules
 pub not_first : (state : State) (key : ScheduleKey) (count : ℕ) (lines : Lines) (line : List ℕ) → lines ≡ [] → ¬ IsFirstOf state.horizon key line
     → ¬ AreLinesUpToIn state key count (lines ++ line ∷ [])
 not_first state key count lines line none bad are =
@@ -28,7 +28,7 @@ not_first state key count lines line none bad are =
     let first = first_kind line one.0.lines_of.begin in
     bad (record { kind = first.0; fields = first.1; of_key = record { new = one.0.lines_of.new; key_is = one.0.lines_of.key_is; stays = one.1 } })
 
--- the lines with one more still have the key, and don't lapse
+-- with one more line, the lines still have the key, and the schedule still doesn't lapse
 pub one_line_more : (state : State) (key : ScheduleKey) (lines : Lines) (line : List ℕ) → (lines ≡ []) ⊎ AreLinesIn state key lines
     → (lines ≡ [] → IsOfKey state.horizon key line)
     → BeginsSchedule (lines ++ line ∷ []) → AreLinesIn state key (lines ++ line ∷ [])
@@ -36,7 +36,7 @@ one_line_more state key [] line are first begin = let told = first refl in (reco
 one_line_more state key (basic ∷ lines) line (inl none) first begin = cc
 one_line_more state key (basic ∷ lines) line (inr are) first begin = (record { begin = begin; new = are.0.new; key_is = are.0.key_is }, are.1)
 
--- if no more lines are to come after the next one, it is the last of `count`
+-- if no line comes after the next one, that is the last of `count`
 pub no_more : (more : Bool) (n count : ℕ) → (IsTrue more ↔ (n + 1 < count)) → n < count → more ≡ false → n + 1 ≡ count
 no_more more n count tells few none = by (cases_lt (n + 1) count)
   where
@@ -44,7 +44,7 @@ no_more more n count tells few none = by (cases_lt (n + 1) count)
     by (inl below) = absurd (let told = tells.1 below in cc)
     by (inr enough) = omega arith
 
--- the last of `count` lines that doesn't complete a schedule is refused
+-- the last of `count` lines is refused if it doesn't complete a schedule
 pub incomplete : (count : ℕ) (lines : Lines) (line : List ℕ) (more complete : Bool) → (IsTrue more ↔ (length lines + 1 < count)) → length lines < count
     → more ≡ false
     → (IsTrue complete ↔ IsSchedule (lines ++ line ∷ [])) → complete ≡ false → ¬ BeginUpTo count (lines ++ line ∷ [])
@@ -54,26 +54,26 @@ incomplete count lines line more complete tells few none is not_one up_to =
     let whole = is.1 (up_to.complete (omega arith)) in
     cc
 
--- a line may come next if more are to come, or if it completes a schedule
+-- a line may come next if more lines follow, or if it completes the schedule
 pub begin_up_to : (count : ℕ) (lines : Lines) (line : List ℕ) (more : Bool) → (IsTrue more ↔ (length lines + 1 < count)) → BeginsSchedule (lines ++ line ∷ [])
     → (more ≡ true) ⊎ IsSchedule (lines ++ line ∷ []) → BeginUpTo count (lines ++ line ∷ [])
 begin_up_to count lines line more tells begin (inl is) = record
     { begin = begin; complete = λ all. let size = length-append lines (line ∷ []) in let below = tells.0 is in absurd (omega arith) }
 begin_up_to count lines line more tells begin (inr whole) = record { begin = begin; complete = λ all. whole }
 
--- with more lines to come, a line may come next if some schedule begins with it
+-- if more lines follow, a line may come next if some schedule begins with the lines and it
 pub more_up_to : (count : ℕ) (lines : Lines) (line : List ℕ) → length lines + 1 < count → BeginsSchedule (lines ++ line ∷ [])
     → BeginUpTo count (lines ++ line ∷ [])
 more_up_to count lines line more begin = record { begin = begin; complete = λ all. let size = length-append lines (line ∷ []) in absurd (omega arith) }
 
--- the line at the end of a buffer is the one that was written there
+-- the line at the buffer's end is the one that was written there
 pub written_last : (lines after : Lines) (line found : List ℕ) (at : ℕ) → after ≡ lines ++ line ∷ [] → at ≡ length lines → found ≡ slice_index_or after at found
     → found ≡ line
 written_last lines after line found at put last is =
     is ∙ ap (λ rows. slice_index_or rows at found) put ∙ ap (λ n. slice_index_or (lines ++ line ∷ []) n found) last
     ∙ get_or-append_seam lines line [] found
 
--- lines that begin a schedule with this one are the first of `count` lines of the key
+-- lines with which some schedule begins are the first of the key's `count` lines
 pub lines_up_to : (state : State) (key : ScheduleKey) (count : ℕ) (lines : Lines) (line bytes : List ℕ) → line ≡ bytes
     → (lines ≡ []) ⊎ AreLinesIn state key lines → (lines ≡ [] → IsOfKey state.horizon key line)
     → BeginUpTo count (lines ++ line ∷ []) → AreLinesUpToIn state key count (lines ++ bytes ∷ [])
@@ -81,7 +81,7 @@ lines_up_to state key count lines line bytes same here first up_to =
     let are = one_line_more state key lines line here first up_to.begin in
     subst (λ b. AreLinesUpToIn state key count (lines ++ b ∷ [])) same (record { lines_of = are.0; complete = up_to.complete }, are.1)
 
--- why a line doesn't continue the lines of the key
+-- why a line doesn't continue the key's lines
 pub line_refused : (state : State) (key : ScheduleKey) (count : ℕ) (lines : Lines) (line bytes : List ℕ) → line ≡ bytes
     → (lines ≡ []) ⊎ AreLinesIn state key lines → (lines ≡ [] → IsOfKey state.horizon key line)
     → (cause : Option StateCause) → IsLineRefusal count lines line cause → IsUpToRefusal state key count lines bytes cause

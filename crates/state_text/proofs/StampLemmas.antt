@@ -1,4 +1,4 @@
--- How stamps are judged, by a search in a ledger.
+-- How stamps are judged, by searching a ledger.
 use Rattle.std.proofs.Common.{◌≡◌, ℕ, zero, suc, ◌<◌, ◌≤◌, List, [], ◌∷◌, length, get_or, map, refl, ap, sym, ◌∙◌, subst, inl, inr, ◌⊎◌, arith, true, false, Contains}
 use Rattle.std.specs.Prelude.{IsTrue, ◌↔◌}
 use Rattle.std.specs.List.{AllByRecursion}
@@ -48,11 +48,11 @@ module _ {A : Type 0} (item : A → LedgerItem) where
           (turned (subst (λ s. file_stamp_cmp s a ≡ Less) (sym (exact_file_stamp b file at_b)) (file_stamp_total.antisymm file a ∙ ap ordering_reverse at_a)))
       by Greater at_a Greater at_b = omega arith
 
--- how the stamp of an item compares with a file's
+-- compares an item's stamp with a file's stamp
 abbrev pub stamp_order : {A : Type 0} → (A → LedgerItem) → FileStamp → A → Ordering
 stamp_order item file x = file_stamp_cmp (item x).stamp file
 
--- the stamps of a ledger ascend
+-- the stamps of a ledger's items never descend
 pub stamps_rise : {A : Type 0} (item : A → LedgerItem) (items : List A) (file : FileStamp) → IsLedger (map item items)
     → IsNonDecreasingBy (λ x. ordering_index (stamp_order item file x)) items
 stamps_rise item items file is = λ i j d before within. by i j d before within (cases_lt i j)
@@ -66,7 +66,7 @@ stamps_rise item items file is = λ i j d before within. by i j d before within 
         let same : i ≡ j = omega arith in
         subst (λ k. ordering_index (stamp_order item file (get_or items i d)) ≤ ordering_index (stamp_order item file (get_or items k d))) same (omega arith)
 
--- an element of a mapped list
+-- the image of an element is in the mapped list
 mapped : {A B : Type 0} (f : A → B) (xs : List A) (i : ℕ) (y : B) → i < length xs → ((d : A) → f (get_or xs i d) ≡ y) → Contains (map f xs) y
 mapped f [] i y within is = absurd (let none : i < length {A = ℕ} [] = within in omega arith)
 mapped f (x ∷ xs) i y within is = (
@@ -80,7 +80,7 @@ mapped f (x ∷ xs) i y within is = (
     first (z ∷ ys) zero below at = at z
     first (z ∷ ys) (suc j) below at = first ys j (omega arith) at
 
--- a file whose stamp an item has is found
+-- the search finds a file if an item has its stamp
 pub file_found : {A : Type 0} (item : A → LedgerItem) (items : List A) (file : FileStamp) (at : ℕ) → at < length items
     → ((d : A) → stamp_order item file (get_or items at d) ≡ Equal) → IsTrue true ↔ Contains (file_stamps (map item items)) file
 file_found item items file at within tied = (
@@ -96,7 +96,7 @@ file_found item items file at within tied = (
     stamp_at (x ∷ xs) zero d below same = exact_file_stamp (item x).stamp file (same x)
     stamp_at (x ∷ xs) (suc i) d below same = stamp_at xs i d (omega arith) same
 
--- if a search finds no item, no item has the file
+-- if the search finds nothing, no item has the file's stamp
 pub file_missing : {A : Type 0} (item : A → LedgerItem) (items : List A) (file : FileStamp) (at : ℕ)
     → IsPartitionPoint (λ x. stamp_order item file x ≡ Less) (λ x. stamp_order item file x ≡ Greater) items at
     → IsTrue false ↔ Contains (file_stamps (map item items)) file
@@ -124,7 +124,7 @@ file_missing item items file at parts = ((λ yes. absurd (let no : false ≡ tru
             let tied = equal in cc
         by (inr after) = let above = parts.1 told.0 told.1 after told.2 in let same = ap (stamp_order item file) (told.3 told.1) in let tied = equal in cc
 
--- a stamp whose day is after the last one is of no file in a ledger
+-- a stamp with a day after the last one isn't any file's in a ledger
 pub day_too_late : (ledger : List LedgerItem) (stamp : Stamp) → IsLedger ledger → last_day < stamp.file.moment.day → ¬ IsStampIn ledger stamp
 day_too_late ledger stamp is late in_it =
     let found = Contains-map (λ (it : LedgerItem). it.stamp) ledger stamp.file in_it.in_ledger in

@@ -1,4 +1,4 @@
--- From a part to the next: ledger items and lines.
+-- From one part to the next: ledger items and lines.
 use Rattle.std.proofs.Common.{◌≡◌, ℕ, ◌+◌, ◌-◌, ◌<◌, ◌≤◌, ◌^◌, List, [], ◌∷◌, ◌++◌, length, ap, sym, ◌∙◌, subst, arith, length-append, Ok, Err}
 use Rattle.std.specs.Prelude.{Result, IfOk, IfErr}
 use Rattle.docker_model.specs.file.Change.{ScheduleKey, schedule_key, schedule_body}
@@ -17,21 +17,21 @@ use Rattle.state_text.specs.Judged.{MayFollow, Judges}
 use Rattle.state_text.specs.declared.stage.Stage.{Stage}
 use Rattle.state_text.specs.Stage.{stage_meant, IsFresh}
 
--- a ledger with an item that may follow is a ledger
+-- a ledger with one more item that may follow is a ledger
 pub item_follows : (ledger told : List LedgerItem) (item meant : LedgerItem) → told ≡ ledger → IsLedger ledger → meant ≡ item → MayFollow told item
     → IsLedger (ledger ++ meant ∷ [])
 item_follows ledger told item meant same is equal may =
     let here = subst (λ l. MayFollow l meant) same (subst (MayFollow told) (sym equal) may) in
     one_item_more ledger meant is here.good here.above here.keeps_floor
 
--- with the last line, there are as many lines as their number said
+-- after the last line there are at least as many lines as their number says
 pub taken_all : (lines : List (List ℕ)) (line : List ℕ) (taken : List (List ℕ)) (n : ℕ) → taken ≡ lines ++ line ∷ [] → n ≤ length lines + 1 → n ≤ length taken
 taken_all lines line taken n is last =
     let size = length-append lines (line ∷ []) in
     let same : length taken ≡ length (lines ++ line ∷ []) = ap (λ (ls : List (List ℕ)). length ls) is in
     omega arith
 
--- an entry was given, or memory ran out for it
+-- an entry is given, or memory runs out for it
 pub entry_judged : (format : Format) (before after : Before) (bytes : List ℕ) (new : State) (lines : List (List ℕ)) (result : Result Stage StateCause)
     → IfOk result (λ s. (ls : List (List ℕ)) → stage_meant s new ls ≡ after) → IfOk result (λ s. IsFresh s new)
     → IfErr result (λ told. told ≡ cause.Memory) → after ≡ advance format before bytes → IsWantingHere format before bytes
@@ -41,7 +41,7 @@ entry_judged format before after bytes new lines (Ok s) is fresh err same here =
 entry_judged format before after bytes new lines (Err told) is fresh err same here =
     subst (λ (k : StateCause). IsBadHere format before bytes (cause_meant k)) (sym err) here
 
--- a part that is judged is judged at its stage
+-- a part is judged at its own stage
 pub judged_at : (meant format : Format) (at exact : Stage) → meant ≡ format → at ≡ exact → (state new : State) (lines after : List (List ℕ)) (bytes : List ℕ)
     (result : Result Stage StateCause) → Judges format (stage_meant exact state lines) bytes new after result
     → Judges meant (stage_meant at state lines) bytes new after result
@@ -59,7 +59,7 @@ module _ (format : Format) (count : ℕ) (state : State) (key : ScheduleKey) (st
       let below = here.2 in
       omega arith
 
-  -- with the last line, the entry is complete
+  -- after the last line the entry is complete
   pub all_there : (body : List (List ℕ)) → body ≡ taken → n ≤ length taken
       → after_entries count (with_entry state (schedule_key key) stamp (put_with (schedule_body body))) ≡ advance format
       (in_entry count state (before_line key stamp n lines)) line
@@ -68,7 +68,7 @@ module _ (format : Format) (count : ℕ) (state : State) (key : ScheduleKey) (st
       ∙ sym (all_lines count state key stamp (lines ++ line ∷ []))
       ∙ ap (λ m. after_lines count state key stamp m (lines ++ line ∷ [])) (sym (count_is enough))
 
-  -- with the last line the lines are a schedule
+  -- after the last line the lines are a schedule
   pub whole_schedule : (body : List (List ℕ)) → body ≡ taken → n ≤ length taken → AreLinesUpTo key n (lines ++ line ∷ []) → IsScheduleOf key body
   whole_schedule body same enough are =
       subst (IsScheduleOf key) (sym (same ∙ is))

@@ -1,4 +1,4 @@
--- The text of a state, in the pieces that are written.
+-- The text of a state, in the pieces in which it is written.
 use Rattle.std.proofs.Common.{◌≡◌, ℕ, ◌+◌, ◌<◌, List, [], ◌∷◌, ◌++◌, length, map, get_or, ap, sym, ◌∙◌, subst, arith, append_assoc, append-nil, All, Ok, Err, Result}
 use Rattle.std.specs.Prelude.{Option, IsErrAnd}
 use Rattle.std.specs.List.{concat, flat_map}
@@ -15,7 +15,7 @@ use Rattle.cif_line.specs.Device.{TakesPart}
 use Rattle.state_text.specs.Written.{body_text, Gathers, Gives}
 use Rattle.state_text.proofs.BufferLemmas.{gathers_then, then_gives, fails_first}
 
--- an entry is its bytes without its lines, and then its lines
+-- an entry is its head and then its lines
 pub entry_text : (entry : Key × Entry) → entry_head entry ++ concat (op_lines entry.1.op) ≡ entry_bytes entry
 entry_text entry = by entry.1.op
   where
@@ -30,7 +30,7 @@ entry_text entry = by entry.1.op
     by (put_with (association_body line)) = append-nil (front ++ 1 ∷ line)
     by (put_with (schedule_body lines)) = append_assoc front (1 ∷ to_be_bytes w32 (length lines)) (concat lines)
 
--- what holds of everything that a function gives for a list holds of what it gives at an index
+-- what holds for all images holds for the image of an element
 pub at_mapped : {A B : Type 0} (P : B → Type 0) (m : A → B) (xs : List A) (i : ℕ) (x : A) → All P (map m xs) → i < length xs → x ≡ get_or xs i x → P (m x)
 at_mapped P m xs i x all below at =
     let size = length-map xs m in
@@ -60,7 +60,7 @@ module _ {S A B : Type 0} (taken : S → Option (List ℕ)) (failures : S → �
     given : Gathers (taken old) b (flat_map item_bytes state.ledger) (taken first) d
     given = subst (λ es. Gathers (taken old) b (flat_map item_bytes es) (taken first) d) ledger one
 
-    -- the number of entries couldn't be given
+    -- a failure at the number of entries is a failure at the rest
     pub count_fails : {X E : Type 0} (holds : List ℕ) (result : Result X E) (Q : E → Type 0) → IsErrAnd result Q
         → TakesPart (taken first) (d ++ to_be_bytes w64 (length rows)) (taken second) × (failures second ≡ failures first + 1)
         → Gives taken failures old b (body_text state) result second holds
@@ -71,7 +71,7 @@ module _ {S A B : Type 0} (taken : S → Option (List ℕ)) (failures : S → �
         (then_gives {A = X} taken failures old first second b (flat_map item_bytes state.ledger) d (to_be_bytes w64 (length state.entries)) holds
         (Err failed) given same (subst (λ n. TakesPart (taken first) (d ++ to_be_bytes w64 n) (taken second)) many part.0, part.1))
 
-    -- the number of entries was given, and then the entries, or a part of them
+    -- after the number of entries come the entries, in full or in part
     pub body_given : {X E : Type 0} (third : S) (f h : List ℕ) (result : Result X E)
         → Gathers (taken first) d (to_be_bytes w64 (length rows)) (taken second) f × (failures second ≡ failures first)
         → Gives taken failures second f (flat_map entry_bytes (map row rows)) result third h

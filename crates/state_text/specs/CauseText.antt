@@ -3,7 +3,7 @@ use Rattle.std.specs.Prelude.{ℕ, List, codes}
 use Rattle.state_text.specs.declared.cause.StateCause.{StateCause}
 use Rattle.state_text.specs.declared.cause.StateCause.TheVariants.{Mark, Item, Order, Floor, Tag, Stamp, Body, Short, Tail, Long, Memory, Horizon}
 
--- a cause by its name
+-- the name of a cause
 abbrev pub cause_text : StateCause → List ℕ
 cause_text Mark = codes "Mark"
 cause_text Item = codes "Item"

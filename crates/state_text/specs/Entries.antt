@@ -1,4 +1,4 @@
--- The bytes of an entry in two parts: the bytes before its lines, and its lines.
+-- The bytes of an entry in two parts: its head, and the lines of its schedule.
 use Rattle.std.specs.Prelude.{◌≡◌, ℕ, ◌<◌, ◌^◌, List, [], ◌∷◌, ◌++◌, length}
 use Rattle.std.specs.Int.{w32, to_be_bytes}
 use Rattle.docker_model.specs.file.Change.{Key, Body, tiploc_body, association_body, schedule_body}
@@ -6,19 +6,19 @@ use Rattle.docker_model.specs.state.Op.{Op, deleted, lapsed, put_with, Entry, ke
 use Rattle.docker_model.specs.state.State.{IsGoodKey, IsOpOf}
 use Rattle.docker_model.specs.state.StateText.{key_bytes, stamp_bytes}
 
--- a body without its lines; for a schedule, the number of its lines
+-- a body, but of a schedule only the number of its lines
 abbrev pub body_head : Body → List ℕ
 body_head (tiploc_body bytes) = bytes
 body_head (association_body line) = line
 body_head (schedule_body lines) = to_be_bytes w32 (length lines)
 
--- an op without its lines
+-- an op without a schedule's lines
 abbrev pub op_head : Op → List ℕ
 op_head deleted = 0 ∷ []
 op_head lapsed = 2 ∷ []
 op_head (put_with body) = 1 ∷ body_head body
 
--- an entry without its lines
+-- the head of an entry: all before a schedule's lines
 abbrev pub entry_head : Key × Entry → List ℕ
 entry_head entry = key_tag entry.0 ∷ key_bytes entry.0 ++ stamp_bytes entry.1.stamp ++ op_head entry.1.op
 
@@ -33,10 +33,10 @@ op_lines deleted = []
 op_lines lapsed = []
 op_lines (put_with body) = lines_in body
 
--- four bytes can hold the number of an entry's lines
+-- the number of the entry's lines fits in four bytes
 abbrev pub HasFewLines : Key × Entry → Type 0
 HasFewLines entry = length (op_lines entry.1.op) < 2 ^ 32
 
--- the key is good, the op agrees with it, and the stamp has its 15 bytes
+-- the key is good, the op suits it, and the stamp has 15 bytes
 abbrev pub IsOfWidth : Key × Entry → Type 0
 IsOfWidth entry = IsGoodKey entry.0 × IsOpOf entry.0 entry.1.op × (length (stamp_bytes entry.1.stamp) ≡ 15)

@@ -1,9 +1,9 @@
--- What a format of the code means.
+-- Formats of the code, translated to the definitions.
 use Rattle.docker_model.specs.state.StateText.{Format, dks_1, dks_2}
 use Rattle.state_text.specs.declared.format.Format as code
 use Rattle.state_text.specs.declared.format.Format.TheVariants as format
 
--- what a format means
+-- a format as the definitions have it
 abbrev pub format_meant : code.Format → Format
 format_meant format.Dks1 = dks_1
 format_meant format.Dks2 = dks_2

@@ -21,49 +21,50 @@ use Rattle.state_text.specs.FaultMeaning.{cause_meant, IsBadHere}
 use Rattle.state_text.specs.declared.stage.Stage.{Stage}
 use Rattle.state_text.specs.Stage.{LeadsTo}
 
--- a part, after what stands before it, leads to a stage, or is bad for a cause, or memory ran out
--- for it
+-- the result for a part: the stage that it leads to, or the cause for which it is bad or memory ran
+-- out
 abbrev pub Judges : Format → fault_statepart.Before → List ℕ → State → List (List ℕ) → Result Stage StateCause → Type 0
 Judges format before bytes state lines (Ok stage) = LeadsTo format before bytes stage state lines
 Judges format before bytes state lines (Err cause) = IsBadHere format before bytes (cause_meant cause)
 
--- the ledger item may follow
+-- this ledger item may come next
 pub record MayFollow (ledger : List stamps.LedgerItem) (item : stamps.LedgerItem) : Type 0 where
   pub good : IsGoodItem item
   pub above : IsAboveItems ledger item
   pub keeps_floor : ¬ RaisesFloor ledger item
 
--- the item is bad for a cause
+-- this ledger item is bad for this cause
 abbrev pub IsItemCause : List stamps.LedgerItem → stamps.LedgerItem → Option fault.StateCause → Type 0
 IsItemCause ledger item None = ⊥
 IsItemCause ledger item (Some cause) = IsBadItem ledger item cause
 
--- a ledger item that may follow, or why it may not
+-- the result for a ledger item: the item, if it may come next, or why it may not
 abbrev pub IsJudgedItem : List stamps.LedgerItem → stamps.LedgerItem → Result LedgerItem StateCause → Type 0
 IsJudgedItem ledger item (Ok told) = (item_meant told ≡ item) × MayFollow ledger item
 IsJudgedItem ledger item (Err cause) = IsItemCause ledger item (cause_meant cause)
 
--- the key is bad for a cause
+-- this key is bad for this cause
 abbrev pub IsKeyCause : State → model.Key → Option fault.StateCause → Type 0
 IsKeyCause state key None = ⊥
 IsKeyCause state key (Some cause) = IsBadKey state key cause
 
--- a key that may come next, or why it may not
+-- the result for a key: the key, if it may come next, or why it may not
 abbrev pub IsJudgedKey : State → model.Key → Result Key StateCause → Type 0
 IsJudgedKey state key (Ok told) = (key_meant told ≡ key) × IsGoodKey key × IsAboveEntries state key
 IsJudgedKey state key (Err cause) = IsKeyCause state key (cause_meant cause)
 
--- an association with this key that does not end before a horizon
+-- the line is an association with this key, and doesn't end before the horizon
 abbrev pub IsAssociationUnder : ℕ → model.AssociationKey → List ℕ → Type 0
 IsAssociationUnder horizon key line = IsAssociationOf key line × (horizon ≤ body_end (association_body line))
 
--- a line is new, names this key, and does not end before a horizon
+-- the line is new, names this key, and doesn't end before the horizon
 pub record IsOfKey (horizon : ℕ) (key : model.ScheduleKey) (line : List ℕ) : Type 0 where
   pub new : HasNewTransaction line
   pub key_is : schedule_named line ≡ schedule_key key
   pub stays : horizon ≤ readable_end (columns 16 21 line)
 
--- a good basic schedule that is new, has this key and does not end before a horizon
+-- the line is a basic schedule with good fields. It is new, names this key, and doesn't end before
+-- the horizon
 pub record IsFirstOf (horizon : ℕ) (key : model.ScheduleKey) (line : List ℕ) : Type 0 where
   pub kind : HasKind basic_schedule line
   pub fields : HasGoodFields line

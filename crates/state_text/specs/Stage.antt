@@ -1,5 +1,5 @@
--- What a stage of the code means: what stands before the next part, for these parts of a state and
--- these lines of an open schedule.
+-- Stages of the code, translated to the definitions. A stage, with the state so far and the lines
+-- of an open schedule, says what comes before the next part.
 use Rattle.std.specs.Prelude.{◌≡◌, ℕ, ◌+◌, ◌≤◌, Bool, true, false, List, [], length, ⊤}
 use Rattle.docker_model.specs.file.Change.{schedule_key}
 use Rattle.docker_model.specs.file.Change as model
@@ -18,17 +18,17 @@ use Rattle.state_text.specs.declared.stage.Stage.{Stage}
 use Rattle.state_text.specs.declared.stage.Stage.TheVariants as stage
 use Rattle.state_laws.specs.TextStage.{advance}
 
--- the tag's number: 1 for TIPLOCs, 2 for associations, 3 for schedules
+-- the number of a tag: 1 for TIPLOCs, 2 for associations, 3 for schedules
 abbrev pub tag_meant : Tag → ℕ
 tag_meant tag.Tiploc = 1
 tag_meant tag.Assoc = 2
 tag_meant tag.Schedule = 3
 
--- the key of a schedule
+-- a schedule key as the definitions have it
 abbrev pub schedule_meant : ScheduleKey → model.ScheduleKey
 schedule_meant key = record { uid = key.uid; runs_from = key.runs_from; indicator = stp_letter key.stp }
 
--- the key of an association
+-- an association key as the definitions have it
 abbrev pub assoc_meant : AssocKey → model.AssociationKey
 assoc_meant key = record {
   base = key.base;
@@ -39,7 +39,7 @@ assoc_meant key = record {
   indicator = stp_letter key.stp;
 }
 
--- what stands before the part at a stage
+-- what comes before the next part, at this stage
 abbrev pub stage_meant : Stage → State → List (List ℕ) → Before
 stage_meant stage.Mark state lines = before_mark
 stage_meant stage.Horizon state lines = before_horizon
@@ -54,17 +54,17 @@ stage_meant (stage.Body count key stamp) state lines = in_entry count state (bef
 stage_meant (stage.Line count key stamp n) state lines = in_entry count state (before_line (schedule_meant key) (stamp_meant stamp) n lines)
 stage_meant stage.End state lines = at_end state
 
--- the part is the first of an item, or none is left
+-- the next part is the first of an entry
 abbrev pub begins_part : EntryPart → Bool
 begins_part before_tag = true
 begins_part _ = false
 
--- what comes next is not in the middle of an entry
+-- the next part isn't in the middle of an entry
 abbrev pub begins_item : Before → Bool
 begins_item (in_entry count state part) = begins_part part
 begins_item _ = true
 
--- the parts of a state that are still to come are not there yet
+-- at this stage, the later parts of the state are still empty
 abbrev pub IsFresh : Stage → State → Type 0
 IsFresh stage.Mark state = (state.ledger ≡ []) × (state.entries ≡ []) × (state.horizon ≡ 0)
 IsFresh stage.Horizon state = (state.ledger ≡ []) × (state.entries ≡ [])
@@ -73,17 +73,17 @@ IsFresh (stage.Item count) state = state.entries ≡ []
 IsFresh stage.EntryCount state = state.entries ≡ []
 IsFresh _ state = ⊤
 
--- the part is no line with more lines to come
+-- the next part isn't a line with more lines after it
 abbrev pub IsLast : Stage → List (List ℕ) → Type 0
 IsLast (stage.Line count key stamp n) lines = n ≤ length lines + 1
 IsLast _ lines = ⊤
 
--- good parts have led to the stage
+-- the parts up to this stage were good
 pub record IsReady (format : Format) (stage : Stage) (state : State) (lines : List (List ℕ)) : Type 0 where
   pub good : AreGood format (stage_meant stage state lines)
   pub fresh : IsFresh stage state
 
--- after what stands before, these bytes are a part that isn't bad, and lead to the stage
+-- these bytes are a part that isn't bad, and after it comes this stage
 pub record LeadsTo (format : Format) (before : Before) (bytes : List ℕ) (stage : Stage) (state : State) (lines : List (List ℕ)) : Type 0 where
   pub is : stage_meant stage state lines ≡ advance format before bytes
   pub not_bad : (cause : StateCause) → ¬ IsBadPart format before bytes cause

@@ -1,4 +1,4 @@
-//! Reads the bodies of TIPLOCs and associations, and the first line of a schedule.
+//! Reads bodies of TIPLOCs and associations, and first lines of schedules.
 ghost use Rattle.std.specs.Prelude.{◌≡◌, ◌+◌, ◌≤◌, ◌↔◌, length, slice_range, false, IsTrue, MatchOption};
 ghost use Rattle.docker_model.specs.records.Record.{IsRecord, HasKind, columns, IsTextOfLength};
 ghost use Rattle.docker_model.specs.records.Date.{is_date, date_number};
@@ -16,13 +16,13 @@ use crate::format::{LINE, TIPLOC_BODY};
 use cif_file::{AssocKey, Body, Key, ScheduleKey};
 use cif_line::{Assoc, Day, Kind, Line, Transaction, Until, assoc, kind};
 
-/// Where the end date of an association's line begins.
+/// The index of the end date in an association's line.
 const ASSOC_END_AT: usize = 21;
 
-/// Where the end date of a basic schedule begins.
+/// The index of the end date in a basic schedule.
 const SCHEDULE_END_AT: usize = 15;
 
-/// The TIPLOC body with these bytes. `None` if a byte isn't printable.
+/// The TIPLOC body with these bytes. `None` if one of them isn't printable.
 pub(crate) fn tiploc_body(bytes: &[u8]) -> Option<Body>
     requires { length bytes.now ≡ TIPLOC_BODY }
     ensures { MatchOption result (¬ IsTextOfLength TIPLOC_BODY bytes.now)
@@ -34,8 +34,8 @@ pub(crate) fn tiploc_body(bytes: &[u8]) -> Option<Body>
     Some(Body::Tiploc(*field(bytes, 0)))
 }
 
-/// The body with these bytes, of the association with this key. `None` if the bytes are no such
-/// body, or if it ends before a horizon.
+/// The body with these bytes, for the association with this key. `None` if the bytes aren't such a
+/// body, or if it ends before the horizon.
 pub(crate) fn assoc_body(key: &AssocKey, horizon: u16, bytes: &[u8]) -> Option<Body>
     ensures { MatchOption result (¬ IsAssociationUnder horizon (assoc_meant key.now) bytes.now)
         (λ body. (body_meant body ≡ association_body bytes.now)
@@ -53,8 +53,8 @@ pub(crate) fn assoc_body(key: &AssocKey, horizon: u16, bytes: &[u8]) -> Option<B
     Some(Body::Assoc(line))
 }
 
-/// Whether the end date at an index of a line is not before a horizon. A date that can't be read
-/// counts as no end.
+/// Whether the end date at an index of a line isn't before the horizon. A date that can't be read
+/// means no end.
 fn stays(line: &Line, at: usize, horizon: u16) -> bool
     requires { at + 6 ≤ LINE }
     ensures { IsTrue result ↔ (horizon ≤ readable_end (slice_range line.now at (at + 6))) }
@@ -115,8 +115,8 @@ fn is_same(first: &Key, second: &Key) -> bool
     first == second
 }
 
-/// Whether a line is new, names the schedule with this key, and doesn't end before a horizon. It
-/// reads the line's bytes, and doesn't judge its fields.
+/// Whether a line is new, names this schedule key, and doesn't end before the horizon. It doesn't
+/// judge the line's fields.
 pub(crate) fn is_first_of(key: &ScheduleKey, horizon: u16, line: &Line) -> bool
     ensures of_key { IsTrue result → IsOfKey horizon (schedule_meant key.now) line.now }
     ensures refused { result ≡ false → ¬ IsFirstOf horizon (schedule_meant key.now) line.now }
@@ -127,7 +127,7 @@ pub(crate) fn is_first_of(key: &ScheduleKey, horizon: u16, line: &Line) -> bool
     stays(line, SCHEDULE_END_AT, horizon)
 }
 
-/// Whether a line is new and names the schedule with this key, and its first day can be read.
+/// Whether a line is new, names this schedule key, and has a first day that can be read.
 fn is_new_schedule(key: &ScheduleKey, line: &Line) -> bool
     ensures { IsTrue result ↔ (HasNewTransaction line.now
         × IsTrue (is_date (columns 10 15 line.now))
@@ -145,7 +145,7 @@ fn is_new_schedule(key: &ScheduleKey, line: &Line) -> bool
     begins_on(line, &key.runs_from)
 }
 
-/// Whether the first day of a line's schedule is this one. A date that can't be read is no day.
+/// Whether the first day in a line is this day. A date that can't be read is no day.
 fn begins_on(line: &Line, day: &Day) -> bool
     ensures { IsTrue result ↔ (IsTrue (is_date (columns 10 15 line.now))
         × (date_number (columns 10 15 line.now) ≡ day.now)) }

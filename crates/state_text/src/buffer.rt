@@ -1,4 +1,4 @@
-//! A buffer before a sink, so that small pieces reach a device together.
+//! A buffer in front of a sink, so that small pieces reach the device together.
 ghost use Rattle.std.specs.Prelude.{◌≡◌, ◌+◌, ◌-◌, ◌^◌, ◌<◌, ◌≤◌, [], OnOk};
 ghost use Rattle.arrayvec.specs.ArrayVec.{array_vec_len};
 ghost use Rattle.state_text.specs.Written.{Gives, Flushes};
@@ -6,13 +6,13 @@ ghost use Rattle.state_text.specs.Written.{Gives, Flushes};
 use arrayvec::ArrayVec;
 use cif_line::{Failed, Sink, write_all};
 
-/// How many bytes are gathered before they are written.
+/// The most bytes that are gathered before they are written.
 pub(crate) const ROOM: usize = 65_536;
 
-/// Bytes that a sink will take.
+/// Bytes that will be written to a sink.
 pub(crate) type Buffer = ArrayVec<u8, ROOM>;
 
-/// Writes what the buffer holds, and empties it.
+/// Writes the buffer's bytes to the sink, and empties the buffer.
 pub(crate) fn flush<K: Sink>(sink: &mut K, buffer: &mut Buffer) -> Result<(), Failed>
     requires { K.failures sink.old < 2 ^ 64 - 1 }
     ensures gives { Flushes K.taken K.failures sink.old buffer.old.items result sink.new }
@@ -23,7 +23,7 @@ pub(crate) fn flush<K: Sink>(sink: &mut K, buffer: &mut Buffer) -> Result<(), Fa
     Ok(())
 }
 
-/// Writes what the buffer holds if there is no room for this many more bytes.
+/// Writes the buffer's bytes if it has no room for this many more.
 pub(crate) fn make_room<K: Sink>(
     sink: &mut K,
     buffer: &mut Buffer,

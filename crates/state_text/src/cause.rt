@@ -1,4 +1,4 @@
-//! Why bytes are not the text of a state.
+//! Why bytes aren't the text of a state.
 ghost use Rattle.std.specs.Prelude.{◌≡◌, ◌≤◌, Some, length};
 ghost use Rattle.state_text.specs.CauseText.{cause_text};
 
@@ -10,35 +10,36 @@ use std::fmt;
 /// The cause of a fault.
 #[derive(Clone, Copy, PartialEq, Eq, Debug)]
 pub enum StateCause {
-    /// The text does not begin with its mark.
+    /// The text doesn't begin with its mark.
     Mark,
-    /// No header can give the ledger item.
+    /// No file's header gives this ledger item.
     Item,
-    /// The ledger item, or the key of the entry, is not above the one before.
+    /// The ledger item, or the entry's key, isn't above the one before it.
     Order,
-    /// The ledger item is a full extract above the first item.
+    /// The ledger item is a full extract above the first item, so that the first one wouldn't be
+    /// kept.
     Floor,
-    /// The tag is not 1, 2 or 3.
+    /// The tag isn't 1, 2 or 3.
     Tag,
-    /// The stamp is of no file in the ledger, or its record number can't be a change's.
+    /// No file in the ledger has this stamp, or no change can have its record number.
     Stamp,
-    /// The key, the op or the body isn't well formed, the body has another key, or it ends before
+    /// The key, the op or the body isn't well formed; or the body has another key, or ends before
     /// the horizon.
     Body,
-    /// The text ends before the state does.
+    /// The text ends before its state is complete.
     Short,
-    /// A byte follows the state.
+    /// A byte comes after the state's last one.
     Tail,
-    /// The state needs a byte at the limit.
+    /// The state's text is longer than the limit allows.
     Long,
-    /// Out of memory: a growth was refused.
+    /// Out of memory: the allocator refused to grow.
     Memory,
-    /// The horizon is no day number: it is above 36524.
+    /// The horizon isn't a day number: it is above 36524.
     Horizon,
 }
 
 impl StateCause {
-    /// The name of the cause, as it stands in the text of a fault.
+    /// The cause's name, as the text of a fault has it.
     pub fn name(&self) -> &'static str
         ensures name { result.now ≡ cause_text self.now }
         ensures len { length result.now ≤ 7 }

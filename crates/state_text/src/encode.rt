@@ -1,4 +1,4 @@
-//! Ledger items, keys, stamps and ops as bytes, in a buffer that has room for them.
+//! Adds ledger items, keys, stamps and ops as bytes to a buffer that has room for them.
 ghost use Rattle.std.specs.Prelude.{◌≡◌, ◌+◌, ◌<◌, ◌≤◌, ◌^◌, ◌++◌, length};
 ghost use Rattle.arrayvec.specs.ArrayVec.{array_vec_len};
 ghost use Rattle.docker_model.specs.state.StateText.{item_bytes, file_stamp_bytes, stamp_bytes};
@@ -52,7 +52,7 @@ fn add_stamp(buffer: &mut Buffer, stamp: &Stamp)
     put(buffer, &stamp.number.to_be_bytes());
 }
 
-/// Adds the key of an association with its tag.
+/// Adds an association's key with its tag.
 fn add_assoc_key(buffer: &mut Buffer, key: &AssocKey)
     requires { array_vec_len buffer.old + (TAG + ASSOC_KEY) ≤ ROOM }
     ensures items { buffer.new.items ≡ buffer.old.items
@@ -67,7 +67,7 @@ fn add_assoc_key(buffer: &mut Buffer, key: &AssocKey)
     put(buffer, &[key.suffix, key.stp.letter()]);
 }
 
-/// Adds the key of a schedule with its tag.
+/// Adds a schedule's key with its tag.
 fn add_schedule_key(buffer: &mut Buffer, key: &ScheduleKey)
     requires { array_vec_len buffer.old + (TAG + SCHEDULE_KEY) ≤ ROOM }
     ensures items { buffer.new.items ≡ buffer.old.items
@@ -80,7 +80,7 @@ fn add_schedule_key(buffer: &mut Buffer, key: &ScheduleKey)
     put(buffer, &[key.stp.letter()]);
 }
 
-/// Adds a key with its tag. The key of an association is the longest.
+/// Adds a key with its tag. An association's key is the longest.
 fn add_key(buffer: &mut Buffer, key: &Key)
     requires { array_vec_len buffer.old + (TAG + ASSOC_KEY) ≤ ROOM }
     ensures items { buffer.new.items ≡ buffer.old.items ++ key_text (key_meant key.now) }
@@ -96,7 +96,7 @@ fn add_key(buffer: &mut Buffer, key: &Key)
     }
 }
 
-/// Adds an op without its lines. The op of an association is the longest.
+/// Adds an op without a schedule's lines. An association's op is the longest.
 fn add_op(buffer: &mut Buffer, op: &Op)
     requires room { array_vec_len buffer.old + (OP + LINE) ≤ ROOM }
     requires few { length (op_lines (op_meant op.now)) < 2 ^ 32 }
@@ -116,7 +116,7 @@ fn add_op(buffer: &mut Buffer, op: &Op)
     }
 }
 
-/// Adds an entry without its lines.
+/// Adds the head of an entry: all before a schedule's lines.
 pub(crate) fn add_entry_head(buffer: &mut Buffer, row: &(Key, Entry))
     requires room { array_vec_len buffer.old + ENTRY_HEAD ≤ ROOM }
     requires few { HasFewLines (row_meant row.now) }
@@ -127,7 +127,7 @@ pub(crate) fn add_entry_head(buffer: &mut Buffer, row: &(Key, Entry))
     add_op(buffer, &row.1.op);
 }
 
-/// The lines of an op.
+/// The lines of a schedule that an op puts. Any other op has none.
 pub(crate) fn lines_of(op: &Op) -> &[Line]
     ensures { result.now ≡ op_lines (op_meant op.now) }
 {

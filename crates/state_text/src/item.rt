@@ -12,10 +12,10 @@ use crate::format::{INDICATOR_AT, ITEM, LAST_REFERENCE_AT, MINUTE_AT, REFERENCE_
 use cif_line::{Day, Extract};
 use docker_state::LedgerItem;
 
-/// The minutes in a day.
+/// How many minutes a day has.
 const MINUTES: u16 = 1440;
 
-/// The ledger item in these bytes. `None` if no header can give it.
+/// The ledger item with these bytes. `None` if no header gives such an item.
 fn item_in(bytes: &[u8]) -> Option<LedgerItem>
     requires { length bytes.now ≡ ITEM }
     ensures { MatchOption result (¬ IsGoodItem (item_in bytes.now))
@@ -44,7 +44,7 @@ fn item_in(bytes: &[u8]) -> Option<LedgerItem>
     })
 }
 
-/// Whether an item is above the last item of a ledger, if there is one.
+/// Whether an item is above a ledger's last item, if there is one.
 fn is_above(ledger: &[LedgerItem], item: &LedgerItem) -> bool
     requires { IsLedger (map item_meant ledger.now) }
     ensures { IsTrue result ↔ IsAboveItems (map item_meant ledger.now) (item_meant item.now) }
@@ -55,7 +55,7 @@ fn is_above(ledger: &[LedgerItem], item: &LedgerItem) -> bool
     }
 }
 
-/// Whether an item is a full extract above the first item of a ledger.
+/// Whether an item is a full extract above a ledger's first item.
 fn raises_floor(ledger: &[LedgerItem], item: &LedgerItem) -> bool
     ensures { IsTrue result ↔ RaisesFloor (map item_meant ledger.now) (item_meant item.now) }
 {

@@ -1,4 +1,4 @@
-//! What receives the parts of a state's text.
+//! Keepers, which receive the parts of a state's text.
 ghost use Rattle.std.specs.Prelude.{◌≡◌, ◌-◌, ◌^◌, ◌<◌, [], ◌∷◌, ◌++◌, length, map, IsOk, IfOk};
 ghost use Rattle.std.specs.Option.{option_copied, option_map};
 ghost use Rattle.docker_model.specs.state.State.{State, IsLedger, IsOpOf, IsValid};
@@ -14,10 +14,11 @@ use cif_line::{Day, Memory};
 use docker_join::Entry;
 use docker_state::LedgerItem;
 
-/// Receives the parts of a state's text in order: the ledger items, then the entries. It keeps all
-/// of them, some, or none.
+/// Receives the parts of a state's text in order: first ledger items, then entries. It may keep
+/// all, some or none of them.
 pub trait Keeper: Drop + Sized {
-    // the ledger items and the entries given to it, as a state without a horizon, whatever it keeps
+    // all ledger items and entries that it was given, as a state without a horizon, whether it
+    // keeps them or not
     ghost given: { Self → State };
 
     /// Takes the next ledger item.
@@ -35,7 +36,7 @@ pub trait Keeper: Drop + Sized {
         ensures { IsOk result
             → given self.new ≡ with_row (given self.old) (key_meant key, entry_meant entry) };
 
-    /// The ledger items so far, ascending.
+    /// The ledger items that were given, in ascending order.
     fn ledger(&self) -> &[LedgerItem]
         ensures { map item_meant result.now ≡ (given self.now).ledger };
 
@@ -43,21 +44,21 @@ pub trait Keeper: Drop + Sized {
     fn len(&self) -> u64
         ensures { result ≡ length (given self.now).entries };
 
-    /// The key of the last entry given. `None` if there is none yet.
+    /// The key of the last entry. `None` if there is no entry yet.
     fn last(&self) -> Option<&Key>
         ensures { option_map key_meant (option_copied result)
             ≡ last_key (given self.now).entries };
 }
 
-/// A keeper that makes something of the parts by itself.
+/// A keeper that makes a value from the parts by itself.
 pub trait Maker: Keeper {
-    /// What it makes.
+    /// The value that it makes.
     type Made: Drop;
 
-    // it is made of this state
+    // the value is made from this state
     ghost makes: { Self.Made → State → Type 0 };
 
-    /// Makes something from the parts, under the horizon that was read.
+    /// Makes the value from the parts, under the horizon that was read.
     fn finish(self, horizon: Option<Day>) -> Result<Self::Made, Memory>
         requires { IsValid (under (horizon_meant horizon) (Self.given self)) }
         ensures { IfOk result (λ made.

@@ -1,4 +1,4 @@
-//! How far a text has been read: the next part.
+//! The stages of reading a state's text.
 ghost use Rattle.std.specs.Prelude.{◌≡◌, ◌≤◌, ℕ, List};
 ghost use Rattle.docker_model.specs.state.State as states;
 ghost use Rattle.docker_model.specs.state.StatePart.{width, key_width, body_width};
@@ -15,16 +15,16 @@ use docker_join::Stamp;
 /// The kinds of keys.
 #[derive(Clone, Copy, Debug)]
 pub enum Tag {
-    /// The key of a TIPLOC.
+    /// A TIPLOC.
     Tiploc,
-    /// The key of an association.
+    /// An association.
     Assoc,
-    /// The key of a schedule.
+    /// A schedule.
     Schedule,
 }
 
 impl Tag {
-    /// How many bytes a key of this kind has.
+    /// The width of a key of this kind.
     fn width(self) -> usize
         ensures value { result ≡ key_width (tag_meant self) }
         ensures bound { result ≤ LINE }
@@ -37,8 +37,9 @@ impl Tag {
     }
 }
 
-/// The next part of a text, with what is kept of the earlier parts of the same entry. A stage
-/// within the items, the entries or the lines of a schedule has their number.
+/// Which part comes next, with what is kept of the entry's earlier parts. The first number is how
+/// many items or entries there are in all, and a line's last number is how many lines its schedule
+/// has.
 #[derive(Clone, Copy, Debug)]
 pub enum Stage {
     /// The mark of the format.
@@ -59,16 +60,16 @@ pub enum Stage {
     Stamp(u64, Key),
     /// The op of an entry.
     Op(u64, Key, Stamp),
-    /// The body of a put, or for a schedule the number of its lines.
+    /// The body of a put; for a schedule, the number of its lines.
     Body(u64, Key, Stamp),
-    /// A line of a schedule, with the number of its lines.
+    /// A line of a schedule.
     Line(u64, ScheduleKey, Stamp, u32),
-    /// No part is left.
+    /// The text has ended.
     End,
 }
 
 impl Stage {
-    /// How many bytes the part has. 0 after the last part.
+    /// The width of the part. It is 0 after the last part.
     pub fn width(&self) -> usize
         ensures value { (state : states.State) (lines : List (List ℕ)) →
             result ≡ width (stage_meant self.now state lines) }
@@ -89,7 +90,7 @@ impl Stage {
         }
     }
 
-    /// Whether the part is the first of an item, or none is left.
+    /// Whether the part isn't in the middle of an entry.
     pub fn begins_item(&self) -> bool
         ensures { (state : states.State) (lines : List (List ℕ)) →
             result ≡ begins_item (stage_meant self.now state lines) }
@@ -102,7 +103,7 @@ impl Stage {
     }
 }
 
-/// How many bytes follow the op of a put: the body, or for a schedule the number of its lines.
+/// The width of what comes after a put's op: the body, or for a schedule the number of its lines.
 fn body_width(key: &Key) -> usize
     ensures value { result ≡ body_width (key_meant key.now) }
     ensures bound { result ≤ LINE }

@@ -13,13 +13,13 @@ use cif_line::Day;
 use docker_join::{FileStamp, Stamp};
 use docker_state::LedgerItem;
 
-/// The least record number of a change.
+/// The least record number that a change can have.
 const FIRST_NUMBER: u32 = 2;
 
-/// The greatest record number of a change.
+/// The greatest record number that a change can have.
 const LAST_NUMBER: u32 = 4_294_967_294;
 
-/// The stamp in these bytes. `None` if its day is after the last one.
+/// The stamp with these bytes. `None` if its day is after the last one.
 fn stamp_in(bytes: &[u8]) -> Option<Stamp>
     requires { length bytes.now ≡ STAMP }
     ensures { MatchOption result (last_day < (stamp_in bytes.now).file.moment.day)
@@ -37,7 +37,7 @@ fn stamp_in(bytes: &[u8]) -> Option<Stamp>
     Some(Stamp { file, number })
 }
 
-/// Whether a file is in a ledger, by a binary search.
+/// Whether a ledger has this file, by a binary search.
 fn has_file(ledger: &[LedgerItem], file: &FileStamp) -> bool
     requires { IsLedger (map item_meant ledger.now) }
     ensures { IsTrue result
@@ -49,7 +49,7 @@ fn has_file(ledger: &[LedgerItem], file: &FileStamp) -> bool
     }
 }
 
-/// The stamp of a change from a file in a ledger. `None` if the bytes aren't one.
+/// The stamp with these bytes, if it is a change's from a file in the ledger. Otherwise `None`.
 pub(crate) fn judged_stamp(ledger: &[LedgerItem], bytes: &[u8]) -> Option<Stamp>
     requires wide { length bytes.now ≡ STAMP }
     requires ledger { IsLedger (map item_meant ledger.now) }

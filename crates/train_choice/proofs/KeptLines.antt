@@ -1,4 +1,4 @@
--- What is known of the lines kept under the key of a schedule.
+-- What is known of the lines of a schedule or an association that fits its key.
 use Rattle.std.proofs.Common.{◌≡◌, ℕ, ◌<◌, ◌≤◌, ◌^◌, true, false, List, ◌∷◌, ◌++◌, length, ap, sym, ◌∙◌, subst, inl, inr, ◌⊎◌, All, arith}
 use Rattle.std.specs.Prelude.{IsTrue, ◌==◌, ◌&&◌, nat_le}
 use Rattle.std.specs.List.{AllByRecursion}
@@ -18,7 +18,7 @@ use Rattle.docker_laws.proofs.dockers.KeptSchedules.{first_kind, first_good, fir
 use Rattle.train_choice.specs.Runs.{runs_until}
 use Rattle.train_choice.proofs.RunFields.{three_tests}
 
--- the lines can be counted
+-- the number of lines fits in 32 bits
 pub lines_few : (key : ScheduleKey) (lines : List (List ℕ)) → IsScheduleOf key lines → length lines < 2 ^ 32
 lines_few key lines of = let few = of.few in omega arith
 
@@ -47,12 +47,12 @@ lines_good key lines of =
 pub falls_few : (key : ScheduleKey) (lines : List (List ℕ)) (number : ℕ) → IsScheduleOf key lines → falls_to lines number ≤ 2
 falls_few key lines number of = let all = few_midnights key lines of in let some = falls_below lines number in omega arith
 
--- ---- when it runs, by the first day in its key
+-- ---- on which days it runs, by the runs-from date in its key
 
 same_key : (a b : ScheduleKey) → schedule_key a ≡ schedule_key b → a ≡ b
 same_key a b h = cc
 
--- its days, by the first day in its key and the other two fields
+-- on which days it runs, by the runs-from date in its key and two fields of its basic schedule
 pub runs_by_key : (key : ScheduleKey) (lines : List (List ℕ)) (day : ℕ) → IsScheduleOf key lines
     → (nat_le key.runs_from day && runs_until (columns 16 21 (first_record lines)) (columns 22 28 (first_record lines)) day)
     ≡ schedule_runs (first_record lines) day
@@ -69,15 +69,15 @@ pub ruleset kept_lines = (first_kind, first_good, first_stays, first_there, line
 
 -- ---- the line of an association
 
--- it is an association
+-- the record is an association
 pub link_kind : (key : AssociationKey) (line : List ℕ) → IsAssociationOf key line → HasKind association line
 link_kind key line of = of.kind
 
--- its fields are good
+-- the checked fields of an association's record are good
 pub link_good : (key : AssociationKey) (line : List ℕ) → IsAssociationOf key line → HasGoodFields line
 link_good key line of = of.fields
 
--- and it is no deletion
+-- the record of an association isn't a deletion
 pub link_stays : (key : AssociationKey) (line : List ℕ) → IsAssociationOf key line → is_deletion line ≡ false
 link_stays key line of = ap (λ (n : ℕ). n == 68) of.new
 

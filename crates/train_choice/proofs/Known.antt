@@ -1,4 +1,4 @@
--- What is kept is right, and stays right with one more.
+-- What is kept is right, and is still right after one more look-up.
 use Rattle.std.proofs.Common.{◌≡◌, ℕ, Bool, true, false, cond, List, refl, ap, sym, ◌∙◌, subst, Some}
 use Rattle.std.specs.Prelude.{Option, ◌&&◌, ◌==◌}
 use Rattle.std.specs.declared.cmp.Ordering.{Ordering}
@@ -26,7 +26,7 @@ use Rattle.train_choice.proofs.BestSoFar.{best_stays, best_goes}
 
 -- ---- identities
 
--- identities that are right stay so with one more that is right
+-- the kept identities are still right with one more that is right
 pub one_more_identity : (live : Table) (before after : BTreeMap (List ℕ × ℕ) (List ℕ)) (uid : List ℕ) (day : ℕ) (identity : List ℕ)
     → AreIdentities live before → Updates uid_day_cmp before after (uid, day) (Some identity)
     → ((rows : List Row) → AreRowsOf live rows → identity ≡ identity_of (train_in rows uid day)) → AreIdentities live after
@@ -47,7 +47,7 @@ one_more_identity live before after uid day identity are updates right = λ othe
 
 -- ---- groups
 
--- groups that compare as equal are the same group
+-- groups that compare as equal are equal
 exact_group : (a b : Group) → group_cmp a b ≡ Equal → a ≡ b
 exact_group a b e =
     let p = then_equal (bytes_cmp a.base b.base) _ e in
@@ -66,7 +66,7 @@ regrouped true true false d = refl
 regrouped true false c d = refl
 regrouped false b c d = refl
 
--- a group is found by the key of an association in it
+-- a group is equal to an association's group if and only if the association is of it
 at_group : (key : AssociationKey) (group : Group) → is_eq (group_cmp (group_of key) group) ≡ is_of_group group key
 at_group key group =
     sym (tied_then (bytes_cmp key.base group.base) (ordering_then (bytes_cmp key.associated group.associated) rest))
@@ -83,7 +83,7 @@ at_group key group =
 own_group : (key : AssociationKey) (group : Group) → is_of_group group key ≡ true → group_of key ≡ group
 own_group key group is = exact_group (group_of key) group (eq_is (group_cmp (group_of key) group) (at_group key group ∙ is))
 
--- the association kept for a group decides which one counts
+-- the association kept for a group is the one chosen, so it decides whether another one is
 pub counts_told : (live : Table) (place : List ℕ) (day : ℕ) (best : GroupLinks) (key : AssociationKey) (link : Link) (answer : Bool)
     → AreDayLinks live place day best → key.location ≡ place → Some link ≡ get group_cmp best (group_of key)
     → answer ≡ is_eq (association_key_cmp link.key key)
@@ -103,7 +103,7 @@ module _ (day : ℕ) (link : Link) where
       by found true = λ i. cond (sym idle i) (better by_key found link) found
       by found false = refl
 
-  -- an association whose group has a better one changes nothing
+  -- an association that isn't better than its group's best changes nothing
   pub better_there : (before : GroupLinks) → is_better by_key link (get group_cmp before (group_of link.key)) ≡ false → HasOneMore day before link before
   better_there before is = λ group. by group (is_of_group group link.key) refl
     where
@@ -119,7 +119,7 @@ module _ (day : ℕ) (link : Link) where
           (subst (λ (g : Group). is_better by_key link (get group_cmp before g) ≡ false) (own_group link.key group own) is))
       by group false other = refl
 
-  -- otherwise the association becomes the best of its group
+  -- an association that runs on the day, and is better than its group's best, is the new best
   pub best_of_group : (before after : GroupLinks) → association_runs link.line day ≡ true
       → is_better by_key link (get group_cmp before (group_of link.key)) ≡ true → Updates group_cmp before after (group_of link.key) (Some link)
       → HasOneMore day before link after

@@ -1,4 +1,5 @@
--- A schedule has an event after a midnight if and only if one of its times is below the one before.
+-- Before some event of a schedule a midnight is passed if and only if some time is below the one
+-- before.
 use Rattle.std.proofs.Common.{◌≡◌, ℕ, ◌+◌, ◌==◌, ◌<◌, Bool, true, false, cond, List, [], ◌∷◌, ◌++◌, refl, sym, ◌∙◌, subst, Some, None, All, arith}
 use Rattle.std.specs.Prelude.{Option, ◌||◌, not, nat_lt}
 use Rattle.std.proofs.lemmas.Bool.{ltb-true}
@@ -12,7 +13,7 @@ use Rattle.train_choice.specs.Midnights.{some_late, ascends, falls_after, falls_
 abbrev Times : Type 0
 Times = List (Occasion × ℕ)
 
--- the last time so far, or midnight before the first time
+-- the last time so far, or 0 before the first time
 abbrev last_or_midnight : Option ℕ → ℕ
 last_or_midnight None = 0
 last_or_midnight (Some last) = last
@@ -28,8 +29,8 @@ fall_is (Some last) time = refl
 sum : (a b c : ℕ) → a ≡ 0 → b ≡ c → a + b ≡ c
 sum a b c none same = omega arith
 
--- what is known after some times: if they ascend to this one, no midnight was passed; if they
--- don't, some event is after a midnight
+-- what some times decide: if they ascend, the last is this one and no midnight has been passed; if
+-- they don't, one has been passed before some event
 abbrev Told : Progress → List ℕ → Times → Option ℕ → Type 0
 Told p line times None = (rest : List Occurrence) → some_late (occurrences_at p line times ++ rest) ≡ true
 Told p line times (Some last) =
@@ -76,19 +77,19 @@ along p (line ∷ lines) zero =
     by (Some last) (falls, same, early) rec =
         (λ i. falls_along (sym same i) lines) ∙ rec falls ∙ sym (early (occurrences_from next lines))
 
--- the times of some lines decide whether some event of a train in them is after a midnight
+-- the times of the lines decide whether a midnight is passed before some event
 pub late_by_times : (basic : List ℕ) (lines : List (List ℕ)) → falls_along 0 lines ≡ some_late (occurrences_from (before_all basic) lines)
 late_by_times basic lines = along (before_all basic) lines refl
 
--- if the fields of all lines are good, so are the first line's
+-- if all lines have good fields, so has the first
 pub first_good : (lines rest : List (List ℕ)) (line : List ℕ) → All HasGoodFields lines → lines ≡ line ∷ rest → HasGoodFields line
 first_good lines rest line good is = (recursion_from_All HasGoodFields (line ∷ rest) (subst (All HasGoodFields) is good)).0
 
--- and the other lines'
+-- if all lines have good fields, so have the others
 pub rest_good : (lines rest : List (List ℕ)) (line : List ℕ) → All HasGoodFields lines → lines ≡ line ∷ rest → All HasGoodFields rest
 rest_good lines rest line good is = All-from_recursion HasGoodFields rest (recursion_from_All HasGoodFields (line ∷ rest) (subst (All HasGoodFields) is good)).1
 
--- after a line whose times ascend, the other lines decide
+-- if the times of the first line ascend, the other lines decide
 pub goes_on : (last time : ℕ) (line : List ℕ) (rest lines : List (List ℕ)) → lines ≡ line ∷ rest → ascends last (times_of line) ≡ Some time
     → falls_along time rest ≡ falls_along last lines
 goes_on last time line rest lines is up =

@@ -1,5 +1,5 @@
--- On which of a day and the two days before it a schedule runs, by the first day in its key and two
--- fields of its basic schedule.
+-- Whether a schedule runs on a day, on the day before and two days before, by the runs-from date in
+-- its key and two fields of its basic schedule.
 use Rattle.std.proofs.Common.{◌≡◌, ℕ, ◌-◌, ◌<◌, Bool, true, false, List, refl, ap, sym, ◌∙◌, subst, arith}
 use Rattle.std.specs.Prelude.{◌&&◌, ◌||◌, not, nat_le, nat_lt}
 use Rattle.std.proofs.lemmas.Bool.{leb-true, ltb-true}
@@ -14,8 +14,8 @@ use Rattle.train_choice.specs.Lately.{AreLately, runs_back, lately_back, marked_
 use Rattle.train_choice.specs.declared.lately.Lately.{Lately}
 use Rattle.train_choice.proofs.KeptLines.{runs_by_key}
 
--- if two tests agree on each number of days back, marks that are the answers of one are the answers
--- of the other
+-- if two tests agree on all numbers of days back, three flags that are the one's are also the
+-- other's
 pub same_lately : (test other : ℕ → Bool) (lately : Lately) → ((back : ℕ) → test back ≡ other back) → AreLately test lately → AreLately other lately
 same_lately test other lately same are = record {
   today_is = are.today_is ∙ same 0;
@@ -23,7 +23,7 @@ same_lately test other lately same are = record {
   two_before_is = are.two_before_is ∙ same 2;
 }
 
--- a schedule that begins after a day runs neither on that day nor before it
+-- a schedule that begins after a day doesn't run on it or before it
 pub never_yet : (key : ScheduleKey) (lines : List (List ℕ)) (day : ℕ) → IsScheduleOf key lines → day < key.runs_from
     → (back : ℕ) → false ≡ runs_back lines day back
 never_yet key lines day of late back =
@@ -39,7 +39,7 @@ never_yet key lines day of late back =
         (λ i. sym h i && runs_until (columns 16 21 (first_record lines)) (columns 22 28 (first_record lines)) (day - back))
         ∙ runs_by_key key lines (day - back) of
 
--- the order in which the code makes the four tests
+-- four tests, in the order in which the code makes them
 four_tests : (a b c e : Bool) → ((a && (b && c)) && e) ≡ (a && (b && (e && c)))
 four_tests false b c e = refl
 four_tests true false c e = refl
@@ -48,7 +48,7 @@ four_tests true true true false = refl
 four_tests true true false true = refl
 four_tests true true false false = refl
 
--- by the key's first day, a schedule runs if it has begun, its weekday is marked and it hasn't
+-- by the date in its key, a schedule runs if it has begun, its weekday is marked and it hasn't
 -- ended
 pub lately_runs : (key : ScheduleKey) (lines : List (List ℕ)) (day : ℕ) → IsScheduleOf key lines
     → (back : ℕ) → lately_back (first_record lines) key.runs_from day back ≡ runs_back lines day back
@@ -57,7 +57,7 @@ lately_runs key lines day of back =
     (nat_le (day - back) (end_number (columns 16 21 (first_record lines))))
     ∙ ap (λ b. nat_le back day && b) (runs_by_key key lines (day - back) of)
 
--- this is what the code answers if the schedule begins by the day
+-- this is what the code returns if the schedule has begun by the day
 pub lately_told : (key : ScheduleKey) (lines : List (List ℕ)) (line : List ℕ) (first day : ℕ) (lately : Lately) → IsScheduleOf key lines
     → line ≡ first_record lines → first ≡ key.runs_from → AreLately (lately_back line first day) lately → AreLately (runs_back lines day) lately
 lately_told key lines line first day lately of line_is first_is are =
@@ -65,14 +65,14 @@ lately_told key lines line first day lately of line_is first_is are =
     (subst (λ (n : ℕ). AreLately (lately_back (first_record lines) n day) lately) first_is
     (subst (λ (l : List ℕ). AreLately (lately_back l first day) lately) line_is are))
 
--- and if it begins later
+-- this is what the code returns if it begins later
 pub never_told : (key : ScheduleKey) (lines : List (List ℕ)) (first day : ℕ) (lately : Lately) → IsScheduleOf key lines
     → first ≡ key.runs_from → nat_lt day first ≡ true → AreLately (λ back. false) lately → AreLately (runs_back lines day) lately
 never_told key lines first day lately of first_is late are =
     let behind = ltb-true day first late in
     same_lately (λ back. false) (runs_back lines day) lately (never_yet key lines day of (omega arith)) are
 
--- if two of four tests are not both true, not all four are
+-- if two of four tests don't both pass, the four don't all pass
 both_of : (a b c e : Bool) → (a && c) ≡ false → ((a && (b && c)) && e) ≡ false
 both_of false b c e none = refl
 both_of true false c e none = refl
@@ -84,7 +84,7 @@ none_of_three false false c none = (refl, refl, none)
 none_of_three false true c none = let bad : true ≡ false = none in cc
 none_of_three true b c none = let bad : true ≡ false = none in cc
 
--- a schedule that may not run lately runs on none of the three days
+-- if a schedule may not run lately, it doesn't run on any of the three days
 pub idle_lately : (key : ScheduleKey) (lines : List (List ℕ)) (day : ℕ) → IsScheduleOf key lines → may_run_lately key lines day ≡ false
     → (runs_back lines day 0 ≡ false) × (runs_back lines day 1 ≡ false) × (runs_back lines day 2 ≡ false)
 idle_lately key lines day of never = by (nat_lt day key.runs_from) refl

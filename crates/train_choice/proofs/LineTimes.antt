@@ -1,4 +1,4 @@
--- The times of a line, by its kind.
+-- The times in a line, by its kind.
 use Rattle.std.proofs.Common.{◌≡◌, ℕ, List, ap, sym, ◌∙◌, Some, true}
 use Rattle.docker_model.specs.records.Record.{origin_location, intermediate_location, terminating_location, HasKind, columns}
 use Rattle.docker_model.specs.records.Clock.{half_minutes, is_present_time, is_scheduled_time}
@@ -15,11 +15,11 @@ origin_departure line is good = (good_fields origin_location line is good).1.0
 pub call_arrival : (line : List ℕ) → HasKind intermediate_location line → HasGoodFields line → is_scheduled_time (columns 11 15 line) ≡ true
 call_arrival line is good = (good_fields intermediate_location line is good).1.0
 
--- so is its departure
+-- the departure from an intermediate location is a time or blank
 pub call_departure : (line : List ℕ) → HasKind intermediate_location line → HasGoodFields line → is_scheduled_time (columns 16 20 line) ≡ true
 call_departure line is good = (good_fields intermediate_location line is good).1.1.0
 
--- so is its pass
+-- the pass at an intermediate location is a time or blank
 pub call_pass : (line : List ℕ) → HasKind intermediate_location line → HasGoodFields line → is_scheduled_time (columns 21 25 line) ≡ true
 call_pass line is good = (good_fields intermediate_location line is good).1.1.1.0
 
@@ -27,19 +27,19 @@ call_pass line is good = (good_fields intermediate_location line is good).1.1.1.
 pub terminus_arrival : (line : List ℕ) → HasKind terminating_location line → HasGoodFields line → is_present_time (columns 11 15 line) ≡ true
 terminus_arrival line is good = (good_fields terminating_location line is good).1.0
 
--- an origin has only its departure
+-- an origin has only a departure
 pub origin_time : (line : List ℕ) → HasKind origin_location line → HasGoodFields line
     → timed departure (Some (half_minutes (columns 11 15 line))) ≡ times_of line
 origin_time line is good =
     ap (timed departure) (sym (time_there (columns 11 15 line) (origin_departure line is good)))
     ∙ (λ i. times_by_kind (sym is i) line)
 
--- a terminus has only its arrival
+-- a terminus has only an arrival
 pub terminus_time : (line : List ℕ) → HasKind terminating_location line → HasGoodFields line
     → timed arrival (Some (half_minutes (columns 11 15 line))) ≡ times_of line
 terminus_time line is good =
     ap (timed arrival) (sym (time_there (columns 11 15 line) (terminus_arrival line is good)))
     ∙ (λ i. times_by_kind (sym is i) line)
 
--- the times of a line
+-- all facts about the times in a line
 pub ruleset line_times = (origin_departure, call_arrival, call_departure, call_pass, terminus_arrival, origin_time, terminus_time)

@@ -1,4 +1,4 @@
--- A walk over a schedule's lines meets its events.
+-- A walk over a schedule's lines meets all its events.
 use Rattle.std.proofs.Common.{◌≡◌, ℕ, ◌+◌, Bool, true, false, cond, List, [], ◌∷◌, ◌++◌, map, length, refl, ap, sym, ◌∙◌, subst, arith, Some, None, append_assoc, append-nil, length-append}
 use Rattle.std.specs.Prelude.{Option, codes, option_map, find}
 use Rattle.std.specs.Str.{bytes_eq}
@@ -18,7 +18,7 @@ Times = List (Occasion × ℕ)
 abbrev clock_times : Times → List ℕ
 clock_times times = map (λ (time : Occasion × ℕ). time.1) times
 
--- a walk that has met these times
+-- the walk has met these times
 pub record HasMet (times : List ℕ) (p : Progress) : Type 0 where
   pub number_is : p.number ≡ length times + 1
   pub falls_are : p.falls ≡ fall_count times
@@ -38,7 +38,7 @@ met_one_more times p time has = record {
   last_is = sym (last_behind times time.1);
 }
 
--- the events of the times of a line that is at this place in a schedule
+-- the events for the times of a line, which stands at this place in the schedule
 module _ (whole : List (List ℕ)) (place : ℕ) (line : List ℕ) (identity : List ℕ)
     (line_is : (event : Event) → event.place ≡ place → event_line whole event ≡ line)
     (identity_is : (event : Event) → event.place ≡ place → event_identity whole event ≡ identity) where
@@ -65,7 +65,7 @@ module _ (whole : List (List ℕ)) (place : ℕ) (line : List ℕ) (identity : L
         identity = (same ∙ sym (identity_is event refl)) i;
       }
 
--- how far the walk has come after them
+-- what the walk carries after them
 times_passed : (before : List ℕ) (times : Times) (p : Progress) → HasMet before p → HasMet (before ++ clock_times times) (past_times p times)
 times_passed before [] p has = subst (λ (ts : List ℕ). HasMet ts p) (sym (append-nil before)) has
 times_passed before (time ∷ times) p has =
@@ -76,7 +76,7 @@ identity_stays : (p : Progress) (times : Times) → (past_times p times).identit
 identity_stays p [] = refl
 identity_stays p (time ∷ times) = identity_stays (past_time p time) times
 
--- a line with the identity of a change en route is one
+-- a line with the record identity CR is a change en route
 change_by_identity : (line : List ℕ) → has_identity (codes "CR") line ≡ true → kind_of line ≡ Some change_en_route
 change_by_identity line is =
     let begins : columns 1 2 line ≡ codes "CR" = (bytes_eq-Decides (columns 1 2 line) (codes "CR")).0 is in
@@ -85,7 +85,7 @@ change_by_identity line is =
 change_has_no_times : (line : List ℕ) → has_identity (codes "CR") line ≡ true → times_of line ≡ []
 change_has_no_times line is = ap (λ (kind : Option Kind). times_by_kind kind line) (change_by_identity line is)
 
--- the identity after a line
+-- the train identity after a line
 identity_more : (basic front : List (List ℕ)) (line : List ℕ) (p : Progress) → p.identity ≡ changed_identity (last_change front) (first_record basic)
     → (turned p line).identity ≡ changed_identity (last_change (front ++ line ∷ [])) (first_record basic)
 identity_more basic front line p same =
@@ -95,7 +95,7 @@ identity_more basic front line p same =
     by true = refl
     by false = same
 
--- the events of the lines after a front part
+-- the events of the lines after some first lines
 lines_met : (whole front rest : List (List ℕ)) (p : Progress) → whole ≡ front ++ rest → HasMet (times_along front) p
     → p.identity ≡ changed_identity (last_change front) (first_record whole)
     → occurrences_from p rest ≡ map (occurrence_of whole) (events_from p.number (length front) rest)
@@ -165,7 +165,7 @@ all_met lines =
     lines_met lines [] lines (before_all (first_record lines)) refl (record { number_is = refl; falls_are = refl; last_is = refl }) refl
     ∙ ap (map (occurrence_of lines)) (sym (events_walked lines))
 
--- so does a walk that has these lines and begins with this identity
+-- a walk over equal lines meets the same events, if it begins with the identity in the first line
 pub events_met : (lines walked : List (List ℕ)) (identity : List ℕ) (events : List Occurrence) → walked ≡ lines → identity ≡ columns 33 36 (first_record lines)
     → events ≡ occurrences_from (record { number = 1; falls = 0; last = None; identity = identity }) walked → events ≡ occurrences lines
 events_met lines walked identity events same named is =

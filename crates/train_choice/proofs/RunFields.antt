@@ -1,4 +1,4 @@
--- The fields that say when a basic schedule or an association runs, if its fields are good.
+-- The fields that decide when a basic schedule or an association runs, if they are good.
 use Rattle.std.proofs.Common.{◌≡◌, ℕ, List, true, false, Bool, cond, [], ◌∷◌, ◌++◌, subst, refl}
 use Rattle.std.specs.Prelude.{ℕ, ◌&&◌}
 use Rattle.std.specs.List.{AllByRecursion}
@@ -8,18 +8,18 @@ use Rattle.docker_model.specs.records.Field.{CheckedField, checked, HasGoodField
 use Rattle.cif_laws.proofs.records.Columns.{good_fields, IsGoodIn}
 use Rattle.docker_laws.proofs.dockers.KeptSchedules.{schedule_first, schedule_last, schedule_days}
 
--- three tests, with the first two together
+-- three tests, grouped from the left
 pub three_tests : (a b c : Bool) → (a && (b && c)) ≡ ((a && b) && c)
 three_tests true b c = refl
 three_tests false b c = refl
 
 pub ruleset schedule_fields = (schedule_first, schedule_last, schedule_days, three_tests)
 
--- an association's first day is a date
+-- the first date of an association is good
 pub association_first : (line : List ℕ) → HasKind association line → HasGoodFields line → is_date (columns 16 21 line) ≡ true
 association_first line is good = (good_fields association line is good).1.0
 
--- the checked fields after it
+-- the checked fields after that date
 association_later : Bool → List CheckedField
 association_later deletion =
     cond deletion [] (checked 22 27 is_end_date ∷ checked 28 34 is_days ∷ []) ++ checked 38 44 is_tiploc ∷ checked 80 80 is_stp_indicator ∷ []
@@ -30,12 +30,12 @@ unfolding association_later
 association_behind line is good stays =
     subst (λ b. AllByRecursion (IsGoodIn line) (association_later b)) stays (good_fields association line is good).1.1
 
--- its last day is good
+-- the last date is good
 pub association_last : (line : List ℕ) → HasKind association line → HasGoodFields line → is_deletion line ≡ false → is_end_date (columns 22 27 line) ≡ true
 unfolding association_later
 association_last line is good stays = (association_behind line is good stays).0
 
--- its weekdays are good
+-- the days run are good
 pub association_days : (line : List ℕ) → HasKind association line → HasGoodFields line → is_deletion line ≡ false → is_days (columns 28 34 line) ≡ true
 unfolding association_later
 association_days line is good stays = (association_behind line is good stays).1.0

@@ -1,5 +1,5 @@
--- What is kept: the trains that start on a day, the identities of trains, and the associations at a
--- place that count on a day.
+-- What is kept once it is looked up: trains, train identities, and the associations chosen at a
+-- place.
 use Rattle.std.specs.Prelude.{◌≡◌, ℕ, List, Option, Some, None, ⊤}
 use Rattle.std.specs.BTreeMap.{BTreeMap, get}
 use Rattle.std.specs.declared.cmp.Ordering.{Ordering}
@@ -14,49 +14,49 @@ use Rattle.docker_model.specs.state.State.{State}
 use Rattle.docker_model.specs.state.Table.{Table}
 use Rattle.train_choice.specs.declared.uid_train.UidTrain.{UidTrain}
 
--- a start day in a state
+-- a state and a start day
 pub record StartDay : Type 0 where
   pub state : State
   pub day : ℕ
 
--- a place on a start day
+-- a state, a place and a start day
 pub record PlaceDay : Type 0 where
   pub state : State
   pub place : List ℕ
   pub day : ℕ
 
--- the kept train, if there is one, is the train of its UID on the day
+-- the kept train, if there is one, is its UID's train on the day
 abbrev pub IsKnownTrain : Table → ℕ → Option UidTrain → Type 0
 IsKnownTrain live day None = ⊤
 IsKnownTrain live day (Some known) = (rows : List Row) → AreRowsOf live rows → known.train ≡ train_in rows known.uid day
 
--- the order by UID, then by day
+-- the order of UIDs and days: by UID, then by day
 abbrev pub uid_day_cmp : List ℕ × ℕ → List ℕ × ℕ → Ordering
 uid_day_cmp a b = ordering_then (bytes_cmp a.0 b.0) (nat_cmp a.1 b.1)
 
--- each kept identity belongs to the train of its UID on its day
+-- each kept identity belongs to the train of the UID and day under which it is kept
 abbrev pub AreIdentities : Table → BTreeMap (List ℕ × ℕ) (List ℕ) → Type 0
 AreIdentities live known =
     (uid : List ℕ) (day : ℕ) (identity : List ℕ) → get uid_day_cmp known (uid, day) ≡ Some identity
     → (rows : List Row) → AreRowsOf live rows → identity ≡ identity_of (train_in rows uid day)
 
--- the order by base, associated train, location and suffix
+-- the order of groups: by base train, associated train, location and suffix
 abbrev pub group_cmp : Group → Group → Ordering
 group_cmp a b =
     ordering_then (bytes_cmp a.base b.base) (ordering_then (bytes_cmp a.associated b.associated)
     (ordering_then (bytes_cmp a.location b.location) (nat_cmp a.suffix b.suffix)))
 
--- at most one association of each group
+-- associations that are kept, at most one for each group
 abbrev pub GroupLinks : Type 0
 GroupLinks = BTreeMap Group Link
 
--- the association kept for each group at the place is the one that counts on the day
+-- for each group at the place, the kept association is the one chosen on the day
 abbrev pub AreDayLinks : Table → List ℕ → ℕ → GroupLinks → Type 0
 AreDayLinks live place day best =
     (group : Group) → group.location ≡ place → (rows : List Row) → AreRowsOf live rows → get group_cmp best group ≡ link_in rows group day
 
--- one more association was considered: its group has the best with it, and the other groups are as
--- they were
+-- one more association was looked at: its group now has the better of it and the best so far, and
+-- no other group changes
 abbrev pub HasOneMore : ℕ → GroupLinks → Link → GroupLinks → Type 0
 HasOneMore day before link after =
     (group : Group) → get group_cmp after group

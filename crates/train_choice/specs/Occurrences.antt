@@ -1,13 +1,13 @@
--- The events of a schedule as a walk over its lines meets them, each with what the walk carries
--- from line to line.
+-- The events of a schedule as a walk over its lines meets them, with what the walk carries from
+-- line to line.
 use Rattle.std.specs.Prelude.{ℕ, ◌+◌, if◌then◌else◌, List, [], ◌∷◌, ◌++◌, map, Option, Some, None, codes}
 use Rattle.docker_model.specs.records.Record.{columns}
 use Rattle.docker_model.specs.file.Journey.{Occasion, times_of}
 use Rattle.docker_model.specs.docker.Event.{Event, events_of, falls_to, event_line, event_identity, has_identity}
 use Rattle.docker_laws.specs.EventWalk.{fall_at}
 
--- an event: its number, what happens and when, the falls up to it, its line, and the identity of
--- the train there
+-- an event: its number, what happens and when, the falls up to it, its line, and the train identity
+-- there
 pub record Occurrence : Type 0 where
   pub number : ℕ
   pub occasion : Occasion
@@ -16,7 +16,7 @@ pub record Occurrence : Type 0 where
   pub line : List ℕ
   pub identity : List ℕ
 
--- an event of these lines
+-- an event of these lines, with all that a walk knows of it
 abbrev pub occurrence_of : List (List ℕ) → Event → Occurrence
 occurrence_of lines event = record {
   number = event.number;
@@ -27,11 +27,11 @@ occurrence_of lines event = record {
   identity = event_identity lines event;
 }
 
--- the events of a schedule
+-- the events of a schedule, in order
 abbrev pub occurrences : List (List ℕ) → List Occurrence
 occurrences lines = map (occurrence_of lines) (events_of lines)
 
--- how far a walk has come: the number of the next event, the falls so far, the last time and the
+-- what a walk carries: the number of the next event, the falls so far, the last time and the train
 -- identity
 pub record Progress : Type 0 where
   pub number : ℕ
@@ -39,11 +39,11 @@ pub record Progress : Type 0 where
   pub last : Option ℕ
   pub identity : List ℕ
 
--- before the first line, which is a basic schedule
+-- what a walk carries before the first line, which is a basic schedule
 abbrev pub before_all : List ℕ → Progress
 before_all basic = record { number = 1; falls = 0; last = None; identity = columns 33 36 basic }
 
--- the event of a time of a line
+-- the event for one time of a line
 abbrev pub occurrence_at : Progress → List ℕ → Occasion × ℕ → Occurrence
 occurrence_at p line time = record {
   number = p.number;
@@ -54,7 +54,7 @@ occurrence_at p line time = record {
   identity = p.identity;
 }
 
--- after that time
+-- what the walk carries after that time
 abbrev pub past_time : Progress → Occasion × ℕ → Progress
 past_time p time = record {
   number = p.number + 1;
@@ -63,21 +63,22 @@ past_time p time = record {
   identity = p.identity;
 }
 
--- the events of some times of a line
+-- the events for some times of a line
 abbrev pub occurrences_at : Progress → List ℕ → List (Occasion × ℕ) → List Occurrence
 occurrences_at p line [] = []
 occurrences_at p line (time ∷ times) = occurrence_at p line time ∷ occurrences_at (past_time p time) line times
 
--- after those times
+-- what the walk carries after those times
 abbrev pub past_times : Progress → List (Occasion × ℕ) → Progress
 past_times p [] = p
 past_times p (time ∷ times) = past_times (past_time p time) times
 
--- the identity after a line: a change en route sets it, and any other line leaves it as it was
+-- the train identity after a line: a change en route has a new one, and any other line changes
+-- nothing
 abbrev pub identity_behind : List ℕ → List ℕ → List ℕ
 identity_behind line identity = if has_identity (codes "CR") line then columns 13 16 line else identity
 
--- at a line
+-- what the walk carries when it comes to a line
 abbrev pub turned : Progress → List ℕ → Progress
 turned p line = record {
   number = p.number;

@@ -1,4 +1,4 @@
--- The choice among what has an STP indicator and a first day.
+-- The order of choice, from an STP indicator and a first date.
 use Rattle.std.specs.Prelude.{ℕ, Bool, true, ◌==◌, Option, Some, None}
 use Rattle.std.specs.declared.cmp.Ordering.{Ordering}
 use Rattle.std.specs.Ordering.{is_lt}
@@ -7,19 +7,19 @@ use Rattle.cif_line.specs.declared.letter.Stp.{Stp}
 use Rattle.cif_line.specs.declared.letter.Stp.TheVariants.{Cancellation}
 use Rattle.docker_model.specs.docker.Choice.{choice_cmp}
 
--- the order of choice, from the letter of the STP indicator and the first day of each
+-- the order of choice, if each has an indicator's letter and a first date
 abbrev pub rank_cmp : {A : Type 0} → (A → ℕ × ℕ) → A → A → Ordering
 rank_cmp rank a b = choice_cmp (rank a).0 (rank a).1 (rank b).0 (rank b).1
 
--- the letter of an STP indicator, and a first day
+-- the letter of an STP indicator, and a first date
 abbrev pub rank_meant : Stp × ℕ → ℕ × ℕ
 rank_meant rank = (stp_letter rank.0, rank.1)
 
--- there is no best so far, or this comes before it
+-- there is no best so far, or this one comes before it
 abbrev pub is_better : {A : Type 0} → (A → A → Ordering) → A → Option A → Bool
 is_better cmp more None = true
 is_better cmp more (Some best) = is_lt (cmp more best)
 
--- the STP indicator of a cancellation
+-- the indicator is of a cancellation
 abbrev pub is_cancellation : ℕ → Bool
 is_cancellation indicator = indicator == stp_letter Cancellation

@@ -1,24 +1,25 @@
--- The lines of a schedule up to its last one at a place, and their events.
+-- The lines of a schedule up to the last one at a place, and their events.
 use Rattle.std.specs.Prelude.{Bool, if◌then◌else◌, List, [], ◌∷◌, ℕ}
 use Rattle.std.specs.Str.{bytes_eq}
 use Rattle.docker_model.specs.records.Record.{columns}
 use Rattle.docker_model.specs.file.File.{first_record}
 use Rattle.train_choice.specs.Occurrences.{Occurrence, before_all, occurrences_from}
 
--- the line has the place where a location record has its TIPLOC
+-- the line has the place where location records have their TIPLOC
 abbrev pub names_place : List ℕ → List ℕ → Bool
 names_place place line = bytes_eq (columns 3 9 line) place
 
--- a line before others; it is left out if it doesn't name the place and no line follows
+-- a line and the lines after it. It is left out if it is the last and isn't at the place
 abbrev pub before_named : Bool → List ℕ → List (List ℕ) → List (List ℕ)
 before_named named line [] = if named then line ∷ [] else []
 before_named named line (next ∷ rest) = line ∷ next ∷ rest
 
--- the lines up to the last one that names the place
+-- the lines up to the last one at the place. Of lines at A, B, C, B and D, those up to the last one
+-- at B are the first four
 abbrev pub up_to_last : List ℕ → List (List ℕ) → List (List ℕ)
 up_to_last place [] = []
 up_to_last place (line ∷ lines) = before_named (names_place place line) line (up_to_last place lines)
 
--- the events of a schedule up to the last one at the place
+-- the events of a schedule, up to its last line at the place
 abbrev pub occurrences_to : List ℕ → List (List ℕ) → List Occurrence
 occurrences_to place lines = occurrences_from (before_all (first_record lines)) (up_to_last place lines)

@@ -1,4 +1,4 @@
-//! Chooses the schedule of a train that counts on a day.
+//! Chooses the schedule by which a train runs on a day.
 ghost use Rattle.std.specs.Prelude.{◌≡◌, true, List, None, Some};
 ghost use Rattle.std.specs.Ordering.{on};
 ghost use Rattle.cif_change.specs.Meaning.{key_meant, body_meant};
@@ -22,9 +22,9 @@ use cif_change::{Body, Key};
 use cif_line::{Day, Stp, Uid};
 use docker_state::{Live, State};
 
-/// The schedule chosen for a UID and a day. Of the live schedules of the UID that run on the day,
-/// it is the one with the least STP indicator; of several of these, the one with the latest first
-/// day. It may be a cancellation. `None` if no schedule runs.
+/// The schedule chosen for a UID on a day. Of the live schedules of the UID that run on the day, it
+/// has the lowest STP indicator; of several of these, it has the latest first date. It may be a
+/// cancellation. `None` if no schedule runs.
 pub fn chosen<'a>(state: &'a State, uid: &Uid, day: Day) -> Option<ScheduleView<'a>>
     ensures { IsChosenOn (live_table state.now) uid.now day result }
 {
@@ -52,7 +52,7 @@ fn unless_cancelled(found: Option<ScheduleView<'_>>) -> Option<ScheduleView<'_>>
     }
 }
 
-/// Whether this is the STP indicator of a cancellation.
+/// Whether the STP indicator is of a cancellation.
 pub fn is_cancellation(stp: Stp) -> bool
     ensures { result ≡ is_cancellation (stp_letter stp) }
 {
@@ -60,7 +60,7 @@ pub fn is_cancellation(stp: Stp) -> bool
 }
 
 /// Like `train_on`, for the UID of a schedule that runs on the day. That schedule is the best so
-/// far before any row is read.
+/// far when the walk over the rows begins.
 pub(crate) fn train_from<'a>(
     near: &Near<'a>,
     train: &ScheduleView<'a>,
@@ -75,7 +75,7 @@ pub(crate) fn train_from<'a>(
     unless_cancelled(best_of(Some(train.again()), schedules_of(near, uid), uid, day))
 }
 
-/// The best of the best so far and the schedules of these rows.
+/// The best of the best so far and all schedules of these rows.
 fn best_of<'a>(
     so_far: Option<ScheduleView<'a>>,
     rows: Live<'a>,
@@ -92,7 +92,7 @@ fn best_of<'a>(
     found
 }
 
-/// The best so far, with one more row considered.
+/// The best so far, after one more row.
 fn with_row<'a>(
     found: Option<ScheduleView<'a>>,
     key: &'a Key,
@@ -110,8 +110,8 @@ fn with_row<'a>(
     }
 }
 
-/// The best so far, with one more schedule considered. Whether that one runs is checked only if it
-/// would be the best.
+/// The best so far, after one more schedule. Whether that schedule runs is checked only if it would
+/// be the best.
 fn with_one<'a>(
     found: Option<ScheduleView<'a>>,
     view: ScheduleView<'a>,
@@ -128,7 +128,7 @@ fn with_one<'a>(
     }
 }
 
-/// Whether a schedule has this UID and runs on the day.
+/// Whether the schedule has this UID and runs on the day.
 fn is_running(view: &ScheduleView<'_>, uid: &Uid, day: Day) -> bool
     ensures { result ≡ is_running uid.now day view.now }
 {

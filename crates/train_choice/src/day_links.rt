@@ -1,4 +1,4 @@
-//! The associations at a place that count on a start day.
+//! The associations that are chosen at a place on a start day.
 ghost use Rattle.std.specs.Prelude.{◌≡◌, List, None, IfOk, OnOk};
 ghost use Rattle.std.specs.BTreeMap.{get};
 ghost use Rattle.cif_change.specs.Meaning.{key_meant, body_meant};
@@ -24,9 +24,9 @@ use std::alloc::Global;
 use std::collections::BTreeMap;
 use std::marker::Model;
 
-/// The associations at a place that count on a start day of their base trains. In each group, it is
-/// the association that runs on the day and has the least STP indicator; of several of these, the
-/// one with the latest first day. One walk over the associations at the place finds them.
+/// The associations chosen at a place on a start day of their base trains, one for each group. Of
+/// the associations in a group that run on the day, it has the lowest STP indicator; of several of
+/// these, it has the latest first date. One walk over the associations at the place finds them all.
 #[derive(Debug, Drop)]
 pub struct DayLinks<'a> {
     state: &'a State,
@@ -52,8 +52,7 @@ impl<'a> Model for DayLinks<'a> {
 }
 
 impl<'a> DayLinks<'a> {
-    /// The associations at a place that count on a start day. `Memory` if there is no room for
-    /// them.
+    /// The associations chosen at a place on a start day. `Memory` if there is no room for them.
     pub fn at(
         alloc: Global,
         state: &'a State,
@@ -72,7 +71,7 @@ impl<'a> DayLinks<'a> {
         })
     }
 
-    /// Whether this association at the place is the one that counts in its group.
+    /// Whether this association at the place is the one chosen in its group.
     pub fn counts(&self, key: &AssocKey) -> bool
         requires { key.now.location ≡ self.now.place }
         ensures { (rows : List Row) → AreRowsOf (live_table self.now.state) rows → result
@@ -86,7 +85,7 @@ impl<'a> DayLinks<'a> {
     }
 }
 
-/// The best association of each group along rows.
+/// The best association of each group in these rows.
 fn best_of<'a>(
     alloc: Global,
     rows: Standing<'a>,
@@ -103,7 +102,7 @@ fn best_of<'a>(
     Ok(best)
 }
 
-/// Updates the best associations with one more row.
+/// Updates the best associations after one more row.
 fn add_row<'a>(
     best: &mut BTreeMap<LinkGroup, LinkView<'a>>,
     key: &'a Key,
@@ -121,7 +120,7 @@ fn add_row<'a>(
     }
 }
 
-/// Updates the best associations with one more association.
+/// Updates the best associations after one more association.
 fn add<'a>(
     best: &mut BTreeMap<LinkGroup, LinkView<'a>>,
     link: LinkView<'a>,

@@ -1,4 +1,4 @@
-//! The trains that start on a day. The last one looked up is kept.
+//! The trains that start on a day. The last train that was looked up is kept.
 ghost use Rattle.std.specs.Prelude.{◌≡◌, true, List, IfSome};
 ghost use Rattle.docker_model.specs.file.File.{first_record};
 ghost use Rattle.docker_model.specs.state.State.{live_table};
@@ -18,8 +18,8 @@ use cif_line::Day;
 use docker_state::State;
 use std::marker::Model;
 
-/// The trains that start on a day. The train of the UID asked for last is kept. A walk meets the
-/// schedules of a UID one after the other, so the schedules of each UID are searched once.
+/// The trains that start on a day. The train of the last UID that was looked up is kept. A walk
+/// meets all schedules of a UID one after the other, so a UID is searched for only once.
 #[derive(Debug, Drop)]
 pub struct DayTrains<'a> {
     state: &'a State,
@@ -40,7 +40,7 @@ impl<'a> Model for DayTrains<'a> {
 }
 
 impl<'a> DayTrains<'a> {
-    /// The trains of a state that start on a day, none asked for yet.
+    /// The trains of a state that start on a day, before any is looked up.
     pub fn of(state: &'a State, day: Day) -> DayTrains<'a>
         ensures { result ≡ record { state = state.entry.now; day = day } }
     {
@@ -51,9 +51,10 @@ impl<'a> DayTrains<'a> {
         }
     }
 
-    /// Whether the train of a schedule's UID that starts on the day runs by this schedule. The
-    /// schedule runs on the day. The index of its row is where the search for the schedules of the
-    /// UID begins. It is a hint: a wrong index costs a search and changes no answer.
+    /// Whether the train of this schedule's UID that starts on the day runs by this schedule. The
+    /// schedule has to run on the day. The search for the UID's schedules begins at the row with
+    /// this index. The index is only a hint: a wrong one makes the search longer and changes no
+    /// answer.
     pub fn runs_by(&mut self, row: usize, train: &ScheduleView<'a>) -> bool
         requires live { IsLiveTrain (live_table self.old.state) train.now }
         requires runs { schedule_runs (first_record train.now.lines) self.old.day ≡ true }
@@ -67,8 +68,7 @@ impl<'a> DayTrains<'a> {
         }
     }
 
-    /// Whether the kept train runs by a schedule. `None` if no train is kept, or the train of
-    /// another UID.
+    /// Whether the kept train runs by the schedule. `None` if no train is kept, or another UID's.
     fn known(&self, key: &ScheduleKey) -> Option<bool>
         ensures { IfSome result (λ answer. (rows : List Row)
             → AreRowsOf (live_table self.now.state) rows
@@ -81,7 +81,7 @@ impl<'a> DayTrains<'a> {
         }
     }
 
-    /// Like `runs_by`, by a walk over the schedules of the UID. The train found is kept.
+    /// Like `runs_by`, by a walk over the schedules of the UID. It keeps the train that it finds.
     fn look_up(&mut self, row: usize, train: &ScheduleView<'a>) -> bool
         requires live { IsLiveTrain (live_table self.old.state) train.now }
         requires runs { schedule_runs (first_record train.now.lines) self.old.day ≡ true }

@@ -1,4 +1,4 @@
-//! Where a train begins and where it ends.
+//! Where a train starts and where it ends.
 ghost use Rattle.std.specs.Prelude.{◌≡◌, [], Some, IfSome, IsNone, find, codes};
 ghost use Rattle.std.specs.Option.{option_copied};
 ghost use Rattle.docker_model.specs.docker.Event.{has_identity};
@@ -7,7 +7,7 @@ ghost use Rattle.train_choice.specs.Occurrences.{occurrences};
 use crate::schedule_view::ScheduleView;
 use cif_line::Line;
 
-/// The lines at which a train begins and ends. `None` if the schedule has no journey.
+/// The lines at which a train starts and ends. `None` if its schedule has no journey.
 pub fn ends_of<'a>(train: &ScheduleView<'a>) -> Option<(&'a Line, &'a Line)>
     ensures origin { IfSome result (λ ends.
         find (λ line. has_identity (codes "LO") line) train.now.lines ≡ Some ends.0.now) }
@@ -21,14 +21,14 @@ pub fn ends_of<'a>(train: &ScheduleView<'a>) -> Option<(&'a Line, &'a Line)>
     Some((origin, terminus))
 }
 
-/// The first line that has this record identity.
+/// The first line with this record identity.
 fn first_of<'a>(lines: &'a [Line], identity: &[u8; 2]) -> Option<&'a Line>
     ensures { option_copied result ≡ find (λ line. has_identity identity.now line) lines.entry.now }
 {
     lines.iter().find(|line| has_identity(line, identity))
 }
 
-/// Whether a line has this record identity.
+/// Whether the line has this record identity.
 fn has_identity(line: &Line, identity: &[u8; 2]) -> bool
     ensures { result ≡ has_identity identity.now line.now }
 {

@@ -1,4 +1,4 @@
-//! The identities of trains. Each is kept once it has been looked up.
+//! Train identities. Each is kept once it is looked up.
 ghost use Rattle.std.specs.Prelude.{◌≡◌, List, IfOk};
 ghost use Rattle.docker_model.specs.state.State.{live_table};
 ghost use Rattle.docker_laws.specs.Row.{Row, AreRowsOf};
@@ -13,8 +13,8 @@ use std::alloc::Global;
 use std::collections::BTreeMap;
 use std::marker::Model;
 
-/// The identities of trains by UID and start day. Each is kept once it has been looked up, so the
-/// schedules of a UID are searched once for each day.
+/// Train identities by UID and start day. Each is kept once it is looked up, so the schedules of a
+/// UID are searched only once for each day.
 #[derive(Debug, Drop)]
 pub struct Identities<'a> {
     state: &'a State,
@@ -34,7 +34,7 @@ impl<'a> Model for Identities<'a> {
 }
 
 impl<'a> Identities<'a> {
-    /// The identities of the trains of a state, none asked for yet.
+    /// The train identities of a state, before any is looked up.
     pub fn of(alloc: Global, state: &'a State) -> Identities<'a>
         ensures { result ≡ state.entry.now }
     {
@@ -44,7 +44,7 @@ impl<'a> Identities<'a> {
         }
     }
 
-    /// The identity, in its basic schedule, of the train of a UID that starts on a day. Question
+    /// The train identity of a UID's train that starts on a day, from its basic schedule. Question
     /// marks if the train doesn't run then. `Memory` if there is no room to keep the identity.
     pub fn identity(&mut self, uid: &Uid, day: Day) -> Result<[u8; 4], Memory>
         ensures same { self.new ≡ self.old }
@@ -59,7 +59,8 @@ impl<'a> Identities<'a> {
         }
     }
 
-    /// Like `identity`, by a walk over the schedules of the UID. The identity found is kept.
+    /// Like `identity`, by a walk over the schedules of the UID. It keeps the identity that it
+    /// finds.
     fn look_up(&mut self, uid: &Uid, day: Day) -> Result<[u8; 4], Memory>
         ensures same { self.new ≡ self.old }
         ensures identity { IfOk result (λ identity. (rows : List Row)
@@ -72,7 +73,7 @@ impl<'a> Identities<'a> {
     }
 }
 
-/// The identity of a train in its basic schedule. Question marks if there is no train.
+/// The train identity in a train's basic schedule. Question marks if there is no train.
 fn identity_of(train: Option<ScheduleView<'_>>) -> [u8; 4]
     ensures { result ≡ identity_of train.entry }
 {

@@ -1,5 +1,5 @@
-//! On which of a day and the two days before it a schedule runs. A train that starts on one of
-//! these three days can be somewhere on the day.
+//! Whether a schedule runs on a day, on the day before and two days before. A train that starts on
+//! any of these can be somewhere on the day.
 ghost use Rattle.std.specs.Prelude.{◌≡◌, ◌≤◌, ◌||◌, ◌-◌, false};
 ghost use Rattle.std.specs.Option.{SomeIff};
 ghost use Rattle.docker_model.specs.records.Record.{HasKind, basic_schedule, columns};
@@ -8,19 +8,19 @@ ghost use Rattle.train_choice.specs.Lately.{AreLately, begun_back, lasts_back, l
 
 use cif_line::{Day, Days, Line};
 
-/// On which of a day and the two days before it a schedule runs.
+/// Whether a schedule runs on a day, on the day before and two days before.
 #[derive(Clone, Copy, Debug)]
 pub struct Lately {
-    /// It runs on the day.
+    /// Whether it runs on the day.
     pub today: bool,
-    /// It runs on the day before it.
+    /// Whether it runs on the day before.
     pub day_before: bool,
-    /// It runs two days before it.
+    /// Whether it runs two days before.
     pub two_before: bool,
 }
 
 impl Lately {
-    /// It runs on none of the three days.
+    /// The schedule doesn't run on any of the three days.
     pub(crate) fn never() -> Lately
         ensures { AreLately (λ back. false) result }
     {
@@ -39,7 +39,7 @@ impl Lately {
     }
 }
 
-/// The day `back` days before. `None` if there is no such day.
+/// The day `back` days before. `None` if that is before day 0.
 pub fn day_back(day: Day, back: u16) -> Option<Day>
     ensures { SomeIff result (back ≤ day) (day - back) }
 {
@@ -47,8 +47,8 @@ pub fn day_back(day: Day, back: u16) -> Option<Day>
     Day::from_number(number)
 }
 
-/// On which of a day and the two days before it a schedule runs that begins on `first`. The other
-/// fields come from its basic schedule. The end date is read only if it can matter.
+/// Whether a schedule that begins on `first` runs on a day, on the day before and two days before.
+/// All but `first` is read from its basic schedule. The end date is read only if it can matter.
 #[tactic(auto, using(crate::proofs::RunFields::schedule_fields))]
 pub(crate) fn days_lately(line: &Line, first: Day, day: Day) -> Lately
     requires kind { HasKind basic_schedule line.now }
@@ -78,7 +78,7 @@ pub(crate) fn days_lately(line: &Line, first: Day, day: Day) -> Lately
     }
 }
 
-/// Whether there is a day `back` days before, it is not before the first day, and its weekday is
+/// Whether the day `back` days before exists, isn't before the first date, and has its weekday
 /// marked.
 fn begun_back(days: &Days, first: Day, day: Day, back: u16) -> bool
     ensures { result ≡ begun_back days.now first day back }
@@ -89,14 +89,14 @@ fn begun_back(days: &Days, first: Day, day: Day, back: u16) -> bool
     }
 }
 
-/// Whether the day `back` days before is not after the last day.
+/// Whether the day `back` days before isn't after the last date.
 fn lasts_back(last: u16, day: Day, back: u16) -> bool
     ensures { result ≡ lasts_back last day back }
 {
     day.number().saturating_sub(back) <= last
 }
 
-/// Whether a basic schedule marks the weekday of a day, or of one of the two days before it.
+/// Whether a basic schedule marks one of three weekdays: the day's and the two before.
 pub(crate) fn is_marked_lately(line: &Line, day: Day) -> bool
     ensures { result ≡ (marked_back (columns 22 28 line.now) day 0
         || marked_back (columns 22 28 line.now) day 1 || marked_back (columns 22 28 line.now) day 2) }

@@ -1,5 +1,5 @@
-//! Which schedule of a train and which association counts on a day, and where the events of a train
-//! are.
+//! The choice: which schedule of a train counts on a day, and which association of a group. Also
+//! the events of a schedule.
 #![tactic(auto)]
 
 mod choice;

@@ -12,7 +12,7 @@ use cif_change::AssocKey;
 use cif_line::{Assoc, Day, Line, Stp, assoc};
 use std::marker::Model;
 
-/// A live association: its key, and its line.
+/// A live association: its key and its record.
 #[derive(Debug, Drop)]
 pub struct LinkView<'a> {
     key: &'a AssocKey,
@@ -37,7 +37,7 @@ impl<'a> Model for LinkView<'a> {
 
 #[tactic(auto, using(crate::proofs::KeptLines::kept_line))]
 impl<'a> LinkView<'a> {
-    /// An association whose line is kept under this key.
+    /// The association with this key and this record, which fit.
     pub(crate) fn of(key: &'a AssocKey, line: &'a Line) -> LinkView<'a>
         requires { IsAssociationOf (association_key_meant key.now) line.now }
         ensures { result ≡ record {
@@ -48,14 +48,14 @@ impl<'a> LinkView<'a> {
         LinkView { key, line }
     }
 
-    /// The key.
+    /// The association's key.
     pub fn key(&self) -> &'a AssocKey
         ensures { association_key_meant result.now ≡ self.now.key }
     {
         self.key
     }
 
-    /// The line.
+    /// The association's line.
     fn line(&self) -> &'a Line
         ensures line { result.now ≡ self.now.line }
         ensures kind { HasKind association result.now }
@@ -65,14 +65,14 @@ impl<'a> LinkView<'a> {
         self.line
     }
 
-    /// Whether it runs on a start day of its base train.
+    /// Whether the association runs on a start day of its base train.
     pub fn runs_on(&self, start: Day) -> bool
         ensures { result ≡ association_runs self.now.line start }
     {
         association_runs(self.line(), start)
     }
 
-    /// Its record.
+    /// A view of the association's record.
     pub fn record(&self) -> Assoc<'a>
         ensures { result ≡ self.now.line }
     {

@@ -1,4 +1,4 @@
-//! The midnights that a train passes.
+//! How often a train passes midnight.
 ghost use Rattle.std.specs.Prelude.{◌≡◌, ◌↔◌, ◌≤◌, All, Contains, IsSome, IfSome};
 ghost use Rattle.docker_model.specs.records.Field.{HasGoodFields};
 ghost use Rattle.docker_model.specs.file.Journey.{times_of};
@@ -12,8 +12,8 @@ use crate::schedule_view::ScheduleView;
 use crate::times::EventTimes;
 use cif_line::{Line, Tiploc, kind};
 
-/// How many midnights lie between the start of a train and an event of its schedule: 0 to 2. Events
-/// are numbered from 1. `None` if there is no such event.
+/// How often a train passes midnight between its start and an event: 0 to 2 times. Events are
+/// numbered from 1. `None` if there is no event with this number.
 #[tactic(auto, using(crate::proofs::FallsTold::falls_there, crate::proofs::FallsTold::falls_are))]
 pub fn falls(view: &ScheduleView<'_>, event: u64) -> Option<u8>
     ensures there { IsSome result ↔
@@ -37,15 +37,15 @@ fn falls_among(events: Events<'_>, event: u64) -> Option<u64>
     None
 }
 
-/// Whether some event of a train, up to its last one at a place, is after a midnight. This reads
-/// only the times of the lines, which costs less than a walk over the events.
+/// Whether a train passes midnight before some event, up to its last event at a place. Only the
+/// times of the lines are read, which costs less than a walk over the events.
 pub fn passes_midnight(view: &ScheduleView<'_>, place: &Tiploc) -> bool
     ensures { result ≡ some_late (occurrences_to place.now view.now.lines) }
 {
     falls_along(view.lines_to(place))
 }
 
-/// Whether in these lines some time is below the time before it.
+/// Whether some time in these lines is below the time before it.
 fn falls_along(lines: &[Line]) -> bool
     requires good { All HasGoodFields lines.now }
     ensures { result ≡ falls_along 0 lines.now }
@@ -62,8 +62,8 @@ fn falls_along(lines: &[Line]) -> bool
     false
 }
 
-/// The last time of a line in half minutes, or `before` if the line has none. `None` if a time is
-/// below the one before it.
+/// The last time of the line in half minutes, or `before` if it has none. `None` if a time is below
+/// the one before it.
 fn ascending_to(line: &Line, before: u16) -> Option<u16>
     requires good { HasGoodFields line.now }
     ensures { result ≡ ascends before (times_of line.now) }

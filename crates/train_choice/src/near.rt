@@ -1,4 +1,4 @@
-//! A state, and one of its rows.
+//! A state, with a hint of where to look for schedules.
 ghost use Rattle.std.specs.Prelude.{◌≡◌};
 ghost use Rattle.docker_laws.specs.Index.{AreOfUid};
 ghost use Rattle.docker_model.specs.state.State.{HasGoodBodies, live_table};
@@ -8,8 +8,8 @@ use cif_line::Uid;
 use docker_state::{Live, State};
 use std::marker::Model;
 
-/// A state, and the index of one of its rows. The schedules of a UID are looked for near that row
-/// first. The index is a hint: a wrong one costs a search and changes no answer.
+/// A state, and the index of one of its rows. The search for the schedules of a UID begins near
+/// that row. The index is only a hint: a wrong one makes the search longer and changes no answer.
 #[derive(Debug, Drop)]
 pub(crate) struct Near<'a> {
     state: &'a State,
@@ -25,14 +25,14 @@ impl<'a> Model for Near<'a> {
 }
 
 impl<'a> Near<'a> {
-    /// A state, and the index of a row, as a walk over the rows at a place gives it.
+    /// A state, and the index of a row in a walk over the rows at a place.
     pub(crate) fn row(state: &'a State, row: usize) -> Near<'a>
         ensures { result ≡ state.entry.now }
     {
         Near { state, row }
     }
 
-    /// A state, without a hint of where to look.
+    /// A state without a hint.
     pub(crate) fn none(state: &'a State) -> Near<'a>
         ensures { result ≡ state.entry.now }
     {

@@ -1,11 +1,11 @@
-//! What a line of a docker stands for.
+//! What happens at a line of a docker.
 ghost use Rattle.std.specs.Prelude.{◌≡◌, [], ◌∷◌};
 ghost use Rattle.docker_model.specs.docker.DockerLine.{occasion_rank};
 ghost use Rattle.docker_model.specs.docker.DockerText.{occasion_text};
 ghost use Rattle.train_choice.specs.Meaning.{occasion_meant};
 
-/// What happens at a line: an event of a train, or an association of its train with another. Lines
-/// of the same time come in this order.
+/// What happens at a line of a docker: an event of a train, or an association of the train with
+/// another. Lines with the same time come in this order.
 #[derive(Clone, Copy, PartialEq, Eq, Debug)]
 pub enum Occasion {
     /// The train arrives.
@@ -23,7 +23,7 @@ pub enum Occasion {
 }
 
 impl Occasion {
-    /// Its letter in a docker: `A`, `P`, `J`, `V`, `N` or `D`.
+    /// The letter that a docker has for it: `A`, `P`, `J`, `V`, `N` or `D`.
     pub fn letter(&self) -> u8
         ensures { occasion_text (occasion_meant self.now) ≡ result ∷ [] }
     {
@@ -37,7 +37,7 @@ impl Occasion {
         }
     }
 
-    /// Its rank among lines of the same time.
+    /// The rank of the line among lines with the same time.
     pub fn rank(&self) -> u8
         ensures { result ≡ occasion_rank (occasion_meant self.now) }
     {

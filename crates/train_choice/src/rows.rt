@@ -1,4 +1,4 @@
-//! The schedule or the association of a row.
+//! The schedule or the association in a row.
 ghost use Rattle.std.specs.Prelude.{◌≡◌};
 ghost use Rattle.cif_change.specs.Meaning.{key_meant, body_meant};
 ghost use Rattle.docker_model.specs.state.State.{IsBodyOf};
@@ -8,7 +8,7 @@ use crate::link_view::LinkView;
 use crate::schedule_view::ScheduleView;
 use cif_change::{Body, Key};
 
-/// The schedule of a row. `None` if the row isn't a schedule's.
+/// The schedule in a row. `None` if the row isn't a schedule.
 pub fn schedule_of<'a>(key: &'a Key, body: &'a Body) -> Option<ScheduleView<'a>>
     requires { IsBodyOf (key_meant key.now) (body_meant body.now) }
     ensures { result ≡ schedule_of (key_meant key.entry.now) (body_meant body.entry.now) }
@@ -19,7 +19,7 @@ pub fn schedule_of<'a>(key: &'a Key, body: &'a Body) -> Option<ScheduleView<'a>>
     }
 }
 
-/// The association of a row. `None` if the row isn't an association's.
+/// The association in a row. `None` if the row isn't an association.
 pub fn association_of<'a>(key: &'a Key, body: &'a Body) -> Option<LinkView<'a>>
     requires { IsBodyOf (key_meant key.now) (body_meant body.now) }
     ensures { result ≡ association_of (key_meant key.entry.now) (body_meant body.entry.now) }

@@ -20,7 +20,7 @@ use cif_change::{Lines, ScheduleKey};
 use cif_line::{Day, Line, Stp, Tiploc};
 use std::marker::Model;
 
-/// A live schedule: its key, and its lines.
+/// A live schedule: its key and its lines.
 #[derive(Debug, Drop)]
 pub struct ScheduleView<'a> {
     key: &'a ScheduleKey,
@@ -44,7 +44,7 @@ impl<'a> Model for ScheduleView<'a> {
 
 #[tactic(auto, using(crate::proofs::KeptLines::kept_lines))]
 impl<'a> ScheduleView<'a> {
-    /// A schedule whose lines are kept under this key.
+    /// The schedule with this key and these lines, which fit.
     pub(crate) fn of(key: &'a ScheduleKey, lines: &'a Lines) -> ScheduleView<'a>
         requires { IsScheduleOf (schedule_key_meant key.now) lines.now }
         ensures { result ≡ record {
@@ -55,21 +55,21 @@ impl<'a> ScheduleView<'a> {
         ScheduleView { key, lines }
     }
 
-    /// The same schedule.
+    /// A second view of the schedule.
     pub(crate) fn again(&self) -> ScheduleView<'a>
         ensures { result ≡ self.now }
     {
         ScheduleView::of(self.key, self.lines)
     }
 
-    /// The key: UID, first day and STP indicator.
+    /// The key: UID, runs-from date and STP indicator.
     pub fn key(&self) -> &'a ScheduleKey
         ensures { schedule_key_meant result.now ≡ self.now.key }
     {
         self.key
     }
 
-    /// The lines. The first is the basic schedule (BS), with transaction `N`.
+    /// The lines. The first is the basic schedule (BS), with the transaction `N`.
     pub fn lines(&self) -> &'a [Line]
         ensures lines { result.now ≡ self.now.lines }
         ensures kept { IsScheduleOf self.now.key self.now.lines }
@@ -77,7 +77,7 @@ impl<'a> ScheduleView<'a> {
         self.lines.as_slice()
     }
 
-    /// The basic schedule.
+    /// The first line, which is the basic schedule.
     fn first(&self) -> &'a Line
         ensures line { result.now ≡ first_record self.now.lines }
         ensures kind { HasKind basic_schedule result.now }
@@ -90,15 +90,16 @@ impl<'a> ScheduleView<'a> {
         }
     }
 
-    /// Whether it runs on a day. If it begins later, its lines aren't read.
+    /// Whether the schedule runs on a day. If the day is before its runs-from date, its lines
+    /// aren't read.
     pub fn runs_on(&self, day: Day) -> bool
         ensures { result ≡ schedule_runs (first_record self.now.lines) day }
     {
         (self.key.runs_from.number() <= day.number()) && schedule_runs_on(self.first(), day)
     }
 
-    /// On which of a day and the two days before it it runs. If it begins later, its lines aren't
-    /// read.
+    /// Whether the schedule runs on a day, on the day before and two days before. If the day is
+    /// before its runs-from date, its lines aren't read.
     pub fn runs_lately(&self, day: Day) -> Lately
         ensures { AreLately (runs_back self.now.lines day) result }
     {
@@ -108,9 +109,9 @@ impl<'a> ScheduleView<'a> {
         days_lately(self.first(), self.key.runs_from, day)
     }
 
-    /// Whether it has begun by a day, and the weekday of that day or of one of the two days before
-    /// it is marked. If not, it runs on none of the three. This reads the first day in its key and
-    /// three marks, which costs less than `runs_lately`.
+    /// Whether the schedule has begun by a day, and marks that weekday or one of the two before. If
+    /// not, it doesn't run on any of these days. This reads the key and three marks, which costs
+    /// less than `runs_lately`.
     pub fn may_run_lately(&self, day: Day) -> bool
         ensures { result ≡ may_run_lately self.now.key self.now.lines day }
     {
@@ -124,7 +125,7 @@ impl<'a> ScheduleView<'a> {
         self.first().field(33)
     }
 
-    /// The events, in order.
+    /// The events of the schedule, in order.
     pub fn events(&self) -> Events<'a>
         ensures events { result ≡ occurrences self.now.lines }
         ensures few { (number : ℕ) → falls_to self.now.lines number ≤ 2 }
@@ -139,7 +140,7 @@ impl<'a> ScheduleView<'a> {
         Events::of(self.first(), self.identity(), self.lines_to(place))
     }
 
-    /// The lines up to the last one at a place.
+    /// The lines of the schedule, up to the last one at a place.
     pub(crate) fn lines_to(&self, place: &Tiploc) -> &'a [Line]
         ensures lines { result.now ≡ up_to_last place.now self.now.lines }
         ensures good { All HasGoodFields result.now }

@@ -1,4 +1,4 @@
-//! The scheduled times of a line.
+//! The scheduled times in a line.
 ghost use Rattle.std.specs.Prelude.{◌≡◌, ◌≤◌, [], length, option_map};
 ghost use Rattle.cif_line.specs.Kind.{meaning};
 ghost use Rattle.std.specs.Iterator.{YieldsFirstBy, item_count};
@@ -10,7 +10,7 @@ ghost use Rattle.train_choice.specs.Meaning.{occasion_meant, times_meant};
 use crate::occasion::Occasion;
 use cif_line::{Kind, Line, Time};
 
-/// The times of a line, in order: an arrival, a pass and a departure, each if there is one.
+/// The times in a line, in order: an arrival, a pass and a departure, each if the line has one.
 #[derive(Clone, Copy, Debug)]
 pub(crate) struct EventTimes {
     arrival: Option<Time>,
@@ -30,7 +30,7 @@ impl EventTimes {
         }
     }
 
-    /// The times of a line of this kind.
+    /// The times in a line of this kind.
     pub(crate) fn of(kind: Option<Kind>, line: &Line) -> EventTimes
         requires kind { option_map meaning kind ≡ kind_of line.now }
         requires good { HasGoodFields line.now }
@@ -65,7 +65,7 @@ impl Iterator for EventTimes {
     }
 }
 
-/// The departure of an origin.
+/// The departure from an origin.
 #[tactic(auto, using(crate::proofs::LineTimes::line_times))]
 fn origin_times(line: &Line) -> EventTimes
     requires kind { HasKind origin_location line.now }
@@ -93,7 +93,7 @@ fn call_times(line: &Line) -> EventTimes
     }
 }
 
-/// The arrival at a terminating location.
+/// The arrival at a terminus.
 #[tactic(auto, using(crate::proofs::LineTimes::line_times))]
 fn terminus_times(line: &Line) -> EventTimes
     requires kind { HasKind terminating_location line.now }

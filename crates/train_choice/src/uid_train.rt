@@ -1,4 +1,4 @@
-//! A UID with its train on a start day.
+//! A UID, with its train on a start day.
 ghost use Rattle.std.specs.Prelude.{◌≡◌, Some, None, if◌then◌else◌};
 ghost use Rattle.std.specs.Str.{bytes_eq};
 ghost use Rattle.docker_laws.specs.Gathering.{runs_by};
@@ -8,7 +8,7 @@ use crate::schedule_view::ScheduleView;
 use cif_change::ScheduleKey;
 use cif_line::Uid;
 
-/// A UID, and the schedule by which its train runs on some start day. `None` if it doesn't run
+/// A UID, and the schedule by which its train runs on a start day. `None` if the train doesn't run
 /// then.
 #[derive(Debug, Drop)]
 pub(crate) struct UidTrain<'a> {
@@ -17,7 +17,7 @@ pub(crate) struct UidTrain<'a> {
 }
 
 impl<'a> UidTrain<'a> {
-    /// Whether the train runs by a schedule. `None` if the schedule has another UID.
+    /// Whether the train runs by the schedule with this key. `None` if the key has another UID.
     pub(crate) fn asked(&self, key: &ScheduleKey) -> Option<bool>
         ensures { result ≡ (if bytes_eq self.now.uid key.now.uid
             then Some (runs_by self.now.train (schedule_key_meant key.now)) else None) }

@@ -14,24 +14,25 @@ use crate::occasion::Occasion;
 use crate::times::EventTimes;
 use cif_line::{Kind, Line, Time, change, kind};
 
-/// An event of a schedule, as a walk over its lines meets it.
+/// An event of a schedule, as a walk over the lines meets it.
 #[derive(Clone, Copy, Debug)]
 pub struct Occurrence<'a> {
-    /// Its number among the events of the schedule, from 1.
+    /// The event's number in the schedule, from 1.
     pub number: u64,
     /// What happens.
     pub occasion: Occasion,
-    /// When.
+    /// When it happens.
     pub time: Time,
-    /// How many midnights lie between the start of the train and the event.
+    /// How often the train passes midnight between its start and the event.
     pub falls: u64,
-    /// Its line.
+    /// The event's line.
     pub line: &'a Line,
-    /// The identity of the train there.
+    /// The train identity there.
     pub identity: &'a [u8; 4],
 }
 
-/// How far a walk has come: a line, its remaining times, and what is carried from line to line.
+/// A walk over the lines of a schedule: the line at which it is, the times of that line that are
+/// left, and what it carries from line to line.
 #[derive(Clone, Copy, Debug)]
 pub(crate) struct EventWalk<'a> {
     line: &'a Line,
@@ -43,7 +44,7 @@ pub(crate) struct EventWalk<'a> {
 }
 
 impl<'a> EventWalk<'a> {
-    /// A walk before the first line of a schedule, in which the train has this identity.
+    /// A walk before the first line of a schedule, where the train has this identity.
     pub(crate) fn new(basic: &'a Line, identity: &'a [u8; 4]) -> EventWalk<'a>
         ensures times { times_meant result.times ≡ [] }
         ensures progress { progress_of result
@@ -59,7 +60,7 @@ impl<'a> EventWalk<'a> {
         }
     }
 
-    /// Advances to the next line.
+    /// Goes on to the next line.
     pub(crate) fn advance(&mut self, line: &'a Line)
         requires good { HasGoodFields line.now }
         ensures line { self.new.line ≡ line.entry }
@@ -97,7 +98,7 @@ impl<'a> EventWalk<'a> {
     }
 }
 
-/// 1 if a time is below the last one before it, because a midnight lies between them. Otherwise 0.
+/// 1 if a midnight lies between the last time and this one, which is then the lower. Otherwise 0.
 fn fall(last: Option<Time>, time: Time) -> u64
     ensures value { result ≡ fall_at last time }
     ensures few { result ≤ 1 }
@@ -108,8 +109,8 @@ fn fall(last: Option<Time>, time: Time) -> u64
     }
 }
 
-/// The identity of a train after a line of this kind. A change en route (CR) sets a new one. Any
-/// other line leaves it as it was.
+/// The train identity after a line of this kind. A change en route (CR) has a new one; any other
+/// line changes nothing.
 fn identity_behind<'a>(kind: Option<Kind>, line: &'a Line, identity: &'a [u8; 4]) -> &'a [u8; 4]
     requires { option_map meaning kind ≡ kind_of line.now }
     ensures { result.now ≡ identity_behind line.entry.now identity.entry.now }

@@ -10,13 +10,13 @@ use crate::near::Near;
 use cif_line::{Tiploc, Uid};
 use docker_state::{Live, Standing, State};
 
-/// The state, with what its validity says of its rows. A state's invariant is private to its crate;
-/// the contract of `entries` gives it out.
+/// The state, with what its validity says of its rows. A state's invariant is private to its crate,
+/// but the contract of `entries` states it.
 pub(crate) fn valid(state: &State) -> &State
     ensures same { result.now ≡ state.now }
     ensures bodies { HasGoodBodies (live_table state.now) }
 {
-    // Called for its contract: the state is valid.
+    // This call is made for its contract: the state is valid.
     let _entries = state.entries();
     state
 }

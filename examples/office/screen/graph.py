@@ -128,15 +128,8 @@ def names_drawn(rows):
     return "".join(f'<text x="8" y="{row.top + 15}" font-weight="bold">{escape(row.platform) or "none"}</text>' for row in rows)
 
 
-def names(docker):
-    """The platforms' names by themselves, to stand still beside a graph that is moved across."""
-    rows, height = rows_of(docker)
-    return svg(LEFT - 10, height, "Platforms", names_drawn(rows))
-
-
-def graph(docker):
+def drawn_across(docker, name, rows, height):
     """The SVG of a docker's day. It has the height of its platforms, and the width of 24 hours."""
-    rows, height = rows_of(docker)
     drawn = [
         f'<path d="M{LEFT + hour * 120 * STEP} 20V{height}" stroke="currentColor" opacity=".2"/>'
         f'<text x="{LEFT + hour * 120 * STEP - 16}" y="15">{hour:02}:00</text>' for hour in range(25)
@@ -145,4 +138,15 @@ def graph(docker):
     for row in rows:
         drawn.append(f'<path d="M0 {row.top - 2}H{WIDTH}" stroke="currentColor" opacity=".35"/>')
         drawn.extend(shape(stay, row.top + at * LANE) for at, lane in enumerate(row.lanes) for stay in lane)
-    return svg(WIDTH, height, f"Platforms of {docker.description or docker.tiploc}, {docker.date}", "".join(drawn))
+    return svg(WIDTH, height, f"Platforms of {name}, {docker.date}", "".join(drawn))
+
+
+def both(docker, name):
+    """The platforms' names by themselves, to stand still beside a graph that is moved across; and the graph."""
+    rows, height = rows_of(docker)
+    return svg(LEFT - 10, height, "Platforms", names_drawn(rows)), drawn_across(docker, name, rows, height)
+
+
+def graph(docker, name):
+    """The graph by itself."""
+    return both(docker, name)[1]

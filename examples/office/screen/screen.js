@@ -1,11 +1,14 @@
-// What moves on the page of a docker: the clock, the trains that are past, and each minute the
-// docker itself, if another came.
+// What moves on the page of a docker: the clock, the trains that are past, and every ten seconds
+// the docker itself, if another came.
 "use strict";
 const page = document.documentElement;
 const london = new Intl.DateTimeFormat("sv-SE", {timeZone: "Europe/London", dateStyle: "short", timeStyle: "medium"});
 // Whether the page is always of today: /TIPLOC, without a date.
 const isOfToday = location.pathname.split("/").length === 2;
+// After how many milliseconds a server that doesn't answer is taken for hung.
+const PATIENCE = 7000;
 let isUnfolded = false;
+let isAsking = false;
 let lastAnswer = null;
 
 // The date and time in Great Britain, as 2024-06-12 and 09:02:30.
@@ -19,15 +22,22 @@ function halfMinutes(time) {
   return hours * 120 + minutes * 2;
 }
 
-// Folds away the trains of the minutes before this one. Of another day than today it folds none,
-// unless the day has just ended.
+// How many days lie from one date to another.
+function daysBetween(from, to) {
+  return Math.round((Date.parse(to) - Date.parse(from)) / 86400000);
+}
+
+// Folds away the trains of the minutes before this one. Of another day than today it folds none;
+// the page of today goes on with tomorrow's trains, also if no other page comes.
 function fold() {
   const [date, time] = now();
   const table = document.getElementById("docker");
   if (!table) return;
-  const start = date === page.dataset.date ? halfMinutes(time) : isOfToday && date > page.dataset.date ? Infinity : 0;
+  const days = daysBetween(page.dataset.date, date);
+  const start = days === 0 || isOfToday && days > 0 ? halfMinutes(time) + 2880 * days : 0;
+  const rows = table.querySelectorAll("tr[data-at]");
   let past = 0;
-  for (const row of table.tBodies[0].rows) {
+  for (const row of rows) {
     const isPast = Number(row.dataset.at) < start;
     row.classList.toggle("past", isPast);
     if (isPast) past += 1;
@@ -35,8 +45,9 @@ function fold() {
   const button = document.getElementById("fold");
   button.hidden = past === 0;
   button.textContent = `${isUnfolded ? "▾ hide" : "▸ show"} ${past} past`;
+  button.setAttribute("aria-expanded", isUnfolded);
   table.classList.toggle("folded", !isUnfolded);
-  document.getElementById("no-more").hidden = isUnfolded || past < table.tBodies[0].rows.length;
+  document.getElementById("no-more").hidden = isUnfolded || past < rows.length;
 }
 
 // How old what is known is, if it is older than a day and a half.
@@ -62,26 +73,35 @@ function mark() {
 }
 
 function tick() {
-  document.getElementById("clock").textContent = now()[1].slice(0, 5);
+  const clock = document.getElementById("clock");
+  if (clock) clock.textContent = now()[1].slice(0, 5);
   fold();
   age();
   mark();
 }
 
-// What is done every few seconds: at midnight the next day's docker is asked for at once.
+// What is done every few seconds: at midnight another page is asked for at once.
 function step() {
   tick();
-  if (isOfToday && now()[0] !== page.dataset.date) renew();
+  if (now()[0] !== page.dataset.today) renew();
+}
+
+// Says whether the page is renewed. Who can't see the page is read what it says.
+function say(text, isBad) {
+  const status = document.getElementById("status");
+  if (status.textContent !== text) status.textContent = text;
+  status.classList.toggle("bad", isBad);
 }
 
 // Shows what another answer of the server has, in one go.
 function show(text) {
   const other = new DOMParser().parseFromString(text, "text/html");
   if (other.documentElement.dataset.version !== page.dataset.version) return location.reload();
-  for (const name of ["tag", "date", "newest"]) {
+  for (const name of ["tag", "date", "today", "newest"]) {
     if (name in other.documentElement.dataset) page.dataset[name] = other.documentElement.dataset[name];
     else delete page.dataset[name];
   }
+  page.className = other.documentElement.className;
   const isOpen = document.getElementById("platforms")?.open;
   document.title = other.title;
   for (const part of ["header", "main", "footer"]) document.querySelector(part).replaceWith(other.querySelector(part));
@@ -89,19 +109,25 @@ function show(text) {
   if (platforms && isOpen) platforms.open = true;
 }
 
-// Asks whether another docker came; the old one stays if there is no answer.
+// Asks whether another docker came; the old one stays if there is no answer within seconds.
 async function renew() {
-  let trouble = "";
+  if (isAsking) return;
+  isAsking = true;
+  let trouble = "", isNew = false;
   try {
-    const answer = await fetch(location.href, {headers: {"If-None-Match": `"${page.dataset.tag}"`}, cache: "no-store"});
+    const answer = await fetch(location.href, {headers: {"If-None-Match": `"${page.dataset.tag}"`}, cache: "no-store", signal: AbortSignal.timeout(PATIENCE)});
+    isNew = answer.ok;
     if (answer.ok) show(await answer.text());
     else if (answer.status !== 304) trouble = `answer ${answer.status}`;
   } catch {
     trouble = "no answer";
   }
+  isAsking = false;
   if (!trouble) lastAnswer = now()[1].slice(0, 5);
   tick();
-  document.getElementById("stale").textContent = trouble ? `Not renewed since ${lastAnswer}: ${trouble}` : "";
+  if (trouble) say(`Not renewed since ${lastAnswer}: ${trouble}`, true);
+  else if (isNew) say(`Another docker came at ${lastAnswer}`, false);
+  else if (document.getElementById("status").classList.contains("bad")) say(`Renewed at ${lastAnswer}`, false);
 }
 
 document.addEventListener("click", (event) => {
@@ -112,9 +138,9 @@ document.addEventListener("click", (event) => {
 document.addEventListener("toggle", (event) => {
   if (event.target.id !== "platforms" || !event.target.open) return;
   const across = event.target.querySelector(".across");
-  across.scrollLeft = now()[0] === page.dataset.date ? halfMinutes(now()[1]) * 2 - 200 : Number(document.querySelector("#docker tbody tr").dataset.at) * 2 - 200;
+  across.scrollLeft = now()[0] === page.dataset.date ? halfMinutes(now()[1]) * 2 - 200 : Number(document.querySelector("#docker tr[data-at]").dataset.at) * 2 - 200;
 }, true);
 lastAnswer = now()[1].slice(0, 5);
 tick();
 setInterval(step, 5000);
-setInterval(renew, Number(new URLSearchParams(location.hash.slice(1)).get("renew") || 60) * 1000);
+setInterval(renew, Number(new URLSearchParams(location.hash.slice(1)).get("renew") || 10) * 1000);

@@ -1,13 +1,11 @@
-//! Texts cut short, texts without end, and texts with huge counts, read in each way.
+//! Texts that are cut short, that never end, or that have huge counts, read in every way.
 ghost use Rattle.std.specs.Prelude.{◌<◌, length};
 
+use super::compare::same;
 use super::migrated::{refused_old, refused_old_source};
-use super::records::{
-    AA, BS, HD, HEAD, HEAD_LAPSED, HEAD_OF_NO_OP, ITEM, LO, LT, MARK, MOST, NOTHING, OLD_MARK, ONE,
-    ZZ,
-};
+use super::pieces::{HEAD, HEAD_LAPSED, HEAD_OF_NO_OP, ITEM, MARK, MOST, NOTHING, OLD_MARK, ONE};
 use super::{
-    BEGINNINGS, Row, at, joined_text, known_text, last_place, read, refused, same, state, text_is,
+    BEGINNINGS, Row, at, joined_text, known_text, last_place, read, refused, state, text_is,
     written,
 };
 use cif_line::{Bytes, Endless};
@@ -15,29 +13,30 @@ use docker_bytes::{ReadFault, StateCause, StateFault, join_state, read_state};
 use docker_state::State;
 use std::alloc::Global;
 use std::process::Abort;
+use test_records::{AA_JOIN, BS, HD, LO, LT, ZZ};
 
-/// The limit if a text has no limit.
+/// The limit that a text has if the test sets none.
 const MOST_BYTES: u64 = 1_099_511_627_776;
 
-/// An entry of the schedule, up to its lines, with the greatest number of lines.
+/// An entry of the schedule up to its lines, with the greatest number of lines.
 const HEAD_OF_MOST: &[u8] =
     b"\x03C10001\x5b\xf1P\x5b\xf0\x04\xecDFROC1A\x00\x00\x00\x02\x01\xff\xff\xff\xfe";
 
-/// An entry of the schedule, up to its lines, with one line too many.
+/// An entry of the schedule up to its lines, with one line more than that.
 const HEAD_ABOVE_MOST: &[u8] =
     b"\x03C10001\x5b\xf1P\x5b\xf0\x04\xecDFROC1A\x00\x00\x00\x02\x01\xff\xff\xff\xff";
 
-/// A mark and the last day of the schedule, 2024-06-14, as the horizon.
+/// The mark, and the schedule's last day, 2024-06-14, as the horizon.
 const UNDER_LAST: &[u8] = b"DKS2\x5b\xf5";
 
-/// A mark and the day after it.
+/// The mark, and the day after that as the horizon.
 const UNDER_AFTER: &[u8] = b"DKS2\x5b\xf6";
 
-/// A mark and a day after the last one of all.
+/// The mark, and a horizon after the last day of all.
 const UNDER_TOO_LATE: &[u8] = b"DKS2\x8e\xad";
 
-/// Asserts that a text is refused when it is read `step` bytes at a time, and isn't received by a
-/// state, which still has this text.
+/// Asserts that a text is refused, both when it is read `step` bytes at a time and when a state
+/// receives it. That state still has the text `before`.
 fn refused_by(
     rt: &impl Abort,
     alloc: Global,
@@ -58,8 +57,8 @@ fn refused_by(
     text_is(rt, alloc, own, before);
 }
 
-/// Asserts that a text is refused and that no state receives it. A state that tries stays as it
-/// was.
+/// Asserts that a text is refused in every way of reading it. A state that tries to receive it is
+/// unchanged.
 pub(super) fn refused_each_way(
     rt: &impl Abort,
     alloc: Global,
@@ -67,7 +66,7 @@ pub(super) fn refused_each_way(
     limit: u64,
     fault: StateFault,
 ) {
-    let mut own = state(rt, alloc, &[HD, AA, ZZ]);
+    let mut own = state(rt, alloc, &[HD, AA_JOIN, ZZ]);
     let before = written(rt, alloc, &own);
     let before = before.bytes();
     refused_by(rt, alloc, &mut own, before, text, limit, fault, 1);
@@ -75,8 +74,8 @@ pub(super) fn refused_each_way(
     refused_by(rt, alloc, &mut own, before, text, limit, fault, 4096);
 }
 
-/// Asserts that a front of a text, followed by another text without end, is refused when it is read
-/// `step` bytes at a time, and isn't received.
+/// Asserts that a text which starts like this and never ends is refused, both when it is read
+/// `step` bytes at a time and when it is received.
 fn refused_endless_by(
     rt: &impl Abort,
     alloc: Global,
@@ -99,7 +98,7 @@ fn refused_endless_by(
     text_is(rt, alloc, own, before);
 }
 
-/// Like `refused_each_way`, for a front followed by another text without end.
+/// Like `refused_each_way`, for a text that starts like this and never ends.
 fn refused_without_end(
     rt: &impl Abort,
     alloc: Global,
@@ -110,7 +109,7 @@ fn refused_without_end(
 )
     requires { 0 < length again.now }
 {
-    let mut own = state(rt, alloc, &[HD, AA, ZZ]);
+    let mut own = state(rt, alloc, &[HD, AA_JOIN, ZZ]);
     let before = written(rt, alloc, &own);
     let before = before.bytes();
     refused_endless_by(rt, alloc, &mut own, before, front, again, limit, fault, 1);
@@ -120,7 +119,7 @@ fn refused_without_end(
     );
 }
 
-/// A front of a text, and 60 ledger items, each a minute after the one before.
+/// A first part of a text, and then 60 ledger items, each a minute after the one before it.
 fn with_items(rt: &impl Abort, alloc: Global, front: &[&[u8]]) -> Vec<u8> {
     let mut items = joined_text(rt, alloc, front);
     for minute in 0..60u16 {
@@ -158,7 +157,7 @@ fn texts_cut_short(rt: HostRuntime) {
     refused_each_way(&rt, alloc, known, 310, long);
 }
 
-/// The mark of a text, the head of its entry, and its fault.
+/// The mark of a text, the head of its entry, and the fault that they give.
 type Changed = (&'static [u8], &'static [u8], u64, StateCause);
 
 const CHANGED: &[Changed] = &[
@@ -169,19 +168,19 @@ const CHANGED: &[Changed] = &[
     (MARK, HEAD_LAPSED, 67, StateCause::Tail),
 ];
 
-/// The text of one file and of a schedule, with this mark and this head.
+/// The text with one file and one schedule, with this mark and this head.
 fn text_with(rt: &impl Abort, alloc: Global, mark: &[u8], head: &[u8]) -> Vec<u8> {
     joined_text(rt, alloc, &[mark, ONE, ITEM, ONE, head, BS, LO, LT])
 }
 
-/// Asserts that such a text is refused.
+/// Asserts that the text with this mark and this head is refused.
 fn refused_change(rt: &impl Abort, alloc: Global, row: &Changed) {
     let (mark, head, place, cause) = *row;
     let text = text_with(rt, alloc, mark, head);
     refused_each_way(rt, alloc, text.as_slice(), 1000, at(place, cause));
 }
 
-/// Asserts that a text, read `step` bytes at a time, is written unchanged.
+/// Asserts that a text that is read, `step` bytes at a time, is written again unchanged.
 fn is_kept(rt: &impl Abort, alloc: Global, text: &[u8], step: usize)
     requires { 0 < step }
 {
@@ -217,7 +216,7 @@ fn texts_without_end(rt: HostRuntime) {
     refused_without_end(&rt, alloc, items.as_slice(), &[0], 1_002, long);
 }
 
-/// Pieces of a text with a huge count, and its fault.
+/// Pieces of texts with a huge count, and their faults.
 const HUGE: &[Row] = &[
     (
         &[MARK, MOST, ITEM, ONE, HEAD, BS, LO, LT],
@@ -236,7 +235,8 @@ const HUGE: &[Row] = &[
     ),
 ];
 
-/// Asserts that each way of reading refuses a text of these pieces, and that no state receives it.
+/// Asserts that a text of these pieces is refused in every way of reading it, and that no state
+/// receives it.
 fn refused_everywhere(
     rt: &impl Abort,
     alloc: Global,
@@ -260,7 +260,7 @@ fn huge_counts(rt: HostRuntime) {
     refused_everywhere(&rt, alloc, &[items.as_slice()], 1_002, long);
 }
 
-/// Asserts that a front in the older format, followed by another text without end, is refused.
+/// Asserts that a text in the older format which starts like this and never ends is refused.
 fn refused_old_endless(
     rt: &impl Abort,
     alloc: Global,
@@ -297,7 +297,7 @@ fn old_texts_without_end(rt: HostRuntime) {
     refused_old_endless(&rt, alloc, items.as_slice(), &[0], 1_000, long);
 }
 
-/// Like the rows above, in the older format.
+/// Like `HUGE`, in the older format.
 const OLD_HUGE: &[Row] = &[
     (
         &[OLD_MARK, MOST, ITEM, ONE, HEAD, BS, LO, LT],

@@ -1,10 +1,9 @@
-//! Devices that pass one byte per call, and fail at each call in turn.
+//! Devices that take or give one byte per call, and fail at each call in turn.
 ghost use Rattle.std.specs.Prelude.{◌<◌};
 
-use super::records::{
-    AA, BS, FILE, HD, HEAD, ITEM, JOINS, LO, LT, MARK, OLD_MARK, ONE, PUT, SECOND, TWO, ZZ,
-};
-use super::{day, joined_text, known_state, known_text, place, same, state, text_is, written};
+use super::compare::same;
+use super::pieces::{FILE, HEAD, ITEM, JOINS, MARK, OLD_MARK, ONE, PUT, SECOND, TWO};
+use super::{day, joined_text, known_state, known_text, place, state, text_is, written};
 use cif_line::{Bytes, Failed, Fuse, Kept};
 use docker_bytes::{
     ReadFault, StateCause, StateFault, join_state, migrate, read_excerpt, read_ledger, read_state,
@@ -13,9 +12,10 @@ use docker_bytes::{
 use docker_state::State;
 use std::alloc::Global;
 use std::process::Abort;
+use test_records::{AA_JOIN, BS, HD, LO, LT, ZZ};
 
-/// Asserts what writing a state to a sink that fails at this write returns, and which bytes the
-/// sink has.
+/// Asserts the result of writing a state to a sink that fails at this write, and the bytes that the
+/// sink has then.
 fn writes(
     rt: &impl Abort,
     alloc: Global,
@@ -32,7 +32,7 @@ fn writes(
     same(rt, sink.device().bytes(), bytes);
 }
 
-/// Asserts that it fails at this write, and the sink has the bytes before.
+/// Asserts that writing fails at this write, and that the sink has the bytes before it.
 fn fails_to_write(rt: &impl Abort, alloc: Global, state: &State, known: &[u8], call: u64)
     requires { 0 < call }
 {
@@ -51,7 +51,7 @@ fn a_sink_that_fails_has_the_bytes_before(rt: HostRuntime) {
     writes(&rt, alloc, &state, 312, Ok(()), known.as_slice());
 }
 
-/// Asserts that reading a text from a source that fails at a call gives this fault.
+/// Asserts that reading a text from a source that fails at this call gives this fault.
 fn reads_not(rt: &impl Abort, alloc: Global, text: &[u8], call: u64, fault: ReadFault)
     requires { 0 < call }
 {
@@ -66,7 +66,7 @@ fn reads_not(rt: &impl Abort, alloc: Global, text: &[u8], call: u64, fault: Read
     same(rt, read, Some(fault));
 }
 
-/// What a state returns when it receives a text from a source that fails at a call.
+/// Receives a text from a source that fails at this call.
 fn received(alloc: Global, own: &mut State, text: &[u8], call: u64) -> Result<(), ReadFault>
     requires { 0 < call }
 {
@@ -74,8 +74,8 @@ fn received(alloc: Global, own: &mut State, text: &[u8], call: u64) -> Result<()
     join_state(alloc, own, &mut source, 1000)
 }
 
-/// Asserts that a text is neither read nor received from a source that fails at a call, and that a
-/// state which tries still has this text.
+/// Asserts that a text is neither read nor received from a source that fails at this call. The
+/// receiving state still has the text `before`.
 fn fails_before(
     rt: &impl Abort,
     alloc: Global,
@@ -92,12 +92,12 @@ fn fails_before(
     text_is(rt, alloc, own, before);
 }
 
-/// Asserts that a text is neither read nor received from a source that fails at a call. A state
-/// that tries stays as it was, and then receives the text from a good source.
+/// Asserts that a text is neither read nor received from a source that fails at this call. The
+/// receiving state is unchanged, and then receives the text from a good source.
 fn fails_at(rt: &impl Abort, alloc: Global, text: &[u8], call: u64, joined: &[u8])
     requires { 0 < call }
 {
-    let mut own = state(rt, alloc, &[HD, AA, ZZ]);
+    let mut own = state(rt, alloc, &[HD, AA_JOIN, ZZ]);
     let before = written(rt, alloc, &own);
     let fault = ReadFault::Source;
     fails_before(rt, alloc, &mut own, before.bytes(), text, call, fault);
@@ -106,13 +106,13 @@ fn fails_at(rt: &impl Abort, alloc: Global, text: &[u8], call: u64, joined: &[u8
     text_is(rt, alloc, &own, joined);
 }
 
-/// Asserts that a text is read and received if its source would fail only at the call after the
-/// last.
+/// Asserts that a text is read and received if its source fails only at the call after the last
+/// one.
 fn passes(rt: &impl Abort, alloc: Global, text: &[u8], joined: &[u8]) {
     let mut source = Fuse::new(Bytes::new(text, 4096), 313);
     let state_read = read_state(alloc, &mut source, 1000).expect(rt, "a state");
     text_is(rt, alloc, &state_read, text);
-    let mut own = state(rt, alloc, &[HD, AA, ZZ]);
+    let mut own = state(rt, alloc, &[HD, AA_JOIN, ZZ]);
     same(rt, received(alloc, &mut own, text, 313), Ok(()));
     text_is(rt, alloc, &own, joined);
 }
@@ -122,7 +122,7 @@ fn a_source_that_fails_at_each_call(rt: HostRuntime) {
     let alloc = rt.alloc();
     let known = known_text(&rt, alloc);
     let known = known.as_slice();
-    let entries: &[&[u8]] = &[JOINS, FILE, SECOND, PUT, AA, HEAD, BS, LO, LT];
+    let entries: &[&[u8]] = &[JOINS, FILE, SECOND, PUT, AA_JOIN, HEAD, BS, LO, LT];
     let entries = joined_text(&rt, alloc, entries);
     let joined = joined_text(&rt, alloc, &[MARK, ONE, ITEM, TWO, entries.as_slice()]);
     for call in 1..=312u64 {
@@ -131,7 +131,7 @@ fn a_source_that_fails_at_each_call(rt: HostRuntime) {
     passes(&rt, alloc, known, joined.as_slice());
 }
 
-/// The fault of a source with another mark that fails at this call.
+/// The fault of a source in the wrong format that fails at this call.
 fn fault_at(call: u64) -> ReadFault {
     if call < 5 {
         ReadFault::Source
@@ -146,7 +146,7 @@ fn a_source_of_another_mark_that_fails(rt: HostRuntime) {
     let alloc = rt.alloc();
     let old = joined_text(&rt, alloc, &[OLD_MARK, ONE, ITEM]);
     let old = old.as_slice();
-    let mut own = state(&rt, alloc, &[HD, AA, ZZ]);
+    let mut own = state(&rt, alloc, &[HD, AA_JOIN, ZZ]);
     let before = written(&rt, alloc, &own);
     let before = before.bytes();
     for call in 1..=5u64 {
@@ -154,7 +154,7 @@ fn a_source_of_another_mark_that_fails(rt: HostRuntime) {
     }
 }
 
-/// Asserts that a text of the older format isn't read from a source that fails at a call.
+/// Asserts that a text in the older format isn't read from a source that fails at this call.
 fn migrates_not(rt: &impl Abort, alloc: Global, old: &[u8], call: u64)
     requires { 0 < call }
 {

@@ -1,24 +1,26 @@
-//! Texts under a horizon, and what has lapsed.
+//! Texts with a horizon, and lapsed entries.
 
-use super::records::{
-    AA, AFTER, ASHFELD_HEAD, BS, GREATEST, HD, HEAD, HEAD_LAPSED, ITEM, JOINS_HEAD, LAPSED, LAST,
-    LO, LT, NOTHING, ONE, PUT, SCHEDULE_HEAD, TI, TOO_LATE, ZZ,
+use super::compare::same;
+use super::pieces::{
+    AFTER, ASHFELD_HEAD, GREATEST, HEAD, HEAD_LAPSED, ITEM, JOINS_HEAD, LAPSED, LAST, NOTHING, ONE,
+    PUT, SCHEDULE_HEAD, TOO_LATE,
 };
-use super::{at, goes_round, joined_text, read, refused, same, state, text_is};
+use super::{at, goes_round, joined_text, read, refused, state, text_is};
 use cif_line::Day;
 use docker_bytes::{StateCause, StateFault};
 use docker_state::State;
 use std::alloc::Global;
 use std::process::Abort;
+use test_records::{AA_JOIN, BODY_OF_TI, BS, BS_NO_END, HD, LO, LT, TI, ZZ};
 
-/// The text of one file and one entry of these parts, under a horizon.
+/// The text with one file and one entry of these parts, under a horizon.
 fn under(rt: &impl Abort, alloc: Global, horizon: &[u8], parts: &[&[u8]]) -> Vec<u8> {
     let entry = joined_text(rt, alloc, parts);
     let pieces = [b"DKS2", horizon, ONE, ITEM, ONE, entry.as_slice()];
     joined_text(rt, alloc, &pieces)
 }
 
-/// Asserts that a text is the text of a state with this horizon, and is written unchanged.
+/// Asserts that a state with this horizon has this text, and that it is written again unchanged.
 fn accepted(rt: &impl Abort, alloc: Global, text: &[u8], horizon: u16) {
     let state = read(rt, alloc, text, 4096, 1000);
     same(rt, state.horizon(), horizon);
@@ -26,13 +28,13 @@ fn accepted(rt: &impl Abort, alloc: Global, text: &[u8], horizon: u16) {
     goes_round(rt, alloc, &state, text.len(), 1);
 }
 
-/// Asserts that a text of one entry under a horizon is accepted.
+/// Asserts that a text with one entry, under a horizon, is accepted.
 fn accepted_under(rt: &impl Abort, alloc: Global, horizon: &[u8], parts: &[&[u8]], number: u16) {
     let text = under(rt, alloc, horizon, parts);
     accepted(rt, alloc, text.as_slice(), number);
 }
 
-/// Asserts that it is refused at this offset.
+/// Asserts that a text with one entry, under a horizon, is refused at this offset.
 fn refused_under(
     rt: &impl Abort,
     alloc: Global,
@@ -48,7 +50,7 @@ fn refused_under(
 const SCHEDULE: &[&[u8]] = &[HEAD, BS, LO, LT];
 
 /// The entry of the association.
-const ASSOCIATION: &[&[u8]] = &[JOINS_HEAD, PUT, AA];
+const ASSOCIATION: &[&[u8]] = &[JOINS_HEAD, PUT, AA_JOIN];
 
 #[test]
 fn horizons_of_no_day(rt: HostRuntime) {
@@ -61,13 +63,6 @@ fn horizons_of_no_day(rt: HostRuntime) {
     let greatest = joined_text(&rt, alloc, &[b"DKS2", GREATEST, NOTHING]);
     accepted(&rt, alloc, greatest.as_slice(), 36524);
 }
-
-/// A schedule without an end.
-const ENDLESS: &[u8] =
-    b"BSNC100012406109999991111100 POO1A10                                           P";
-
-/// The body of Ashfield Central.
-const CENTRAL: &[u8] = b"         ASHFIELD CENTRAL                                      ";
 
 #[test]
 fn puts_that_end_before_the_horizon(rt: HostRuntime) {
@@ -82,11 +77,17 @@ fn puts_that_end_before_the_horizon(rt: HostRuntime) {
     refused_under(&rt, alloc, AFTER, &[HEAD, front], short);
     accepted_under(&rt, alloc, LAST, ASSOCIATION, 23541);
     refused_under(&rt, alloc, AFTER, ASSOCIATION, bad);
-    accepted_under(&rt, alloc, GREATEST, &[HEAD, ENDLESS, LO, LT], 36524);
-    accepted_under(&rt, alloc, GREATEST, &[ASHFELD_HEAD, PUT, CENTRAL], 36524);
+    accepted_under(&rt, alloc, GREATEST, &[HEAD, BS_NO_END, LO, LT], 36524);
+    accepted_under(
+        &rt,
+        alloc,
+        GREATEST,
+        &[ASHFELD_HEAD, PUT, &BODY_OF_TI],
+        36524,
+    );
 }
 
-/// Asserts that a lapsed entry is accepted under a horizon, and its text has `len` bytes.
+/// Asserts that a lapsed entry is accepted under a horizon, in a text of `len` bytes.
 fn accepted_lapsed(
     rt: &impl Abort,
     alloc: Global,
@@ -100,7 +101,7 @@ fn accepted_lapsed(
     accepted(rt, alloc, text.as_slice(), number);
 }
 
-/// Asserts that lapsed entries of each kind are accepted.
+/// Asserts that a lapsed entry of each kind of key is accepted.
 fn each_accepted_lapsed(rt: &impl Abort, alloc: Global, horizon: &[u8], number: u16) {
     accepted_lapsed(rt, alloc, horizon, number, ASHFELD_HEAD, 65);
     accepted_lapsed(rt, alloc, horizon, number, JOINS_HEAD, 81);
@@ -119,15 +120,15 @@ fn what_has_lapsed_has_no_body(rt: HostRuntime) {
     refused_under(&rt, alloc, AFTER, &[SCHEDULE_HEAD, b"\x03"], bad);
 }
 
-/// The state of these records under the horizon of a day.
+/// The state of the file with these records, under this day as its horizon.
 fn lapsed(rt: &impl Abort, alloc: Global, records: &[&[u8]], day: &str) -> State {
     let mut state = state(rt, alloc, records);
     state.set_horizon(Day::from_iso(day).expect(rt, "a day"));
     state
 }
 
-/// Asserts that the state of the schedule under the horizon of a day has a text of `len` bytes,
-/// with one entry of these parts.
+/// Asserts that the state with the schedule, under this day as its horizon, has a text of `len`
+/// bytes, with one entry of these parts.
 fn has_under(
     rt: &impl Abort,
     alloc: Global,

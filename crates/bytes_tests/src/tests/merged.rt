@@ -1,17 +1,20 @@
-//! Texts of states of several files, joined and received in every order.
+//! Texts of states with several files, joined and received in each order.
 ghost use Rattle.std.specs.Prelude.{◌<◌};
 
-use super::records::{
-    BS, BS_C10002, BS_C10003, BS_DELETED, BS_LONGER, BS_REVISED, HD, HD_5A, HD_7B, HD_9C, HD_10B,
-    HEAD, HEAD_9C, HEAD_10B, HEAD_C10002, ITEM, ITEM_7B, ITEM_9C, ITEM_10B, LO, LO_0850, LO_0905,
-    LO_1000, LO_1100, LT, LT_0935, LT_1030, LT_1130, MARK, ONE, TWO, ZZ,
+use super::compare::{same, same_in};
+use super::pieces::{
+    HEAD, HEAD_9C, HEAD_10B, HEAD_C10002, ITEM, ITEM_7B, ITEM_9C, ITEM_10B, MARK, ONE, TWO,
 };
-use super::{goes_round, join, joined_text, same, same_in, state, text_is, written};
+use super::{goes_round, join, joined_text, state, text_is, written};
 use cif_line::Bytes;
 use docker_bytes::join_state;
 use docker_state::State;
 use std::alloc::Global;
 use std::process::Abort;
+use test_records::{
+    BS, BS_C10002, BS_C10003, BS_DELETED, BS_LONGER, BS_REVISED, HD, HD_5A, HD_7B, HD_9C, HD_10B,
+    LO, LO_0850, LO_0905, LO_1000, LO_1100, LT, LT_0935, LT_1030, LT_1130, ZZ,
+};
 
 /// The join of the states of these files, one after the other.
 fn merged(rt: &impl Abort, alloc: Global, files: &[&[&[u8]]]) -> State {
@@ -23,7 +26,7 @@ fn merged(rt: &impl Abort, alloc: Global, files: &[&[&[u8]]]) -> State {
     all
 }
 
-/// Receives a text, `step` bytes per read.
+/// Receives a text, read `step` bytes at a time.
 fn receive(rt: &impl Abort, alloc: Global, all: &mut State, text: &[u8], step: usize)
     requires { 0 < step }
 {
@@ -31,7 +34,7 @@ fn receive(rt: &impl Abort, alloc: Global, all: &mut State, text: &[u8], step: u
     same(rt, answer, Ok(()));
 }
 
-/// Receives the text of the state of a file.
+/// Receives the text of a file's state.
 fn receive_file(rt: &impl Abort, alloc: Global, all: &mut State, file: &[&[u8]], step: usize)
     requires { 0 < step }
 {
@@ -40,8 +43,8 @@ fn receive_file(rt: &impl Abort, alloc: Global, all: &mut State, file: &[&[u8]],
     receive(rt, alloc, all, text.bytes(), step);
 }
 
-/// Asserts that a state ends with this text if it receives the texts of the states of these files
-/// in this order, `step` bytes per read. Receiving them once more changes nothing.
+/// Asserts the text of a state that receives the states of these files in this order, read `step`
+/// bytes at a time. Receiving them again changes nothing.
 fn receives(rt: &impl Abort, alloc: Global, files: &[&[&[u8]]], wanted: &[u8], step: usize)
     requires { 0 < step }
 {
@@ -54,8 +57,8 @@ fn receives(rt: &impl Abort, alloc: Global, files: &[&[&[u8]]], wanted: &[u8], s
     text_is(rt, alloc, &all, wanted);
 }
 
-/// Asserts that the states of these files, joined in this order, have this text, and so does a
-/// state that receives their texts.
+/// Asserts that the states of these files, joined in this order, have this text. So does a state
+/// that receives their texts.
 fn merges_to(rt: &impl Abort, alloc: Global, files: &[&[&[u8]]], pieces: &[&[u8]], name: &str) {
     let all = merged(rt, alloc, files);
     let wanted = joined_text(rt, alloc, pieces);
@@ -66,7 +69,7 @@ fn merges_to(rt: &impl Abort, alloc: Global, files: &[&[&[u8]]], pieces: &[&[u8]
     goes_round(rt, alloc, &all, wanted.len(), 80);
 }
 
-/// Asserts that pieces are a text of `len` bytes.
+/// Asserts that these pieces form a text of `len` bytes.
 fn len_is(rt: &impl Abort, alloc: Global, pieces: &[&[u8]], len: usize) {
     let text = joined_text(rt, alloc, pieces);
     same(rt, text.len(), len);
@@ -75,16 +78,16 @@ fn len_is(rt: &impl Abort, alloc: Global, pieces: &[&[u8]], len: usize) {
 /// The records of a file.
 type Records = &'static [&'static [u8]];
 
-/// The schedule.
+/// The file with the schedule.
 const PLAIN: Records = &[HD, BS, LO, LT, ZZ];
 
-/// Its text.
+/// The text of its state.
 const OF_PLAIN: Records = &[MARK, ONE, ITEM, ONE, HEAD, BS, LO, LT];
 
-/// Its revision, a day later.
+/// The file with the schedule's revision, a day later.
 const REVISION: Records = &[HD_10B, BS_REVISED, LO_0905, LT_0935, ZZ];
 
-/// The text of both.
+/// The text of the state of both files.
 const OF_REVISION: Records = &[
     MARK, TWO, ITEM, ITEM_10B, ONE, HEAD_10B, BS, LO_0905, LT_0935,
 ];
@@ -99,16 +102,16 @@ fn a_revision(rt: HostRuntime) {
     merges_to(&rt, alloc, &files, OF_REVISION, "new and old");
 }
 
-/// An update of 5 June.
+/// The file of an update of 5 June.
 const FIFTH: Records = &[HD_5A, BS_C10003, BS, LO, LT, ZZ];
 
-/// A full extract of 7 June.
+/// The file of a full extract of 7 June.
 const SEVENTH: Records = &[HD_7B, BS_C10002, LO_1000, LT_1030, ZZ];
 
-/// An update of 9 June.
+/// The file of an update of 9 June.
 const NINTH: Records = &[HD_9C, BS, LO_1100, LT_1130, ZZ];
 
-/// The text of the three.
+/// The text of the state of the three files.
 const OF_LATE: Records = &[
     MARK,
     TWO,
@@ -125,7 +128,7 @@ const OF_LATE: Records = &[
     LT_1030,
 ];
 
-/// The three files in each order, and the row's name.
+/// The three files in each order, and a name for the row.
 const ORDERS: &[(&[Records], &str)] = &[
     (&[FIFTH, SEVENTH, NINTH], "5, 7, 9"),
     (&[FIFTH, NINTH, SEVENTH], "5, 9, 7"),
@@ -144,21 +147,21 @@ fn a_late_full_extract(rt: HostRuntime) {
     }
 }
 
-/// The schedule up to 21 June, ten minutes earlier.
+/// The file with the schedule up to 21 June, ten minutes earlier.
 const LONGER: Records = &[HD, BS_LONGER, LO_0850, LT, ZZ];
 
-/// The schedule, five minutes later.
+/// The file with the schedule five minutes later.
 const LATER: Records = &[HD, BS, LO_0905, LT, ZZ];
 
-/// Its deletion.
+/// The file with the schedule's deletion.
 const DELETION: Records = &[HD, BS_DELETED, ZZ];
 
-/// The texts of these files.
+/// The texts of the states of these files.
 const OF_LONGER: Records = &[MARK, ONE, ITEM, ONE, HEAD, BS_LONGER, LO_0850, LT];
 
 const OF_LATER: Records = &[MARK, ONE, ITEM, ONE, HEAD, BS, LO_0905, LT];
 
-/// Files with one stamp in some order, the text of both, and the row's name.
+/// Two files with one stamp, the text of their state, and a name for the row.
 const TIES: &[(&[Records], Records, &str)] = &[
     (&[PLAIN, PLAIN], OF_PLAIN, "the same"),
     (&[PLAIN, LONGER], OF_LONGER, "longer"),

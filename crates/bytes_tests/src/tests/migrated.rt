@@ -1,25 +1,27 @@
-//! Texts of the older format, which have no horizon.
+//! Texts in the older format, which has no horizon.
 ghost use Rattle.std.specs.Prelude.{◌-◌, ◌^◌, ◌<◌};
 
-use super::records::{
-    BS, BS_REVISED, HEAD, HEAD_LAPSED, HEAD_OF_NO_FILE, HEAD_OF_NO_TAG, ITEM, ITEM_5A, ITEM_7B,
-    ITEM_LATE, LO, LT, MOST, OLD_MARK, ONE, TWO,
+use super::compare::same;
+use super::pieces::{
+    HEAD, HEAD_LAPSED, HEAD_OF_NO_FILE, HEAD_OF_NO_TAG, ITEM, ITEM_5A, ITEM_7B, ITEM_LATE, MOST,
+    OLD_MARK, ONE, TWO,
 };
-use super::{Row, at, joined_text, known_text, last_place, same, text_is};
+use super::{Row, at, joined_text, known_text, last_place, text_is};
 use cif_line::{Bytes, Source};
 use docker_bytes::{ReadFault, StateCause, StateFault, migrate};
 use std::alloc::Global;
 use std::process::Abort;
+use test_records::{BS, BS_REVISED, LO, LT};
 
-/// The text of the file of 9 June with its schedule, without a horizon: 309 bytes.
+/// The older text with the file of 9 June and its schedule: 309 bytes.
 fn old_text(rt: &impl Abort, alloc: Global) -> Vec<u8> {
     joined_text(rt, alloc, &[OLD_MARK, ONE, ITEM, ONE, HEAD, BS, LO, LT])
 }
 
-/// Where the parts of that text begin, for cutting it.
+/// The offsets at which the parts of that text begin, for cutting it.
 const BEGINNINGS: [u64; 5] = [0, 4, 12, 31, 39];
 
-/// Asserts that the bytes of a source are refused with this fault.
+/// Asserts that a source is refused with this fault.
 pub(super) fn refused_old_source<S: Source>(
     rt: &impl Abort,
     alloc: Global,
@@ -48,8 +50,8 @@ pub(super) fn refused_old(
     refused_old_source(rt, alloc, &mut Bytes::new(text, 4096), limit, fault);
 }
 
-/// Asserts that a text of the older format gives the state of a text in the new format, `step`
-/// bytes per read.
+/// Asserts that a text in the older format gives the state of this text in the newer one, read
+/// `step` bytes at a time.
 fn gives(rt: &impl Abort, alloc: Global, old: &[u8], known: &[u8], step: usize)
     requires { 0 < step }
 {
@@ -69,7 +71,7 @@ fn an_old_text_gives_its_state(rt: HostRuntime) {
     gives(&rt, alloc, old.as_slice(), known.as_slice(), 4096);
 }
 
-/// Asserts that each front of a text is too short.
+/// Asserts that each proper prefix of a text is too short.
 fn refused_fronts(rt: &impl Abort, alloc: Global, text: &[u8]) {
     for (n, _) in text.iter().enumerate() {
         let fault = at(last_place(&BEGINNINGS, n), StateCause::Short);
@@ -89,7 +91,7 @@ fn old_texts_of_a_wrong_length(rt: HostRuntime) {
     refused_fronts(&rt, alloc, old);
 }
 
-/// Faults of the mark and of the ledger.
+/// Faults in the mark and in the ledger.
 const LEDGERS: &[Row] = &[
     (
         &[b"DKS2", ONE, ITEM, ONE, HEAD, BS, LO, LT],
@@ -120,7 +122,7 @@ fn old_texts_with_a_bad_ledger(rt: HostRuntime) {
     }
 }
 
-/// Faults of an entry.
+/// Faults in an entry.
 const ENTRIES: &[Row] = &[
     (
         &[OLD_MARK, ONE, ITEM, ONE, HEAD_OF_NO_TAG, BS, LO, LT],

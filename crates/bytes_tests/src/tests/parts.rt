@@ -1,21 +1,19 @@
-//! Each kind of part at its bounds: keys, record numbers, bodies, counts of lines and last lines.
+//! Each kind of part at its bounds: keys, record numbers, bodies, numbers of lines, and last lines.
 
-use super::records::{
-    AA, ASHFELD, BS, BS_DELETED, C10001, CENTRAL, DELETED, FILE, ITEM, JOINS, LO, LT, MARK, ONE,
-    PUT, SECOND,
-};
+use super::pieces::{ASHFELD, C10001, CENTRAL, DELETED, FILE, ITEM, JOINS, MARK, ONE, PUT, SECOND};
 use super::{at, goes_round, joined_text, read, refused, text_is};
 use docker_bytes::StateCause;
 use std::alloc::Global;
 use std::process::Abort;
+use test_records::{AA_JOIN, BS, BS_DELETED, LO, LT};
 
-/// The parts of an entry, after a ledger of one file.
+/// The parts of an entry, after a ledger with one file.
 fn with_entry(rt: &impl Abort, alloc: Global, parts: &[&[u8]]) -> Vec<u8> {
     let entry = joined_text(rt, alloc, parts);
     joined_text(rt, alloc, &[MARK, ONE, ITEM, ONE, entry.as_slice()])
 }
 
-/// Asserts that the text of one entry of these parts is read, and written again.
+/// Asserts that a text with one entry of these parts is read, and written again.
 fn accepted(rt: &impl Abort, alloc: Global, parts: &[&[u8]], len: usize) {
     let text = with_entry(rt, alloc, parts);
     let state = read(rt, alloc, text.as_slice(), 4096, 1000);
@@ -23,23 +21,23 @@ fn accepted(rt: &impl Abort, alloc: Global, parts: &[&[u8]], len: usize) {
     goes_round(rt, alloc, &state, len, 1);
 }
 
-/// Asserts that one entry of these parts, the first of the text, is refused for this cause.
+/// Asserts that a text with one entry of these parts is refused for this cause, at the entry.
 fn refused_entry(rt: &impl Abort, alloc: Global, parts: &[&[u8]], cause: StateCause) {
     let text = with_entry(rt, alloc, parts);
     refused(rt, alloc, &[text.as_slice()], 1000, at(41, cause));
 }
 
-/// Asserts that a deletion of this key by this record is accepted.
+/// Asserts that the deletion of this key by the record with this number is accepted.
 fn accepted_deletion(rt: &impl Abort, alloc: Global, key: &[u8], number: &[u8]) {
     accepted(rt, alloc, &[key, FILE, number, DELETED], 67);
 }
 
-/// Asserts that a deletion of this key is refused for this cause.
+/// Asserts that the deletion of this key by the record with this number is refused for this cause.
 fn refused_deletion(rt: &impl Abort, alloc: Global, key: &[u8], number: &[u8], cause: StateCause) {
     refused_entry(rt, alloc, &[key, FILE, number, DELETED], cause);
 }
 
-/// Asserts that a body put for a key is refused.
+/// Asserts that this body is refused at this key.
 fn refused_body(rt: &impl Abort, alloc: Global, key: &[u8], body: &[u8]) {
     let parts = [key, FILE, SECOND, PUT, body];
     refused_entry(rt, alloc, &parts, StateCause::Body);
@@ -52,13 +50,13 @@ fn entries_at_their_bounds(rt: HostRuntime) {
     accepted_deletion(&rt, alloc, C10001, b"\xff\xff\xff\xfe");
     accepted_deletion(&rt, alloc, b"\x03C10001\x8e\xacC", SECOND);
     accepted(&rt, alloc, &[ASHFELD, FILE, SECOND, PUT, CENTRAL], 128);
-    accepted(&rt, alloc, &[JOINS, FILE, SECOND, PUT, AA], 161);
+    accepted(&rt, alloc, &[JOINS, FILE, SECOND, PUT, AA_JOIN], 161);
     let three = b"\x00\x00\x00\x03";
     let schedule: &[&[u8]] = &[C10001, FILE, SECOND, PUT, three, BS, LO, LT];
     accepted(&rt, alloc, schedule, 311);
 }
 
-/// Invalid keys.
+/// Keys that no record can name.
 const BAD_KEYS: &[&[u8]] = &[
     b"\x01 SHFELD",
     b"\x01ASHFEL\x7f",
@@ -91,13 +89,13 @@ fn record_numbers_of_no_change(rt: HostRuntime) {
     refused_deletion(&rt, alloc, C10001, b"\xff\xff\xff\xff", stamp);
 }
 
-/// Invalid descriptions of a timing point.
+/// Bodies that no TIPLOC can have.
 const BAD_DESCRIPTIONS: &[&[u8]] = &[
     b"\x1f        ASHFIELD CENTRAL                                     ~",
     b"         ASHFIELD CENTRAL                                     \x7f",
 ];
 
-/// Invalid lines of an association.
+/// Lines that the association can't have.
 const BAD_LINES: &[&[u8]] = &[
     b"AARC10001C100022406102406141111100JJSASHFELD  TP                               P",
     b"AANC10003C100022406102406141111100JJSASHFELD  TP                               P",
@@ -117,7 +115,7 @@ fn bad_bodies(rt: HostRuntime) {
     }
 }
 
-/// Asserts that a schedule with this count and these lines is refused.
+/// Asserts that a schedule with this number of lines and these lines is refused.
 fn refused_schedule(rt: &impl Abort, alloc: Global, count: &[u8; 4], lines: &[&[u8]]) {
     let lines = joined_text(rt, alloc, lines);
     let parts = [C10001, FILE, SECOND, PUT, count, lines.as_slice()];

@@ -1,18 +1,17 @@
-//! States that receive texts. A refused text leaves them as they were.
+//! States that receive texts. A text that is refused leaves them unchanged.
 
+use super::compare::same;
 use super::endless::refused_each_way;
-use super::records::{
-    AA, AFTER, BS, HD, HEAD, HEAD_10B, ITEM, ITEM_10B, LAPSED, LO, LO_0905, LT, LT_0935, MARK, ONE,
-    SCHEDULE_HEAD, TWO, ZZ,
-};
-use super::{at, joined_text, known_state, known_text, same, state, text_is, written};
+use super::pieces::{AFTER, HEAD, HEAD_10B, ITEM, ITEM_10B, LAPSED, MARK, ONE, SCHEDULE_HEAD, TWO};
+use super::{at, joined_text, known_state, known_text, state, text_is, written};
 use cif_line::{Bytes, Day, Failed, Source};
 use docker_bytes::{ReadFault, StateCause, StateFault, join_state};
 use docker_state::State;
 use std::alloc::Global;
 use std::process::Abort;
+use test_records::{AA_JOIN, BS, HD, LO, LO_0905, LT, LT_0935, ZZ};
 
-/// Asserts that a state which receives two texts has the second one's horizon and this text.
+/// Asserts that a state that receives two texts has this text, and the horizon of the second one.
 fn receives(rt: &impl Abort, alloc: Global, first: &[u8], second: &[u8], wanted: &[u8]) {
     let mut all = State::empty(alloc);
     let answer = join_state(alloc, &mut all, &mut Bytes::new(first, 7), 1000);
@@ -67,7 +66,7 @@ fn what_is_refused_changes_nothing(rt: HostRuntime) {
     refused(&rt, alloc, twice, 1000, at(311, StateCause::Order));
 }
 
-/// A source that gives a front and then fails.
+/// A source that gives these bytes and then fails.
 #[derive(Drop)]
 struct Broken<'a> {
     front: &'a [u8],
@@ -105,7 +104,7 @@ impl Source for Broken<'_> {
 fn a_source_that_fails_changes_nothing(rt: HostRuntime) {
     let alloc = rt.alloc();
     let known = known_text(&rt, alloc);
-    let mut own = state(&rt, alloc, &[HD, AA, ZZ]);
+    let mut own = state(&rt, alloc, &[HD, AA_JOIN, ZZ]);
     let before = written(&rt, alloc, &own);
     let mut source = Broken {
         front: known.as_slice(),
@@ -116,7 +115,7 @@ fn a_source_that_fails_changes_nothing(rt: HostRuntime) {
     text_is(&rt, alloc, &own, before.bytes());
 }
 
-/// Asserts that nothing was received because memory ran out.
+/// Asserts that memory ran out, and that nothing was received.
 fn is_empty(rt: &impl Abort, own: &State, fault: ReadFault) {
     same(rt, fault, ReadFault::Memory);
     same(rt, own.entries().len(), 0);

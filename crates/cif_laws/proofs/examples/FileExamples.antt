@@ -1,4 +1,4 @@
--- The worked file is a file, and its text is a text of it; files at fault.
+-- The worked file is a file, and its text has no fault. Some texts that have one.
 use Rattle.std.proofs.Common.{◌≡◌, ℕ, List, [], ◌∷◌, ◌++◌, refl, inl, inr, lit≤, ◌<◌, arith, ap, sym, ◌∙◌}
 use Rattle.std.proofs.lemmas.List.Elements.{All-from_recursion}
 use Rattle.docker_model.specs.records.Record.{HasKind, header, kind_of}
@@ -30,11 +30,11 @@ f2_text = f2_header ++ 10 ∷ f2_basic ++ 10 ∷ f2_origin ++ 10 ∷ f2_terminus
 lines_of_f2 : lines_of f2_text ≡ f2
 lines_of_f2 = refl
 
--- the worked text is the text of the worked file
+-- the worked text is the worked file's
 pub f2_text_is : IsFileText 5 f2_text f2
 f2_text_is = record { lines = refl; is = f2_is_file; within = lit≤ tt }
 
--- an empty text ends where a header should follow
+-- no records begin some file
 pub empty_begins : BeginsFile []
 empty_begins = (f2, f2_is_file)
 
@@ -42,11 +42,11 @@ empty_begins = (f2, f2_is_file)
 pub empty_is_no_file : ¬ IsFile []
 empty_is_no_file file = let whole = file.whole in cc
 
--- the empty text ends too early, at record 1
+-- the empty text ends where record 1, the header, should stand
 pub empty_text_unended : IsFileFault 10 [] (record { number = 1; cause = no_end })
 empty_text_unended = inr (record { within = lit≤ tt; begin = empty_begins; unended = empty_is_no_file; number = refl; cause = refl })
 
--- the first of some records, or another one if there are none
+-- the first of some records, or this one if there are none
 first_or : List ℕ → List (List ℕ) → List ℕ
 first_or default [] = default
 first_or default (line ∷ lines) = line
@@ -56,7 +56,7 @@ pub file_begins : (line : List ℕ) (rest : List (List ℕ)) → IsFile (line �
 unfolding first_or
 file_begins line rest file = ap kind_of (ap (first_or line) file.whole) ∙ file.header_kind
 
--- a basic schedule in the header's place is out of place
+-- a basic schedule begins no file
 basic_begins_none : ¬ BeginsFile (f2_basic ∷ [])
 basic_begins_none begins = let kind = file_begins f2_basic begins.0 begins.1 in cc
 
@@ -74,7 +74,7 @@ basic_is_cause (bad_field at) below holds = omega arith
 basic_is_cause third_midnight below holds = omega arith
 basic_is_cause no_end below holds = holds
 
--- a basic schedule as the first record is out of place
+-- a basic schedule as record 1 is out of place
 pub basic_first : IsFileFault 10 (f2_basic ++ 10 ∷ []) (record { number = 1; cause = bad_place })
 basic_first = inl (record {
   earlier = [];

@@ -54,7 +54,7 @@ bad_departure = refl
 bad_runs_from : leftmost_bad_field (bs (codes "N") (codes "C10001") (codes "230229") (codes "240614") (codes "1111100") (codes "1A10") (codes "P")) ≡ Some 10
 bad_runs_from = refl
 
--- a deletion's end date and days run don't count
+-- a deletion's end date and days run aren't checked
 good_deletion : leftmost_bad_field (bs (codes "D") (codes "C10001") (codes "240610") no_text no_text no_text (codes "P")) ≡ None
 good_deletion = refl
 
@@ -96,7 +96,7 @@ night_times = refl
 one_midnight : midnights night_schedule ≡ 1
 one_midnight = refl
 
--- LF, CR LF, and a last line with neither
+-- lines that end in a line feed, in a carriage return and line feed, and a last line without either
 line_ends : map lines_of ((codes "ab" ++ 10 ∷ codes "c" ++ 10 ∷ []) ∷ (codes "ab" ++ 13 ∷ 10 ∷ codes "c" ++ 13 ∷ 10 ∷ []) ∷ (codes "ab" ++ 10 ∷ codes "c") ∷
     (codes "ab" ++ 10 ∷ codes "c" ++ 13 ∷ []) ∷ [])
     ≡ (codes "ab" ∷ codes "c" ∷ []) ∷ (codes "ab" ∷ codes "c" ∷ []) ∷ (codes "ab" ∷ codes "c" ∷ []) ∷ (codes "ab" ∷ codes "c" ∷ []) ∷ []
@@ -122,7 +122,8 @@ changes_of_same_code : changes (f2_header ∷ ta (codes "ASHFELD") (codes "ASHFI
     } ∷ []
 changes_of_same_code = refl
 
--- two amendments before and after a schedule of three lines: a unit has its first record's number
+-- two amendments, one before and one after a schedule of three lines: a unit's change has the
+-- number of its first record
 numbers_of_units : map (λ (change : Change). change.number) (changes_of_units 2 ((rename_amend ∷ []) ∷ f2_schedule ∷ (rename_amend ∷ []) ∷ []))
     ≡ 2 ∷ 2 ∷ 3 ∷ 6 ∷ 6 ∷ []
 numbers_of_units = refl
@@ -130,12 +131,12 @@ numbers_of_units = refl
 units_of_f2 : changes_of_units 2 (f2_schedule ∷ []) ≡ changes f2
 units_of_f2 = refl
 
--- a deletion with a journey is one change too
+-- a deletion with a journey makes one change too
 change_of_deletion : changes_of_unit 2 (bs (codes "D") (codes "C10001") (codes "240610") no_text no_text no_text (codes "P") ∷ f2_origin ∷ f2_terminus ∷ [])
     ≡ record { number = 2; key = schedule_named f2_basic; act = delete } ∷ []
 change_of_deletion = refl
 
--- the falls of a journey, by its last arrival: a third fall at 00:01, none at 00:06
+-- a journey whose last arrival makes the third fall if it is at 00:01, and none if it is at 00:06
 abbrev late_schedule : List ℕ → List (List ℕ)
 late_schedule arrives =
     bs (codes "N") (codes "C20001") (codes "240610") (codes "240610") (codes "1000000") (codes "2B20") (codes "P")

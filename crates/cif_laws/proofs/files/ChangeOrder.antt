@@ -1,4 +1,4 @@
--- Of two changes of a file with one key, the second belongs to a later record: two changes of one
+-- If two changes of a file have one key, the second belongs to a later record. Two changes of one
 -- record have different keys.
 use Rattle.std.proofs.Common.{◌≡◌, ℕ, ◌+◌, ◌<◌, ◌≤◌, List, [], ◌∷◌, map, inl, inr, ◌⊎◌, refl, arith, ap, sym, Bool, true, false, Some}
 use Rattle.std.specs.Prelude.{Option, ◌||◌}
@@ -10,7 +10,7 @@ use Rattle.docker_model.specs.file.Change.{Key, tiploc_key, Act, Change, tiploc_
 use Rattle.cif_laws.proofs.lists.Later.{AllLater, later_append_all, later_weaker_always, pairs_from_later}
 use Rattle.cif_laws.proofs.lists.AllOf.{all_append, all_weaker}
 
--- the later change has a higher number, or another key
+-- the second change belongs to a later record, or has another key
 abbrev pub Apart : Change → Change → Type 0
 Apart first second = (first.number < second.number) ⊎ ¬ (first.key ≡ second.key)
 
@@ -30,7 +30,7 @@ number_from n (line ∷ lines) =
     (all_weaker (λ (c : Change). n + 1 ≤ c.number) (λ (c : Change). n ≤ c.number) (λ c more. omega arith) (changes_from (n + 1) lines)
     (number_from (n + 1) lines))
 
--- a code that an amendment gives up differs from the new code
+-- if neither of two tests passes, the second doesn't
 second_of : (a b : Bool) → (a || b) ≡ false → b ≡ false
 second_of true b h = cc
 second_of false b h = h
@@ -66,7 +66,8 @@ acts_apart n kind line following =
     later_weaker_always KeysDiffer Apart (λ first second differ. inr differ)
     (changes_of_acts n (acts_by_kind kind line following)) (acts_differ n kind line following)
 
--- the changes of records: each later change has another key, or belongs to a later record
+-- the changes of these records are apart: each later one has another key or belongs to a later
+-- record
 pub changes_apart : (n : ℕ) (lines : List (List ℕ)) → AllLater Apart (changes_from n lines)
 changes_apart n [] = tt
 changes_apart n (line ∷ lines) =

@@ -1,5 +1,5 @@
--- The cause of a fault, by the place of the earlier records; and each text that isn't the text of a
--- file has a fault.
+-- The cause of a record at fault, by the place of the earlier records. A text that isn't a file's
+-- has a fault.
 use Rattle.std.proofs.Common.{◌≡◌, refl, true, [], ◌∷◌, Some, None, ℕ, ◌+◌, List, ◌++◌, sym, ◌∙◌, Bool, false, cond, ◌⊎◌, inl, inr, Contains, ap, subst, ◌<◌, ◌≤◌, length, arith, eqb-true, append_assoc, append-nil, length-append}
 use Rattle.std.specs.Prelude.{Any, Option, is_some, ◌&&◌, ◌||◌, nat_le, is_none, ◌==◌}
 use Rattle.std.specs.List.{flat_map, AllByRecursion}
@@ -48,7 +48,7 @@ trailer_place (in_schedule stage lines) next line found = by (may_end stage line
     by false h = let none : None ≡ Some next = (λ i. cond (sym h i) (Some after_end) None) ∙ reached in cc
 trailer_place after_end next line found = cc
 
--- records with a trailer among them lead to the place after the trailer
+-- if records with a trailer among them lead to a place, it is the place after the trailer
 trailer_leads : (records : Lines) (place final : Place) (line : List ℕ) → place_from place records ≡ Some final → Contains records line → HasKind trailer line
     → final ≡ after_end
 trailer_leads [] place final line found among kind = absurd (nil-Contains line among)
@@ -119,7 +119,7 @@ details_follow : (extra : Lines) → AreExtraDetails extra → AllByRecursion Fo
 details_follow extra (inl none) = subst (AllByRecursion Follows) (sym none) tt
 details_follow extra (inr one) = subst (AllByRecursion Follows) (sym one.1) (follows_by extra_details one.0 one.2 refl, tt)
 
--- the lines of a schedule's front are the last schedule among the records
+-- the lines of an unfinished schedule are the last schedule among the records
 pub ends_in_schedule : (stage : Stage) (lines records : Lines) → IsWithin stage lines records → EndsInSchedule records lines
 ends_in_schedule stage lines records within = record {
   before = within.before;
@@ -135,7 +135,7 @@ ends_in_schedule stage lines records within = record {
       (shape_follows stage within.front.extra within.front.journey within.front.shape)));
 }
 
--- a line with good fields that isn't sound makes the third fall
+-- if a line has good fields but isn't sound, it makes the third fall
 third_fall : (stage : Stage) (lines records : Lines) (line : List ℕ) → IsWithin stage lines records → HasGoodFields line → is_sound_next lines line ≡ false
     → HasThirdFall records line
 third_fall stage lines records line within fields test = (lines, ends_in_schedule stage lines records within, few within.front.sound, third)
@@ -169,7 +169,7 @@ module _ (limit : ℕ) (earlier : Lines) (place : Place) (line : List ℕ) (foun
   at : IsAt place earlier
   at = at_of_place earlier place found
 
-  -- no cause with a lower rank holds
+  -- no cause with a lower rank holds, if each of them is excluded
   none_below : (rank : ℕ) → rank ≤ 7 → (0 < rank → ¬ (limit ≤ length earlier)) → (1 < rank → ¬ Any (HasKind trailer) earlier) → (2 < rank → length line ≡ 80)
       → (3 < rank → leftmost_bad_byte line ≡ None) → (4 < rank → ¬ (kind_of line ≡ None)) → (5 < rank → ¬ IsOutOfPlace earlier line)
       → (6 < rank → leftmost_bad_field line ≡ None)
@@ -184,7 +184,7 @@ module _ (limit : ℕ) (earlier : Lines) (place : Place) (line : List ℕ) (foun
   none_below rank most r0 r1 r2 r3 r4 r5 r6 third_midnight below holds = absurd (omega arith)
   none_below rank most r0 r1 r2 r3 r4 r5 r6 no_end below holds = holds
 
-  -- a record whose kind is not in place is out of place
+  -- a record whose kind leads to no place is out of place
   pub out_of_place : place_by_kind place (kind_of line) line ≡ None → IsOutOfPlace earlier line
   out_of_place none next same begins =
       let told = (begins_next_iff earlier place next found).0 begins in
@@ -192,7 +192,7 @@ module _ (limit : ℕ) (earlier : Lines) (place : Place) (line : List ℕ) (foun
       ∙ ap is_some told.1.place_is in
       let bad : false ≡ true = (λ i. is_some (sym none i)) ∙ same_place_by_kind place (kind_of line) line next ∙ some in cc
 
-  -- a record whose kind leads to a next place is not out of place
+  -- a record whose kind leads to a place isn't out of place
   pub in_place : (next : Place) → ¬ (kind_of line ≡ None) → place_by_kind place (kind_of line) line ≡ Some next → ¬ IsOutOfPlace earlier line
   in_place next known told out = by (kind_of line) refl
     where
@@ -232,7 +232,7 @@ module _ (limit : ℕ) (earlier : Lines) (place : Place) (line : List ℕ) (foun
           staged None t = let bad : true ≡ false = sym good ∙ t in cc
       by _ here test = let bad : true ≡ false = sym good ∙ test in cc
 
-  -- each cause holds if no cause with a lower rank does
+  -- from the last cause to the first: each is the record's cause if no cause before it holds
   field_is : ¬ (limit ≤ length earlier) → ¬ Any (HasKind trailer) earlier → length line ≡ 80 → leftmost_bad_byte line ≡ None → ¬ (kind_of line ≡ None)
       → (next : Place) → place_by_kind place (kind_of line) line ≡ Some next → next_place place line ≡ None → IsCause limit earlier line (field_cause line)
   field_is r0 r1 r2 r3 r4 next told nowhere = by (leftmost_bad_field line) refl
@@ -313,7 +313,7 @@ module _ (limit : ℕ) (earlier : Lines) (place : Place) (line : List ℕ) (foun
           let reached = trailer_leads earlier before_header place any.1 found (any.0, any.2, any.3) any.4 in
           let bad : true ≡ false = sym (ap is_after_end reached) ∙ h in cc) nowhere
 
-  -- the cause by the place is the record's cause
+  -- the cause computed from the place is the record's cause
   pub cause_is : (limit ≤ length earlier) ⊎ (next_place place line ≡ None) → IsCause limit earlier line (cause_of limit (length earlier) place line)
   cause_is here = by (nat_le limit (length earlier)) refl here
     where
@@ -323,7 +323,7 @@ module _ (limit : ℕ) (earlier : Lines) (place : Place) (line : List ℕ) (foun
       by false h (inl over) = let under = leb-false limit (length earlier) h in absurd (omega arith)
       by false h (inr nowhere) = let under = leb-false limit (length earlier) h in end_is (λ over. omega arith) nowhere
 
-  -- the record is at fault
+  -- the record is the first at fault
   pub record_fault : (records later : Lines) → records ≡ earlier ++ line ∷ later → length earlier ≤ limit → (limit ≤ length earlier)
       ⊎ (next_place place line ≡ None)
       → IsRecordFault limit records (record { number = length earlier + 1; cause = cause_of limit (length earlier) place line })
@@ -345,7 +345,7 @@ module _ (limit : ℕ) (earlier : Lines) (place : Place) (line : List ℕ) (foun
           let reached = (begins_iff_place (earlier ++ line ∷ [])).0 begins in
           let bad : None ≡ Some reached.0 = sym nowhere ∙ sym (place_of_more earlier place line found) ∙ reached.1 in cc)
 
--- the records are not a file yet
+-- records that lead to a place before the end are unended
 pub no_end_behind : (limit : ℕ) (records : Lines) (place : Place) → IsPlaceOf records place → is_after_end place ≡ false → length records ≤ limit
     → IsUnended limit records (record { number = length records + 1; cause = no_end })
 no_end_behind limit records place found open_end within = record {
@@ -360,7 +360,7 @@ no_end_behind limit records place found open_end within = record {
 
 -- ---- a file, or a fault
 
--- the records pass: they are within the limit, and they lead to a place
+-- the records pass: they are within the limit, and lead to a place
 abbrev pub Pass : ℕ → Lines → Type 0
 Pass limit records = (place : Place) × IsPlaceOf records place × (length records ≤ limit)
 
@@ -391,11 +391,11 @@ pass_from (line ∷ rest) limit records earlier place found within whole =
         let size = length-append earlier (line ∷ []) in
         later next (place_of_more earlier place line found ∙ told) (omega arith)
 
--- some records pass, or one of them is at fault
+-- records pass, or one of them is at fault
 pub pass_or_fault : (limit : ℕ) (records : Lines) → Pass limit records ⊎ HasRecordFault limit records
 pass_or_fault limit records = pass_from records limit records [] before_header refl (omega arith) refl
 
--- a text is the text of a file within the limit, or it has a fault
+-- a text is a file's within the limit, or has a fault
 pub file_or_fault : (limit : ℕ) (text : List ℕ) → ((file : Lines) × IsFileText limit text file) ⊎ ((fault : FileFault) × IsFileFault limit text fault)
 file_or_fault limit text = by (pass_or_fault limit (lines_of text))
   where
@@ -409,7 +409,7 @@ file_or_fault limit text = by (pass_or_fault limit (lines_of text))
         ended false h = inr (record { number = length (lines_of text) + 1; cause = no_end }, inr (no_end_behind limit (lines_of text) pass.0 pass.1 h pass.2))
     by (inr fault) = inr (fault.0, inl fault.1)
 
--- some records are a file, or they aren't
+-- records are a file, or they aren't
 pub file_or_not : (records : Lines) → IsFile records ⊎ ¬ IsFile records
 file_or_not records = by (place_at records) refl
   where

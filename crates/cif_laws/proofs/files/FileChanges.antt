@@ -1,4 +1,4 @@
--- Each change of a file within the limit is well formed, and what it puts agrees with its key.
+-- The changes of a file within the limit: each is well formed, and what it puts fits its key.
 use Rattle.std.proofs.Common.{◌≡◌, ℕ, ◌+◌, ◌-◌, ◌^◌, ◌<◌, ◌≤◌, List, [], ◌∷◌, ◌++◌, map, length, Contains, subst, ap, refl, arith, length-append}
 use Rattle.std.specs.List.{AllByRecursion, flat_map}
 use Rattle.std.proofs.lemmas.List.Elements.{recursion_from_All}
@@ -11,7 +11,7 @@ use Rattle.cif_laws.proofs.lists.Membership.{below_by_recursion}
 use Rattle.cif_laws.proofs.lists.AllOf.{all_append, all_weaker}
 use Rattle.cif_laws.proofs.files.GoodChanges.{IsGoodChange, units_changes}
 
--- a change has the number of one of these records
+-- the change has the number of one of these records
 abbrev IsNumbered : ℕ → ℕ → Change → Type 0
 IsNumbered first count change = (first ≤ change.number) × (change.number < first + count)
 
@@ -29,8 +29,7 @@ numbers_within n (line ∷ lines) =
     (all_weaker (IsNumbered (n + 1) (length lines)) (IsNumbered n (length (line ∷ lines))) (λ c inside. (omega arith, omega arith)) (changes_from (n + 1) lines)
     (numbers_within (n + 1) lines))
 
--- a change of a file within the limit is well formed, and its number is the number of a record
--- after the header
+-- a change is well formed, and has the number of a record after the header
 pub record IsFileChange (change : Change) : Type 0 where
   pub good : IsGoodChange change
   pub low : 2 ≤ change.number
@@ -61,7 +60,7 @@ file_change file is few change among =
         subst (λ k. Contains (map (λ (act : Key × Act). record { number = 1; key = act.0; act = act.1 })
         (acts_by_kind k is.first rest) ++ changes_from 2 rest) change) is.header_kind inside
 
--- what a change puts agrees with its key
+-- the body that a change puts fits its key
 pub body_of_file : (file : List (List ℕ)) → IsFile file → length file ≤ most_records → (change : Change) → Contains (changes file) change → (body : Body)
     → change.act ≡ put body → IsBodyOf change.key body
 body_of_file file is few change among body puts = subst (λ act. IsOpOf change.key (op_of act)) puts (file_change file is few change among).good.1

@@ -1,5 +1,5 @@
--- Where a file is after its records so far: which record may come next, and when the records are a
--- file.
+-- Where a reader of a file is after the records so far: which record may come next, and whether the
+-- records are a file.
 use Rattle.std.proofs.Common.{◌≡◌, ℕ, List, ◌∷◌, ◌++◌, [], true, Some, refl, Bool, false, cond, None, ◌∙◌, ap, sym, append-nil, inl, inr, subst, append_assoc, ◌<◌, length, arith, length-append, ◌⊎◌}
 use Rattle.std.specs.Prelude.{◌&&◌, Option, is_some, option_and_then, ◌↔◌, ⊤}
 use Rattle.std.specs.List.{AllByRecursion, flat_map}
@@ -19,9 +19,9 @@ use Rattle.cif_laws.proofs.files.GoodChanges.{StopsHere, units_stop}
 use Rattle.cif_laws.proofs.records.RecordTests.{record_iff_test}
 use Rattle.cif_laws.proofs.schedules.ScheduleStages.{IsFront, front_of_basic, schedule_of_front, next_front, test_by_next_line, witness, witness_kind, witness_record, witness_fields, witness_sound, next_line_by_test, IsNextLine, first_line_iff_test, stage_of_schedule, stage_of_more}
 
--- ---- what a place says about the records
+-- ---- what a place means for the records
 
--- a header and whole units
+-- the records are a header and whole units
 pub record IsBetween (records : Lines) : Type 0 where
   pub first : List ℕ
   pub units : List Lines
@@ -31,7 +31,7 @@ pub record IsBetween (records : Lines) : Type 0 where
   pub header_fields : HasGoodFields first
   pub each : AllByRecursion IsUnit units
 
--- a header, whole units, and then these lines of a schedule
+-- the records are a header, whole units, and then these lines of a schedule
 pub record IsWithin (stage : Stage) (lines records : Lines) : Type 0 where
   pub before : Lines
   pub whole : records ≡ before ++ lines
@@ -53,7 +53,7 @@ pub record IsNext (place : Place) (line : List ℕ) (next : Place) : Type 0 wher
   pub sound : is_sound_at place line ≡ true
   pub place_is : place_by_kind place (kind_of line) line ≡ Some next
 
--- a record that leads to a next place passes the parts of the test
+-- a record that leads to a next place passes each part of the test
 pub next_by_test : (place : Place) (line : List ℕ) (next : Place) → next_place place line ≡ Some next → IsNext place line next
 next_by_test place line next found = by (is_record line && is_sound_at place line) refl found
   where
@@ -62,7 +62,7 @@ next_by_test place line next found = by (is_record line && is_sound_at place lin
     by true h told = let parts = both (is_record line) _ h in record { is = (record_iff_test line).1 parts.0; sound = parts.1; place_is = told }
     by false h told = cc
 
--- a record that passes the parts of the test leads to the next place
+-- a record that passes each part of the test leads to the next place
 pub test_by_next : (place : Place) (line : List ℕ) (next : Place) → IsNext place line next → next_place place line ≡ Some next
 test_by_next place line next told =
     (λ i. cond (and_true (is_record line) _ ((record_iff_test line).0 told.is) told.sound i) (place_by_kind place (kind_of line) line) None) ∙ told.place_is
@@ -82,7 +82,7 @@ between_more records unit between is = record {
   each = all_append IsUnit between.units (unit ∷ []) between.each (is, tt);
 }
 
--- a record between units leads to this place
+-- after a record of this kind, records that were between units are at this place
 unit_more : (records : Lines) (kind : Kind) (line : List ℕ) (next : Place) → IsBetween records → IsRecord line → HasKind kind line → HasGoodFields line
     → unit_by_kind (Some kind) line ≡ Some next
     → IsAt next (records ++ line ∷ [])
@@ -118,7 +118,7 @@ unit_more records trailer line next between is kind fields found =
     })
 unit_more records _ line next between is kind fields found = cc
 
--- a record between units leads to a place by its own kind
+-- after a record between units, the records are at the place that its kind gives
 unit_more_of : (records : Lines) (line : List ℕ) (next : Place) → IsBetween records → IsRecord line → HasGoodFields line
     → unit_by_kind (kind_of line) line ≡ Some next → IsAt next (records ++ line ∷ [])
 unit_more_of records line next between is fields found = by (kind_of line) refl found
@@ -127,7 +127,7 @@ unit_more_of records line next between is fields found = by (kind_of line) refl 
     by None h told = cc
     by (Some kind) h told = unit_more records kind line next between is h fields told
 
--- after whole lines of a schedule the records are between units
+-- records that end with a whole schedule are between units
 within_ended : (stage : Stage) (lines records : Lines) → IsWithin stage lines records → may_end stage lines ≡ true → IsBetween records
 within_ended stage lines records within may =
     subst IsBetween (sym within.whole) (between_more within.before lines within.between (inr (schedule_of_front stage lines within.front may)))
@@ -147,7 +147,7 @@ within_more stage lines records line next within found = record {
   front = next_front stage lines line next within.front found;
 }
 
--- with one more record, the records are as the next place says
+-- if one more record leads to a next place, the records are at that place
 pub next_at : (place : Place) (records : Lines) (line : List ℕ) (next : Place) → IsAt place records → next_place place line ≡ Some next
     → IsAt next (records ++ line ∷ [])
 next_at before_header records line next at found = by (next_by_test before_header line next found) (kind_of line) refl
@@ -204,13 +204,13 @@ at_from (line ∷ rest) place records final at found =
     subst (IsAt final) (append_assoc records (line ∷ []) rest)
     (at_from rest step.0 (records ++ line ∷ []) final (next_at place records line step.0 at step.1) step.2)
 
--- the records that lead to a place are as the place says
+-- records that lead to a place are at it
 pub at_of_place : (records : Lines) (place : Place) → IsPlaceOf records place → IsAt place records
 at_of_place records place found = at_from records before_header [] place refl found
 
--- ---- at each place some file begins
+-- ---- records at a place begin some file
 
--- a good record of a kind that is in place leads to a next place
+-- some good record of each kind that may come next leads to a next place
 pub witness_next : (place : Place) (records : Lines) (kind : Kind) (next : Place) → IsAt place records → place_by_kind place (Some kind)
     (witness kind) ≡ Some next → next_place place (witness kind) ≡ Some next
 witness_next place records kind next at found = test_by_next place (witness kind) next (record {
@@ -249,7 +249,7 @@ journey_begins lines records at =
     begins_front records (witness terminating_location ∷ [])
     (between_begins (records ++ witness terminating_location ∷ []) (leads (in_schedule in_journey lines) records terminating_location between_units at refl))
 
--- some file begins with records that are as a place says
+-- records at a place begin some file
 pub at_begins : (place : Place) (records : Lines) → IsAt place records → BeginsFile records
 at_begins before_header records at =
     begins_front records (witness header ∷ []) (between_begins (records ++ witness header ∷ []) (leads before_header records header between_units at refl))
@@ -273,7 +273,7 @@ place_from_append (line ∷ front) place middle more found =
     let step = then_some (λ next. place_from next front) (next_place place line) middle found in
     (λ i. option_and_then (λ next. place_from next (front ++ more)) (step.1 i)) ∙ place_from_append front step.0 middle more step.2
 
--- the next stage of a schedule is the next place
+-- a line that leads to a schedule's next stage leads to the place there
 pub next_of_stage : (stage : Stage) (lines : Lines) (line : List ℕ) (next : Stage) → next_stage stage lines line ≡ Some next
     → next_place (in_schedule stage lines) line ≡ Some (place_in next (lines ++ line ∷ []))
 next_of_stage stage lines line next found =
@@ -284,7 +284,7 @@ next_of_stage stage lines line next found =
       place_is = λ i. in_stage_or (lines ++ line ∷ []) (told.stage_is i) (cond (may_end stage lines) (unit_by_kind (kind_of line) line) None);
     })
 
--- like `next_of_stage`, for a place that may be after a whole journey
+-- like `next_of_stage`, for a schedule whose journey may be whole
 next_in : (stage : Stage) (lines : Lines) (line : List ℕ) (next : Stage) → next_stage stage lines line ≡ Some next
     → next_place (place_in stage lines) line ≡ Some (place_in next (lines ++ line ∷ []))
 next_in stage lines line next found = by stage (next_line_by_test stage lines line next found)
@@ -323,7 +323,7 @@ unit_from (basic ∷ rest) stage more found = by (is_first_line basic) refl foun
         ∙ schedule_from rest after_basic (basic ∷ []) stage more told
     by false h told = cc
 
--- a record that can't follow a basic schedule is not a schedule's next line
+-- a record that can't follow a basic schedule leads to no stage
 pub stage_stops : (stage : Stage) (kind : Option Kind) → follows_basic kind ≡ false → stage_after stage kind ≡ None
 stage_stops stage None h = by stage
   where
@@ -340,7 +340,8 @@ stage_stops in_journey (Some change_en_route) h = cc
 stage_stops in_journey (Some terminating_location) h = cc
 stage_stops _ _ h = refl
 
--- after lines that may end, a record that can't follow a basic schedule is placed as between units
+-- after lines that may be a whole schedule, a record that can't follow a basic schedule is placed
+-- like one between units
 pub next_behind : (stage : Stage) (lines : Lines) (line : List ℕ) → may_end stage lines ≡ true → follows_basic (kind_of line) ≡ false
     → next_place (in_schedule stage lines) line ≡ next_place between_units line
 next_behind stage lines line may anew =
@@ -386,7 +387,7 @@ units_pass (unit ∷ units) last each is end =
     ∙ unit_passes unit (flat_map (λ u. u) units ++ last ∷ []) each.0 (units_stop units last each.1 end) (omega arith)
     ∙ units_pass units last each.1 is end
 
--- a file leads to the place after the trailer
+-- the records of a file lead to the place after the trailer
 pub place_of_file : (file : Lines) → IsFile file → IsPlaceOf file after_end
 place_of_file file is =
     ap place_at is.whole
@@ -407,26 +408,26 @@ place_from_front (line ∷ front) rest place final found =
     let more = place_from_front front rest step.0 final step.2 in
     (more.0, (λ i. option_and_then (λ next. place_from next front) (step.1 i)) ∙ more.1)
 
--- a file begins with some records if and only if they lead to a place
+-- records begin a file if and only if they lead to a place
 pub begins_iff_place : (records : Lines) → BeginsFile records ↔ ((place : Place) × IsPlaceOf records place)
 begins_iff_place records = (
   λ begins. place_from_front records begins.0 before_header after_end (place_of_file (records ++ begins.0) begins.1),
   λ at. at_begins at.0 records (at_of_place records at.0 at.1),
 )
 
--- the records are a file if and only if they lead to the place after the trailer
+-- records are a file if and only if they lead to the place after the trailer
 pub file_iff_place : (records : Lines) → IsFile records ↔ IsPlaceOf records after_end
 file_iff_place records = (place_of_file records, at_of_place records after_end)
 
--- some records lead to one place only
+-- records lead to one place only
 pub one_place : (records : Lines) (first second : Place) → IsPlaceOf records first → IsPlaceOf records second → first ≡ second
 one_place records first second one two = let both_are : Some first ≡ Some second = sym one ∙ two in cc
 
--- the place with one more record
+-- the place after one more record
 pub place_of_more : (records : Lines) (place : Place) (line : List ℕ) → IsPlaceOf records place → place_at (records ++ line ∷ []) ≡ next_place place line
 place_of_more records place line found = place_from_append records before_header place (line ∷ []) found ∙ some_then (next_place place line)
 
--- a file begins with one more record if and only if there is a next place
+-- with one more record they begin a file if and only if it leads to a next place
 pub begins_next_iff : (records : Lines) (place : Place) (line : List ℕ) → IsPlaceOf records place → BeginsFile (records ++ line ∷ [])
     ↔ ((next : Place) × IsNext place line next)
 begins_next_iff records place line found = (
@@ -435,7 +436,7 @@ begins_next_iff records place line found = (
   λ told. (begins_iff_place (records ++ line ∷ [])).1 (told.0, place_of_more records place line found ∙ test_by_next place line told.0 told.1),
 )
 
--- some file begins with the records so far, or none does
+-- records begin some file, or they don't
 pub begins_file_or_not : (records : Lines) → BeginsFile records ⊎ ¬ BeginsFile records
 begins_file_or_not records = by (place_at records) refl
   where
@@ -445,7 +446,7 @@ begins_file_or_not records = by (place_at records) refl
 
 -- ---- the schedule of a place
 
--- the stage of a place is the stage of its lines, and no journey there is whole
+-- a place in a schedule has the stage of the schedule's lines, and its journey isn't whole
 abbrev pub IsTracked : Place → Type 0
 IsTracked (in_schedule stage lines) = (stage_of lines ≡ Some stage) × ¬ (stage ≡ after_journey)
 IsTracked _ = ⊤
@@ -497,6 +498,6 @@ tracked_from (line ∷ rest) place final tracked found =
     let step = then_some (λ next. place_from next rest) (next_place place line) final found in
     tracked_from rest step.0 final (next_tracked place line step.0 tracked (next_by_test place line step.0 step.1)) step.2
 
--- a place that records lead to has the stage of its lines
+-- a place that records lead to has the stage of its schedule's lines
 pub tracked_place : (records : Lines) (place : Place) → IsPlaceOf records place → IsTracked place
 tracked_place records place found = tracked_from records before_header place tt found

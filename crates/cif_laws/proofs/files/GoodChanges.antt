@@ -1,5 +1,5 @@
--- The changes of a file within the limit have well formed keys and bodies. A schedule's lines, as
--- they are kept, are a schedule again.
+-- The changes of a file within the limit have well formed keys and bodies. The lines of a
+-- schedule's body are a schedule.
 use Rattle.std.proofs.Common.{◌≡◌, ℕ, ◌+◌, ◌-◌, ◌^◌, ◌<◌, ◌⊎◌, inl, inr, List, [], ◌∷◌, ◌++◌, length, take, All, subst, refl, ap, sym, ◌∙◌, Bool, true, false, cond, Some, arith, append_assoc, length-append}
 use Rattle.std.specs.Prelude.{Option, ⊤, ◌||◌, ◌==◌}
 use Rattle.std.specs.List.{AllByRecursion, flat_map, prefix_len}
@@ -17,7 +17,7 @@ use Rattle.cif_laws.proofs.lists.AllOf.{all_append, all_weaker, all_map}
 use Rattle.cif_laws.proofs.records.Columns.{IsGoodIn, good_fields, fields_good, text_in, one_column, printable_column, new_columns, new_column, new_kind, new_record, is_new}
 use Rattle.cif_laws.proofs.records.GoodFields.{date_is_day, tiploc_starts, new_tiploc_starts}
 
--- the key and the op of a change are well formed and agree
+-- the key and the op of a change are well formed and fit
 abbrev pub IsGoodAct : Key × Act → Type 0
 IsGoodAct act = IsGoodKey act.0 × IsOpOf act.0 (op_of act.1)
 
@@ -29,7 +29,7 @@ letter_at line is = ap is_stp_letter (sym (one_column line 80 (omega arith))) �
 tiploc_at : (line : List ℕ) → IsRecord line → is_tiploc (columns 3 9 line) ≡ true → IsTiploc (columns 3 9 line)
 tiploc_at line is good = (text_in line 3 9 is (omega arith) (omega arith), tiploc_starts (columns 3 9 line) good)
 
--- the fields of an association that its key and its deletion need
+-- the fields of an association that its key and its deletion need, each good
 record AssociationFields (line : List ℕ) : Type 0 where
   pub start : is_date (columns 16 21 line) ≡ true
   pub location : is_tiploc (columns 38 44 line) ≡ true
@@ -74,7 +74,7 @@ schedule_key_good line is kind good =
       indicator = letter_at line fields.indicator;
     }
 
--- ---- the same key and good fields with the transaction N
+-- ---- a line with the transaction N has the same key and good fields
 
 same_association : (line : List ℕ) → association_named (as_new line) ≡ association_named line
 same_association line = λ i. association_key (record {
@@ -204,7 +204,7 @@ single_acts line following is (inr (inr (inr kind))) good =
 
 -- ---- schedules
 
--- a schedule that isn't a deletion is still a schedule with its transaction set to N
+-- a schedule that isn't a deletion is still a schedule if its transaction is set to N
 pub new_is_schedule : (lines : List (List ℕ)) (schedule : IsSchedule lines) → is_deletion schedule.basic ≡ false
     → IsSchedule (as_new schedule.basic ∷ schedule.extra ++ schedule.journey)
 new_is_schedule lines schedule kept =
@@ -236,12 +236,13 @@ new_is_schedule lines schedule kept =
     sound (inl deletion) = let bad : false ≡ true = sym kept ∙ deletion in cc
     sound (inr good) = inr good
 
--- no schedule continues into these records
+-- the schedule before these records ends with them: they don't begin with a record that can follow
+-- a basic schedule
 abbrev pub StopsHere : List (List ℕ) → Type 0
 StopsHere [] = ⊤
 StopsHere (line ∷ lines) = follows_basic (kind_of line) ≡ false
 
--- the record stands in a schedule after its basic schedule
+-- the record is of a kind that can follow a basic schedule
 abbrev pub Follows : List ℕ → Type 0
 Follows line = follows_basic (kind_of line) ≡ true
 
@@ -252,16 +253,15 @@ prefix_is [] (line ∷ rest) all stops = λ i. cond (stops i) (1 + prefix_len (�
 prefix_is (line ∷ lines) rest all stops =
     (λ i. cond (all.0 i) (1 + prefix_len (λ line. follows_basic (kind_of line)) (lines ++ rest)) 0) ∙ (let e = prefix_is lines rest all.1 stops in omega arith)
 
--- the rest of a schedule is the lines that follow, up to a record that can't follow a basic
--- schedule
+-- the rest of a schedule goes up to the next record that can't follow a basic schedule
 pub rest_is : (lines rest : List (List ℕ)) → AllByRecursion Follows lines → StopsHere rest → schedule_rest (lines ++ rest) ≡ lines
 rest_is lines rest all stops = ap (λ n. take n (lines ++ rest)) (prefix_is lines rest all stops) ∙ take-append_seam lines rest
 
--- a record of a kind that follows a basic schedule
+-- a record whose kind can follow a basic schedule
 pub follows_by : (kind : Kind) (line : List ℕ) → HasKind kind line → follows_basic (Some kind) ≡ true → Follows line
 follows_by kind line is follows = ap follows_basic is ∙ follows
 
--- each line of a journey follows a basic schedule
+-- each line of a journey can follow a basic schedule
 pub journey_follows : (lines : List (List ℕ)) → IsJourney lines → AllByRecursion Follows lines
 journey_follows lines journey =
     subst (AllByRecursion Follows) (sym journey.whole) (
@@ -275,7 +275,7 @@ journey_follows lines journey =
     within line (inl call) = follows_by intermediate_location line call refl
     within line (inr change) = follows_by change_en_route line change refl
 
--- each line after the first of a schedule is one that follows a basic schedule
+-- each line of a schedule after the first can follow a basic schedule
 pub schedule_follows : (lines : List (List ℕ)) (schedule : IsSchedule lines) → AllByRecursion Follows (schedule.extra ++ schedule.journey)
 schedule_follows lines schedule = all_append Follows schedule.extra schedule.journey (details schedule.details) (journey schedule.journey_or_none)
   where
@@ -372,7 +372,7 @@ unit_stops unit rest (inl single) = subst (λ u. StopsHere (u ++ rest)) (sym sin
     by (inr (inr (inr kind))) = stops_by association single.0 kind refl
 unit_stops unit rest (inr schedule) = subst (λ u. StopsHere (u ++ rest)) (sym schedule.whole) (stops_by basic_schedule schedule.basic schedule.kind refl)
 
--- no schedule continues into these units and the trailer
+-- a schedule before these units and the trailer ends with them
 pub units_stop : (units : List (List (List ℕ))) (last : List ℕ) → AllByRecursion IsUnit units → HasKind trailer last
     → StopsHere (flat_map (λ unit. unit) units ++ last ∷ [])
 units_stop [] last all end = stops_by trailer last end refl

@@ -1,4 +1,4 @@
--- A text is a text of these records if and only if splitting it gives them.
+-- Records are the lines of a text exactly if the text consists of them and their line ends.
 use Rattle.std.proofs.Common.{◌≡◌, ℕ, suc, ◌-◌, ◌<◌, ◌≤◌, ◌⊎◌, List, [], ◌∷◌, ◌++◌, length, map, take, refl, ap, sym, ◌∙◌, subst, inl, inr, Bool, true, false, cond, arith, All, eqb-true, append_assoc, append-nil, length-append}
 use Rattle.std.specs.Prelude.{◌↔◌, ◌==◌, slice_index, ◌≢◌, nat_le, ◌&&◌}
 use Rattle.std.specs.List.{slice_split, join_with_byte, AllByRecursion, AllPass}
@@ -11,7 +11,7 @@ use Rattle.std.proofs.Math.Seq.{take-append_seam, get_or-append_seam}
 use Rattle.docker_model.specs.records.Record.{is_printable, IsRecord}
 use Rattle.docker_model.specs.file.Text.{IsLineEnd, IsLastLineEnd, IsTextOf, without_empty_last, lines_of}
 
--- a list whose last byte is 13 is the bytes before it, and 13
+-- if the last byte of a list is 13, the list is the bytes before it and 13
 last_is : (bytes : List ℕ) → slice_index bytes (length bytes - 1) ≡ 13 → bytes ≡ take (length bytes - 1) bytes ++ 13 ∷ []
 last_is [] h = absurd (omega arith)
 last_is (x ∷ []) h = λ i. h i ∷ []
@@ -24,7 +24,7 @@ last_is (x ∷ y ∷ bytes) h =
     (last_is (y ∷ bytes) inner) in
     subst (λ k. (x ∷ y ∷ bytes) ≡ take k (x ∷ y ∷ bytes) ++ 13 ∷ []) (sym less) (ap (λ zs. x ∷ zs) rest)
 
--- a piece is its line, perhaps with a carriage return
+-- a piece is its line, or its line and a carriage return
 piece_is : (piece : List ℕ) → (piece ≡ strip_carriage_return piece) ⊎ (piece ≡ strip_carriage_return piece ++ 13 ∷ [])
 piece_is piece = by (slice_index piece (length piece - 1) == 13) refl
   where
@@ -33,7 +33,7 @@ piece_is piece = by (slice_index piece (length piece - 1) == 13) refl
     by true h = inr (last_is piece (eqb-true _ _ h) ∙ (λ i. cond (sym h i) (take (length piece - 1) piece) piece ++ 13 ∷ []))
     by false h = inl (λ i. cond (sym h i) (take (length piece - 1) piece) piece)
 
--- a piece, a line feed and a text of the rest make a text with one more line
+-- a piece and a line feed before a text make a text with one more line
 one_more : (piece : List ℕ) (lines : List (List ℕ)) (rest : List ℕ) → IsTextOf lines rest → IsTextOf (strip_carriage_return piece ∷ lines) (piece ++ 10 ∷ rest)
 one_more piece [] rest told = by (piece_is piece)
   where
@@ -55,7 +55,7 @@ one_more piece (line ∷ lines) rest told = by (piece_is piece)
       told,
     )
 
--- pieces with line feeds between them are a text of their lines
+-- pieces with line feeds between them are a text of the pieces' lines
 pieces_text : (pieces : List (List ℕ)) → IsTextOf (map strip_carriage_return (without_empty_last pieces)) (join_with_byte 10 pieces)
 pieces_text [] = refl
 pieces_text ([] ∷ []) = refl
@@ -68,11 +68,12 @@ pieces_text ((b ∷ bytes) ∷ []) = by (piece_is (b ∷ bytes))
 pieces_text (piece ∷ next ∷ pieces) =
     one_more piece (map strip_carriage_return (without_empty_last (next ∷ pieces))) (join_with_byte 10 (next ∷ pieces)) (pieces_text (next ∷ pieces))
 
--- any text is a text of its lines
+-- any text consists of its lines
 pub text_of_lines : (text : List ℕ) → IsTextOf (lines_of text) text
 text_of_lines text = subst (IsTextOf (lines_of text)) (join_with_byte-slice_split 10 text) (pieces_text (slice_split (λ b. b == 10) text))
 
--- what matters about a record for line ends
+-- a line that keeps its bytes when a text is split: it isn't empty, has no line feed, and doesn't
+-- end in a carriage return
 pub record IsPlain (line : List ℕ) : Type 0 where
   pub some : 0 < length line
   pub no_feed : All (λ b. (b == 10) ≡ false) line
@@ -88,7 +89,7 @@ keeps_first : (piece : List ℕ) (pieces : List (List ℕ)) → 0 < length piece
 keeps_first piece [] some = absurd (omega arith)
 keeps_first piece (next ∷ pieces) some = refl
 
--- the lines of a piece, a line feed and a rest
+-- the first line of a text that begins with a piece and a line feed
 lines_after : (piece rest : List ℕ) → All (λ b. (b == 10) ≡ false) piece → lines_of (piece ++ 10 ∷ rest) ≡ strip_carriage_return piece ∷ lines_of rest
 lines_after piece rest plain =
     let split = slice_split_at (λ b. b == 10) piece 10 rest plain refl in
@@ -101,7 +102,7 @@ lines_last piece plain some =
     (λ i. map strip_carriage_return (without_empty_last (slice_split_none (λ b. b == 10) piece plain i)))
     ∙ ap (map strip_carriage_return) (keeps_last piece some)
 
--- a line with what may follow it
+-- the first line of a text that begins with a plain line and its line end
 lines_one : (line rest end : List ℕ) → IsPlain line → IsLineEnd end → lines_of ((line ++ end) ++ rest) ≡ line ∷ lines_of rest
 lines_one line rest end plain (inl e) =
     (λ i. lines_of ((line ++ e i) ++ rest)) ∙ ap lines_of (append_assoc line (10 ∷ []) rest)
@@ -118,14 +119,14 @@ lines_end line end plain (inr (inl e)) =
 lines_end line end plain (inr (inr e)) =
     (λ i. lines_of (line ++ e i)) ∙ ap lines_of (append-nil line) ∙ lines_last line plain.no_feed plain.some ∙ (λ i. plain.stays i ∷ [])
 
--- splitting a text of plain lines gives these lines
+-- the lines of a text that consists of plain lines are these lines
 pub lines_of_text : (lines : List (List ℕ)) (text : List ℕ) → AllByRecursion IsPlain lines → IsTextOf lines text → lines_of text ≡ lines
 lines_of_text [] text plain told = ap lines_of told
 lines_of_text (line ∷ []) text plain told = ap lines_of told.2 ∙ lines_end line told.0 plain.0 told.1
 lines_of_text (line ∷ next ∷ lines) text plain told =
     ap lines_of told.3 ∙ lines_one line told.1 told.0 plain.0 told.2 ∙ ap (λ rest. line ∷ rest) (lines_of_text (next ∷ lines) told.1 plain.1 told.4)
 
--- a record is plain
+-- numbers that differ fail the test of being equal
 not_equal : (a b : ℕ) → a ≢ b → (a == b) ≡ false
 not_equal a b apart = by (eqb_tells a b)
   where
@@ -181,7 +182,7 @@ records_plain : (lines : List (List ℕ)) → AllByRecursion IsRecord lines → 
 records_plain [] all = tt
 records_plain (line ∷ lines) all = (IsRecord-IsPlain line all.0, records_plain lines all.1)
 
--- for records, being a text of them is the same as being split into them
+-- records are the lines of a text exactly if the text consists of them
 pub text_iff_lines : (records : List (List ℕ)) (text : List ℕ) → All IsRecord records → IsTextOf records text ↔ (lines_of text ≡ records)
 text_iff_lines records text all = (
   lines_of_text records text (records_plain records (recursion_from_All IsRecord records all)),

@@ -1,5 +1,5 @@
--- The fault that a text shows before its end stays the fault of every longer text. If it shows
--- none, some file begins with its complete lines.
+-- A fault that the bytes so far show is the fault of every longer text. If they show none, their
+-- complete lines begin some file.
 use Rattle.std.proofs.Common.{ℕ, ◌+◌, ◌-◌, ◌≤◌, List, take, length, Bool, true, false, cond, arith, ◌≡◌, refl, Some, None, [], ◌∷◌, ◌++◌, ◌<◌, sym, ◌∙◌, append_assoc, ◌⊎◌, inl, inr, map, subst, length-append, ap}
 use Rattle.std.specs.Prelude.{◌==◌, slice_index, ◌≢◌, Option, nat_le}
 use Rattle.std.specs.List.{slice_split}
@@ -21,7 +21,7 @@ use Rattle.cif_laws.proofs.files.ToldLines.{GoesOn, goes_on, lines_of_told, line
 
 -- ---- a piece of more than 81 bytes is not a record
 
--- taking a carriage return away removes at most one byte
+-- a line has at most one byte less than its piece
 pub strip_long : (piece : List ℕ) → length piece ≤ length (strip_carriage_return piece) + 1
 strip_long piece = by (slice_index piece (length piece - 1) == 13)
   where
@@ -33,7 +33,7 @@ strip_long piece = by (slice_index piece (length piece - 1) == 13)
 pub not_80 : (piece : List ℕ) → 82 ≤ length piece → length (strip_carriage_return piece) ≢ 80
 not_80 piece long is = let most = strip_long piece in absurd (omega arith)
 
--- a line that doesn't have 80 bytes is not a next record
+-- a line that doesn't have 80 bytes leads to no next place
 pub no_next_place : (place : Place) (line : List ℕ) → length line ≢ 80 → next_place place line ≡ None
 no_next_place place line apart = by (next_place place line) refl
   where
@@ -47,9 +47,9 @@ no_begin earlier line apart begins =
     let told = (begins_next_iff earlier reached.0 line reached.1).0 begins in
     apart told.1.is.0
 
--- ---- parts of lists
+-- ---- prefixes of lists
 
--- an element before the end of a front is in the front
+-- an element whose place is below the length of a prefix is in the prefix
 within_front : (front more earlier : Lines) (line : List ℕ) (later : Lines) → front ++ more ≡ earlier ++ line ∷ later → length earlier < length front
     → (rest : Lines) × (front ≡ earlier ++ line ∷ rest)
 within_front [] more earlier line later e below = absurd (omega arith)
@@ -62,7 +62,7 @@ within_front (first ∷ front) more (second ∷ earlier) line later e below =
     let rest = within_front front more earlier line later tails (omega arith) in
     (rest.0, λ i. heads i ∷ rest.1 i)
 
--- the element after a whole front is the one that follows it
+-- the element right after a prefix is the one that follows it
 behind_front : (front : Lines) (last : List ℕ) (earlier : Lines) (line : List ℕ) (later : Lines) → front ++ last ∷ [] ≡ earlier ++ line ∷ later
     → length earlier ≡ length front
     → (earlier ≡ front) × (line ≡ last)
@@ -78,7 +78,7 @@ behind_front (first ∷ front) last (second ∷ earlier) line later e same =
 
 -- ---- a fault that is shown stays
 
--- a cause of one line that doesn't have 80 bytes is a cause of each such line
+-- the cause of a line that doesn't have 80 bytes is the cause of any other such line there
 cause_stays : (limit : ℕ) (earlier : Lines) (line other : List ℕ) (cause : FileCause) → length line ≢ 80 → length other ≢ 80 → IsCause limit earlier line cause
     → IsCause limit earlier other cause
 cause_stays limit earlier line other cause one two is = by cause is
@@ -108,7 +108,7 @@ cause_stays limit earlier line other cause one two is = by cause is
     by third_midnight told = absurd (above third_midnight told (omega arith))
     by no_end told = absurd told.holds
 
--- a fault among the first of some records is a fault of all the records
+-- the fault of a prefix of records is the fault of all of them
 fault_in_front : (limit : ℕ) (front records more : Lines) (fault : FileFault) → records ≡ front ++ more → IsRecordFault limit front fault
     → IsRecordFault limit records fault
 fault_in_front limit front records more fault whole is = record {
@@ -123,13 +123,13 @@ fault_in_front limit front records more fault whole is = record {
   cause = is.cause;
 }
 
--- if the first piece isn't empty, it is the first line
+-- a first piece with bytes is the first line
 first_left : (piece : List ℕ) (pieces : Lines) → 0 < length piece → (others : Lines) × (without_empty_last (piece ∷ pieces) ≡ piece ∷ others)
 first_left [] [] some = absurd (omega arith)
 first_left (b ∷ bytes) [] some = ([], refl)
 first_left piece (next ∷ pieces) some = (without_empty_last (next ∷ pieces), refl)
 
--- a fault that a text shows stays the fault of every longer text
+-- a fault that the bytes so far show is shown by all longer bytes
 pub fault_stays : (limit : ℕ) (text more : List ℕ) (fault : FileFault) → IsFaultSoFar limit text fault → IsFaultSoFar limit (text ++ more) fault
 fault_stays limit text more fault told =
     record {
@@ -190,34 +190,33 @@ fault_stays limit text more fault told =
           cause = cause_stays limit told.is.earlier told.is.line (strip_carriage_return (open_line text ++ on.first)) fault.cause short longer told.is.cause;
         }
 
--- a fault that the beginning of a text shows is the fault of the text
+-- a fault that the bytes so far show is the fault of every text that begins with them
 pub fault_in_the_end : (limit : ℕ) (text more : List ℕ) (fault : FileFault) → IsFaultSoFar limit text fault → IsFileFault limit (text ++ more) fault
 fault_in_the_end limit text more fault told = inl (fault_stays limit text more fault told).is
 
--- a text shows at most one fault
+-- bytes show at most one fault
 pub one_fault_so_far : (limit : ℕ) (text : List ℕ) (first second : FileFault) → IsFaultSoFar limit text first → IsFaultSoFar limit text second → first ≡ second
 one_fault_so_far limit text first second one two = one_fault limit text first second (inl one.is) (inl two.is)
 
--- ---- a fault, or none among the complete lines
+-- ---- bytes show a fault, or their complete lines have none
 
--- if at most 81 bytes follow the last line feed, only the lines whose line feed came are complete
+-- if the unfinished line has at most 81 bytes, only the complete lines are sure
 pub lines_told_short : (text : List ℕ) → length (open_line text) ≤ 81 → lines_told text ≡ length (told_lines text)
 lines_told_short text short =
     lines_told_is text ∙ ap (λ b. length (told_lines text) + cond b 1 0) (lt-leb 82 (length (open_line text)) (omega arith)) ∙ omega arith
 
--- an unfinished line of more than 81 bytes counts as complete too
+-- if the unfinished line has more, it is sure too
 pub lines_told_long : (text : List ℕ) → 82 ≤ length (open_line text) → lines_told text ≡ length (told_lines text) + 1
 lines_told_long text long = lines_told_is text ∙ ap (λ b. length (told_lines text) + cond b 1 0) (le-leb 82 (length (open_line text)) long)
 
--- if the unfinished line is shorter, the first `lines_told` lines are the lines whose line feed
--- came
+-- if the unfinished line has at most 81 bytes, the sure lines are the complete ones
 pub take_told : (text : List ℕ) → length (open_line text) ≤ 81 → take (lines_told text) (lines_of text) ≡ told_lines text
 take_told text short =
     ap (λ lines. take (lines_told text) lines) (lines_of_told text) ∙ take_at (told_lines text) (line_left (open_line text)) (lines_told text)
     (sym (lines_told_short text short))
 
--- no complete line is at fault: some file begins with the complete lines, they are within the
--- limit, and the unfinished line has at most 81 bytes
+-- the bytes show no fault: the complete lines begin some file and are within the limit, and the
+-- unfinished line has at most 81 bytes
 pub record TellsNoFault (limit : ℕ) (text : List ℕ) : Type 0 where
   pub begin : BeginsFile (told_lines text)
   pub within : length (told_lines text) ≤ limit
@@ -226,7 +225,7 @@ pub record TellsNoFault (limit : ℕ) (text : List ℕ) : Type 0 where
 number_within : (limit : ℕ) (records : Lines) (fault : FileFault) → IsRecordFault limit records fault → fault.number ≤ length records
 number_within limit records fault is = let size = ap length is.whole ∙ length-append is.earlier (is.line ∷ is.later) in let number = is.number in omega arith
 
--- a text shows a fault, or none of its complete lines is at fault
+-- bytes show a fault, or they show none
 pub fault_so_far_or_none : (limit : ℕ) (text : List ℕ) → ((fault : FileFault) × IsFaultSoFar limit text fault) ⊎ TellsNoFault limit text
 fault_so_far_or_none limit text = by (cases_lt (length (open_line text)) 82)
   where
@@ -259,20 +258,19 @@ fault_so_far_or_none limit text = by (cases_lt (length (open_line text)) 82)
     by (inl short) = told (pass_or_fault limit (told_lines text)) (omega arith)
     by (inr long) = opened (pass_or_fault limit (lines_of text)) long
 
--- like `TellsNoFault`, in the words of the definitions
+-- like `TellsNoFault`, with the definitions of the laws
 abbrev pub PassesSoFar : ℕ → List ℕ → Type 0
 PassesSoFar limit text =
     BeginsFile (take (lines_told text) (lines_of text)) × (lines_told text ≤ limit) × (length (last_of (slice_split (λ b. b == 10) text)) ≤ 81)
 
--- if no complete line is at fault, some file begins with the complete lines, and they are within
--- the limit
+-- bytes that show no fault pass so far
 pub passes_so_far : (limit : ℕ) (text : List ℕ) → TellsNoFault limit text → PassesSoFar limit text
 passes_so_far limit text none =
     let same = lines_told_short text none.short in
     let within = none.within in
     (subst BeginsFile (sym (take_told text none.short)) none.begin, omega arith, none.short)
 
--- a text shows a fault, or some file begins with its complete lines, and they are within the limit
+-- bytes show a fault or pass so far
 pub fault_so_far_or_passes : (limit : ℕ) (text : List ℕ) → ((fault : FileFault) × IsFaultSoFar limit text fault) ⊎ PassesSoFar limit text
 fault_so_far_or_passes limit text = by (fault_so_far_or_none limit text)
   where
@@ -301,7 +299,7 @@ passes_no_fault limit text fault passes told = by told.is.here
         none (begins_front (told.is.earlier ++ told.is.line ∷ []) within.0
         (subst BeginsFile (take_told text passes.2 ∙ within.1 ∙ sym (append_assoc told.is.earlier (told.is.line ∷ []) within.0)) passes.0))
 
--- ---- for a reader of pieces
+-- ---- for a reader that gets the text in pieces
 
 -- if a line doesn't have 80 bytes, its cause doesn't depend on its bytes
 pub cause_of_length : (limit count : ℕ) (place : Place) (line : List ℕ) → length line ≢ 80 → cause_of limit count place line ≡ cause_of_long limit count place
@@ -309,7 +307,7 @@ cause_of_length limit count place line apart =
     λ i. cond (nat_le limit count) too_many
     (cond (is_after_end place) after_trailer (cond (ne_eqb (length line) 80 apart i) (byte_cause place line) bad_length))
 
--- if the complete lines lead to a place, none is at fault
+-- if the complete lines lead to a place, they have no fault
 pub no_fault_told : (limit : ℕ) (text : List ℕ) (place : Place) → IsPlaceOf (told_lines text) place → length (told_lines text) ≤ limit
     → length (open_line text) ≤ 81
     → (fault : FileFault) → ¬ IsFaultSoFar limit text fault
@@ -320,7 +318,7 @@ no_fault_told limit text place found within short fault =
       short = short;
     }))
 
--- a line whose line feed came is at fault, whatever follows it
+-- if a complete line leads to no next place, it is at fault, whatever follows
 pub fault_at_feed : (limit : ℕ) (text front rest : List ℕ) (place : Place) → HasNoFeed front → IsPlaceOf (told_lines text) place
     → length (told_lines text) ≤ limit
     → (limit ≤ length (told_lines text)) ⊎ (next_place place (strip_carriage_return (open_line text ++ front)) ≡ None)
@@ -344,7 +342,7 @@ fault_at_feed limit text front rest place plain found within here = record {
       omega arith;
 }
 
--- an unfinished line of more than 81 bytes is at fault, whatever follows it
+-- an unfinished line of more than 81 bytes is at fault, whatever follows
 pub fault_at_long : (limit : ℕ) (text : List ℕ) (place : Place) → IsPlaceOf (told_lines text) place → length (told_lines text) ≤ limit
     → 82 ≤ length (open_line text)
     → IsFaultSoFar limit text (record { number = length (told_lines text) + 1; cause = cause_of_long limit (length (told_lines text)) place })
@@ -360,7 +358,7 @@ fault_at_long limit text place found within long =
       told = omega arith;
     })
 
--- at the end of the text the unfinished line is a line too, if it isn't empty
+-- at the end of the text an unfinished line with bytes is a line, and may be at fault
 pub fault_at_end : (limit : ℕ) (text : List ℕ) (place : Place) → IsPlaceOf (told_lines text) place → length (told_lines text) ≤ limit
     → 0 < length (open_line text)
     → (limit ≤ length (told_lines text)) ⊎ (next_place place (strip_carriage_return (open_line text)) ≡ None)

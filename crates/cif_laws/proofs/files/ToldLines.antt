@@ -1,5 +1,5 @@
--- A text as it comes in: the lines whose line feed came, and the unfinished line after the last
--- one.
+-- A text as it comes in: the complete lines, whose line feed has come, and the unfinished line
+-- after them.
 use Rattle.std.proofs.Common.{ℕ, ◌<◌, List, length, Bool, arith, ◌≡◌, ◌+◌, [], ◌∷◌, ◌++◌, refl, ap, sym, ◌∙◌, true, false, map, append-nil, ◌≤◌, subst, cond, length-append}
 use Rattle.std.specs.Prelude.{◌==◌, nat_le, if◌then◌else◌}
 use Rattle.std.specs.List.{slice_split, onto_first}
@@ -43,7 +43,7 @@ without_last_append [] piece pieces = refl
 without_last_append (first ∷ []) piece pieces = refl
 without_last_append (first ∷ second ∷ front) piece pieces = ap (λ rest. first ∷ rest) (without_last_append (second ∷ front) piece pieces)
 
--- the pieces with these bytes put before the first
+-- the pieces, with these bytes put before the first
 abbrev pub going_on : List ℕ → Lines → Lines
 going_on bytes [] = bytes ∷ []
 going_on bytes (piece ∷ pieces) = (bytes ++ piece) ∷ pieces
@@ -64,7 +64,7 @@ go_on_empty : (pieces : Lines) → 0 < length pieces → pieces ≡ going_on [] 
 go_on_empty [] some = absurd (omega arith)
 go_on_empty (piece ∷ pieces) some = refl
 
--- the pieces of a longer text: its last piece so far continues
+-- the pieces of a longer text: the last piece so far goes on, and others may follow
 pub split_append : (p : ℕ → Bool) (text more : List ℕ) → slice_split p (text ++ more) ≡ but_last (slice_split p text) ++ going_on (last_of (slice_split p text))
     (slice_split p more)
 split_append p [] more = go_on_empty (slice_split p more) (some_pieces p more)
@@ -81,12 +81,12 @@ split_append p (b ∷ text) more = by (p b) refl (split_append p text more)
 
 -- ---- lines
 
--- the lines of a text are its complete lines, and the unfinished one if it isn't empty
+-- the lines of a text: its complete lines, and the unfinished line if it isn't empty
 pub lines_of_told : (text : List ℕ) → lines_of text ≡ told_lines text ++ line_left (open_line text)
 lines_of_told text =
     ap (map strip_carriage_return) (without_last (pieces_of text)) ∙ map-append strip_carriage_return (but_last (pieces_of text)) (last_piece (open_line text))
 
--- the lines of a text whose unfinished line is empty, and of one whose unfinished line isn't
+-- if the unfinished line is empty, the complete lines are all lines
 pub lines_of_ended : (text : List ℕ) → open_line text ≡ [] → lines_of text ≡ told_lines text
 lines_of_ended text none = lines_of_told text ∙ (λ i. told_lines text ++ line_left (none i)) ∙ append-nil (told_lines text)
 
@@ -106,8 +106,8 @@ length_told_lines text =
     let mapped = length-map (but_last (pieces_of text)) strip_carriage_return in
     omega arith
 
--- how many lines are complete whatever follows: one for each line feed, and one more if the
--- unfinished line has more than 81 bytes
+-- the number of sure lines: the complete ones, and one more if the unfinished line has more than 81
+-- bytes
 pub lines_told_is : (text : List ℕ) → lines_told text ≡ length (told_lines text) + (if nat_le 82 (length (open_line text)) then 1 else 0)
 lines_told_is text = ap (λ n. n + (if nat_le 82 (length (open_line text)) then 1 else 0)) (sym (length_told_lines text))
 
@@ -141,7 +141,7 @@ last_rest : (piece : List ℕ) (pieces : Lines) → 0 < length pieces → last_o
 last_rest piece [] some = absurd (omega arith)
 last_rest piece (next ∷ pieces) some = refl
 
--- a line feed ends the unfinished line, and the bytes after it are a text of their own
+-- a line feed ends the unfinished line, and the bytes after it give the lines that follow
 pub told_lines_cut : (text front rest : List ℕ) → HasNoFeed front
     → told_lines (text ++ (front ++ 10 ∷ rest)) ≡ told_lines text ++ strip_carriage_return (open_line text ++ front) ∷ told_lines rest
 told_lines_cut text front rest plain =
@@ -151,7 +151,7 @@ told_lines_cut text front rest plain =
     ∙ ap (λ pieces. but_last (pieces_of text) ++ pieces) (but_first (open_line text ++ front) (pieces_of rest) (some_pieces (λ b. b == 10) rest)))
     ∙ map-append strip_carriage_return (but_last (pieces_of text)) ((open_line text ++ front) ∷ but_last (pieces_of rest))
 
--- after a line feed, the unfinished line comes only from the bytes after it
+-- after a line feed the unfinished line comes only from the bytes after it
 pub open_line_cut : (text front rest : List ℕ) → HasNoFeed front → open_line (text ++ (front ++ 10 ∷ rest)) ≡ open_line rest
 open_line_cut text front rest plain =
     ap last_of (pieces_cut text front rest plain)
@@ -167,9 +167,9 @@ told_lines_ended text front plain = told_lines_cut text front [] plain
 pub open_line_ended : (text front : List ℕ) → HasNoFeed front → open_line (text ++ (front ++ 10 ∷ [])) ≡ []
 open_line_ended text front plain = open_line_cut text front [] plain
 
--- ---- what a text that continues keeps
+-- ---- the lines of a longer text
 
--- a longer text: the first piece of the added bytes continues the unfinished line
+-- more bytes after a text: they go on with its unfinished line, and may bring line feeds
 pub record GoesOn (text more : List ℕ) : Type 0 where
   pub first : List ℕ
   pub pieces : Lines
@@ -177,7 +177,7 @@ pub record GoesOn (text more : List ℕ) : Type 0 where
   pub told : told_lines (text ++ more) ≡ told_lines text ++ map strip_carriage_return (but_last ((open_line text ++ first) ∷ pieces))
   pub open_is : open_line (text ++ more) ≡ last_of ((open_line text ++ first) ∷ pieces)
 
--- the complete lines and the unfinished line of a longer text
+-- more bytes go on with the text in this way
 pub goes_on : (text more : List ℕ) → GoesOn text more
 goes_on text more = by (slice_split (λ b. b == 10) more) refl
   where
@@ -198,11 +198,11 @@ goes_on text more = by (slice_split (λ b. b == 10) more) refl
         whole : pieces_of (text ++ more) ≡ but_last (pieces_of text) ++ (open_line text ++ first) ∷ pieces
         whole = split_append (λ b. b == 10) text more ∙ (λ i. but_last (pieces_of text) ++ going_on (open_line text) (h i))
 
--- the complete lines of a text begin the complete lines of a longer text
+-- the complete lines of a text stay the first complete lines of a longer one
 pub told_lines_stay : (text more : List ℕ) → (others : Lines) × (told_lines (text ++ more) ≡ told_lines text ++ others)
 told_lines_stay text more = let on = goes_on text more in (map strip_carriage_return (but_last ((open_line text ++ on.first) ∷ on.pieces)), on.told)
 
--- a longer text has no fewer complete lines
+-- a longer text has at least as many sure lines
 pub lines_told_grow : (text more : List ℕ) → lines_told text ≤ lines_told (text ++ more)
 lines_told_grow text more = by on.pieces on.told on.open_is
   where

@@ -1,5 +1,5 @@
--- The changes of a file are the changes of its units in order: the longest run of lines after a
--- basic schedule is the rest of its unit.
+-- The units of a file, in order, make its changes. A schedule goes on up to the first record that
+-- can't follow a basic schedule.
 use Rattle.std.proofs.Common.{◌≡◌, ℕ, ◌+◌, inl, inr, List, [], ◌∷◌, ◌++◌, length, map, subst, refl, ap, sym, ◌∙◌, true, Some, arith, append_assoc, append-nil}
 use Rattle.std.specs.Prelude.{Option}
 use Rattle.std.specs.List.{AllByRecursion, flat_map}
@@ -16,7 +16,7 @@ change_of_act n act = record { number = n; key = act.0; act = act.1 }
 
 -- ---- the first record of a unit
 
--- equal acts give equal changes
+-- if two records have equal acts, their changes are equal
 alike_by : (n : ℕ) (kind : Kind) (line : List ℕ) (following others : List (List ℕ)) → HasKind kind line
     → acts_by_kind (Some kind) line following ≡ acts_by_kind (Some kind) line others → changes_of_record n line following ≡ changes_of_record n line others
 alike_by n kind line following others is same =
@@ -30,7 +30,7 @@ single_alike n line following others (inr (inl is)) = alike_by n tiploc_amend li
 single_alike n line following others (inr (inr (inl is))) = alike_by n tiploc_delete line following others is refl
 single_alike n line following others (inr (inr (inr is))) = alike_by n association line following others is refl
 
--- of the records after a basic schedule, only the longest run counts
+-- only the records up to the next one that can't follow a basic schedule matter
 basic_alike : (n : ℕ) (basic : List ℕ) (following others : List (List ℕ)) → HasKind basic_schedule basic → schedule_rest following ≡ others
     → changes_of_record n basic following ≡ change_of_schedule n basic others ∷ []
 basic_alike n basic following others is run =
@@ -38,7 +38,7 @@ basic_alike n basic following others is run =
 
 -- ---- the records after a basic schedule
 
--- a record that follows a basic schedule in its schedule changes nothing
+-- a record that can follow a basic schedule makes no change
 follower_changes_nothing : (kind : Option Kind) (line : List ℕ) (following : List (List ℕ)) → follows_basic kind ≡ true → acts_by_kind kind line following ≡ []
 follower_changes_nothing (Some extra_details) line following h = refl
 follower_changes_nothing (Some origin_location) line following h = refl
@@ -47,7 +47,8 @@ follower_changes_nothing (Some terminating_location) line following h = refl
 follower_changes_nothing (Some change_en_route) line following h = refl
 follower_changes_nothing _ line following h = cc
 
--- so the changes continue after these records
+-- records that can follow a basic schedule make no changes, so all changes come from the records
+-- after them
 behind_followers : (n : ℕ) (lines rest : List (List ℕ)) → AllByRecursion Follows lines → changes_from n (lines ++ rest) ≡ changes_from (n + length lines) rest
 behind_followers n [] rest all = ap (λ k. changes_from k rest) (omega arith)
 behind_followers n (line ∷ lines) rest all =
@@ -57,7 +58,7 @@ behind_followers n (line ∷ lines) rest all =
 
 -- ---- units
 
--- each line of a schedule after its basic schedule is one that follows a basic schedule
+-- each line after the first of a schedule can follow a basic schedule
 others_follow : (basic : List ℕ) (others : List (List ℕ)) → IsSchedule (basic ∷ others) → AllByRecursion Follows others
 others_follow basic others is =
     let same : others ≡ is.extra ++ is.journey = ap tail is.whole in
@@ -91,7 +92,7 @@ schedule_then n basic others rest is stops =
     follow : AllByRecursion Follows others
     follow = others_follow basic others is
 
--- the changes of a unit, and of the records after it
+-- first the changes of a unit, then the changes of the records after it
 pub unit_then : (n : ℕ) (unit rest : List (List ℕ)) → IsUnit unit → StopsHere rest → changes_from n (unit ++ rest) ≡ changes_of_unit n unit ++ changes_from
     (n + length unit) rest
 unit_then n unit rest (inl single) stops =
@@ -104,7 +105,7 @@ unit_then n unit rest (inr schedule) stops = by unit schedule schedule.whole
     by [] is whole = absurd (let size = ap length whole in omega arith)
     by (basic ∷ others) is whole = schedule_then n basic others rest is stops
 
--- the changes of units with a trailer after them
+-- the changes of units before a trailer
 units_then : (n : ℕ) (units : List (List (List ℕ))) (last : List ℕ) → AllByRecursion IsUnit units → HasKind trailer last
     → changes_from n (flat_map (λ unit. unit) units ++ last ∷ []) ≡ changes_of_units n units
 units_then n [] last all end = λ i. map (change_of_act n) (acts_by_kind (end i) last []) ++ []
@@ -113,7 +114,7 @@ units_then n (unit ∷ units) last all end =
     ∙ unit_then n unit (flat_map (λ u. u) units ++ last ∷ []) all.0 (units_stop units last all.1 end)
     ∙ ap (λ later. changes_of_unit n unit ++ later) (units_then (n + length unit) units last all.1 end)
 
--- the changes of a file are the changes of its units
+-- the units of a file, in order, make its changes
 pub changes_by_units : (file : List (List ℕ)) (is : IsFile file) → changes file ≡ changes_of_units 2 is.units
 changes_by_units file is =
     ap changes is.whole

@@ -17,12 +17,12 @@ pub not_true : (b : Bool) → not b ≡ true → b ≡ false
 not_true true h = cc
 not_true false h = refl
 
--- a value that is tested to be none is none
+-- an option that passes the test of being none is none
 pub none_by_test : {A : Type 0} (o : Option A) → is_none o ≡ true → o ≡ None
 none_by_test None h = refl
 none_by_test (Some x) h = cc
 
--- none passes the test of being none
+-- an option that is none passes that test
 pub test_by_none : {A : Type 0} (o : Option A) → o ≡ None → is_none o ≡ true
 test_by_none o none = λ i. is_none (none i)
 
@@ -31,17 +31,17 @@ pub and_true : (a b : Bool) → a ≡ true → b ≡ true → (a && b) ≡ true
 and_true true b h g = g
 and_true false b h g = h
 
--- a result of option_and_then comes from some value
+-- if `option_and_then` gives a value, there was a value for it
 pub then_some : {A B : Type 0} (f : A → Option B) (o : Option A) (y : B) → option_and_then f o ≡ Some y → (x : A) × (o ≡ Some x) × (f x ≡ Some y)
 then_some f None y found = cc
 then_some f (Some x) y found = (x, refl, found)
 
--- option_and_then with the value itself changes nothing
+-- `option_and_then` with `Some` changes nothing
 pub some_then : {A : Type 0} (o : Option A) → option_and_then (λ x. Some x) o ≡ o
 some_then None = refl
 some_then (Some x) = refl
 
--- a value that is tested to be some is some value
+-- an option that passes the test of having a value has one
 pub some_by_test : {A : Type 0} (o : Option A) → is_some o ≡ true → (x : A) × (o ≡ Some x)
 some_by_test None h = cc
 some_by_test (Some x) h = (x, refl)
@@ -50,6 +50,6 @@ some_by_test (Some x) h = (x, refl)
 pub true_is_not : true ≡ false → ⊥
 true_is_not same = cc
 
--- none is not some value
+-- none isn't a value
 pub none_some : {A B : Type 0} (x : A) → None ≡ Some x → B
 none_some x same = absurd cc

@@ -1,4 +1,4 @@
--- Facts that are decided: each holds, or it doesn't.
+-- Decided facts: each holds, or it doesn't.
 use Rattle.std.proofs.Common.{◌≡◌, ℕ, suc, ◌<◌, ◌≤◌, List, [], ◌∷◌, length, refl, ap, sym, ◌∙◌, subst, inl, inr, ◌⊎◌, arith, Bool, true, false, nat_le, ◌==◌, ◌≢◌, if◌then◌else◌, All, Some, None}
 use Rattle.std.specs.Prelude.{Option}
 use Rattle.std.specs.List.{AllByRecursion}
@@ -14,13 +14,13 @@ use Rattle.docker_model.specs.records.Record.{Kind, header, tiploc_insert, tiplo
 abbrev pub Decided : Type 0 → Type 0
 Decided P = P ⊎ ¬ P
 
--- two decided facts together
+-- it is decided whether both of two decided facts hold
 pub both_decided : {P Q : Type 0} → Decided P → Decided Q → Decided (P × Q)
 both_decided (inl p) (inl q) = inl (p, q)
 both_decided (inl p) (inr none) = inr (λ h. none h.1)
 both_decided (inr none) q = inr (λ h. none h.0)
 
--- one of two decided facts
+-- it is decided whether one of two decided facts holds
 pub either_decided : {P Q : Type 0} → Decided P → Decided Q → Decided (P ⊎ Q)
 either_decided (inl p) q = inl (inl p)
 either_decided (inr never) (inl q) = inl (inr q)
@@ -30,17 +30,17 @@ either_decided {P} {Q} (inr never) (inr none) = inr by
     by (inl p) = never p
     by (inr q) = none q
 
--- the negation of a decided fact
+-- the negation of a decided fact is decided
 pub not_decided : {P : Type 0} → Decided P → Decided (¬ P)
 not_decided (inl p) = inr (λ none. none p)
 not_decided (inr none) = inl none
 
--- a fact that is equivalent to a decided one
+-- a fact that is equivalent to a decided one is decided
 pub decided_along : {P Q : Type 0} → (P → Q) → (Q → P) → Decided P → Decided Q
 decided_along to back (inl p) = inl (to p)
 decided_along to back (inr none) = inr (λ q. none (back q))
 
--- a test passes or not
+-- a test passes, or it doesn't
 pub bool_decided : (b : Bool) → Decided (b ≡ true)
 bool_decided true = inl refl
 bool_decided false = inr (λ e. cc)
@@ -53,7 +53,7 @@ nat_decided a b = by (eqb_tells a b)
     by (inl told) = inl told.1
     by (inr told) = inr told.1
 
--- a number is at most another or not
+-- a number is at most another, or it isn't
 pub le_decided : (a b : ℕ) → Decided (a ≤ b)
 le_decided a b = by (leb_tells a b)
   where
@@ -61,11 +61,11 @@ le_decided a b = by (leb_tells a b)
     by (inl told) = inl told.1
     by (inr told) = let above = told.1 in inr (λ low. omega arith)
 
--- a number is below another or not
+-- a number is below another, or it isn't
 pub lt_decided : (a b : ℕ) → Decided (a < b)
 lt_decided a b = le_decided (suc a) b
 
--- if a fact is decided for each element, it is decided whether all have it, by recursion
+-- if a property is decided for each element, it is decided whether all have it
 pub all_decided : {A : Type 0} (P : A → Type 0) → ((x : A) → Decided (P x)) → (xs : List A) → Decided (AllByRecursion P xs)
 all_decided P test [] = inl tt
 all_decided P test (x ∷ xs) = both_decided (test x) (all_decided P test xs)
@@ -74,24 +74,24 @@ all_decided P test (x ∷ xs) = both_decided (test x) (all_decided P test xs)
 pub All_decided : {A : Type 0} (P : A → Type 0) → ((x : A) → Decided (P x)) → (xs : List A) → Decided (All P xs)
 All_decided P test xs = decided_along (All-from_recursion P xs) (recursion_from_All P xs) (all_decided P test xs)
 
--- whether an order's answer is Less is decided
+-- whether two values compare as Less is decided
 pub less_decided : (o : Ordering) → Decided (o ≡ Less)
 less_decided Less = inl refl
 less_decided Equal = inr (λ e. cc)
 less_decided Greater = inr (λ e. cc)
 
--- whether an order's answer is Equal is decided
+-- whether two values compare as Equal is decided
 pub equal_decided : (o : Ordering) → Decided (o ≡ Equal)
 equal_decided Less = inr (λ e. cc)
 equal_decided Equal = inl refl
 equal_decided Greater = inr (λ e. cc)
 
--- if an order distinguishes values, any two are equal or not
+-- if an order is total and distinguishes values, it is decided whether two are equal
 pub same_decided : {A : Type 0} {cmp : A → A → Ordering} → IsTotalOrder cmp → CmpEqualImpliesEq cmp → (a b : A) → Decided (a ≡ b)
 same_decided {A} {cmp} total exact a b =
     decided_along (exact a b) (λ same. subst (λ x. cmp a x ≡ Equal) same (tied_itself total a)) (equal_decided (cmp a b))
 
--- an optional value is some or none
+-- an option is none, or it has a value
 pub none_decided : {A : Type 0} (o : Option A) → Decided (o ≡ None)
 none_decided None = inl refl
 none_decided (Some x) = inr (λ e. cc)
@@ -101,7 +101,7 @@ pub empty_decided : {A : Type 0} (xs : List A) → Decided (xs ≡ [])
 empty_decided [] = inl refl
 empty_decided (x ∷ xs) = inr (λ e. (let size = ap length e in omega arith))
 
--- kinds
+-- a number for each kind, so that kinds can be compared
 kind_rank : Option Kind → ℕ
 kind_rank None = 0
 kind_rank (Some header) = 1

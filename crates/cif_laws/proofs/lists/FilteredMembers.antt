@@ -1,4 +1,4 @@
--- Members of a list that is filtered, mapped in part, or searched.
+-- Members of filtered lists, of lists that `filter_map` makes, and of searched lists.
 use Rattle.std.proofs.Common.{◌≡◌, List, [], ◌∷◌, refl, ap, sym, ◌∙◌, subst, inl, inr, ◌⊎◌, Some, None, Bool, true, false, cond, Contains}
 use Rattle.std.specs.Prelude.{Option, filter, find, ◌&&◌}
 use Rattle.std.specs.List.{list_all, filter_map, cons_option}
@@ -58,7 +58,7 @@ module _ {A : Type 0} (test : A → Bool) where
       by false h rest same (inl e) = subst (λ v. test v ≡ false) e h
       by false h rest same (inr inside) = rest same inside
 
-  -- if all pass a test, each member passes
+  -- if all elements pass the test, each member does
   pub all_of : (xs : List A) (z : A) → list_all test xs ≡ true → Contains xs z → test z ≡ true
   all_of [] z all among = absurd (nil-Contains z among)
   all_of (x ∷ xs) z all among = by (all_of xs z) (both (test x) (list_all test xs) all) (Contains-cons x xs z among)
@@ -92,7 +92,7 @@ module _ {A B : Type 0} (h : A → Option B) where
       by None is rest inside = behind (rest inside)
       by (Some b) is rest inside = here b is rest (Contains-cons b (filter_map h xs) y inside)
 
-  -- the value that a member gives is in the list that `filter_map` makes
+  -- if a member gives a value, the value is in the list that `filter_map` makes
   pub part_forth : (xs : List A) (x : A) (y : B) → Contains xs x → h x ≡ Some y → Contains (filter_map h xs) y
   part_forth [] x y among is = absurd (nil-Contains x among)
   part_forth (z ∷ xs) x y among is = by (h z) refl (λ inside. part_forth xs x y inside is) (Contains-cons z xs x among)

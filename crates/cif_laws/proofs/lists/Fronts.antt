@@ -1,7 +1,7 @@
--- Two lists of the same length that begin one list are equal.
+-- Two prefixes of one list that have the same length are equal.
 use Rattle.std.proofs.Common.{◌≡◌, ℕ, List, ◌++◌, length, [], ◌∷◌, ap, refl, arith}
 
--- fronts of the same length are equal
+-- prefixes of the same length are equal, and so are the rests
 pub same_front : (xs ys more rest : List ℕ) → length xs ≡ length ys → xs ++ more ≡ ys ++ rest → (xs ≡ ys) × (more ≡ rest)
 same_front [] [] more rest size same = (refl, same)
 same_front [] (y ∷ ys) more rest size same = absurd (omega arith)

@@ -1,4 +1,4 @@
--- Lists in which each member stands in a relation to every later one.
+-- Lists whose members are each in a relation to every later one.
 use Rattle.std.proofs.Common.{arith, List, [], ◌∷◌, ◌≡◌, sym, ◌∙◌, subst, inl, inr, ◌⊎◌, Contains, Bool, true, false, cond, map, ◌++◌}
 use Rattle.std.specs.Prelude.{⊤, filter}
 use Rattle.std.specs.List.{AllByRecursion, AllPairs, flat_map}
@@ -7,12 +7,12 @@ use Rattle.std.proofs.lemmas.List.Kept.{AllPairs-cons}
 use Rattle.cif_laws.proofs.lists.AllOf.{all_append, all_map, all_weaker}
 use Rattle.cif_laws.proofs.lists.Membership.{Contains-cons, nil-Contains, below_by_recursion, cons-Contains, cons-Contains-first, each_member, Contains-flat_map}
 
--- each member stands in the relation to each later one
+-- each member is in the relation to each later one
 abbrev pub AllLater : {A : Type 0} → (A → A → Type 0) → List A → Type 0
 AllLater R [] = ⊤
 AllLater R (x ∷ xs) = AllByRecursion (R x) xs × AllLater R xs
 
--- two members are equal, or one stands in the relation to the other
+-- two members are equal, or one is in the relation to the other
 pub one_before : {A : Type 0} (R : A → A → Type 0) (xs : List A) (a b : A) → AllLater R xs → Contains xs a → Contains xs b → (a ≡ b) ⊎ R a b ⊎ R b a
 one_before R [] a b later in_a in_b = absurd (nil-Contains a in_a)
 one_before R (x ∷ xs) a b later in_a in_b = by (one_before R xs a b later.1) (Contains-cons x xs a in_a) (Contains-cons x xs b in_b)
@@ -23,7 +23,7 @@ one_before R (x ∷ xs) a b later in_a in_b = by (one_before R xs a b later.1) (
     by rest (inr here) (inl f) = inr (inr (subst (λ v. R v a) f (below_by_recursion (R x) xs a later.0 here)))
     by rest (inr here) (inr there) = rest here there
 
--- if each member stands in a relation to each later one, it stands in any weaker relation too
+-- if the members' relation implies another one for them, they are in that one too
 pub later_weaker : {A : Type 0} (R S : A → A → Type 0) (xs : List A) → ((a b : A) → Contains xs a → Contains xs b → R a b → S a b) → AllLater R xs
     → AllLater S xs
 later_weaker R S [] to later = tt
@@ -32,7 +32,7 @@ later_weaker R S (x ∷ xs) to later = (
   later_weaker R S xs (λ a b in_a in_b. to a b (cons-Contains x xs a in_a) (cons-Contains x xs b in_b)) later.1,
 )
 
--- filtering keeps the relation
+-- filtering a list keeps the relation
 pub later_filter : {A : Type 0} (R : A → A → Type 0) (test : A → Bool) (xs : List A) → AllLater R xs → AllLater R (filter test xs)
 later_filter R test [] later = tt
 later_filter {A} R test (x ∷ xs) later = by (test x) (later_filter R test xs later.1)
@@ -49,7 +49,7 @@ later_filter {A} R test (x ∷ xs) later = by (test x) (later_filter R test xs l
     by true rest = (above xs later.0, rest)
     by false rest = rest
 
--- a relation of the images is a relation in the mapped list
+-- if the images of members are in the relation, so are the members of the mapped list
 pub later_map : {A B : Type 0} (R : B → B → Type 0) (f : A → B) (xs : List A) → AllLater (λ a b. R (f a) (f b)) xs → AllLater R (map f xs)
 later_map R f [] later = tt
 later_map {A} R f (x ∷ xs) later = (above xs later.0, later_map R f xs later.1)
@@ -58,7 +58,8 @@ later_map {A} R f (x ∷ xs) later = (above xs later.0, later_map R f xs later.1
     above [] all = tt
     above (y ∷ ys) all = (all.0, above ys all.1)
 
--- two lists joined, if each element of the first stands in the relation to each of the second
+-- the concatenation of two lists, if each member of the first is in the relation to each of the
+-- second
 pub later_append : {A : Type 0} (R : A → A → Type 0) (xs ys : List A) → AllLater R xs → AllLater R ys → ((a b : A) → Contains xs a → Contains ys b → R a b)
     → AllLater R (xs ++ ys)
 later_append R [] ys first second across = second
@@ -71,7 +72,7 @@ later_append {A} R (x ∷ xs) ys first second across = (
     by z (inl here) = below_by_recursion (R x) xs z first.0 here
     by z (inr there) = across x z (cons-Contains-first x xs) there
 
--- lists of pieces joined end to end
+-- the concatenation of the lists that a function gives for members
 pub later_flat_map : {A B : Type 0} (R : B → B → Type 0) (S : A → A → Type 0) (f : A → List B) (xs : List A) → AllLater S xs
     → ((x : A) → Contains xs x → AllLater R (f x))
     → ((x y : A) → Contains xs x → Contains xs y → S x y → (a b : B) → Contains (f x) a → Contains (f y) b → R a b) → AllLater R (flat_map f xs)
@@ -84,13 +85,13 @@ later_flat_map R S f (x ∷ xs) later each across =
     let found = Contains-flat_map f xs b in_b in
     across x found.0 (cons-Contains-first x xs) (cons-Contains x xs found.0 found.1) (below_by_recursion (S x) xs found.0 later.0 found.1) a b in_a found.2)
 
--- like `later_append`, with the relation between the two lists given by recursion
+-- like `later_append`, with the relation between the lists given by recursion
 pub later_append_all : {A : Type 0} (R : A → A → Type 0) (xs ys : List A) → AllLater R xs → AllLater R ys → AllByRecursion (λ x. AllByRecursion (R x) ys) xs
     → AllLater R (xs ++ ys)
 later_append_all R [] ys left right across = right
 later_append_all R (x ∷ xs) ys left right across = (all_append (R x) xs ys left.0 across.0, later_append_all R xs ys left.1 right across.1)
 
--- the images stand in any relation that follows from the relation of the elements
+-- the mapped list, if the relation of the images follows from the members'
 pub later_map_weaker : {A B : Type 0} (f : A → B) (R : A → A → Type 0) (S : B → B → Type 0) → ((x y : A) → R x y → S (f x) (f y))
     → (xs : List A) → AllLater R xs
     → AllLater S (map f xs)
@@ -98,12 +99,12 @@ later_map_weaker f R S keeps [] all = tt
 later_map_weaker f R S keeps (x ∷ xs) all =
     (all_map f (S (f x)) xs (all_weaker (R x) (λ y. S (f x) (f y)) (λ y r. keeps x y r) xs all.0), later_map_weaker f R S keeps xs all.1)
 
--- the members stand in any relation that follows from theirs for all elements
+-- if the members' relation implies another one for all values, they are in that one too
 pub later_weaker_always : {A : Type 0} (R S : A → A → Type 0) → ((x y : A) → R x y → S x y) → (xs : List A) → AllLater R xs → AllLater S xs
 later_weaker_always R S weaker [] all = tt
 later_weaker_always R S weaker (x ∷ xs) all = (all_weaker (R x) (S x) (weaker x) xs all.0, later_weaker_always R S weaker xs all.1)
 
--- each element stands in the relation to each one at a later index
+-- each element is in the relation to each one at a higher index
 pub pairs_from_later : {A : Type 0} (R : A → A → Type 0) (xs : List A) → AllLater R xs → AllPairs R xs
 pairs_from_later R [] all = λ i j d below within. absurd (omega arith)
 pairs_from_later R (x ∷ xs) all = AllPairs-cons R x xs (All-from_recursion (R x) xs all.0) (pairs_from_later R xs all.1)

@@ -1,10 +1,10 @@
--- Membership in a list: with an element in front, mapped, joined, or with one element only.
+-- Membership in lists: with a first element, of one element, mapped, concatenated.
 use Rattle.std.proofs.Common.{◌≡◌, ℕ, zero, suc, ◌<◌, List, ◌∷◌, length, inl, inr, arith, Contains, get_or, ◌⊎◌, refl, [], subst, lit<, map, ap, ◌++◌, sym, All}
 use Rattle.std.proofs.lemmas.List.Elements.{Contains-append_cases, Contains-append_left, Contains-append_right, All-from_recursion}
 use Rattle.std.specs.List.{AllByRecursion, flat_map}
 use Rattle.std.specs.Prelude.{◌↔◌}
 
--- a member of a list with one element in front is that element, or a member of the rest
+-- a member is the first element or a member of the rest
 pub Contains-cons : {A : Type 0} (x : A) (xs : List A) (z : A) → Contains (x ∷ xs) z → (x ≡ z) ⊎ Contains xs z
 Contains-cons x xs z among = by among.0 among.1 among.2
   where
@@ -16,7 +16,7 @@ Contains-cons x xs z among = by among.0 among.1 among.2
 pub cons-Contains-first : {A : Type 0} (x : A) (xs : List A) → Contains (x ∷ xs) x
 cons-Contains-first x xs = (0, omega arith, refl)
 
--- a member after the first element is a member
+-- a member of the rest is a member
 pub cons-Contains : {A : Type 0} (x : A) (xs : List A) (z : A) → Contains xs z → Contains (x ∷ xs) z
 cons-Contains x xs z among = (suc among.0, (let below = among.1 in omega arith), among.2)
 
@@ -24,7 +24,7 @@ cons-Contains x xs z among = (suc among.0, (let below = among.1 in omega arith),
 pub nil-Contains : {A : Type 0} (z : A) → Contains [] z → ⊥
 nil-Contains z among = let below : among.0 < length {A = ℕ} [] = among.1 in omega arith
 
--- if something holds of each element, it holds of a member
+-- what holds of each element by recursion holds of a member
 pub below_by_recursion : {A : Type 0} (P : A → Type 0) (xs : List A) (z : A) → AllByRecursion P xs → Contains xs z → P z
 below_by_recursion P [] z all among = absurd (nil-Contains z among)
 below_by_recursion P (x ∷ xs) z all among = by (below_by_recursion P xs z all.1) (Contains-cons x xs z among)
@@ -33,7 +33,7 @@ below_by_recursion P (x ∷ xs) z all among = by (below_by_recursion P xs z all.
     by rest (inl same) = subst P same all.0
     by rest (inr inside) = rest inside
 
--- the element of a list of one
+-- the element at an index of a list of one
 pub only : {A : Type 0} (x y : A) (k : ℕ) → k < length (x ∷ []) → get_or (x ∷ []) k y ≡ y → x ≡ y
 only x y zero below is = is
 only x y (suc k) below is = absurd (omega arith)
@@ -64,7 +64,7 @@ map-Contains f (z ∷ xs) x among = by (map-Contains f xs x) (Contains-cons z xs
     by rest (inl same) = subst (λ v. Contains (f z ∷ map f xs) v) (ap f same) (cons-Contains-first (f z) (map f xs))
     by rest (inr inside) = cons-Contains (f z) (map f xs) (f x) (rest inside)
 
--- a member of the joined pieces is in the piece of some element
+-- a member of the concatenated lists is in the list of some element
 pub Contains-flat_map : {A B : Type 0} (f : A → List B) (xs : List A) (y : B) → Contains (flat_map f xs) y → (x : A) × Contains xs x × Contains (f x) y
 Contains-flat_map f [] y among = absurd (nil-Contains y among)
 Contains-flat_map f (x ∷ xs) y among = by (Contains-flat_map f xs y) (Contains-append_cases (f x) (flat_map f xs) y among)
@@ -74,7 +74,7 @@ Contains-flat_map f (x ∷ xs) y among = by (Contains-flat_map f xs y) (Contains
     by rest (inl here) = (x, cons-Contains-first x xs, here)
     by rest (inr inside) = let found = rest inside in (found.0, cons-Contains x xs found.0 found.1, found.2)
 
--- a member of an element's piece is a member of the joined pieces
+-- a member of an element's list is a member of the concatenated lists
 pub flat_map-Contains : {A B : Type 0} (f : A → List B) (xs : List A) (x : A) (y : B) → Contains xs x → Contains (f x) y → Contains (flat_map f xs) y
 flat_map-Contains f [] x y among there = absurd (nil-Contains x among)
 flat_map-Contains f (z ∷ xs) x y among there = by (λ inside. flat_map-Contains f xs x y inside there) (Contains-cons z xs x among)
@@ -108,7 +108,7 @@ SameMembers xs ys = (x : _) → Contains xs x ↔ Contains ys x
 pub same_members_back : {A : Type 0} (xs ys : List A) → SameMembers xs ys → SameMembers ys xs
 same_members_back xs ys same x = ((same x).1, (same x).0)
 
--- two lists joined in either order have the same members
+-- two lists concatenated in either order have the same members
 pub same_members_turned : {A : Type 0} (xs ys : List A) → SameMembers (xs ++ ys) (ys ++ xs)
 same_members_turned xs ys x = (by xs ys, by ys xs)
   where
@@ -130,6 +130,6 @@ member_rotated a b c x among = outer (Contains-append_cases (a ++ b) c x among)
     outer (inl here) = inner (Contains-append_cases a b x here)
     outer (inr here) = Contains-append_left (b ++ c) a x (Contains-append_right b c x here)
 
--- three lists joined in two orders have the same members
+-- three lists concatenated in another order have the same members
 pub same_members_rotated : {A : Type 0} (a b c : List A) → SameMembers ((a ++ b) ++ c) ((b ++ c) ++ a)
 same_members_rotated a b c x = (member_rotated a b c x, λ among. member_rotated c a b x (member_rotated b c a x among))

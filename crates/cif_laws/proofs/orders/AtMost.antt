@@ -6,17 +6,17 @@ use Rattle.std.specs.declared.cmp.Ordering.{Ordering}
 use Rattle.std.specs.declared.cmp.Ordering.TheVariants.{Less, Equal, Greater}
 use Rattle.docker_model.specs.state.Order.{IsAtMost, IsBelow}
 
--- an answer that is tested to be Equal is Equal
+-- a comparison that passes the test of being Equal is Equal
 pub eq_is : (o : Ordering) → is_eq o ≡ true → o ≡ Equal
 eq_is Less h = cc
 eq_is Equal h = refl
 eq_is Greater h = cc
 
--- an answer that is Less is not Greater
+-- a comparison that is Less isn't Greater
 pub less_not_greater : (o : Ordering) → o ≡ Less → ¬ (o ≡ Greater)
 less_not_greater o less greater = cc
 
--- if neither of two values is above the other, the order doesn't distinguish them
+-- if each of two values is at most the other, they compare as Equal
 pub level : {A : Type 0} {cmp : A → A → Ordering} → IsTotalOrder cmp → (a b : A) → IsAtMost cmp a b → IsAtMost cmp b a → cmp a b ≡ Equal
 level {A} {cmp} total a b up down = by (cmp a b) (cmp b a) (total.antisymm a b) up down
   where
@@ -31,7 +31,7 @@ level {A} {cmp} total a b up down = by (cmp a b) (cmp b a) (total.antisymm a b) 
 pub at_most_itself : {A : Type 0} {cmp : A → A → Ordering} → IsTotalOrder cmp → (a : A) → IsAtMost cmp a a
 at_most_itself total a greater = let tied = tied_itself total a in cc
 
--- what is below is at most
+-- a value below another is at most it
 pub at_most_below : {A : Type 0} (cmp : A → A → Ordering) (a b : A) → IsBelow cmp a b → IsAtMost cmp a b
 at_most_below cmp a b below greater = cc
 

@@ -1,5 +1,4 @@
--- The first member of a list that passes a test and comes after no other that does: there is one if
--- any passes.
+-- The least member of a list that passes a test: there is one if any member passes.
 use Rattle.std.proofs.Common.{◌≡◌, List, [], ◌∷◌, refl, ap, sym, ◌∙◌, subst, inl, inr, ◌⊎◌, Some, None, Bool, true, false, Contains}
 use Rattle.std.specs.Prelude.{find, ◌&&◌, not}
 use Rattle.std.specs.List.{list_all}
@@ -14,11 +13,11 @@ use Rattle.cif_laws.proofs.orders.AtMost.{at_most_trans, at_most_itself, at_most
 use Rattle.cif_laws.proofs.lists.FilteredMembers.{find_some, find_none, all_of, all_by}
 
 module _ {A : Type 0} {cmp : A → A → Ordering} (total : IsTotalOrder cmp) (test : A → Bool) where
-  -- the value passes, and comes after no member that passes
+  -- whether a value passes the test, and no member that passes is below it
   abbrev pub is_least : List A → A → Bool
   is_least xs x = test x && list_all (λ other. not (test other && is_gt (cmp x other))) xs
 
-  -- a member that passes, and comes after none that does
+  -- the least member that passes the test
   pub record IsLeast (xs : List A) (x : A) : Type 0 where
     pub among : Contains xs x
     pub passes : test x ≡ true
@@ -42,7 +41,7 @@ module _ {A : Type 0} {cmp : A → A → Ordering} (total : IsTotalOrder cmp) (t
       by true h = inner (cmp x z) refl (first h)
       by false h = refl
 
-  -- if any member passes, one comes first
+  -- if any member passes, one is the least
   least_in : (xs : List A) → ((z : A) → Contains xs z → test z ≡ false) ⊎ ((x : A) × IsLeast xs x)
   least_in [] = inl (λ z among. absurd (nil-Contains z among))
   least_in (x ∷ xs) = by (test x) refl (least_in xs)
@@ -92,7 +91,7 @@ module _ {A : Type 0} {cmp : A → A → Ordering} (total : IsTotalOrder cmp) (t
           pick z passes (inl e) = absurd (let bad : false ≡ true = sym h ∙ ap test e ∙ passes in cc)
           pick z passes (inr inside) = best.first z inside passes
 
-  -- the member found comes first
+  -- the member that the search finds is the least
   pub found_least : (xs : List A) (x : A) → find (is_least xs) xs ≡ Some x → IsLeast xs x
   found_least xs x found =
       let told = find_some (is_least xs) xs x found in
@@ -104,7 +103,7 @@ module _ {A : Type 0} {cmp : A → A → Ordering} (total : IsTotalOrder cmp) (t
             not_behind x z (all_of (λ other. not (test other && is_gt (cmp x other))) xs z parts.1 among) passes;
       }
 
-  -- if none is found, none passes
+  -- if the search finds none, no member passes
   pub none_passes : (xs : List A) → find (is_least xs) xs ≡ None → (z : A) → Contains xs z → test z ≡ false
   none_passes xs none = by (least_in xs)
     where

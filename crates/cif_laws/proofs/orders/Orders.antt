@@ -1,5 +1,5 @@
--- The orders are total. All orders but the ones of bodies, ops and entries distinguish different
--- values. These three distinguish values whose lines are records.
+-- The orders are total. Each distinguishes different values, except the orders of bodies, ops and
+-- entries. Those distinguish values whose lines are records.
 use mathlib.Core.Path.{fun_ext}
 use Rattle.std.proofs.Common.{◌≡◌, subst, sym, refl, ℕ, List, [], ap, true, false}
 use Rattle.std.specs.declared.cmp.Ordering.{Ordering}
@@ -37,7 +37,7 @@ ledger_item_total =
     then_total (on_total (λ i. i.stamp) file_stamp_total)
     (then_total (on_total (λ i. i.indicator) nat_cmp_total) (on_total (λ i. i.last_reference) nat_list_cmp_total))
 
--- if two orders combined decide nothing, each decides nothing
+-- if two orders, one after the other, give Equal, each gives Equal
 pub then_equal : (a b : Ordering) → ordering_then a b ≡ Equal → (a ≡ Equal) × (b ≡ Equal)
 then_equal Less b e = (e, absurd (less_is_not_equal e))
   where
@@ -119,7 +119,7 @@ exact_schedule_key a b e =
       indicator = exact_unsigned a.indicator b.indicator q.1 i;
     }
 
--- the parts of a key; keys of the other tags give empty parts
+-- the parts of a key, each empty or 0 in a key of another tag
 abbrev code_in : Key → List ℕ
 code_in (tiploc_key code) = code
 code_in _ = []
@@ -135,7 +135,7 @@ schedule_in _ = record { uid = []; runs_from = 0; indicator = 0 }
 abbrev by_parts : Key → Key → Ordering
 by_parts = then_cmp (on key_tag nat_cmp) (then_cmp (on code_in bytes_cmp) (then_cmp (on association_in association_key_cmp) (on schedule_in schedule_key_cmp)))
 
--- an order followed by one that decides nothing
+-- a second order that gives Equal doesn't change the comparison
 pub then_equal_right : (a : Ordering) → ordering_then a Equal ≡ a
 then_equal_right Less = refl
 then_equal_right Equal = refl
@@ -171,8 +171,8 @@ exact_key (schedule_key a) (tiploc_key b) e = cc
 exact_key (schedule_key a) (association_key b) e = cc
 exact_key (schedule_key a) (schedule_key b) e = ap schedule_key (exact_schedule_key a b e)
 
--- the order of bodies is total. It doesn't distinguish schedules whose lines differ but join to the
--- same bytes
+-- the order of bodies is total. It can't distinguish schedules with different lines that
+-- concatenate to the same bytes
 pub body_total : IsTotalOrder body_cmp
 body_total = then_total (on_total body_end nat_cmp_total) (then_total (on_total body_bytes nat_list_cmp_total) (on_total body_tag nat_cmp_total))
 
@@ -224,11 +224,11 @@ entry_total = then_total (on_total (λ e. e.stamp) stamp_total) (on_total (λ e.
 key_tied : (key : Key) → is_eq (key_cmp key key) ≡ true
 key_tied key = ap is_eq (tied_itself key_total key)
 
--- keys that tie are equal
+-- keys that pass the test of being equal are equal
 pub same_key : (a b : Key) → is_eq (key_cmp a b) ≡ true → a ≡ b
 same_key a b h = exact_key a b (eq_is (key_cmp a b) h)
 
--- keys that don't tie are different
+-- keys that fail the test are different
 pub other_key : (a b : Key) → is_eq (key_cmp a b) ≡ false → ¬ (a ≡ b)
 other_key a b h same = let tied : is_eq (key_cmp a b) ≡ true = subst (λ k. is_eq (key_cmp a k) ≡ true) same (key_tied a) in cc
 

@@ -1,9 +1,9 @@
--- Builders of 80-character records for the examples. Each argument is padded with spaces to its
--- field's width.
+-- Records of 80 bytes for the examples, built from fields. Each argument is padded with spaces to
+-- its field's width.
 use Rattle.std.proofs.Common.{ℕ, ◌-◌, List, [], ◌∷◌, ◌++◌, length, replicate}
 use Rattle.std.specs.Prelude.{codes}
 
--- the text, and spaces up to this width
+-- the text, padded with spaces to this width
 abbrev pub wide : ℕ → List ℕ → List ℕ
 wide width text = text ++ replicate (width - length text) 32
 
@@ -50,7 +50,7 @@ lt code suffix arrives public platform path =
 abbrev pub zz : List ℕ
 zz = wide 80 (codes "ZZ")
 
--- the header of a file with one schedule
+-- the header of the worked file
 abbrev pub f2_header : List ℕ
 f2_header = hd (codes "090624") (codes "2100") (codes "DFROC1A") (codes "DFROC1Z") (codes "U")
 
@@ -66,7 +66,7 @@ f2_origin = lo (codes "ASHFELD") no_text (codes "0900") (codes "0900") (codes "1
 abbrev pub f2_terminus : List ℕ
 f2_terminus = lt (codes "BRAYTON") no_text (codes "0930") (codes "0932") (codes "2") (codes "FL")
 
--- the worked file
+-- the worked file: one schedule from an origin to a terminus
 abbrev pub f2 : List (List ℕ)
 f2 = f2_header ∷ f2_basic ∷ f2_origin ∷ f2_terminus ∷ zz ∷ []
 
@@ -84,11 +84,11 @@ cr code suffix identity = wide 80 (codes "CR" ++ wide 7 code ++ wide 1 suffix ++
 abbrev pub f2_schedule : List (List ℕ)
 f2_schedule = f2_basic ∷ f2_origin ∷ f2_terminus ∷ []
 
--- the header of the file that renames a TIPLOC
+-- the header of a file that renames a TIPLOC
 abbrev pub rename_header : List ℕ
 rename_header = hd (codes "100624") (codes "2100") (codes "DFROC1B") (codes "DFROC1A") (codes "U")
 
--- an amendment that gives a new code
+-- an amendment with a new code
 abbrev pub rename_amend : List ℕ
 rename_amend = ta (codes "ASHFELD") (codes "ASHFIELD NEW") (codes "ASHFLDN")
 
@@ -96,7 +96,7 @@ rename_amend = ta (codes "ASHFELD") (codes "ASHFIELD NEW") (codes "ASHFLDN")
 abbrev pub rename : List (List ℕ)
 rename = rename_header ∷ rename_amend ∷ zz ∷ []
 
--- a schedule that passes midnight
+-- a schedule that passes midnight once
 abbrev pub night_schedule : List (List ℕ)
 night_schedule =
     bs (codes "N") (codes "C20001") (codes "240610") (codes "240610") (codes "1000000") (codes "2B20") (codes "P")
@@ -105,7 +105,7 @@ night_schedule =
     ∷ li (codes "DUNMERE") no_text no_text no_text (codes "0010") no_text no_text no_text no_text no_text
     ∷ lt (codes "BRAYTON") no_text (codes "0020") (codes "0021") (codes "2") (codes "FL") ∷ []
 
--- a schedule whose identity changes
+-- a schedule with a change en route
 abbrev pub changing_schedule : List (List ℕ)
 changing_schedule =
     bs (codes "N") (codes "C50001") (codes "240610") (codes "240610") (codes "1000000") (codes "5E50") (codes "P")

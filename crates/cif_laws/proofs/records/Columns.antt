@@ -1,5 +1,4 @@
--- Columns of a record, its good fields, and the columns and fields of a line whose transaction is
--- set to N.
+-- Columns of a record and its good fields, also of a line whose transaction is set to N.
 use Rattle.std.proofs.Common.{◌≡◌, ℕ, zero, suc, ◌+◌, ◌-◌, ◌<◌, ◌≤◌, List, [], ◌∷◌, take, drop, set, get_or, subst, refl, ap, sym, ◌∙◌, Bool, true, false, cond, Some, None, arith, length-drop, length-set}
 use Rattle.std.specs.Prelude.{not, option_map, find, slice_index}
 use Rattle.std.specs.List.{AllByRecursion}
@@ -9,7 +8,7 @@ use Rattle.std.specs.Str.{bytes_eq}
 use Rattle.docker_model.specs.records.Record.{Kind, IsRecord, is_printable, columns, column, kind_of, HasKind, identities, IsTextOfLength}
 use Rattle.docker_model.specs.records.Field.{CheckedField, HasGoodFields, checked_fields, fields_of, as_new, HasNewTransaction}
 
--- the field's bytes are good in this line
+-- the field is good in this line
 abbrev pub IsGoodIn : List ℕ → CheckedField → Type 0
 IsGoodIn line field = field.is_good (columns field.first field.last line) ≡ true
 
@@ -35,15 +34,15 @@ all_found line (field ∷ fields) all =
     (λ i. option_map (λ (f : CheckedField). f.first) (cond (not (all.0 i)) (Some field) (find (λ f. not (f.is_good (columns f.first f.last line))) fields)))
     ∙ all_found line fields all.1
 
--- each checked field of a line with good fields is good
+-- in a line with good fields, each checked field is good
 pub good_fields : (kind : Kind) (line : List ℕ) → HasKind kind line → HasGoodFields line → AllByRecursion (IsGoodIn line) (checked_fields kind line)
 good_fields kind line is good = subst (λ k. AllByRecursion (IsGoodIn line) (fields_of k line)) is (none_found line (fields_of (kind_of line) line) good)
 
--- if each checked field of a record is good, the record has good fields
+-- a line whose checked fields are all good has good fields
 pub fields_good : (kind : Kind) (line : List ℕ) → HasKind kind line → AllByRecursion (IsGoodIn line) (checked_fields kind line) → HasGoodFields line
 fields_good kind line is all = all_found line (fields_of (kind_of line) line) (subst (λ k. AllByRecursion (IsGoodIn line) (fields_of k line)) (sym is) all)
 
--- the columns of a record are a text of their width
+-- a range of a record's columns is a text of its width
 pub text_in : (line : List ℕ) (first last : ℕ) → IsRecord line → first - 1 ≤ last → last ≤ 80 → IsTextOfLength (last - (first - 1)) (columns first last line)
 text_in line first last is order within =
     let size = is.0 in
@@ -52,7 +51,7 @@ text_in line first last is order within =
       All-take (λ b. is_printable b ≡ true) (last - (first - 1)) (drop (first - 1) line) (All-drop (λ b. is_printable b ≡ true) (first - 1) line is.1),
     )
 
--- one column is a field of one byte
+-- a field of one column is the byte there
 pub one_column : (line : List ℕ) (n : ℕ) → 0 < n → slice_index (columns n n line) 0 ≡ column n line
 one_column line n some =
     get_or-take (n - (n - 1)) (drop (n - 1) line) 0 0 (omega arith) ∙ get_or-drop (n - 1) line 0 0 ∙ (let e : (n - 1) + 0 ≡ n - 1 = omega arith in
@@ -70,11 +69,11 @@ drop_set i zero (x ∷ xs) y below = absurd (omega arith)
 drop_set zero (suc k) (x ∷ xs) y below = refl
 drop_set (suc i) (suc k) (x ∷ xs) y below = drop_set i k xs y (omega arith)
 
--- setting the transaction to N leaves each field after it
+-- the columns after the transaction stay as they are
 pub new_columns : (line : List ℕ) (first last : ℕ) → 3 < first → columns first last (as_new line) ≡ columns first last line
 new_columns line first last behind = ap (λ rest. take (last - (first - 1)) rest) (drop_set 2 (first - 1) line 78 (omega arith))
 
--- setting the transaction to N leaves each column after it
+-- each column after the transaction stays as it is
 pub new_column : (line : List ℕ) (n : ℕ) → 3 < n → column n (as_new line) ≡ column n line
 new_column line n behind = get_or-set_other line 2 (n - 1) 78 0 (omega arith)
 
@@ -87,6 +86,6 @@ new_kind line =
 pub new_record : (line : List ℕ) → IsRecord line → IsRecord (as_new line)
 new_record line is = (length-set line 2 78 ∙ is.0, All-set (λ b. is_printable b ≡ true) line 2 78 refl is.1)
 
--- the transaction is N then
+-- the transaction of such a line is N
 pub is_new : (line : List ℕ) → IsRecord line → HasNewTransaction (as_new line)
 is_new line is = let size = is.0 in get_or-set_same line 2 78 0 (omega arith)

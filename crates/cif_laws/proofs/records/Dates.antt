@@ -1,4 +1,4 @@
--- Day numbers and the calendar.
+-- Day numbers, and the calendar of the library.
 use Rattle.std.proofs.Common.{◌≡◌, ℕ, ◌≤◌, true, pos, arith, zero, suc, ◌+◌, ◌<◌, ◌∙◌, subst, Bool, false, cond, refl, ◌⊎◌, inl, inr, sym, ℤ, ap, ◌-◌, ◌+ℤ◌}
 use Rattle.std.specs.Prelude.{◌↔◌, nat_le, count_by, unsigned_abs}
 use Rattle.std.specs.List.{range_with_len}
@@ -12,7 +12,7 @@ use Rattle.docker_model.specs.records.Date.{is_calendar_day, day_number, year_of
 use Rattle.docker_model.specs.records.PrintedTime.{day_text, date_text}
 use Rattle.cif_laws.proofs.lists.BoolsAndOptions.{and_true as and_both, both}
 
--- the test agrees with the calendar's own fact
+-- a date passes the test if and only if the library's calendar has it
 pub is_calendar_day-IsDate : (year month day : ℕ) → year ≤ 9999 → (is_calendar_day year month day ≡ true) ↔ IsDate (pos year) (pos month) (pos day)
 is_calendar_day-IsDate year month day low = (
   λ h.
@@ -63,7 +63,7 @@ count_prefix p a (suc n) (suc k) within passes fails =
     one_more : 1 + k ≡ suc k
     one_more = omega arith
 
--- day numbers are counted from 1 January 1960
+-- the library's count of days for 1 January 1960
 start_of_1960 : day_count (pos 1960) 1 1 ≡ 4_368_300
 unfolding day_count days_of_years days_of_months
 start_of_1960 = refl
@@ -103,7 +103,7 @@ from_1960 y m d year low month day =
 abs_is : (z : ℤ) (n : ℕ) → z ≡ pos n → unsigned_abs z ≡ n
 abs_is z n e = ap unsigned_abs e
 
--- a day number and the calendar's count of days
+-- a day number is the library's count of days, less the count for 1 January 1960
 pub day_number-day_count : (y m d : ℕ) → 1960 ≤ y → y ≤ 9999 → 1 ≤ m → 1 ≤ d → day_number y m d + 4_368_300 ≡ day_count (pos y) m d
 day_number-day_count y m d year low month day =
     let start = from_1960 y m d year low month day in
@@ -112,7 +112,7 @@ day_number-day_count y m d year low month day =
     let number = abs_is (days_from_civil (pos y) m d +ℤ pos 3653) (day_count (pos y) m d - 4_368_300) signed in
     omega arith
 
--- the number of a date gives the date's year, month and day
+-- from the number of a date, its year, month and day are found again
 module _ (y m d : ℕ) (year : 1960 ≤ y) (last : y ≤ 2059) (civil : IsCivilDate (pos y) m d) where
   number_here : day_number y m d + 4_368_300 ≡ day_count (pos y) m d
   number_here = day_number-day_count y m d year (omega arith) civil.1.0 civil.2.0
@@ -179,7 +179,7 @@ module _ (y m d : ℕ) (year : 1960 ≤ y) (last : y ≤ 2059) (civil : IsCivilD
       let counted = count_prefix (λ v. nat_le (day_number y v 1) (day_number y m d)) 1 12 m civil.1.1 month_passes month_fails in
       (λ i. count_by (λ v. nat_le (day_number (year_of-day_number i) v 1) (day_number y m d)) (range_with_len 1 12)) ∙ counted
 
-  -- the day of the month of a date's number is the date's
+  -- the day of the month of a date's number is the date's day
   pub day_of_month-day_number : day_of_month (day_number y m d) ≡ d
   day_of_month-day_number =
       let there = day_number-day_count y m 1 year (omega arith) civil.1.0 (omega arith) in
@@ -191,11 +191,11 @@ module _ (y m d : ℕ) (year : 1960 ≤ y) (last : y ≤ 2059) (civil : IsCivilD
           → day_count (pos y) m 1 + d ≡ day_count (pos y) m d + 1 → day_number y m d + 1 - day_number y m 1 ≡ d
       counted there here step = omega arith
 
-  -- the text of a date's number is the date's text
+  -- a date's number is printed as the date
   pub day_text-day_number : day_text (day_number y m d) ≡ date_text y m d
   day_text-day_number = λ i. date_text (year_of-day_number i) (month_of-day_number i) (day_of_month-day_number i)
 
--- like `day_text-day_number`, for a date that the test accepts
+-- like `day_text-day_number`, for a date that passes the test
 pub day_text-of_calendar : (year month day : ℕ) → 1960 ≤ year → year ≤ 2059 → is_calendar_day year month day ≡ true
     → day_text (day_number year month day) ≡ date_text year month day
 day_text-of_calendar year month day low high h =

@@ -1,4 +1,4 @@
--- The values that good fields give: days, minutes, TIPLOCs, letters, keys and bodies.
+-- What good fields give: days, minutes, TIPLOCs, letters.
 use Rattle.std.proofs.Common.{◌≡◌, ℕ, zero, suc, ◌≤◌, List, [], ◌∷◌, true, arith, ◌+◌, refl, Bool, false, cond, pos, ◌<◌, take, sym, ◌∙◌, ◌⊎◌, inl, inr, eqb-true}
 use Rattle.std.specs.Prelude.{slice_index, nat_le, ◌&&◌, nat_lt, not, ◌==◌, ◌||◌}
 use Rattle.std.specs.List.{list_all}
@@ -47,14 +47,14 @@ day_within year month day first last is =
     let end = new_year_2060 in
     omega arith
 
--- the number of a good date is a day
+-- a good date's number is from 0 to 36524
 pub date_is_day : (field : List ℕ) → is_date field ≡ true → IsDay (date_number field)
 date_is_day field is =
     let parts = both (list_all is_ascii_digit field) _ is in
     let year = year_is (two_digits field 0) (pair_below field 0 parts.0) in
     day_within (full_year (two_digits field 0)) (two_digits field 2) (two_digits field 4) year.0 year.1 parts.1
 
--- the number of a good date, day first, is a day
+-- a good date's number is from 0 to 36524, for a date with the day first
 pub date_day_first_is_day : (field : List ℕ) → is_date_day_first field ≡ true → IsDay (date_number_day_first field)
 date_day_first_is_day field is =
     let parts = both (list_all is_ascii_digit field) _ is in

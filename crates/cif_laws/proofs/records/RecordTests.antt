@@ -1,4 +1,4 @@
--- Tests of a record, and the midnights of a schedule as its lines come in.
+-- Tests of a record, and how often a schedule passes midnight as its lines come in.
 use Rattle.std.proofs.Common.{ℕ, List, ◌≡◌, refl, true, ◌+◌, [], ◌∷◌, length, ◌∙◌, cond, arith, Bool, false, suc, ◌≤◌, Some, None, sym, ap, eqb-true, ◌++◌, map, subst, ◌*◌, ◌⊎◌, inl, inr}
 use Rattle.std.specs.Prelude.{not, option_map, nat_lt, ◌==◌, ◌↔◌, Option, slice_index, ◌||◌}
 use Rattle.std.specs.List.{prefix_len, AllByRecursion, AllPass, flat_map}
@@ -69,23 +69,25 @@ record_iff_test line = (
 
 -- ---- midnights
 
--- the falls of times in two parts
+-- times in two parts: the first part's falls, and the second part's after the first part's last
+-- time
 pub fall_count-append : (times later : List ℕ) → fall_count (times ++ later) ≡ fall_count times + falls_after (last_of times) later
 fall_count-append [] later = omega arith
 fall_count-append (time ∷ []) later = omega arith
 fall_count-append (time ∷ next ∷ times) later = let rest = fall_count-append (next ∷ times) later in omega arith
 
--- more times make no fewer falls, if there is a first time
+-- more times don't make fewer falls, if there is a first time
 pub fall_count_behind : (time : ℕ) (times later : List ℕ) → fall_count (time ∷ times) ≤ fall_count ((time ∷ times) ++ later)
 fall_count_behind time [] later = omega arith
 fall_count_behind time (next ∷ times) later = let rest = fall_count_behind next times later in omega arith
 
--- more times make no fewer falls
+-- more times don't make fewer falls
 pub fewer_falls : (times later : List ℕ) → fall_count times ≤ fall_count (times ++ later)
 fewer_falls [] later = omega arith
 fewer_falls (time ∷ times) later = fall_count_behind time times later
 
--- the last of times in two parts is the last of the second, if it has one
+-- the last of times in two parts is the second part's last time, or the first part's if the second
+-- is empty
 pub last_of-append : (times later : List ℕ) → last_of (times ++ later) ≡ later_or (last_of later) (last_of times)
 last_of-append [] later = by (last_of later)
   where
@@ -100,7 +102,7 @@ last_of-append (time ∷ []) (next ∷ later) = by next later
     by first (second ∷ rest) = by second rest
 last_of-append (time ∷ next ∷ times) later = last_of-append (next ∷ times) later
 
--- the last half minute of a day
+-- the last half minute of a day, 23:59½
 abbrev pub last_time : ℕ
 last_time = 2879
 
@@ -118,19 +120,18 @@ pub no_fall_last : (times : List ℕ) → AllByRecursion (λ t. t ≤ last_time)
 no_fall_last [] all = refl
 no_fall_last (time ∷ times) all = no_fall_behind time times all
 
--- the times of lines in two parts
+-- the times of two lists of lines, one after the other
 pub times_append : (lines more : List (List ℕ)) → times_along (lines ++ more) ≡ times_along lines ++ times_along more
 times_append lines more =
     ap (map (λ (time : Occasion × ℕ). time.1)) (flat_map-append times_of lines more) ∙ map-append (λ (time : Occasion × ℕ). time.1) (flat_map times_of lines)
     (flat_map times_of more)
 
--- more lines pass midnight no less often
+-- more lines don't pass midnight less often
 pub fewer_midnights : (lines more : List (List ℕ)) → midnights lines ≤ midnights (lines ++ more)
 fewer_midnights lines more =
     subst (λ times. midnights lines ≤ fall_count times) (sym (times_append lines more)) (fewer_falls (times_along lines) (times_along more))
 
--- the midnights with one more record: the midnights so far, and the falls of its times after the
--- last time so far
+-- one more record passes midnight as often as its times fall, after the last time so far
 pub midnights_step : (lines : List (List ℕ)) (line : List ℕ) → midnights (lines ++ line ∷ []) ≡ midnights lines + falls_after (last_of (times_along lines))
     (times_along (line ∷ []))
 midnights_step lines line = ap fall_count (times_append lines (line ∷ [])) ∙ fall_count-append (times_along lines) (times_along (line ∷ []))
@@ -140,7 +141,7 @@ pub last_time_step : (lines : List (List ℕ)) (line : List ℕ) → last_of (ti
     (last_of (times_along lines))
 last_time_step lines line = ap last_of (times_append lines (line ∷ [])) ∙ last_of-append (times_along lines) (times_along (line ∷ []))
 
--- a line of a kind without times has no times
+-- a record whose kind has no times has none
 pub no_times : (kind : Kind) (line : List ℕ) → HasKind kind line → times_by_kind (Some kind) line ≡ [] → times_of line ≡ []
 no_times kind line is none = ap (λ k. times_by_kind k line) is ∙ none
 
@@ -148,7 +149,7 @@ no_times kind line is none = ap (λ k. times_by_kind k line) is ∙ none
 pub no_times_before : (line : List ℕ) (lines : List (List ℕ)) → times_of line ≡ [] → times_along (line ∷ lines) ≡ times_along lines
 no_times_before line lines none = ap (λ times. map (λ (time : Occasion × ℕ). time.1) (times ++ flat_map times_of lines)) none
 
--- the times of a record with good fields are within the day
+-- the times of a record with good fields are from 0 to the day's last half minute
 abbrev IsWithinDay : Occasion × ℕ → Type 0
 IsWithinDay time = time.1 ≤ last_time
 
@@ -200,6 +201,6 @@ lines_within : (lines : List (List ℕ)) → AllByRecursion HasGoodFields lines 
 lines_within [] all = tt
 lines_within (line ∷ lines) all = all_append IsWithinDay (times_of line) (flat_map times_of lines) (times_within line all.0) (lines_within lines all.1)
 
--- the times of lines with good fields are within the day
+-- the times of lines with good fields are from 0 to the day's last half minute
 pub along_within : (lines : List (List ℕ)) → AllByRecursion HasGoodFields lines → AllByRecursion (λ t. t ≤ last_time) (times_along lines)
 along_within lines all = all_map (λ (time : Occasion × ℕ). time.1) (λ t. t ≤ last_time) (flat_map times_of lines) (lines_within lines all)

@@ -1,4 +1,4 @@
--- A scheduled time that is present isn't blank, and so it is a time.
+-- A scheduled time that is present isn't blank, so its field gives a time.
 use Rattle.std.proofs.Common.{◌≡◌, ℕ, List, [], ◌∷◌, take, refl, subst, Some, None, Bool, true, false, cond}
 use Rattle.std.specs.Prelude.{◌==◌, ◌&&◌, nat_lt}
 use Rattle.std.specs.List.{list_all}
@@ -23,6 +23,6 @@ present_not_blank (b ∷ rest) is = by (b == 32) refl
     by true h = let bad : is_ascii_digit 32 ≡ true = subst (λ x. is_ascii_digit x ≡ true) (eqb-true b 32 h) digit in cc
     by false h = rw h refl
 
--- so it is the time that its field gives
+-- the field of a time that is present gives that time
 pub time_there : (field : List ℕ) → is_present_time field ≡ true → scheduled_time field ≡ Some (half_minutes field)
 time_there field is = (λ i. cond (present_not_blank field is i) None (Some (half_minutes field)))

@@ -1,5 +1,5 @@
--- The cause of a record that doesn't continue a schedule, by the stage of the earlier lines. At
--- such a place a file's record has the same cause.
+-- The cause of a record that can't continue a schedule, by the stage of the earlier lines. A file's
+-- record at such a place has the same cause.
 use Rattle.std.proofs.Common.{◌≡◌, ℕ, List, refl, ap, ◌<◌, ◌⊎◌, inl, inr, sym, ◌∙◌, ◌≤◌, None, arith, [], ◌∷◌, Bool, true, false, cond, Some, ◌++◌, subst, length}
 use Rattle.std.specs.Prelude.{unwrap_or, Option, is_none, is_some, option_map, ◌&&◌, ◌==◌}
 use Rattle.std.proofs.lemmas.Bool.{cases_order, lt-leb}
@@ -32,7 +32,7 @@ column_in earlier line (bad_field at) holds = ap (λ o. unwrap_or o 0) holds
 column_in earlier line third_midnight holds = refl
 column_in earlier line no_end holds = refl
 
--- a line has at most one cause for which it doesn't continue a schedule
+-- a line has at most one cause why it can't continue a schedule
 pub one_schedule_cause : (earlier : Lines) (line : List ℕ) (first second : FileCause) → IsScheduleFault earlier line first → IsScheduleFault earlier line second
     → first ≡ second
 one_schedule_cause earlier line first second is_first is_second = by (cases_order (cause_rank first) (cause_rank second))
@@ -46,7 +46,7 @@ one_schedule_cause earlier line first second is_first is_second = by (cases_orde
 
 -- ---- the first line
 
--- no cause with a lower rank holds
+-- no cause with a lower rank holds, if each of them is excluded
 none_below : (earlier : Lines) (line : List ℕ) (rank : ℕ) → rank ≤ 7 → (4 < rank → ¬ (kind_of line ≡ None)) → (5 < rank → ¬ IsOutOfSchedule earlier line)
     → (6 < rank → leftmost_bad_field line ≡ None)
     → (other : FileCause) → cause_rank other < rank → ¬ HoldsInSchedule earlier line other
@@ -60,7 +60,7 @@ none_below earlier line rank most r4 r5 r6 (bad_field column) below holds = let 
 none_below earlier line rank most r4 r5 r6 third_midnight below holds = absurd (omega arith)
 none_below earlier line rank most r4 r5 r6 no_end below holds = holds
 
--- if a schedule begins with one line, that line passes the test of a first line
+-- a line that begins a schedule passes the test of a first line
 begins_first : (line : List ℕ) → BeginsSchedule (line ∷ []) → is_first_line line ≡ true
 begins_first line begins = by (is_first_line line) ((begins_iff_stage line []).0 begins).1
   where
@@ -72,7 +72,7 @@ basic_is : (kind : Option Kind) → is_basic_kind kind ≡ true → kind ≡ Som
 basic_is (Some basic_schedule) h = refl
 basic_is _ h = cc
 
--- some schedule begins with a good basic schedule
+-- a good basic schedule begins some schedule
 witness_begins : BeginsSchedule (witness basic_schedule ∷ [])
 witness_begins = front_begins after_basic (witness basic_schedule ∷ []) (front_of_basic (witness basic_schedule) (record {
   is = (record_iff_test (witness basic_schedule)).1 (witness_record basic_schedule);
@@ -83,7 +83,7 @@ witness_begins = front_begins after_basic (witness basic_schedule ∷ []) (front
 kind_is_known : (line : List ℕ) (kind : Kind) → kind_of line ≡ Some kind → ¬ (kind_of line ≡ None)
 kind_is_known line kind is none = let bad : None ≡ Some kind = sym none ∙ is in cc
 
--- a record that can't be a schedule's first line has this cause
+-- a record that can't be the first line of a schedule has this cause
 pub first_line_fault : (line : List ℕ) → IsRecord line → is_first_line line ≡ false → IsScheduleFault [] line (first_line_cause line)
 first_line_fault line is test = by (kind_of line) refl
   where
@@ -132,14 +132,14 @@ first_line_fault line is test = by (kind_of line) refl
 
 -- ---- a later line
 
--- if there is a next stage, a schedule begins with one more line
+-- if a line leads to a next stage, the lines with it begin a schedule
 pub begins_next_stage : (lines : Lines) (stage : Stage) (line : List ℕ) (next : Stage) → stage_of lines ≡ Some stage → next_stage stage lines line ≡ Some next
     → BeginsSchedule (lines ++ line ∷ [])
 begins_next_stage [] stage line next at found = cc
 begins_next_stage (basic ∷ rest) stage line next at found =
     (begins_more_iff basic rest stage line at).1 (next, next_line_by_test stage (basic ∷ rest) line next found)
 
--- if no schedule begins with one more line, there is no next stage
+-- if the lines with it begin no schedule, a line leads to no next stage
 pub no_next_stage : (lines : Lines) (stage : Stage) (line : List ℕ) → stage_of lines ≡ Some stage → ¬ BeginsSchedule (lines ++ line ∷ [])
     → next_stage stage lines line ≡ None
 no_next_stage lines stage line at here = by (next_stage stage lines line) refl
@@ -148,7 +148,7 @@ no_next_stage lines stage line at here = by (next_stage stage lines line) refl
     by None h = h
     by (Some next) h = absurd (here (begins_next_stage lines stage line next at h))
 
--- a record without a next stage has this cause
+-- a record that leads to no next stage has this cause
 pub schedule_fault : (earlier : Lines) (stage : Stage) (line : List ℕ) → stage_of earlier ≡ Some stage → IsRecord line → next_stage stage earlier line ≡ None
     → IsScheduleFault earlier line (schedule_cause stage line)
 schedule_fault [] stage line at is nowhere = cc
@@ -234,7 +234,7 @@ goes_on_or_fault (basic ∷ rest) line begins is = by ((begins_iff_stage basic r
 
 -- ---- a file's record at a place in a schedule
 
--- a record of a kind that follows a basic schedule begins no unit
+-- a record that can follow a basic schedule begins no unit
 pub no_unit_by_kind : (kind : Option Kind) (line : List ℕ) → follows_basic kind ≡ true → unit_by_kind kind line ≡ None
 no_unit_by_kind (Some extra_details) line h = refl
 no_unit_by_kind (Some origin_location) line h = refl
@@ -243,7 +243,8 @@ no_unit_by_kind (Some terminating_location) line h = refl
 no_unit_by_kind (Some change_en_route) line h = refl
 no_unit_by_kind _ line h = cc
 
--- the record can only continue the schedule: the schedule may not end, or the record begins no unit
+-- at this stage the record can only belong to the schedule: the schedule may not end here, or the
+-- record begins no unit
 abbrev pub IsOfSchedule : Stage → Lines → List ℕ → Type 0
 IsOfSchedule stage lines line = (may_end stage lines ≡ false) ⊎ (unit_by_kind (kind_of line) line ≡ None)
 
@@ -256,7 +257,7 @@ no_other stage lines line (inr none) = by (may_end stage lines)
     by true = none
     by false = refl
 
--- the next place of such a record is the place of the schedule's next stage
+-- the place after such a record is the one at the schedule's next stage
 pub next_place_of_stage : (stage : Stage) (lines : Lines) (line : List ℕ) → IsOfSchedule stage lines line
     → next_place (in_schedule stage lines) line ≡ option_map (λ next. place_in next (lines ++ line ∷ [])) (next_stage stage lines line)
 next_place_of_stage stage lines line of =
@@ -281,8 +282,7 @@ next_place_of_stage stage lines line of =
     by None = none (is_record line && has_good_fields line) (is_record line && is_sound_next lines line)
     by (Some next) = tested (is_record line && is_sound_next lines line) next
 
--- a record within the limit and not after a trailer has the cause that its kind, place and fields
--- give
+-- a record within the limit and before a trailer has the cause that its kind, place and fields give
 pub cause_of_record : (limit count : ℕ) (place : Place) (line : List ℕ) → count < limit → is_after_end place ≡ false → IsRecord line
     → cause_of limit count place line ≡ kind_cause place line
 cause_of_record limit count place line under open_end is =
@@ -291,7 +291,7 @@ cause_of_record limit count place line under open_end is =
     ∙ (λ i. cond (ap (λ n. n == 80) is.0 i) (byte_cause place line) bad_length)
     ∙ (λ i. with_column bad_byte (no_bad_byte line is.1 i) (kind_cause place line))
 
--- the cause of such a record is the schedule's cause
+-- such a record has the same cause in a file as in a schedule
 pub cause_in_schedule : (limit count : ℕ) (stage : Stage) (lines : Lines) (line : List ℕ) → count < limit → IsRecord line → IsOfSchedule stage lines line
     → cause_of limit count (in_schedule stage lines) line ≡ schedule_cause stage line
 cause_in_schedule limit count stage lines line under is of =
@@ -304,8 +304,8 @@ cause_in_schedule limit count stage lines line under is of =
     by None = refl
     by (Some next) = refl
 
--- if the schedule may end and the record can't follow a basic schedule, its cause is the cause
--- between units
+-- after a schedule that may end, a record that can't follow a basic schedule has the cause that it
+-- has between units
 pub cause_behind_schedule : (limit count : ℕ) (stage : Stage) (lines : Lines) (line : List ℕ) → count < limit → IsRecord line → may_end stage lines ≡ true
     → follows_basic (kind_of line) ≡ false
     → cause_of limit count (in_schedule stage lines) line ≡ cause_of limit count between_units line
@@ -317,7 +317,7 @@ cause_behind_schedule limit count stage lines line under is may anew =
     (field_cause line)))
     ∙ sym (cause_of_record limit count between_units line under refl is)
 
--- if a schedule's reader finds a fault, the file's record is at fault for the same cause
+-- a record at fault for a schedule's reader is at fault in the file, for the same cause
 pub fault_of_schedule : (limit : ℕ) (earlier : Lines) (stage : Stage) (lines : Lines) (line : List ℕ) (cause : FileCause)
     → IsPlaceOf earlier (in_schedule stage lines) → length earlier < limit → IsRecord line
     → IsOfSchedule stage lines line → IsScheduleFault lines line cause

@@ -1,4 +1,4 @@
--- It is decided whether lines are a schedule, and whether some schedule begins with them.
+-- It is decided whether lines are a schedule, and whether they begin one.
 use Rattle.std.proofs.Common.{◌≡◌, ℕ, List, length, true, Some, [], ◌∷◌, ◌⊎◌, inr, inl, ◌+◌, ◌++◌, ap, refl, sym, subst, ◌≤◌, IsTrue, All, Bool, false, arith, if◌then◌else◌, nat_lt, map, ◌||◌, None, cond, not, find, ◌∙◌, codes, append-nil, lit≤}
 use Rattle.std.specs.Prelude.{⊤, slice_index, ◌==◌, option_map, Option}
 use Rattle.std.specs.List.{AllByRecursion, flat_map}
@@ -21,22 +21,22 @@ use Rattle.cif_laws.proofs.lists.BoolsAndOptions.{both}
 abbrev AreRecords : Lines → Type 0
 AreRecords lines = AllByRecursion IsRecord lines
 
--- bytes are a record or not
+-- bytes are a record, or they aren't
 pub record_decided : (line : List ℕ) → Decided (IsRecord line)
 record_decided line = both_decided (nat_decided (length line) 80) (All_decided (λ b. is_printable b ≡ true) (λ b. bool_decided (is_printable b)) line)
 
--- a line has a kind or not
+-- a line has this kind, or it doesn't
 pub has_kind_decided : (kind : Kind) (line : List ℕ) → Decided (HasKind kind line)
 has_kind_decided kind line = kind_decided (kind_of line) (Some kind)
 
--- a line has good fields or not
+-- a line has good fields, or it doesn't
 pub good_fields_decided : (line : List ℕ) → Decided (HasGoodFields line)
 good_fields_decided line = none_decided (leftmost_bad_field line)
 
 within_decided : (line : List ℕ) → Decided (IsWithinJourney line)
 within_decided line = either_decided (has_kind_decided intermediate_location line) (has_kind_decided change_en_route line)
 
--- calls up to a terminus, and a front of such calls
+-- a journey after its origin, and a prefix of it, both by recursion
 abbrev WholeCalls : Lines → Type 0
 WholeCalls [] = ⊥
 WholeCalls (line ∷ lines) = (HasKind terminating_location line × (lines ≡ [])) ⊎ (IsWithinJourney line × WholeCalls lines)
@@ -103,7 +103,7 @@ journey_here_decided : (lines : Lines) → Decided (JourneyHere lines)
 journey_here_decided [] = inr (λ h. h)
 journey_here_decided (first ∷ lines) = both_decided (has_kind_decided origin_location first) (whole_calls_decided lines)
 
--- the journey of a schedule, and its soundness
+-- the lines after the extra details: a sound journey, or no lines if it may be missing
 abbrev SoundHere : List ℕ → Lines → Type 0
 SoundHere basic lines = IsTrue (is_deletion basic) ⊎ (AllByRecursion HasGoodFields lines × (midnights lines ≤ 2))
 
@@ -129,7 +129,7 @@ extra_and_journey_decided : (basic : List ℕ) (lines : Lines) → Decided (Extr
 extra_and_journey_decided basic [] = inr (λ h. h)
 extra_and_journey_decided basic (extra ∷ lines) = both_decided (has_kind_decided extra_details extra) (journey_part_decided basic lines)
 
--- a schedule, by recursion
+-- the parts of a schedule, each by recursion
 abbrev BasicHere : List ℕ → Type 0
 BasicHere basic = HasKind basic_schedule basic × HasGoodFields basic
 
@@ -207,7 +207,7 @@ is_schedule lines is =
         subst (λ xs. AreRecords (is.basic ∷ xs ++ is.journey) → ScheduleHere (is.basic ∷ xs ++ is.journey)) (sym one.1)
         (λ r. ((r, (is.kind, is.fields)), inr (one.2, part))) records
 
--- lines are a schedule or not
+-- lines are a schedule, or they aren't
 pub schedule_decided : (lines : Lines) → Decided (IsSchedule lines)
 schedule_decided lines = decided_along (schedule_is lines) (is_schedule lines) (schedule_here_decided lines)
 
@@ -254,7 +254,7 @@ scheduled_from_present field present = by (is_blank field)
 some_is_not_none : (n : ℕ) → Some n ≡ None → ⊥
 some_is_not_none n h = cc
 
--- if none of some fields is the leftmost bad one, they are good
+-- if none of some fields is the leftmost bad one, they are all good
 all_good : (line : List ℕ) (fields : List CheckedField)
     → option_map (λ (field : CheckedField). field.first) (find (λ field. not (field.is_good (columns field.first field.last line))) fields) ≡ None
     → AllByRecursion (λ (field : CheckedField). field.is_good (columns field.first field.last line) ≡ true) fields
@@ -322,7 +322,8 @@ small_along (line ∷ lines) good =
     times_of-times : List ℕ → List ℕ
     times_of-times l = times_in (times_of l)
 
--- a front of times has no more falls than all of them, and the day's last half minute adds none
+-- a prefix of some times has no more falls than all of them, and the day's last half minute adds
+-- none
 falls_front : (times more : List ℕ) → fall_count times ≤ fall_count (times ++ more)
 falls_front [] more = omega arith
 falls_front (time ∷ []) more = omega arith
@@ -345,7 +346,7 @@ midnights_last : (lines : Lines) → AllByRecursion HasGoodFields lines → midn
 midnights_last lines good =
     ap fall_count (times_along-append lines (last_terminus ∷ [])) ∙ falls_last (times_along lines) (small_along lines good)
 
--- a front of a schedule, by recursion
+-- a prefix of a schedule, by recursion
 abbrev FrontPart : List ℕ → Lines → Type 0
 FrontPart basic [] = ⊤
 FrontPart basic (first ∷ lines) = (HasKind origin_location first × FrontOfCalls lines) × SoundHere basic (first ∷ lines)
@@ -373,7 +374,7 @@ front_here_decided (basic ∷ lines) =
     both_decided (both_decided (records_decided (basic ∷ lines)) (basic_decided basic))
     (either_decided (front_part_decided basic lines) (extra_and_front_decided basic lines))
 
--- the lines that begin a schedule are a front of one
+-- lines that begin a schedule are such a prefix
 front_of_whole : (lines rest : Lines) → WholeCalls (lines ++ rest) → FrontOfCalls lines
 front_of_whole [] rest calls = tt
 front_of_whole (line ∷ lines) rest (inl told) = inl (told.0, nothing lines told.1)
@@ -405,7 +406,7 @@ front_of_schedule (basic ∷ lines) rest here = ((all_front IsRecord (basic ∷ 
     by [] (inr part) = inl tt
     by (extra ∷ others) (inr part) = inr (part.0, front_of_part basic others rest part.1)
 
--- a front can be completed to a schedule
+-- lines that complete such a prefix to a schedule
 record Ending (basic : List ℕ) (lines : Lines) : Type 0 where
   rest : Lines
   records : AreRecords rest
@@ -459,7 +460,7 @@ begins_of_front (basic ∷ lines) here = by lines here.0.0 here.1
           ),
         )
 
--- some schedule begins with the lines, or none does
+-- lines begin some schedule, or they don't
 pub begins_decided : (lines : Lines) → Decided (BeginsSchedule lines)
 begins_decided lines =
     decided_along (begins_of_front lines) (λ begins. front_of_schedule lines begins.0 (is_schedule (lines ++ begins.0) begins.1)) (front_here_decided lines)

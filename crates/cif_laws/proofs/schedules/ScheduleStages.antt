@@ -1,5 +1,5 @@
--- Where a schedule is after its lines so far: which line may come next, and when the lines are a
--- schedule.
+-- Where a reader of a schedule is after the lines so far: which line may come next, and whether the
+-- lines are a schedule.
 use Rattle.std.proofs.Common.{◌≡◌, ℕ, List, ◌∷◌, [], ◌⊎◌, true, ◌+◌, ◌++◌, inl, refl, Some, ap, inr, arith, ◌∙◌, ◌≤◌, Bool, false, subst, append_assoc, cond, None, sym, eqb-true, append-nil, All, ◌<◌}
 use Rattle.std.specs.Prelude.{Option, ◌&&◌, ◌↔◌, nat_le, ◌||◌, ◌==◌, codes, option_and_then, is_none}
 use Rattle.std.specs.List.{AllByRecursion}
@@ -18,14 +18,14 @@ use Rattle.cif_laws.proofs.records.Columns.{fields_good}
 use Rattle.cif_laws.proofs.lists.BoolsAndOptions.{both, none_by_test, test_by_none, and_true, either, then_some, some_then}
 use Rattle.cif_laws.proofs.records.RecordTests.{record_iff_test, no_times, no_times_before, midnights_step, last_time, no_fall_last, times_append, along_within, fewer_midnights}
 
--- ---- what a stage says about the lines
+-- ---- what a stage means for the lines
 
--- an origin, and then intermediate locations and changes en route
+-- an origin, and then any intermediate locations and changes en route
 abbrev pub IsOpenJourney : Lines → Type 0
 IsOpenJourney journey =
     (first : List ℕ) × (between : Lines) × (journey ≡ first ∷ between) × HasKind origin_location first × AllByRecursion IsWithinJourney between
 
--- what a stage says about the extra details and the journey
+-- what the stage means for the extra details and the journey so far
 abbrev pub HasShape : Stage → Lines → Lines → Type 0
 HasShape after_basic extra journey = (extra ≡ []) × (journey ≡ [])
 HasShape after_details extra journey = AreExtraDetails extra × (journey ≡ [])
@@ -36,7 +36,7 @@ HasShape after_journey extra journey = AreExtraDetails extra × IsJourney journe
 abbrev pub IsSound : List ℕ → Lines → Type 0
 IsSound basic journey = (is_deletion basic ≡ true) ⊎ IsSoundJourney journey
 
--- the lines are the front of a schedule that ends in this stage
+-- the lines are an unfinished or whole schedule at this stage
 pub record IsFront (stage : Stage) (lines : Lines) : Type 0 where
   pub basic : List ℕ
   pub extra : Lines
@@ -61,7 +61,7 @@ basic_by_test : (kind : Option Kind) → is_basic_kind kind ≡ true → kind �
 basic_by_test (Some basic_schedule) h = refl
 basic_by_test _ h = cc
 
--- a basic schedule with good fields
+-- a schedule's first line: a basic schedule with good fields
 pub record IsFirstLine (line : List ℕ) : Type 0 where
   pub is : IsRecord line
   pub kind : HasKind basic_schedule line
@@ -79,7 +79,7 @@ first_line_iff_test line = (
       record { is = (record_iff_test line).1 first.0; kind = basic_by_test (kind_of line) first.1; fields = none_by_test (leftmost_bad_field line) parts.1 },
 )
 
--- a first line is the front of a schedule
+-- a first line by itself is at the stage after the basic schedule
 pub front_of_basic : (line : List ℕ) → IsFirstLine line → IsFront after_basic (line ∷ [])
 front_of_basic line told = record {
   basic = line;
@@ -95,12 +95,12 @@ front_of_basic line told = record {
 
 -- ---- midnights
 
--- the records before a journey have no times
+-- extra details have no times
 details_no_times : (extra journey : Lines) → AreExtraDetails extra → times_along (extra ++ journey) ≡ times_along journey
 details_no_times extra journey (inl none) = ap (λ e. times_along (e ++ journey)) none
 details_no_times extra journey (inr one) = ap (λ e. times_along (e ++ journey)) one.1 ∙ no_times_before one.0 journey (no_times extra_details one.0 one.2 refl)
 
--- the times of a schedule are the times of its journey
+-- a schedule has the times of its journey
 pub times_of_journey : (basic : List ℕ) (extra journey : Lines) → HasKind basic_schedule basic → AreExtraDetails extra
     → times_along (basic ∷ extra ++ journey) ≡ times_along journey
 times_of_journey basic extra journey kind details =
@@ -118,12 +118,12 @@ midnights_of_journey basic extra journey kind details =
 pub no_extra_fields : (line : List ℕ) → HasKind extra_details line → HasGoodFields line
 no_extra_fields line kind = fields_good extra_details line kind tt
 
--- the line has good fields and makes no third fall
+-- the next line has good fields and makes no third fall
 pub record IsSoundNext (lines : Lines) (line : List ℕ) : Type 0 where
   pub fields : HasGoodFields line
   pub falls : midnights (lines ++ line ∷ []) ≤ 2
 
--- a line that passes the test is a deletion's line or sound
+-- if a line passes the test, the schedule is a deletion or the line is sound
 pub sound_next_by_test : (lines : Lines) (line : List ℕ) → is_sound_next lines line ≡ true → (is_deletion (first_record lines) ≡ true) ⊎ IsSoundNext lines line
 sound_next_by_test lines line test = by (either (is_deletion (first_record lines)) _ test)
   where
@@ -134,7 +134,7 @@ sound_next_by_test lines line test = by (either (is_deletion (first_record lines
         let parts = both (has_good_fields line) _ good in
         inr (record { fields = none_by_test (leftmost_bad_field line) parts.0; falls = leb-true (midnights (lines ++ line ∷ [])) 2 parts.1 })
 
--- a deletion's line, or a sound one, passes the test
+-- if the schedule is a deletion or the line is sound, it passes the test
 pub test_by_sound_next : (lines : Lines) (line : List ℕ) → (is_deletion (first_record lines) ≡ true) ⊎ IsSoundNext lines line → is_sound_next lines line ≡ true
 test_by_sound_next lines line (inl deletion) = ap (λ b. b || (has_good_fields line && nat_le (midnights (lines ++ line ∷ [])) 2)) deletion
 test_by_sound_next lines line (inr good) = by (is_deletion (first_record lines))
@@ -143,15 +143,15 @@ test_by_sound_next lines line (inr good) = by (is_deletion (first_record lines))
     by true = refl
     by false = and_true (has_good_fields line) _ (test_by_none (leftmost_bad_field line) good.fields) (le-leb (midnights (lines ++ line ∷ [])) 2 good.falls)
 
--- the test by what a reader keeps: whether the schedule is a deletion, the midnights so far, and
--- the last time so far
+-- the test, from what a reader keeps: whether the schedule is a deletion, how often it has passed
+-- midnight, and the last time
 pub sound_next_by_count : (lines : Lines) (line : List ℕ)
     → is_sound_next lines line
     ≡ (is_deletion (first_record lines) || (has_good_fields line && nat_le (midnights lines + falls_after (last_of (times_along lines))
     (times_along (line ∷ []))) 2))
 sound_next_by_count lines line = λ i. is_deletion (first_record lines) || (has_good_fields line && nat_le (midnights_step lines line i) 2)
 
--- the journey with one more line is sound
+-- the journey is still sound with a line that passes the test
 sound_more : (stage : Stage) (lines : Lines) (line : List ℕ) (front : IsFront stage lines) → is_sound_next lines line ≡ true
     → IsSound front.basic (front.journey ++ line ∷ [])
 sound_more stage lines line front test = by (sound_next_by_test lines line test) front.sound
@@ -180,7 +180,7 @@ pub record IsNextLine (stage : Stage) (lines : Lines) (line : List ℕ) (next : 
   pub sound : is_sound_next lines line ≡ true
   pub stage_is : stage_after stage (kind_of line) ≡ Some next
 
--- a line that leads to a next stage passes the parts of the test
+-- a line that leads to a next stage passes each part of the test
 pub next_line_by_test : (stage : Stage) (lines : Lines) (line : List ℕ) (next : Stage) → next_stage stage lines line ≡ Some next
     → IsNextLine stage lines line next
 next_line_by_test stage lines line next is = by (is_record line && is_sound_next lines line) refl is
@@ -190,13 +190,13 @@ next_line_by_test stage lines line next is = by (is_record line && is_sound_next
     by true h found = let parts = both (is_record line) _ h in record { is = (record_iff_test line).1 parts.0; sound = parts.1; stage_is = found }
     by false h found = cc
 
--- a line that passes the parts of the test leads to the next stage
+-- a line that passes each part of the test leads to the next stage
 pub test_by_next_line : (stage : Stage) (lines : Lines) (line : List ℕ) (next : Stage) → IsNextLine stage lines line next
     → next_stage stage lines line ≡ Some next
 test_by_next_line stage lines line next told =
     (λ i. cond (and_true (is_record line) _ ((record_iff_test line).0 told.is) told.sound i) (stage_after stage (kind_of line)) None) ∙ told.stage_is
 
--- an open journey with one more line inside it
+-- one more line inside a journey
 journey_more : (journey : Lines) (line : List ℕ) → IsOpenJourney journey → IsWithinJourney line → IsOpenJourney (journey ++ line ∷ [])
 journey_more journey line so_far is = (
   so_far.0,
@@ -206,7 +206,7 @@ journey_more journey line so_far is = (
   all_append IsWithinJourney so_far.1 (line ∷ []) so_far.4 (is, tt),
 )
 
--- the shape with one more line
+-- one more line, at the stage to which its kind leads
 shape_more : (stage : Stage) (kind : Kind) (next : Stage) (extra journey : Lines) (line : List ℕ) → HasShape stage extra journey → HasKind kind line
     → stage_after stage (Some kind) ≡ Some next
     → (HasShape next extra (journey ++ line ∷ [])) ⊎ (HasShape next (line ∷ []) journey × (extra ≡ []) × (journey ≡ []))
@@ -248,7 +248,8 @@ no_stage_of_none after_details = refl
 no_stage_of_none in_journey = refl
 no_stage_of_none after_journey = refl
 
--- a front with one more line is a front
+-- if lines are at a stage, and one more line leads to a next stage, all of them are at the next
+-- stage
 pub next_front : (stage : Stage) (lines : Lines) (line : List ℕ) (next : Stage) → IsFront stage lines → next_stage stage lines line ≡ Some next
     → IsFront next (lines ++ line ∷ [])
 next_front stage lines line next front test = by (kind_of line) refl (next_line_by_test stage lines line next test)
@@ -284,7 +285,7 @@ next_front stage lines line next front test = by (kind_of line) refl (next_line_
 
 -- ---- the end
 
--- a basic schedule that passes the test may lack its journey
+-- if a basic schedule passes the test, its journey may be missing
 pub lack_by_test : (basic : List ℕ) → may_lack basic ≡ true → MayLackJourney basic
 lack_by_test basic test = by (either (is_deletion basic) _ test)
   where
@@ -292,7 +293,7 @@ lack_by_test basic test = by (either (is_deletion basic) _ test)
     by (inl deletion) = inl deletion
     by (inr letter) = inr (eqb-true (column 80 basic) 67 letter)
 
--- a basic schedule that may lack its journey passes the test
+-- if its journey may be missing, a basic schedule passes the test
 pub test_by_lack : (basic : List ℕ) → MayLackJourney basic → may_lack basic ≡ true
 test_by_lack basic (inl deletion) = ap (λ b. b || (column 80 basic == 67)) deletion
 test_by_lack basic (inr letter) = or_right (is_deletion basic) (ap (λ n. n == 67) letter)
@@ -301,7 +302,7 @@ test_by_lack basic (inr letter) = or_right (is_deletion basic) (ap (λ n. n == 6
     or_right true h = refl
     or_right false h = h
 
--- a front that may end is a schedule
+-- lines that may end at their stage are a schedule
 pub schedule_of_front : (stage : Stage) (lines : Lines) → IsFront stage lines → may_end stage lines ≡ true → IsSchedule lines
 schedule_of_front stage lines front test = record {
   basic = front.basic;
@@ -323,7 +324,7 @@ schedule_of_front stage lines front test = record {
     by in_journey shape h = cc
     by after_journey shape h = inl shape.1
 
--- ---- a line of each kind, which may come next wherever its kind may
+-- ---- a record of each kind that may come next
 
 -- some record of each kind, with good fields
 pub witness : Kind → List ℕ
@@ -342,7 +343,7 @@ witness terminating_location = lt (codes "BRAYTON") no_text (codes "2359H") no_t
 witness change_en_route = cr (codes "CLAYDON") no_text (codes "1A11")
 witness trailer = zz
 
--- the line is of that kind
+-- the record has that kind
 pub witness_kind : (kind : Kind) → HasKind kind (witness kind)
 unfolding witness
 witness_kind header = refl
@@ -358,7 +359,7 @@ witness_kind terminating_location = refl
 witness_kind change_en_route = refl
 witness_kind trailer = refl
 
--- the line is a record
+-- the record passes the test of a record
 pub witness_record : (kind : Kind) → is_record (witness kind) ≡ true
 unfolding witness
 witness_record header = refl
@@ -374,7 +375,7 @@ witness_record terminating_location = refl
 witness_record change_en_route = refl
 witness_record trailer = refl
 
--- the line has good fields
+-- the record has good fields
 pub witness_fields : (kind : Kind) → HasGoodFields (witness kind)
 unfolding witness
 witness_fields header = refl
@@ -405,7 +406,7 @@ witness_times intermediate_location = inl refl
 witness_times change_en_route = inl refl
 witness_times trailer = inl refl
 
--- after a front the line makes no third fall
+-- the record makes no third fall, after lines at any stage
 pub witness_sound : (stage : Stage) (lines : Lines) (kind : Kind) → IsFront stage lines → is_sound_next lines (witness kind) ≡ true
 witness_sound stage lines kind front = test_by_sound_next lines (witness kind) (by front.sound)
   where
@@ -431,7 +432,7 @@ witness_sound stage lines kind front = test_by_sound_next lines (witness kind) (
             (along_within front.journey (recursion_from_All HasGoodFields front.journey good.fields)) in
             let falls = good.falls in omega arith
 
--- a front of a schedule continues with the line if its kind leads to a next stage
+-- if its kind leads to a next stage, the record leads there
 pub witness_front : (stage : Stage) (lines : Lines) (kind : Kind) (next : Stage) → IsFront stage lines → stage_after stage (Some kind) ≡ Some next
     → IsFront next (lines ++ witness kind ∷ [])
 witness_front stage lines kind next front after =
@@ -441,11 +442,11 @@ witness_front stage lines kind next front after =
       stage_is = ap (stage_after stage) (witness_kind kind) ∙ after;
     }))
 
--- if a schedule begins with lines, it begins with each front of them
+-- if lines begin a schedule, so does each prefix of them
 pub begins_shorter : (front rest : Lines) → BeginsSchedule (front ++ rest) → BeginsSchedule front
 begins_shorter front rest begins = (rest ++ begins.0, subst IsSchedule (append_assoc front rest begins.0) begins.1)
 
--- some schedule begins with each front
+-- lines at a stage begin some schedule
 pub front_begins : (stage : Stage) (lines : Lines) → IsFront stage lines → BeginsSchedule lines
 front_begins stage lines front = by stage lines front
   where
@@ -478,7 +479,7 @@ front_from (line ∷ rest) stage done final front found =
     subst (IsFront final) (append_assoc done (line ∷ []) rest)
     (front_from rest step.0 (done ++ line ∷ []) final (next_front stage done line step.0 front step.1) step.2)
 
--- lines that have a stage are the front of a schedule
+-- lines that have a stage are at it
 pub front_of_stage : (lines : Lines) (stage : Stage) → stage_of lines ≡ Some stage → IsFront stage lines
 front_of_stage [] stage found = cc
 front_of_stage (basic ∷ rest) stage found = by (is_first_line basic) refl found
@@ -496,7 +497,7 @@ stage_from_append (line ∷ front) stage done middle more found =
     ∙ stage_from_append front step.0 (done ++ line ∷ []) middle more step.2
     ∙ (λ i. stage_from middle (append_assoc done (line ∷ []) front i) more)
 
--- the stage of more lines, from the stage of the first ones
+-- the stage of more lines, from the first lines' stage
 pub stage_of_append : (front : Lines) (stage : Stage) (more : Lines) → stage_of front ≡ Some stage → stage_of (front ++ more) ≡ stage_from stage front more
 stage_of_append [] stage more found = cc
 stage_of_append (basic ∷ rest) stage more found = by (is_first_line basic) refl found
@@ -523,7 +524,7 @@ stage_from_front (line ∷ front) rest stage done final found =
     let more = stage_from_front front rest step.0 (done ++ line ∷ []) final step.2 in
     (more.0, (λ i. option_and_then (λ next. stage_from next (done ++ line ∷ []) front) (step.1 i)) ∙ more.1)
 
--- each front of lines that have a stage has a stage
+-- each prefix of lines that have a stage has one too
 pub stage_of_front : (basic : List ℕ) (front rest : Lines) (final : Stage) → stage_of (basic ∷ front ++ rest) ≡ Some final
     → (stage : Stage) × (stage_of (basic ∷ front) ≡ Some stage)
 stage_of_front basic front rest final found = by (is_first_line basic) refl found
@@ -542,7 +543,8 @@ abbrev pub stage_along : Stage → Lines → Option Stage
 stage_along stage [] = Some stage
 stage_along stage (line ∷ rest) = option_and_then (λ next. stage_along next rest) (stage_after stage (kind_of line))
 
--- the lines to come are a deletion's, or they have good fields and together make no third fall
+-- the lines to come are sound: the schedule is a deletion, or they have good fields and make no
+-- third fall
 abbrev IsSoundRest : List ℕ → Lines → Lines → Type 0
 IsSoundRest basic done rest = (is_deletion basic ≡ true) ⊎ (AllByRecursion HasGoodFields rest × (midnights (basic ∷ done ++ rest) ≤ 2))
 
@@ -587,12 +589,12 @@ journey_along stage journey starts is =
     ∙ (λ i. option_and_then (λ next. stage_along next (is.between ++ is.last ∷ [])) (starts i))
     ∙ calls_along is.between is.last (recursion_from_All IsWithinJourney is.between is.calls) is.terminus
 
--- the lines end in this stage, and they may be a whole schedule
+-- the lines have this stage, and may be a whole schedule
 pub record IsWholeBy (lines : Lines) (stage : Stage) : Type 0 where
   pub found : stage_of lines ≡ Some stage
   pub may : may_end stage lines ≡ true
 
--- the kinds of a schedule's lines lead to its end
+-- the schedule's other lines lead to the stage where it ends, by their kinds
 record LeadsToEnd (basic : List ℕ) (rest : Lines) : Type 0 where
   pub final : Stage
   pub along : stage_along after_basic rest ≡ Some final
@@ -622,7 +624,7 @@ extra_fields : (extra : Lines) → AreExtraDetails extra → AllByRecursion HasG
 extra_fields extra (inl none) = subst (AllByRecursion HasGoodFields) (sym none) tt
 extra_fields extra (inr one) = subst (AllByRecursion HasGoodFields) (sym one.1) (no_extra_fields one.0 one.2, tt)
 
--- a schedule has a stage in which it may end
+-- a schedule has a stage, and may end there
 pub stage_of_schedule : (lines : Lines) → IsSchedule lines → (stage : Stage) × IsWholeBy lines stage
 stage_of_schedule lines is = subst (λ l. (stage : Stage) × IsWholeBy l stage) (sym is.whole) (lead.final, record { found = found; may = lead.may })
   where
@@ -647,18 +649,18 @@ stage_of_schedule lines is = subst (λ l. (stage : Stage) × IsWholeBy l stage) 
 
 -- ---- the laws
 
--- lines are a schedule if and only if they have a stage in which they may end
+-- lines are a schedule if and only if they have a stage and may end there
 pub schedule_iff_stage : (lines : Lines) → IsSchedule lines ↔ ((stage : Stage) × IsWholeBy lines stage)
 schedule_iff_stage lines = (stage_of_schedule lines, λ whole. schedule_of_front whole.0 lines (front_of_stage lines whole.0 whole.1.found) whole.1.may)
 
--- a schedule begins with some lines if and only if they have a stage
+-- lines begin a schedule if and only if they have a stage
 pub begins_iff_stage : (basic : List ℕ) (rest : Lines) → BeginsSchedule (basic ∷ rest) ↔ ((stage : Stage) × (stage_of (basic ∷ rest) ≡ Some stage))
 begins_iff_stage basic rest = (
   λ begins. let whole = stage_of_schedule ((basic ∷ rest) ++ begins.0) begins.1 in stage_of_front basic rest begins.0 whole.0 whole.1.found,
   λ at. front_begins at.0 (basic ∷ rest) (front_of_stage (basic ∷ rest) at.0 at.1),
 )
 
--- every schedule begins with no lines
+-- no lines begin some schedule
 pub no_lines_begin : BeginsSchedule []
 no_lines_begin =
     begins_shorter [] (witness basic_schedule ∷ []) (front_begins after_basic (witness basic_schedule ∷ []) (front_of_basic (witness basic_schedule) (record {
@@ -667,7 +669,7 @@ no_lines_begin =
       fields = witness_fields basic_schedule;
     })))
 
--- a schedule begins with one more line if and only if there is a next stage
+-- with one more line they begin a schedule if and only if it leads to a next stage
 pub begins_more_iff : (basic : List ℕ) (rest : Lines) (stage : Stage) (line : List ℕ) → stage_of (basic ∷ rest) ≡ Some stage
     → BeginsSchedule (basic ∷ rest ++ line ∷ []) ↔ ((next : Stage) × IsNextLine stage (basic ∷ rest) line next)
 begins_more_iff basic rest stage line at = (
@@ -682,7 +684,7 @@ begins_more_iff basic rest stage line at = (
       ),
 )
 
--- some schedule begins with the lines so far, or none does
+-- lines begin some schedule, or they don't
 pub begins_schedule_or_not : (lines : Lines) → BeginsSchedule lines ⊎ ¬ BeginsSchedule lines
 begins_schedule_or_not [] = inl no_lines_begin
 begins_schedule_or_not (basic ∷ rest) = by (stage_of (basic ∷ rest)) refl
@@ -691,7 +693,7 @@ begins_schedule_or_not (basic ∷ rest) = by (stage_of (basic ∷ rest)) refl
     by None h = inr (λ begins. let at = (begins_iff_stage basic rest).0 begins in let bad : None ≡ Some at.0 = sym h ∙ at.1 in cc)
     by (Some stage) h = inl ((begins_iff_stage basic rest).1 (stage, h))
 
--- the lines are a schedule, or they aren't
+-- lines are a schedule, or they aren't
 pub schedule_or_not : (lines : Lines) → IsSchedule lines ⊎ ¬ IsSchedule lines
 schedule_or_not lines = by (stage_of lines) refl
   where
@@ -709,8 +711,8 @@ schedule_or_not lines = by (stage_of lines) refl
 
 -- ---- which kinds are in place
 
--- a line whose kind leads to no stage is out of place: no schedule that begins with the lines so
--- far has a line of this kind next
+-- a line whose kind leads to no stage is out of place: no schedule has a line of this kind after
+-- these lines
 pub schedule_out_of_place : (basic : List ℕ) (rest : Lines) (stage : Stage) (line : List ℕ) → stage_of (basic ∷ rest) ≡ Some stage
     → stage_after stage (kind_of line) ≡ None
     → (next : List ℕ) → kind_of next ≡ kind_of line → ¬ BeginsSchedule (basic ∷ rest ++ next ∷ [])
@@ -718,24 +720,24 @@ schedule_out_of_place basic rest stage line at none next same begins =
     let told = (begins_more_iff basic rest stage next at).0 begins in
     let bad : None ≡ Some told.0 = sym none ∙ ap (stage_after stage) (sym same) ∙ told.1.stage_is in cc
 
--- if a kind leads to a stage, some line of this kind is next
+-- if a kind leads to a stage, some line of this kind may come next
 pub schedule_in_place : (basic : List ℕ) (rest : Lines) (stage : Stage) (kind : Kind) (next : Stage) → stage_of (basic ∷ rest) ≡ Some stage
     → stage_after stage (Some kind) ≡ Some next
     → BeginsSchedule (basic ∷ rest ++ witness kind ∷ [])
 schedule_in_place basic rest stage kind next at found =
     front_begins next (basic ∷ rest ++ witness kind ∷ []) (witness_front stage (basic ∷ rest) kind next (front_of_stage (basic ∷ rest) stage at) found)
 
--- ---- why a record is not a next line
+-- ---- why a record leads to no next stage
 
--- the record's kind is out of place, or a field is not good, or it makes the third fall. The last
--- two don't count in a deletion
+-- the record's kind is out of place, a field isn't good, or it makes the third fall. In a deletion
+-- only the kind counts
 abbrev pub IsNoNextLine : Stage → Lines → List ℕ → Type 0
 IsNoNextLine stage lines line =
     (stage_after stage (kind_of line) ≡ None)
     ⊎ (((at : ℕ) × (leftmost_bad_field line ≡ Some at) × (is_deletion (first_record lines) ≡ false))
     ⊎ (HasGoodFields line × (2 < midnights (lines ++ line ∷ [])) × (is_deletion (first_record lines) ≡ false)))
 
--- why a record leads to no stage
+-- if a record leads to no next stage, one of these is why
 pub no_next_line : (stage : Stage) (lines : Lines) (line : List ℕ) → IsRecord line → next_stage stage lines line ≡ None → IsNoNextLine stage lines line
 no_next_line stage lines line is nowhere = by (stage_after stage (kind_of line)) refl
   where

@@ -1,25 +1,34 @@
-//! Lines of associations.
+//! Docker lines of associations.
 
-use super::lines::{
-    AGAIN_COMES, AGAIN_LEAVES, COMES_2350, DIVIDES, FIRST_COMES, FIRST_LEAVES, OTHER_LEAVES,
-    WORKS_ON, WORKS_ON_UNKNOWN,
-};
-use super::records::{
-    AA_BEFORE, AA_DIVIDES, AA_LAST_DAY, AA_NEXT, AA_NO_CATEGORY, AA_NO_INDICATOR, AA_SAME,
-    AA_SPACE, BS_BASE_CANCELLED, BS_C30001, BS_C30002, BS_C40001, BS_C40002, BS_LAST_DAY,
-    BS_PARTNER_CANCELLED, HD, LI_1010, LI_1040, LO_0010, LO_1000, LO_1045, LO_2300, LT_0100,
-    LT_1100, LT_2350, LT_DUNMERE, ZZ,
-};
 use super::shows;
 use std::alloc::Global;
 use std::process::Abort;
+use test_records::dockers::{
+    AGAIN_COMES, AGAIN_LEAVES, COMES_2350, DIVIDES, FIRST_COMES, FIRST_LEAVES, OTHER_LEAVES,
+    WORKS_ON, WORKS_ON_UNKNOWN,
+};
+use test_records::{
+    AA_BLANK, AA_DIVIDE, AA_LAST, AA_N, AA_OTHER, AA_P, AA_S, AA_X, BS_C30001, BS_C30002,
+    BS_C40001, BS_C40001_CANCELLED, BS_C40001_LAST, BS_C40002, BS_C40002_CANCELLED, HD, LI_1010,
+    LI_1040, LO_1000_PLAIN, LO_2300, LO_COLWELL_0010, LO_COLWELL_1045, LT_1100_PLAIN,
+    LT_ASHFELD_0100, LT_COLWELL_2350, LT_DUNMERE_1100, ZZ,
+};
 
 /// A train calls twice at one place, and another divides from it at the second call.
 #[test]
 fn suffixes(rt: HostRuntime) {
     let file: &[&[u8]] = &[
-        HD, BS_C30001, LO_1000, LI_1010, LI_1040, LT_1100, BS_C30002, LO_1045, LT_DUNMERE,
-        AA_DIVIDES, ZZ,
+        HD,
+        BS_C30001,
+        LO_1000_PLAIN,
+        LI_1010,
+        LI_1040,
+        LT_1100_PLAIN,
+        BS_C30002,
+        LO_COLWELL_1045,
+        LT_DUNMERE_1100,
+        AA_DIVIDE,
+        ZZ,
     ];
     let lines: &[&[u8]] = &[
         FIRST_COMES,
@@ -32,71 +41,71 @@ fn suffixes(rt: HostRuntime) {
     shows(&rt, rt.alloc(), &[file], "COLWELL", "2024-06-10", lines);
 }
 
-/// No day follows the last one.
+/// The associated train would start on the day after the last one, which doesn't exist.
 #[test]
 fn last_day_of_the_calendar(rt: HostRuntime) {
-    let file: &[&[u8]] = &[HD, BS_LAST_DAY, LO_2300, LT_2350, AA_LAST_DAY, ZZ];
+    let file: &[&[u8]] = &[HD, BS_C40001_LAST, LO_2300, LT_COLWELL_2350, AA_LAST, ZZ];
     let lines: &[&[u8]] = &[COMES_2350, WORKS_ON_UNKNOWN];
     shows(&rt, rt.alloc(), &[file], "COLWELL", "2059-12-31", lines);
 }
 
-/// Asserts the lines at Colwell when one of two trains is cancelled: C40001, or C40002, which
-/// C40001 becomes a day later.
+/// Asserts the lines at Colwell with one of two trains cancelled. The trains are C40001 and C40002,
+/// which is the next working of C40001, a day later.
 fn without(rt: &impl Abort, alloc: Global, cancellation: &[u8], lines: &[&[u8]]) {
     let file: &[&[u8]] = &[
         HD,
         BS_C40001,
         LO_2300,
-        LT_2350,
+        LT_COLWELL_2350,
         BS_C40002,
-        LO_0010,
-        LT_0100,
+        LO_COLWELL_0010,
+        LT_ASHFELD_0100,
         cancellation,
-        AA_NEXT,
+        AA_N,
         ZZ,
     ];
     shows(rt, alloc, &[file], "COLWELL", "2024-06-10", lines);
 }
 
-/// The next working is cancelled.
+/// The next working is cancelled: its train identity is `????`.
 #[test]
 fn cancelled_partner(rt: HostRuntime) {
     let lines: &[&[u8]] = &[COMES_2350, WORKS_ON_UNKNOWN];
-    without(&rt, rt.alloc(), BS_PARTNER_CANCELLED, lines);
+    without(&rt, rt.alloc(), BS_C40002_CANCELLED, lines);
 }
 
-/// The train itself is cancelled.
+/// The base train is cancelled: there is no line.
 #[test]
 fn cancelled_base(rt: HostRuntime) {
-    without(&rt, rt.alloc(), BS_BASE_CANCELLED, &[]);
+    without(&rt, rt.alloc(), BS_C40001_CANCELLED, &[]);
 }
 
-/// Asserts the lines at Colwell of C40001 with this association, and of C40002 a day later.
+/// Asserts the lines at Colwell on 10 June, with C40001, this association, and C40002 on 11 June.
 fn works_on(rt: &impl Abort, alloc: Global, association: &[u8], lines: &[&[u8]]) {
     let file: &[&[u8]] = &[
         HD,
         BS_C40001,
         LO_2300,
-        LT_2350,
+        LT_COLWELL_2350,
         BS_C40002,
-        LO_0010,
-        LT_0100,
+        LO_COLWELL_0010,
+        LT_ASHFELD_0100,
         association,
         ZZ,
     ];
     shows(rt, alloc, &[file], "COLWELL", "2024-06-10", lines);
 }
 
-/// Each date indicator, an unknown one, and an unknown category.
+/// Each date indicator, an unknown date indicator, and an unknown category.
 #[test]
 fn date_indicators(rt: HostRuntime) {
     let only: &[&[u8]] = &[COMES_2350];
     let known: &[&[u8]] = &[COMES_2350, WORKS_ON];
     let unknown: &[&[u8]] = &[COMES_2350, WORKS_ON_UNKNOWN];
-    works_on(&rt, rt.alloc(), AA_NEXT, known);
-    works_on(&rt, rt.alloc(), AA_SAME, unknown);
-    works_on(&rt, rt.alloc(), AA_SPACE, unknown);
-    works_on(&rt, rt.alloc(), AA_BEFORE, unknown);
-    works_on(&rt, rt.alloc(), AA_NO_INDICATOR, only);
-    works_on(&rt, rt.alloc(), AA_NO_CATEGORY, only);
+    works_on(&rt, rt.alloc(), AA_N, known);
+    works_on(&rt, rt.alloc(), AA_S, unknown);
+    works_on(&rt, rt.alloc(), AA_BLANK, unknown);
+    works_on(&rt, rt.alloc(), AA_P, unknown);
+    works_on(&rt, rt.alloc(), AA_X, only);
+    works_on(&rt, rt.alloc(), AA_OTHER, only);
 }

@@ -1,14 +1,15 @@
-//! Which schedule a train runs by on a day.
+//! Which schedule is chosen for a day.
 
-use super::lines::{LEAVES_0900, LEAVES_0910, LEAVES_0915};
-use super::records::{
-    BS, BS_CANCELLED, BS_LATER, BS_OVERLAY, BS_WEEK, HD, LO, LO_0910, LO_0915, LT, ZZ,
-};
-use super::{day, same, shows, state};
+use super::compare::same;
+use super::{day, shows, state};
 use cif_line::{Kind, Line, Stp, Uid, kind};
 use docker_day::{chosen, runs};
 use docker_state::State;
 use std::process::Abort;
+use test_records::dockers::{LEAVES_0900, LEAVES_0910, LEAVES_0915};
+use test_records::{
+    BS, BS_CANCELLED, BS_OVERLAY, BS_WEEK, BS_WEEKEND, HD, LO, LO_0910, LO_0915, LT, ZZ,
+};
 
 /// A permanent schedule with its overlay and its cancellation.
 #[test]
@@ -34,7 +35,7 @@ fn choice(rt: HostRuntime) {
     shows(&rt, alloc, files, "ASHFELD", "2024-06-16", &[LEAVES_0900]);
 }
 
-/// The same file with a fourth schedule, which begins later.
+/// The same file, with a fourth schedule that begins later.
 #[test]
 fn choice_with_a_later_schedule(rt: HostRuntime) {
     let alloc = rt.alloc();
@@ -47,7 +48,7 @@ fn choice_with_a_later_schedule(rt: HostRuntime) {
         LO_0915,
         LT,
         BS_CANCELLED,
-        BS_LATER,
+        BS_WEEKEND,
         LO_0910,
         LT,
         ZZ,
@@ -71,7 +72,7 @@ fn chosen_is(rt: &impl Abort, state: &State, on: &str, wanted: Option<Stp>) {
     same(rt, stp, wanted);
 }
 
-/// A chosen cancellation is returned.
+/// A cancellation may be what is chosen.
 #[test]
 fn chosen_cancellation(rt: HostRuntime) {
     let state = state(&rt, rt.alloc(), &[HD, BS_WEEK, LO, LT, BS_CANCELLED, ZZ]);

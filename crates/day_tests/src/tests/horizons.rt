@@ -1,11 +1,12 @@
 //! Dockers under a horizon.
 
-use super::records::{BS, BS_REVISED, BS_TO_JULY, HD, HD_8, HD_10, LO, LO_0905, LT, LT_0935, ZZ};
-use super::{day, join, lines_are, place, same, state};
+use super::compare::same;
+use super::{day, join, lines_are, place, state};
 use docker_day::{DockerFault, docker};
 use docker_state::State;
 use std::alloc::Global;
 use std::process::Abort;
+use test_records::{BS, BS_JULY, BS_REVISED, HD, HD_8A, HD_10B, LO, LO_0905, LT, LT_0935, ZZ};
 
 /// Asserts that the docker of Ashfeld on a day is refused.
 fn is_refused(rt: &impl Abort, alloc: Global, state: &State, on: &str) {
@@ -13,8 +14,8 @@ fn is_refused(rt: &impl Abort, alloc: Global, state: &State, on: &str) {
     same(rt, fault, Some(DockerFault::Lapsed));
 }
 
-/// A docker is refused for days before the horizon plus three. Setting an earlier horizon changes
-/// nothing.
+/// A docker is refused if its day is earlier than three days after the horizon. Setting an earlier
+/// horizon changes nothing.
 #[test]
 fn horizons(rt: HostRuntime) {
     let alloc = rt.alloc();
@@ -30,13 +31,13 @@ fn horizons(rt: HostRuntime) {
     lines_are(&rt, alloc, &state, "ASHFELD", "2024-06-18", &[]);
 }
 
-/// A lapsed entry keeps its stamp, so that an older file can't bring it back.
+/// A lapsed entry keeps its stamp, so an older file can't bring the schedule back.
 #[test]
 fn older_file_after_a_horizon(rt: HostRuntime) {
     let alloc = rt.alloc();
-    let mut known = state(&rt, alloc, &[HD_10, BS_REVISED, LO_0905, LT_0935, ZZ]);
+    let mut known = state(&rt, alloc, &[HD_10B, BS_REVISED, LO_0905, LT_0935, ZZ]);
     known.set_horizon(day(&rt, "2024-06-15"));
-    let older = state(&rt, alloc, &[HD_8, BS_TO_JULY, LO, LT, ZZ]);
+    let older = state(&rt, alloc, &[HD_8A, BS_JULY, LO, LT, ZZ]);
     let joined = join(&rt, alloc, known, older);
     lines_are(&rt, alloc, &joined, "ASHFELD", "2024-06-24", &[]);
 }

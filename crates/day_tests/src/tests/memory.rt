@@ -1,34 +1,32 @@
-//! Dockers when memory runs out: the state stays as it was, and a second call gives the docker. The
-//! test run decides which growth fails. Every other call is tried twice.
+//! Dockers while memory runs out: the state doesn't change, and a second call gives the docker. The
+//! test run decides which allocation fails. Each call is tried at most twice.
 
-use super::lines::{AGAIN_COMES, AGAIN_LEAVES, DIVIDES, FIRST_COMES, FIRST_LEAVES, OTHER_LEAVES};
-use super::records::{
-    AA_DIVIDES, BS_C30001, BS_C30002, HD, LI_1010, LI_1040, LO_1000, LO_1045, LT_1100, LT_DUNMERE,
-    ZZ,
-};
-use super::{day, place, same, state_of, text, written};
+use super::compare::same;
+use super::{day, place, state_of, written};
 use cif_line::Kept;
 use docker_day::{Docker, DockerFault, docker};
 use docker_state::State;
 use std::alloc::Global;
 use std::process::Abort;
+use test_records::dockers::DIVISION;
+use test_records::{
+    AA_DIVIDE, BS_C30001, BS_C30002, HD, LI_1010, LI_1040, LO_1000_PLAIN, LO_COLWELL_1045,
+    LT_1100_PLAIN, LT_DUNMERE_1100, ZZ, text,
+};
 
-/// The file of a train that calls twice at Colwell, and of a train that divides from it there.
+/// A file with a train that calls twice at Colwell, and one that divides from it there.
 const DIVIDED: &[&[u8]] = &[
-    HD, BS_C30001, LO_1000, LI_1010, LI_1040, LT_1100, BS_C30002, LO_1045, LT_DUNMERE, AA_DIVIDES,
+    HD,
+    BS_C30001,
+    LO_1000_PLAIN,
+    LI_1010,
+    LI_1040,
+    LT_1100_PLAIN,
+    BS_C30002,
+    LO_COLWELL_1045,
+    LT_DUNMERE_1100,
+    AA_DIVIDE,
     ZZ,
-];
-
-/// The text of the docker for Colwell. Its list grows more than once.
-const COLWELL: &[&[u8]] = &[
-    b"DOCKER COLWELL 2024-06-10                               ",
-    FIRST_COMES,
-    FIRST_LEAVES,
-    AGAIN_COMES,
-    DIVIDES,
-    AGAIN_LEAVES,
-    OTHER_LEAVES,
-    b"END                                                     ",
 ];
 
 /// The state of that file.
@@ -50,7 +48,7 @@ fn counts_are(rt: &impl Abort, state: &State, items: usize, entries: usize, rows
     same(rt, live, rows);
 }
 
-/// What a sink receives of a docker, on a second try if the sink couldn't grow.
+/// The text that a sink gets of a docker. If memory runs out, it is written a second time.
 fn taken(rt: &impl Abort, alloc: Global, docker: &Docker<'_>) -> Kept {
     match written(alloc, docker) {
         Some(kept) => kept,
@@ -58,7 +56,7 @@ fn taken(rt: &impl Abort, alloc: Global, docker: &Docker<'_>) -> Kept {
     }
 }
 
-/// The text of the docker for Colwell, on a second try if the first ran out of memory.
+/// The text of the docker for Colwell. If memory runs out, the docker is made a second time.
 fn made(rt: &impl Abort, alloc: Global, state: &State) -> Kept {
     let place = place(rt, "COLWELL");
     let day = day(rt, "2024-06-10");
@@ -72,11 +70,11 @@ fn made(rt: &impl Abort, alloc: Global, state: &State) -> Kept {
     }
 }
 
-/// The expected text.
+/// The expected text. The docker's list of lines grows more than once.
 fn wanted(rt: &impl Abort, alloc: Global) -> Vec<u8> {
-    match text(alloc, COLWELL) {
-        Some(wanted) => wanted,
-        None => text(alloc, COLWELL).expect(rt, "a text"),
+    match text(alloc, DIVISION, b"\n") {
+        Ok(wanted) => wanted,
+        Err(_) => text(alloc, DIVISION, b"\n").expect(rt, "a text"),
     }
 }
 

@@ -1,19 +1,20 @@
 //! Trains that pass midnight.
 
-use super::lines::{
-    NIGHT_COMES, NIGHT_LEAVES, NIGHT_PASSES, SECOND_NIGHT_COMES, SECOND_NIGHT_PASSES,
-};
-use super::records::{BS_NIGHT, HD, LI_0000, LI_0005, LI_0010, LO_2355, LT_0006, LT_0020, ZZ};
-use super::{day, same, shows, state};
+use super::compare::same;
+use super::{day, shows, state};
 use cif_line::Uid;
 use docker_day::{chosen, falls};
 use docker_state::State;
 use std::process::Abort;
+use test_records::dockers::{
+    NIGHT_COMES, NIGHT_LEAVES, NIGHT_PASSES, SECOND_NIGHT_COMES, SECOND_NIGHT_PASSES,
+};
+use test_records::{BS_NIGHT, HD, LI_0000, LI_0005, LI_0010, LO_2355, LT_0006_PLAIN, LT_0020, ZZ};
 
-/// The file of a train that passes two midnights.
-const TWO_NIGHTS: &[&[u8]] = &[HD, BS_NIGHT, LO_2355, LI_0010, LI_0005, LT_0006, ZZ];
+/// A file with a train that passes midnight twice.
+const TWO_NIGHTS: &[&[u8]] = &[HD, BS_NIGHT, LO_2355, LI_0010, LI_0005, LT_0006_PLAIN, ZZ];
 
-/// Events half a minute after midnight, and later.
+/// Events half a minute after midnight and later.
 #[test]
 fn midnight(rt: HostRuntime) {
     let alloc = rt.alloc();
@@ -39,14 +40,15 @@ fn two_midnights(rt: HostRuntime) {
     shows(&rt, alloc, files, "BRAYTON", "2024-06-12", come);
 }
 
-/// Asserts how many midnights C20001 has passed at an event, starting on 10 June.
+/// Asserts how often C20001 passes midnight before an event, if it starts on 10 June.
 fn midnights_are(rt: &impl Abort, state: &State, event: u64, wanted: Option<u8>) {
     let uid = Uid::from_field(b"C20001").expect(rt, "a UID");
     let view = chosen(state, &uid, day(rt, "2024-06-10")).expect(rt, "a schedule");
     same(rt, falls(&view, event), wanted);
 }
 
-/// The midnights before each event. Events that don't exist have none.
+/// How often it passes midnight before each event. For an event that doesn't exist there is no
+/// answer.
 #[test]
 fn midnights_up_to_events(rt: HostRuntime) {
     let state = state(&rt, rt.alloc(), TWO_NIGHTS);

@@ -1,34 +1,34 @@
-//! Which of several files takes precedence.
+//! Which of several files counts.
 
-use super::lines::{LEAVES_0850, LEAVES_0900, LEAVES_0905, LEAVES_1000, LEAVES_1100};
-use super::records::{
-    BS, BS_C10002, BS_C10003_DELETED, BS_DELETED, BS_LONGER, BS_REVISED, HD, HD_5, HD_7, HD_8,
-    HD_9, HD_9_LAST, HD_10, LO, LO_0850, LO_0905, LO_1000_SL, LO_1100, LT, LT_0935, LT_1030,
-    LT_1130, ZZ,
-};
 use super::shows;
 use std::alloc::Global;
 use std::process::Abort;
+use test_records::dockers::{LEAVES_0850, LEAVES_0900, LEAVES_0905, LEAVES_1000, LEAVES_1100};
+use test_records::{
+    BS, BS_C10002, BS_C10003_PLAIN, BS_DELETED_PLAIN, BS_LONGER, BS_REVISED, HD, HD_5A, HD_7B,
+    HD_8A, HD_9B, HD_9C, HD_10B, LO, LO_0850, LO_0905, LO_1000, LO_1100, LT, LT_0935, LT_1030,
+    LT_1130, ZZ,
+};
 
 /// Asserts that the docker of Ashfeld on 10 June has these lines.
 fn at_ashfeld(rt: &impl Abort, alloc: Global, files: &[&[&[u8]]], lines: &[&[u8]]) {
     shows(rt, alloc, files, "ASHFELD", "2024-06-10", lines);
 }
 
-/// A schedule that a later update revises.
+/// A later update revises a schedule.
 #[test]
 fn revision(rt: HostRuntime) {
     let first: &[&[u8]] = &[HD, BS, LO, LT, ZZ];
-    let second: &[&[u8]] = &[HD_10, BS_REVISED, LO_0905, LT_0935, ZZ];
+    let second: &[&[u8]] = &[HD_10B, BS_REVISED, LO_0905, LT_0935, ZZ];
     at_ashfeld(&rt, rt.alloc(), &[first, second], &[LEAVES_0905]);
 }
 
-/// What is older than the full extract is dropped.
+/// Anything older than the full extract is dropped.
 #[test]
 fn late_full_extract(rt: HostRuntime) {
-    let first: &[&[u8]] = &[HD_5, BS_C10003_DELETED, BS, LO, LT, ZZ];
-    let second: &[&[u8]] = &[HD_7, BS_C10002, LO_1000_SL, LT_1030, ZZ];
-    let third: &[&[u8]] = &[HD_9_LAST, BS, LO_1100, LT_1130, ZZ];
+    let first: &[&[u8]] = &[HD_5A, BS_C10003_PLAIN, BS, LO, LT, ZZ];
+    let second: &[&[u8]] = &[HD_7B, BS_C10002, LO_1000, LT_1030, ZZ];
+    let third: &[&[u8]] = &[HD_9C, BS, LO_1100, LT_1130, ZZ];
     at_ashfeld(
         &rt,
         rt.alloc(),
@@ -37,16 +37,16 @@ fn late_full_extract(rt: HostRuntime) {
     );
 }
 
-/// A schedule that a later file deletes.
+/// A later file deletes a schedule.
 #[test]
 fn deletion_first(rt: HostRuntime) {
     let alloc = rt.alloc();
-    let files: &[&[&[u8]]] = &[&[HD_9, BS_DELETED, ZZ], &[HD_8, BS, LO, LT, ZZ]];
+    let files: &[&[&[u8]]] = &[&[HD_9B, BS_DELETED_PLAIN, ZZ], &[HD_8A, BS, LO, LT, ZZ]];
     shows(&rt, alloc, files, "ASHFELD", "2024-06-10", &[]);
     shows(&rt, alloc, files, "BRAYTON", "2024-06-10", &[]);
 }
 
-/// Of two schedules with the same stamp, the one that ends later wins.
+/// Of two puts with equal stamps, the one with the later end date wins.
 #[test]
 fn later_end_of_equal_stamps(rt: HostRuntime) {
     let first: &[&[u8]] = &[HD, BS, LO, LT, ZZ];
@@ -54,7 +54,7 @@ fn later_end_of_equal_stamps(rt: HostRuntime) {
     at_ashfeld(&rt, rt.alloc(), &[first, second], &[LEAVES_0850]);
 }
 
-/// Of two schedules with the same stamp and end, the one with the greater bytes wins.
+/// Of two puts with equal stamps and end dates, the one with the greater bytes wins.
 #[test]
 fn greater_bytes_of_equal_stamps(rt: HostRuntime) {
     let first: &[&[u8]] = &[HD, BS, LO, LT, ZZ];
@@ -62,10 +62,10 @@ fn greater_bytes_of_equal_stamps(rt: HostRuntime) {
     at_ashfeld(&rt, rt.alloc(), &[first, second], &[LEAVES_0905]);
 }
 
-/// Of a schedule and its deletion with the same stamp, the schedule wins.
+/// Of a put and a deletion with equal stamps, the put wins.
 #[test]
 fn put_before_deletion_of_equal_stamps(rt: HostRuntime) {
     let first: &[&[u8]] = &[HD, BS, LO, LT, ZZ];
-    let second: &[&[u8]] = &[HD, BS_DELETED, ZZ];
+    let second: &[&[u8]] = &[HD, BS_DELETED_PLAIN, ZZ];
     at_ashfeld(&rt, rt.alloc(), &[first, second], &[LEAVES_0900]);
 }

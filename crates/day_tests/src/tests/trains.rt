@@ -1,10 +1,13 @@
-//! The lines of one train.
+//! The docker lines of one train.
 
-use super::lines::{COMES_0930, COMES_AS_5E51, LEAVES_0900, LEAVES_AS_5E50, PASSES_AS_5E51};
-use super::records::{
-    BS, BS_C50001, BS_ENDLESS, CR, HD, LI_1210, LI_TIMELESS, LO, LO_1200, LT, LT_1230, ZZ,
-};
 use super::shows;
+use test_records::dockers::{
+    COMES_0930, COMES_AS_5E51, LEAVES_0900, LEAVES_AS_5E50, PASSES_AS_5E51,
+};
+use test_records::{
+    BS, BS_C50001, BS_WEDNESDAYS, CR_5E51, HD, LI_COLWELL_1210, LI_TIMELESS, LO, LO_1200, LT,
+    LT_1230, ZZ,
+};
 
 /// A weekday and a Saturday, at both ends of the journey and elsewhere.
 #[test]
@@ -18,7 +21,7 @@ fn one_schedule(rt: HostRuntime) {
     shows(&rt, alloc, files, "ELM", "2024-06-10", &[]);
 }
 
-/// A call without times adds no line.
+/// A call without times has no line.
 #[test]
 fn no_line_without_a_time(rt: HostRuntime) {
     let alloc = rt.alloc();
@@ -31,7 +34,15 @@ fn no_line_without_a_time(rt: HostRuntime) {
 #[test]
 fn identity(rt: HostRuntime) {
     let alloc = rt.alloc();
-    let files: &[&[&[u8]]] = &[&[HD, BS_C50001, LO_1200, CR, LI_1210, LT_1230, ZZ]];
+    let files: &[&[&[u8]]] = &[&[
+        HD,
+        BS_C50001,
+        LO_1200,
+        CR_5E51,
+        LI_COLWELL_1210,
+        LT_1230,
+        ZZ,
+    ]];
     shows(
         &rt,
         alloc,
@@ -55,7 +66,7 @@ fn identity(rt: HostRuntime) {
 #[test]
 fn without_end(rt: HostRuntime) {
     let alloc = rt.alloc();
-    let files: &[&[&[u8]]] = &[&[HD, BS_ENDLESS, LO, LT, ZZ]];
+    let files: &[&[&[u8]]] = &[&[HD, BS_WEDNESDAYS, LO, LT, ZZ]];
     shows(&rt, alloc, files, "ASHFELD", "2059-12-31", &[LEAVES_0900]);
     shows(&rt, alloc, files, "ASHFELD", "2059-12-30", &[]);
 }

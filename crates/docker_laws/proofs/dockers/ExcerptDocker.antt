@@ -69,10 +69,10 @@ association_over one other group day key line same is = record {
       (associated_over other one group day another others (λ link of. sym (same link of)) runs);
 }
 
--- ---- lines of one table in another
+-- ---- docker lines of one table that are in another's docker
 
--- the other table has each schedule of each UID that calls at the place or that an association
--- there names, and each association of a group there
+-- the other table has each schedule of each UID that is concerned, and each association of each
+-- group at the place
 record Covers (one other : Table) (place : List ℕ) : Type 0 where
   calls : (key : ScheduleKey) (lines : List (List ℕ)) → one (schedule_key key) ≡ Some (schedule_body lines) → CallsAt place lines
       → HaveSameSchedules one other key.uid
@@ -142,7 +142,7 @@ list_over one other place day forth back lines is = record {
 -- ---- a table and its excerpt
 
 module _ (place : List ℕ) (live part : Table) (is : IsExcerpt place live part) where
-  -- both have the same at each key that is needed
+  -- at each key that is needed, the excerpt has what the table has
   pub same_where_needed : (key : Key) → IsNeeded live place key → part key ≡ live key
   same_where_needed key needed = by (is key)
     where
@@ -150,7 +150,7 @@ module _ (place : List ℕ) (live part : Table) (is : IsExcerpt place live part)
       by (inl same) = same
       by (inr none) = absurd (none.1 needed)
 
-  -- what the excerpt has, the table has
+  -- whatever the excerpt has, the table has
   pub was_there : (key : Key) (body : Body) → part key ≡ Some body → live key ≡ Some body
   was_there key body there = by (is key)
     where
@@ -190,20 +190,20 @@ module _ (place : List ℕ) (live part : Table) (is : IsExcerpt place live part)
     links = λ group here key of. sym (same_links group here key of);
   }
 
-  -- they have the same docker list at the place
+  -- a table and its excerpt have the same docker list at the place
   pub excerpt_list_iff : (day : ℕ) (lines : List DockerLine) → IsDockerList live place day lines ↔ IsDockerList part place day lines
   excerpt_list_iff day lines = (list_over live part place day forth back lines, list_over part live place day back forth lines)
 
   text_same : (day : ℕ) (lines : List DockerLine) → docker_text part place day lines ≡ docker_text live place day lines
   text_same day lines = ap (text_with place day lines) (ap description_in (same_where_needed (tiploc_key place) refl))
 
-  -- they have the same docker text
+  -- a table and its excerpt have the same docker text at the place
   pub excerpt_text_iff : (day : ℕ) (text : List ℕ) → IsDockerText live place day text ↔ IsDockerText part place day text
   excerpt_text_iff day text = (
     λ told. (told.0, (excerpt_list_iff day told.0).0 told.1, told.2 ∙ sym (text_same day told.0)),
     λ told. (told.0, (excerpt_list_iff day told.0).1 told.1, told.2 ∙ text_same day told.0),
   )
 
-  -- the excerpt has good bodies if the table has
+  -- if the table has good bodies, so has the excerpt
   pub excerpt_good : HasGoodBodies live → HasGoodBodies part
   excerpt_good good key body there = good key body (was_there key body there)

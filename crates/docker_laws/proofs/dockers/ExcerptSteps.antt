@@ -1,4 +1,4 @@
--- The walk that makes an excerpt, entry by entry: where it is after each, and what it keeps in the
+-- The walk that makes an excerpt, entry by entry: what it has after each, and what it keeps in the
 -- end.
 use Rattle.std.proofs.Common.{All, ◌≡◌, ℕ, List, [], ◌∷◌, ◌++◌, subst, inl, inr, ◌⊎◌, refl, ap, sym, ◌∙◌, Bool, true, false, cond, Some, Contains, append-nil, append_assoc}
 use Rattle.std.specs.Prelude.{Option, ◌||◌, ◌↔◌, filter, fold, option_and_then}
@@ -33,7 +33,7 @@ fold_more : {A B : Type 0} (f : B → A → B) (first : B) (xs ys : List A) → 
 fold_more f first [] ys = refl
 fold_more f first (x ∷ xs) ys = fold_more f (f first x) xs ys
 
--- the walk with one more entry
+-- the walk after one more entry
 pub so_far_more : (place : List ℕ) (entries : List Keyed) (entry : Keyed)
     → kept_so_far place (entries ++ entry ∷ []) ≡ next_kept place (kept_so_far place entries) entry
 so_far_more place entries entry = fold_more (next_kept place) nothing_kept entries (entry ∷ [])
@@ -43,7 +43,7 @@ pub kept_from_there : (place : List ℕ) (front rest : List Keyed)
     → kept_from place (kept_so_far place front) rest ≡ kept_after_run place (kept_so_far place (front ++ rest))
 kept_from_there place front rest = ap (kept_after_run place) (sym (fold_more (next_kept place) nothing_kept front rest))
 
--- what holds at first, and stays with each entry, holds throughout
+-- what holds at the start, and stays true with each entry, holds throughout
 module _ (place : List ℕ) (P : List Keyed → ExcerptSoFar → Type 0)
     (step : (done : List Keyed) (so_far : ExcerptSoFar) (x : Keyed) → P done so_far → P (done ++ x ∷ []) (next_kept place so_far x)) where
   onward : (rest done : List Keyed) (so_far : ExcerptSoFar) → P done so_far → P (done ++ rest) (fold (next_kept place) so_far rest)
@@ -55,7 +55,7 @@ module _ (place : List ℕ) (P : List Keyed → ExcerptSoFar → Type 0)
   all_along : P [] nothing_kept → (entries : List Keyed) → P entries (kept_so_far place entries)
   all_along first entries = onward entries [] nothing_kept first
 
--- ---- what is kept and the run are some of the entries so far
+-- ---- what is kept, and then the run, are some of the entries so far
 
 -- what is kept after a run is some of what was kept before and of the run
 pub after_run_within : (place : List ℕ) (so_far : ExcerptSoFar) → IsSublist (kept_after_run place so_far) (so_far.kept ++ so_far.run)
@@ -111,11 +111,11 @@ module _ (place : List ℕ) where
   within_more done so_far (tiploc_key code) entry here = within_other done so_far (tiploc_key code, entry) (is_here place (tiploc_key code)) here
   within_more done so_far (association_key key) entry here = within_other done so_far (association_key key, entry) (is_here place (association_key key)) here
 
-  -- what is kept and the run are some of the entries so far, in their order
+  -- what is kept, and then the run, are some of the entries so far
   pub so_far_within : (entries : List Keyed) → IsSublist ((kept_so_far place entries).kept ++ (kept_so_far place entries).run) entries
   so_far_within = all_along place Within (λ done so_far x here. within_more done so_far x.0 x.1 here) tt
 
-  -- they are good entries if the entries so far are
+  -- if all entries so far are good, so are those that are kept or in the run
   pub so_far_good : (ledger : List LedgerItem) (entries : List Keyed) → AreEntries ledger entries
       → AreEntries ledger ((kept_so_far place entries).kept ++ (kept_so_far place entries).run)
   so_far_good ledger entries are =
@@ -165,7 +165,7 @@ module _ (place : List ℕ) where
   run_of_one_uid : (entries : List Keyed) → OfOneUid entries (kept_so_far place entries)
   run_of_one_uid = all_along place OfOneUid (λ done so_far x here. one_uid_more done so_far x.0 x.1 here) ([], λ r among. absurd (nil-Contains r among))
 
-  -- each entry of the run has the UID of a schedule that goes on with it
+  -- if a schedule of this UID goes on with the run, all entries of the run have the UID
   pub run_uid : (entries : List Keyed) (uid : List ℕ) (r : Keyed) → goes_on (kept_so_far place entries).run uid ≡ true
       → Contains (kept_so_far place entries).run r → has_uid uid r.0 ≡ true
   run_uid entries uid r goes among =
@@ -173,7 +173,7 @@ module _ (place : List ℕ) where
       let first = goes_first (kept_so_far place entries).run uid goes in
       subst (λ other. has_uid other r.0 ≡ true) (uid_once of.0 uid first.0.0 (of.1 first.0 first.1) first.2) (of.1 r among)
 
-  -- before a key above all entries so far that is no schedule's, there is no run
+  -- when a TIPLOC or an association comes, in key order, no run is open
   pub no_run_before : (entries : List Keyed) (key : Key) → All (λ (e : Keyed). IsBelow key_cmp e.0 key) entries
       → ((uid : List ℕ) → has_uid uid key ≡ false) → (kept_so_far place entries).run ≡ []
   no_run_before entries key above never =
@@ -247,7 +247,7 @@ module _ (place : List ℕ) where
   named_more done so_far (tiploc_key code) entry here = named_other done so_far (tiploc_key code, entry) (is_here place (tiploc_key code)) refl here
   named_more done so_far (association_key key) entry here = named_other done so_far (association_key key, entry) (is_here place (association_key key)) refl here
 
-  -- the names in what is kept are the names in the live associations at the place so far
+  -- the kept associations name the same UIDs as all live associations at the place so far
   pub names_so_far : (entries : List Keyed)
       → names_in (kept_so_far place entries).kept ≡ names_in (filter (λ (entry : Keyed). is_here place entry.0) entries)
   names_so_far entries = (all_along place AreNamed (λ done so_far x here. named_more done so_far x.0 x.1 here) (refl, refl) entries).0
@@ -285,7 +285,7 @@ module _ (place : List ℕ) (so_far : ExcerptSoFar) where
   pub drops_run : is_run_needed place so_far ≡ false → kept_after_run place so_far ≡ so_far.kept
   drops_run unneeded = λ i. cond (unneeded i) (so_far.kept ++ so_far.run) so_far.kept
 
-  -- without a run nothing is added
+  -- if no run is open, nothing is added
   pub ends_none : so_far.run ≡ [] → kept_after_run place so_far ≡ so_far.kept
   ends_none none = subst (λ (run : List Keyed). kept_after_run place (record { kept = so_far.kept; run = run }) ≡ so_far.kept) (sym none) refl
 
@@ -307,7 +307,7 @@ module _ (place : List ℕ) (so_far : ExcerptSoFar) where
   elsewhere_then x true h none = absurd (let bad : true ≡ false = h in cc)
   elsewhere_then x false h none = let back : [] ≡ so_far.run = sym none in λ i. record { kept = ends_none none i; run = back i }
 
-  -- one that is elsewhere changes nothing
+  -- a TIPLOC or an association elsewhere changes nothing
   pub drops_elsewhere : (key : Key) (entry : Entry) → ((uid : List ℕ) → has_uid uid key ≡ false) → is_here place key ≡ false → so_far.run ≡ []
       → next_kept place so_far (key, entry) ≡ so_far
   drops_elsewhere (schedule_key key) entry never elsewhere none = false_true (sym (never key.uid) ∙ (bytes_eq-Decides key.uid key.uid).1 refl)
@@ -315,7 +315,7 @@ module _ (place : List ℕ) (so_far : ExcerptSoFar) where
   drops_elsewhere (association_key key) entry never elsewhere none =
       elsewhere_then (association_key key, entry) (is_here place (association_key key)) elsewhere none
 
--- whether a run is named depends on its first schedule
+-- whether a run's UID is among the names, by the run's first schedule
 pub named_iff : (names : List (List ℕ)) (key : ScheduleKey) (entry : Entry) (others : List Keyed)
     → (is_run_named names ((schedule_key key, entry) ∷ others) ≡ true) ↔ Contains names key.uid
 named_iff names key entry others = (
@@ -325,7 +325,8 @@ named_iff names key entry others = (
   λ among. any_forth (λ name. bytes_eq key.uid name) names key.uid among ((bytes_eq-Decides key.uid key.uid).1 refl),
 )
 
--- when a run is needed: what is kept names its UID, or a live schedule of it calls at the place
+-- a run is needed if and only if a kept association names its UID or a live schedule of it calls at
+-- the place
 pub run_needed_iff : (place : List ℕ) (so_far : ExcerptSoFar) (key : ScheduleKey) (entry : Entry) (others : List Keyed)
     → so_far.run ≡ (schedule_key key, entry) ∷ others
     → (is_run_needed place so_far ≡ true)
@@ -349,25 +350,25 @@ run_needed_iff place so_far key entry others is = (λ h. forth (either (is_run_n
         or_right (is_run_named (names_in so_far.kept) so_far.run) (is_run_calling place so_far.run)
         (any_forth (λ (e : Keyed). is_call place e.1.op) so_far.run call.0 call.1 call.2)
 
--- a test or false is the test
+-- a test, or one that fails, is the test
 pub or_false : (b : Bool) → (b || false) ≡ b
 or_false true = refl
 or_false false = refl
 
--- a run with one more entry calls if it called before or if the entry calls
+-- a run with one more schedule calls at the place if it did before or the schedule does
 pub calls_more : (place : List ℕ) (run : List Keyed) (entry : Keyed)
     → is_run_calling place (run ++ entry ∷ []) ≡ (is_run_calling place run || is_call place entry.1.op)
 calls_more place run entry =
     list_any-append (λ (e : Keyed). is_call place e.1.op) run (entry ∷ [])
     ∙ ap (λ b. is_run_calling place run || b) (or_false (is_call place entry.1.op))
 
--- with one more entry, what is kept names what it named before and what the entry names
+-- the names in entries and one more: those before, and the one that it names
 pub names_with : (xs : List Keyed) (entry : Keyed) → names_in (xs ++ entry ∷ []) ≡ names_in xs ++ names_in (entry ∷ [])
 names_with xs entry = filter_map-append (λ (e : Keyed). name_in e.0 e.1.op) xs (entry ∷ [])
 
 -- ---- what is kept in the end
 
--- what is live at an entry's key is the entry's body
+-- the live table has at an entry's key the body of that entry
 live_of : (state : State) → AreAscending state.entries → (key : Key) (entry : Entry) → Contains state.entries (key, entry)
     → live_table state key ≡ body_of entry.op
 live_of state up key entry among = ap (λ (found : Option Entry). option_and_then (λ (e : Entry). body_of e.op) found) ((entry_at_iff state up key entry).1 among)
@@ -379,7 +380,7 @@ call_back place (put_with (tiploc_body bytes)) h = false_true h
 call_back place (put_with (association_body line)) h = false_true h
 call_back place (put_with (schedule_body lines)) h = (lines, refl, (calls_test place lines).0 h)
 
--- where a name in an entry comes from
+-- the entry is a live association that names this UID
 record NamesIt (key : Key) (op : Op) (name : List ℕ) : Type 0 where
   association : AssociationKey
   line : List ℕ
@@ -445,7 +446,7 @@ module _ (place : List ℕ) (state : State) (up : AreAscending state.entries) wh
   passes_needed (schedule_key key) h =
       concerned_back key.uid (either (list_any (names_as place key.uid) state.entries) (list_any (calls_as place key.uid) state.entries) h)
 
-  -- the walk leaves the entries whose keys are needed, and no others
+  -- the walk leaves exactly the entries whose keys are needed
   pub excerpt_members : (key : Key) (entry : Entry)
       → Contains (excerpt_for place state).entries (key, entry) ↔ (Contains state.entries (key, entry) × IsNeeded (live_table state) place key)
   excerpt_members key entry =

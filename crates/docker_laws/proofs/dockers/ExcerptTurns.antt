@@ -1,5 +1,5 @@
--- The walk that makes an excerpt, as a loop does it. From entry to entry it has what is kept, the
--- run, and whether to keep the run.
+-- The walk that makes an excerpt, as a loop makes it. From entry to entry it carries what is kept,
+-- the run, and whether the run is needed.
 use Rattle.std.proofs.Common.{◌≡◌, ℕ, List, [], ◌∷◌, ◌++◌, subst, refl, ap, sym, ◌∙◌, Bool, true, false, cond, Contains}
 use Rattle.std.specs.Prelude.{◌||◌, ◌↔◌}
 use Rattle.docker_model.specs.file.Change.{Key, schedule_key, ScheduleKey}
@@ -20,7 +20,7 @@ or_assoc : (a b c : Bool) → (a || (b || c)) ≡ ((a || b) || c)
 or_assoc true b c = refl
 or_assoc false b c = refl
 
--- at first nothing is kept
+-- at the start nothing is kept
 pub kept_first : (place : List ℕ) → HasKept place [] [] [] false
 kept_first place = record { so_far = refl; is_needed = refl }
 
@@ -34,7 +34,7 @@ module _ (place : List ℕ) (entries kept run : List Keyed) (needed : Bool) (has
   same_name names [] uid x goes = false_true goes
   same_name names (first ∷ rest) uid x goes = refl
 
-  -- a schedule of the run's UID joins it
+  -- a schedule of the run's UID joins the run
   pub kept_joins : (key : ScheduleKey) (entry : Entry) → goes_on run key.uid ≡ true
       → HasKept place (entries ++ (schedule_key key, entry) ∷ []) kept (run ++ (schedule_key key, entry) ∷ []) (needed || is_call place entry.op)
   kept_joins key entry goes = record {
@@ -45,7 +45,7 @@ module _ (place : List ℕ) (entries kept run : List Keyed) (needed : Bool) (has
         ∙ ap (λ b. b || is_call place entry.op) has.is_needed;
   }
 
-  -- when a run ends, it is kept or dropped
+  -- at its end, a run is kept if it is needed
   ended : kept_after_run place (at kept run) ≡ cond needed (kept ++ run) kept
   ended = λ i. cond (has.is_needed i) (kept ++ run) kept
 
@@ -83,16 +83,16 @@ module _ (place : List ℕ) (entries kept run : List Keyed) (needed : Bool) (has
           same_tests (is_run_named (names_in (cond needed (kept ++ run) kept)) ((schedule_key key, entry) ∷ [])) named (λ h. tells.1 (told.0 h))
           (λ h. told.1 (tells.0 h))
 
-  -- what is kept and the run are some of the entries
+  -- what is kept, and then the run, are some of the entries so far
   pub kept_within : IsSublist (kept ++ run) entries
   kept_within = subst (λ (so_far : ExcerptSoFar). IsSublist (so_far.kept ++ so_far.run) entries) has.so_far (so_far_within place entries)
 
-  -- they are good entries if the entries are
+  -- if all entries so far are good, so are those that are kept or in the run
   pub kept_good : (ledger : List LedgerItem) → AreEntries ledger entries → AreEntries ledger (kept ++ run)
   kept_good ledger are = subst (λ (so_far : ExcerptSoFar). AreEntries ledger (so_far.kept ++ so_far.run)) has.so_far (so_far_good place ledger entries are)
 
 module _ (place : List ℕ) (state : State) (kept run : List Keyed) (needed : Bool) (has : HasKept place state.entries kept run needed) where
-  -- before the first schedule there is no run
+  -- when a TIPLOC or an association comes, no run is open
   pub kept_alone : (key : Key) → IsAboveEntries state key → ((uid : List ℕ) → has_uid uid key ≡ false) → run ≡ []
   kept_alone key above never = sym (ap (λ (so_far : ExcerptSoFar). so_far.run) has.so_far) ∙ no_run_before place state.entries key above never
 
@@ -104,7 +104,7 @@ module _ (place : List ℕ) (state : State) (kept run : List Keyed) (needed : Bo
     is_needed = refl;
   }
 
-  -- one that is elsewhere is not kept
+  -- a TIPLOC or an association elsewhere is not kept
   pub kept_elsewhere : (key : Key) (entry : Entry) → IsAboveEntries state key → ((uid : List ℕ) → has_uid uid key ≡ false) → is_here place key ≡ false
       → HasKept place (state.entries ++ (key, entry) ∷ []) kept [] false
   kept_elsewhere key entry above never elsewhere = record {
@@ -115,6 +115,6 @@ module _ (place : List ℕ) (state : State) (kept run : List Keyed) (needed : Bo
     is_needed = refl;
   }
 
-  -- at the end the excerpt is what was kept, with the run if that is to be kept
+  -- at the end, the excerpt is what was kept, with the run if it is needed
   pub kept_last : (excerpt_for place state).entries ≡ cond needed (kept ++ run) kept
   kept_last = ap (kept_after_run place) has.so_far ∙ ended place state.entries kept run needed has

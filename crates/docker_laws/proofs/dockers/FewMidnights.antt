@@ -1,5 +1,5 @@
--- The schedules of a table with good bodies pass midnight at most twice. So an event is at most two
--- days after the start.
+-- The schedules of a table with good bodies pass midnight at most twice. So each event is at most
+-- two days after the train starts.
 use Rattle.std.proofs.Common.{◌≡◌, ℕ, ◌+◌, ◌≤◌, List, take, drop, subst, inl, inr, ◌⊎◌, ap, sym, ◌∙◌, Some, arith}
 use Rattle.std.specs.Prelude.{IsTrue}
 use Rattle.std.proofs.lemmas.Bool.{eqb-true}
@@ -21,7 +21,7 @@ HasFewMidnights live = (key : ScheduleKey) (lines : List (List ℕ)) → live (s
 
 -- ---- the schedule of a good body
 
--- it passes midnight at most twice
+-- a schedule that fits its key passes midnight at most twice
 pub few_midnights : (key : ScheduleKey) (lines : List (List ℕ)) → IsScheduleOf key lines → midnights lines ≤ 2
 few_midnights key lines of = by of.schedule.sound
   where
@@ -38,19 +38,19 @@ few_midnights key lines of = by of.schedule.sound
         let same : midnights lines ≡ midnights is.journey = ap midnights is.whole ∙ midnights_of_journey is.basic is.extra is.journey is.kind is.details in
         subst (λ n. n ≤ 2) (sym same) falls
 
--- so do the schedules of a table with good bodies
+-- in a table with good bodies each schedule does
 pub bodies_few : (live : Table) → HasGoodBodies live → HasFewMidnights live
 bodies_few live good key lines is = few_midnights key lines (good (schedule_key key) (schedule_body lines) is)
 
 -- ---- events
 
--- there are no more falls up to an event than in all
+-- up to an event there are at most as many falls as in the whole schedule
 pub falls_below : (lines : List (List ℕ)) (number : ℕ) → falls_to lines number ≤ midnights lines
 falls_below lines number =
     subst (λ times. falls_to lines number ≤ fall_count times) (take-append-drop number (times_along lines))
     (fewer_falls (take number (times_along lines)) (drop number (times_along lines)))
 
--- a train with an event on a day started at most two days before
+-- a train with an event on a day started at most two days before it
 pub starts_near : (start : ℕ) (lines : List (List ℕ)) (event : Event) (day : ℕ) → midnights lines ≤ 2 → event_day start lines event ≡ day → day ≤ start + 2
 starts_near start lines event day few today =
     let falls = falls_below lines event.number in

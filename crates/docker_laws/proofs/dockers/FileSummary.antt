@@ -1,4 +1,5 @@
--- The summary of one file, made entry by entry: it is the summary, and the join of nothing with it.
+-- The summary of one file, made entry by entry: it is the summary. The join of an empty state with
+-- it.
 use Rattle.std.proofs.Common.{◌≡◌, ℕ, List, [], ◌∷◌, length, append-nil, refl, ap, sym, ◌∙◌, subst, inl, inr, ◌⊎◌, Some, None, Bool, true, false, Contains, All, ◌≤◌, arith}
 use Rattle.std.specs.Prelude.{Option, ◌↔◌, ◌==◌}
 use Rattle.std.specs.declared.cmp.Ordering.{Ordering}
@@ -42,7 +43,7 @@ not_itself a less = let tied = tied_itself key_total a in cc
 
 -- ---- one more entry
 
--- a member is one of the entries, or it is the new one, and they have none of its key
+-- a member is one of the entries, or the new one if they have none of its key
 member_forth : (entry : Keyed) (entries : List Keyed) → AreAscending entries → (z : Keyed) → Contains (with_earlier entry entries) z
     → Contains entries z ⊎ ((entry ≡ z) × NoEntry entries entry.0)
 member_forth entry [] up z among = inr (Contains-single entry z among, λ other inside. nil-Contains (entry.0, other) inside)
@@ -84,7 +85,7 @@ member_forth entry (first ∷ entries) up z among = by (key_cmp entry.0 first.0)
     by Equal h rest inside = inl inside
     by Greater h rest inside = after h rest (Contains-cons first (with_earlier entry entries) z inside)
 
--- the entries stay members
+-- each of the entries is still a member
 member_still : (entry : Keyed) (entries : List Keyed) (z : Keyed) → Contains entries z → Contains (with_earlier entry entries) z
 member_still entry [] z among = absurd (nil-Contains z among)
 member_still entry (first ∷ entries) z among =
@@ -97,7 +98,7 @@ member_still entry (first ∷ entries) z among =
     by Greater rest (inl same) = subst (Contains (first ∷ with_earlier entry entries)) same (cons-Contains-first first (with_earlier entry entries))
     by Greater rest (inr inside) = cons-Contains first (with_earlier entry entries) z (rest inside)
 
--- the new one is a member if they have none of its key
+-- the new entry is a member if they have none of its key
 member_new : (entry : Keyed) (entries : List Keyed) → NoEntry entries entry.0 → Contains (with_earlier entry entries) entry
 member_new entry [] none = cons-Contains-first entry []
 member_new entry (first ∷ entries) none =
@@ -111,18 +112,18 @@ member_new entry (first ∷ entries) none =
         absurd (none first.1 (subst (Contains (first ∷ entries)) (λ i. (sym same i, first.1)) (cons-Contains-first first entries)))
     by Greater h rest = cons-Contains first (with_earlier entry entries) entry rest
 
--- the entries stay in key order
+-- the entries are still in key order
 still_ascends : (entry : Keyed) (entries : List Keyed) → AreAscending entries → AreAscending (with_earlier entry entries)
 still_ascends entry [] up = (tt, tt)
 still_ascends entry (first ∷ entries) up = by (key_cmp entry.0 first.0) refl (still_ascends entry entries up.1)
   where
-    -- the new one is below all
+    -- the new entry is below all
     below_all : key_cmp entry.0 first.0 ≡ Less → (z : Keyed) → (first ≡ z) ⊎ Contains entries z → key_cmp entry.0 z.0 ≡ Less
     below_all less z (inl same) = subst (λ (later : Keyed). key_cmp entry.0 later.0 ≡ Less) same less
     below_all less z (inr inside) =
         key_total.trans entry.0 first.0 z.0 less (below_by_recursion (λ (later : Keyed). key_cmp first.0 later.0 ≡ Less) entries z up.0 inside)
 
-    -- the first one is below the rest
+    -- the first entry is below the rest
     above_first : key_cmp entry.0 first.0 ≡ Greater → (z : Keyed) → Contains entries z ⊎ ((entry ≡ z) × NoEntry entries entry.0) → key_cmp first.0 z.0 ≡ Less
     above_first greater z (inl inside) = below_by_recursion (λ (later : Keyed). key_cmp first.0 later.0 ≡ Less) entries z up.0 inside
     above_first greater z (inr new) =
@@ -148,7 +149,7 @@ latest_ascend : (entries : List Keyed) → AreAscending (latest_entries entries)
 latest_ascend [] = tt
 latest_ascend (entry ∷ entries) = still_ascends entry (latest_entries entries) (latest_ascend entries)
 
--- an earlier entry of the same key is not above a later one
+-- an earlier entry of a key isn't above a later one
 not_above : (entry : Keyed) (entries : List Keyed) (key : Key) (last : Entry) → AllByRecursion (Ascends entry) entries → Contains entries (key, last)
     → (other : Entry) → entry ≡ (key, other) → entry_cmp other last ≡ Less
 not_above entry entries key last up inside other same =
@@ -157,7 +158,7 @@ not_above entry entries key last up inside other same =
     let other_below : IsBelow stamp_cmp other.stamp last.stamp = subst (λ (pair : Keyed). IsBelow stamp_cmp pair.1.stamp last.stamp) same below in
     (λ i. ordering_then (other_below i) (op_cmp other.op last.op))
 
--- they are the greatest of each key, if a later entry of a key has a greater stamp
+-- the last entry of each key is the greatest, if later entries of a key have greater stamps
 latest_is : (entries : List Keyed) → AllLater Ascends entries → (key : Key) (entry : Entry)
     → Contains (latest_entries entries) (key, entry) ↔ IsGreatestAmong entries key entry
 latest_is [] up key entry = (λ among. absurd (nil-Contains (key, entry) among), λ is. absurd (nil-Contains (key, entry) is.among))
@@ -166,7 +167,7 @@ latest_is (first ∷ entries) up key entry = (forth (latest_is entries up.1 key)
     Latest : Type 0
     Latest = (other : Entry) → Contains (latest_entries entries) (key, other) ↔ IsGreatestAmong entries key other
 
-    -- no entry of the key among the last ones is none at all
+    -- if none of the last entries has the key, no entry has
     none_of : Latest → NoEntry (latest_entries entries) key → NoEntry entries key ⊎ GreatestEntry entries key → NoEntry entries key
     none_of later none (inl never) = never
     none_of later none (inr best) = absurd (none best.0 ((later best.0).1 (record { among = best.1; greatest = best.2 })))
@@ -228,7 +229,7 @@ latest_is (first ∷ entries) up key entry = (forth (latest_is entries up.1 key)
 -- ---- the summary
 
 module _ (file : List (List ℕ)) where
-  -- a file's own stamp is kept under its floor
+  -- a file's stamp is not below the file's floor
   floor_of : (b : Bool) → ((ledger_item_of file).indicator == 70) ≡ b
       → (floor : Option FileStamp) × IsFloor (ledger_item_of file ∷ []) floor × IsKept floor (file_stamp_of file)
   floor_of true h = (
@@ -288,13 +289,13 @@ module _ (file : List (List ℕ)) where
     );
   }
 
-  -- it is the summary of the file
+  -- the summary made entry by entry is the summary of the file
   pub summary_is : IsSummary (file ∷ []) 0 (summary_of file)
   summary_is =
       reduced_summary (file ∷ []) 0 (summary_of file) refl
       (subst (λ (entries : List Keyed). IsReduced (ledger_item_of file ∷ []) entries (summary_of file)) (sym (append-nil (entries_of file))) reduced)
 
-  -- so it is valid
+  -- the summary of a file is valid
   pub summary_valid : IsFile file → length file ≤ most_records → IsValid (summary_of file)
   summary_valid is_file few =
       summary_is_valid (file ∷ []) 0 (summary_of file) (omega arith) (all_of_one IsFile is_file) (all_of_one (λ f. length f ≤ most_records) few) summary_is
@@ -302,7 +303,7 @@ module _ (file : List (List ℕ)) where
       all_of_one : (P : List (List ℕ) → Type 0) → P file → All P (file ∷ [])
       all_of_one P here = all_members P (file ∷ []) (λ other among. subst P (Contains-single file other among) here)
 
--- the join of nothing with a valid state is that state
+-- the join of an empty state with a valid state is that state
 pub join_of_nothing : (state : State) → IsValid state → IsJoin (record { horizon = 0; ledger = []; entries = [] }) state state
 join_of_nothing state valid = record {
   horizon = sym (max-eq_right {n = 0} {m = state.horizon} (omega arith));

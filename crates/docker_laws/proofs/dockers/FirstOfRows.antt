@@ -1,5 +1,5 @@
--- The first, in an order, of what a table has. It is found in a list that has each candidate, by a
--- test that only candidates pass.
+-- The first, in an order, of what holds in a table. It is found in a list that has each candidate,
+-- by a test that only candidates pass.
 use Rattle.std.proofs.Common.{◌≡◌, List, refl, sym, ◌∙◌, Some, None, Bool, true, Contains}
 use Rattle.std.specs.Prelude.{Option, find}
 use Rattle.std.specs.declared.cmp.Ordering.{Ordering}
@@ -9,7 +9,7 @@ use Rattle.docker_laws.specs.Best.{IsBest}
 use Rattle.cif_laws.proofs.lists.BoolsAndOptions.{true_is_not}
 use Rattle.cif_laws.proofs.orders.Least.{is_least, found_least, none_passes}
 
--- what is found holds, and nothing that holds comes before it; if nothing is found, nothing holds
+-- the first value that holds: nothing that holds comes before it. None if nothing holds
 abbrev pub IsFirst : {A : Type 0} → (A → A → Ordering) → (A → Type 0) → Option A → Type 0
 IsFirst {A} cmp Is None = (x : A) → ¬ Is x
 IsFirst {A} cmp Is (Some x) = Is x × ((other : A) → Is other → IsAtMost cmp x other)
@@ -21,7 +21,7 @@ module _ {A : Type 0} {cmp : A → A → Ordering} (total : IsTotalOrder cmp) (t
   best_is_first None none = λ x is. true_is_not (sym (passes x is) ∙ none x (among x is))
   best_is_first (Some x) best = (holds x best.0 best.1, λ other is. best.2 other (among other is) (passes other is))
 
-  -- so is the one that a search finds in it
+  -- the one that the search finds in the list is the first
   pub found_is_first : IsFirst cmp Is (find (is_least total test xs) xs)
   found_is_first = by (find (is_least total test xs) xs) refl
     where

@@ -1,5 +1,5 @@
--- What a walk over rows gathers are the lines of the docker, and no two of them tie in the order.
--- Sorted, they are the docker list.
+-- The lines that a walk over rows gathers are the docker's lines, and no two of them tie. Sorted,
+-- they are the docker list.
 use Rattle.std.proofs.Common.{◌≡◌, ℕ, ◌-◌, ◌<◌, ◌≤◌, lit<, List, [], ◌∷◌, refl, ap, sym, ◌∙◌, subst, inl, inr, ◌⊎◌, Some, Bool, true, false, cond, Contains, arith, ◌++◌, append-nil}
 use Rattle.std.specs.Prelude.{Option, filter, nat_le}
 use Rattle.std.specs.List.{flat_map}
@@ -33,19 +33,19 @@ use Rattle.docker_laws.proofs.dockers.OneDockerLine.{tied_lines_agree, same_even
 use Rattle.docker_laws.proofs.dockers.ScheduleLines.{schedule_piece, IsOfSchedule, schedule_piece_back, schedule_piece_forth, schedule_piece_apart, event_starts}
 use Rattle.docker_laws.proofs.dockers.AssociationLines.{link_piece, IsOfAssociation, link_piece_back, link_piece_forth, link_piece_apart, association_starts}
 
--- a line made from a row's train or association, and from a start day
+-- the line is of this schedule or association, for this start day
 abbrev IsLineFrom : Table → List ℕ → ℕ → Key → ℕ → DockerLine → Type 0
 IsLineFrom live place day key start line =
     ((schedule : ScheduleKey) × (schedule_key schedule ≡ key) × IsOfSchedule live place day schedule start line)
     ⊎ ((association : AssociationKey) × (association_key association ≡ key) × IsOfAssociation live place day association start line)
 
--- it is a line of the docker
+-- a line of a schedule or association, so made, is a line of the docker
 from_is : (live : Table) (place : List ℕ) (day : ℕ) (key : Key) (start : ℕ) (line : DockerLine) → IsLineFrom live place day key start line
     → IsDockerLine live place day line
 from_is live place day key start line (inl (schedule, same, of)) = inl of.made
 from_is live place day key start line (inr (association, same, of)) = inr of.made
 
--- lines that tie are from one row and one start day
+-- if two lines tie, they are of the same row and start day
 same_source : (live : Table) (place : List ℕ) (day : ℕ) (first second : Key) (start other : ℕ) (a b : DockerLine) → IsLineFrom live place day first start a
     → IsLineFrom live place day second other b
     → docker_line_cmp a b ≡ Equal → (first ≡ second) × (start ≡ other)
@@ -64,7 +64,7 @@ same_source live place day first second start other a b (inl (x, x_is, one)) (in
 same_source live place day first second start other a b (inr (x, x_is, one)) (inl (y, y_is, two)) e =
     absurd (event_apart live place day b a two.made one.made (sym (tied_lines_agree a b e).occasions))
 
--- the start days are different
+-- the three differences to the day ascend
 counted_up : AllLater (λ (a b : ℕ). a < b) (0 ∷ 1 ∷ 2 ∷ [])
 counted_up = ((lit< tt, (lit< tt, tt)), ((lit< tt, tt), (tt, tt)))
 
@@ -111,7 +111,7 @@ module _ (live : Table) (trains : List ℕ → ℕ → Option Train) (links : Gr
   of_row (association_key key) (tiploc_body bytes) is line among = absurd (nil-Contains line among)
   of_row (association_key key) (schedule_body lines) is line among = absurd (nil-Contains line among)
 
-  -- the pieces of one row, for different start days
+  -- the lines of one row, start day by start day
   module _ (key : Key) (piece : ℕ → List DockerLine) (back : (start : ℕ) (line : DockerLine) → Contains (piece start) line
       → IsLineFrom live place day key start line)
       (apart : (start : ℕ) → AreApart docker_line_cmp (piece start)) where
@@ -150,7 +150,7 @@ module _ (live : Table) (trains : List ℕ → ℕ → Option Train) (links : Gr
   -- ---- a walk
 
   module _ (rows : List Row) (walk : IsWalk live place rows) where
-    -- no two of the gathered lines tie in the order
+    -- no two of the gathered lines tie
     pub gathered_apart : AreApart docker_line_cmp (gathered trains links place day rows)
     unfolding SomeStart
     gathered_apart =
@@ -194,7 +194,7 @@ module _ (live : Table) (trains : List ℕ → ℕ → Option Train) (links : Gr
         (association_key made.key, association_body made.association) line there
         (subst (λ b. Contains (cond b (flat_map (link_piece trains links day made.key made.association) (start_days day)) []) line) (sym here) pieces)
 
-    -- sorted, they are the docker list
+    -- sorted, the gathered lines are the docker list
     pub sorted_gathering : HasGoodBodies live → (lines : List DockerLine) → IsPermutation (gathered trains links place day rows) lines
         → IsSorted docker_line_cmp lines → IsDockerList live place day lines
     sorted_gathering good lines same sorted = record {
@@ -206,7 +206,7 @@ module _ (live : Table) (trains : List ℕ → ℕ → Option Train) (links : Gr
       );
     }
 
--- the gathered lines with one more row
+-- one more row adds its lines
 pub gathered_more : (trains : List ℕ → ℕ → Option Train) (links : Group → ℕ → Option Link) (place : List ℕ) (day : ℕ) (rows : List Row) (key : Key)
     (body : Body)
     → gathered trains links place day (rows ++ (key, body) ∷ []) ≡ gathered trains links place day rows ++ row_lines trains links place day key body

@@ -1,4 +1,4 @@
--- The live table of a valid state has good bodies, and its rows are the put entries.
+-- The live table of a valid state has good bodies. Its rows are the state's puts.
 use Rattle.std.proofs.Common.{◌≡◌, refl, ap, sym, ◌∙◌, subst, Some, None, Contains}
 use Rattle.std.specs.Prelude.{Option, find}
 use Rattle.std.specs.Ordering.{is_eq}
@@ -10,7 +10,7 @@ use Rattle.state_laws.proofs.states.PlainTable.{Keyed, live_at, live_none}
 use Rattle.cif_laws.proofs.orders.Orders.{same_key}
 use Rattle.cif_laws.proofs.lists.FilteredMembers.{find_some}
 
--- a live body at a key is the put of an entry of that key
+-- a live body comes from the state's entry at the key
 pub live_entry : (state : State) (key : Key) (body : Body) → live_table state key ≡ Some body → (entry : Entry) × Contains state.entries (key, entry)
     × (entry.op ≡ put_with body)
 live_entry state key body is = by (find (λ entry. is_eq (key_cmp entry.0 key)) state.entries) refl

@@ -1,4 +1,4 @@
--- What is known of a schedule that is kept under its key, and of the fields of its first line.
+-- A schedule that fits its key, and the fields of its first line.
 use Rattle.std.proofs.Common.{◌≡◌, ℕ, ◌<◌, List, true, false, Bool, cond, [], ◌∷◌, ◌++◌, length, subst, ap, sym, arith}
 use Rattle.std.specs.Prelude.{◌==◌}
 use Rattle.std.specs.List.{AllByRecursion}
@@ -10,9 +10,9 @@ use Rattle.docker_model.specs.file.File.{first_record}
 use Rattle.docker_model.specs.state.State.{IsScheduleOf}
 use Rattle.cif_laws.proofs.records.Columns.{good_fields, IsGoodIn}
 
--- ---- a schedule that is kept under its key
+-- ---- a schedule that fits its key
 
--- its first line is a basic schedule
+-- the first line of such a schedule is a basic schedule
 pub first_kind : (key : ScheduleKey) (lines : List (List ℕ)) → IsScheduleOf key lines → HasKind basic_schedule (first_record lines)
 first_kind key lines of = subst (λ (ls : List (List ℕ)). HasKind basic_schedule (first_record ls)) (sym of.schedule.whole) of.schedule.kind
 
@@ -20,7 +20,7 @@ first_kind key lines of = subst (λ (ls : List (List ℕ)). HasKind basic_schedu
 pub first_good : (key : ScheduleKey) (lines : List (List ℕ)) → IsScheduleOf key lines → HasGoodFields (first_record lines)
 first_good key lines of = subst (λ (ls : List (List ℕ)). HasGoodFields (first_record ls)) (sym of.schedule.whole) of.schedule.fields
 
--- it is no deletion
+-- such a schedule isn't a deletion
 pub first_stays : (key : ScheduleKey) (lines : List (List ℕ)) → IsScheduleOf key lines → is_deletion (first_record lines) ≡ false
 first_stays key lines of = ap (λ (n : ℕ). n == 68) of.new
 
@@ -30,11 +30,11 @@ first_there key lines of = subst (λ (ls : List (List ℕ)). 0 < length ls) (sym
 
 -- ---- the fields of a basic schedule
 
--- its first day is a date
+-- the runs-from date of a good basic schedule is a date
 pub schedule_first : (line : List ℕ) → HasKind basic_schedule line → HasGoodFields line → is_date (columns 10 15 line) ≡ true
 schedule_first line is good = (good_fields basic_schedule line is good).1.0
 
--- the checked fields after it
+-- the checked fields after that date
 schedule_later : Bool → List CheckedField
 schedule_later deletion = cond deletion [] (checked 16 21 is_end_date ∷ checked 22 28 is_days ∷ []) ++ checked 80 80 is_stp_indicator ∷ []
 
@@ -44,12 +44,12 @@ unfolding schedule_later
 later_good line is good stays =
     subst (λ b. AllByRecursion (IsGoodIn line) (schedule_later b)) stays (good_fields basic_schedule line is good).1.1
 
--- its last day is good
+-- the runs-to date of a good basic schedule is an end date, unless it is a deletion
 pub schedule_last : (line : List ℕ) → HasKind basic_schedule line → HasGoodFields line → is_deletion line ≡ false → is_end_date (columns 16 21 line) ≡ true
 unfolding schedule_later
 schedule_last line is good stays = (later_good line is good stays).0
 
--- its weekdays are good
+-- the days run of a good basic schedule are marks, unless it is a deletion
 pub schedule_days : (line : List ℕ) → HasKind basic_schedule line → HasGoodFields line → is_deletion line ≡ false → is_days (columns 22 28 line) ≡ true
 unfolding schedule_later
 schedule_days line is good stays = (later_good line is good stays).1.0

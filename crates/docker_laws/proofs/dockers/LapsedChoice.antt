@@ -1,5 +1,5 @@
--- On each day from a horizon on, a table and the table lapsed under it have the same choice,
--- because what runs on such a day has not lapsed.
+-- On each day from a horizon on, a table and the table lapsed under it choose the same: what runs
+-- on such a day hasn't lapsed.
 use Rattle.std.proofs.Common.{ℕ, ◌≤◌, List, Bool, true, false, cond, arith}
 use Rattle.std.specs.Prelude.{◌↔◌, ◌&&◌, IsTrue, nat_le}
 use Rattle.std.proofs.lemmas.Bool.{leb-true}
@@ -14,13 +14,13 @@ use Rattle.docker_model.specs.docker.Choice.{runs_within, IsRunning, IsChosen, T
 use Rattle.cif_laws.proofs.lists.BoolsAndOptions.{both}
 use Rattle.state_laws.proofs.states.TableLapsed.{live_stays, was_live}
 
--- what runs on a day does not end before that day
+-- what runs on a day doesn't end before it
 within_end : (first last days : List ℕ) (day : ℕ) → IsTrue (runs_within first last days day) → day ≤ end_number last
 within_end first last days day runs =
     let dates = (both (nat_le (date_number first) day && nat_le day (end_number last)) (runs_on_weekday days (weekday_of day)) runs).0 in
     leb-true day (end_number last) (both (nat_le (date_number first) day) (nat_le day (end_number last)) dates).1
 
--- an end that is not before a day from the horizon on has an end number not below the horizon
+-- an end that isn't before a day from the horizon on isn't below the horizon
 end_reached : (horizon day : ℕ) (last : List ℕ) → horizon ≤ no_end_number → horizon ≤ day → day ≤ end_number last → horizon ≤ readable_end last
 end_reached horizon day last bound from to = by (is_end_date last)
   where
@@ -46,8 +46,7 @@ module _ (horizon : ℕ) (bound : horizon ≤ no_end_number) (live : Table) wher
     running_back uid key lines is =
         record { uid_is = is.uid_is; is_live = was_live horizon live (schedule_key key) (schedule_body lines) is.is_live; runs_then = is.runs_then }
 
-    -- on a day from the horizon on, a schedule is chosen in a table if and only if it is chosen in
-    -- the lapsed table
+    -- on a day from the horizon on, both tables choose the same schedule
     pub chosen_iff : (uid : List ℕ) (key : ScheduleKey) (lines : List (List ℕ)) → IsChosen live uid day key lines ↔ IsChosen
         (lapse_table horizon live) uid day key lines
     chosen_iff uid key lines = (
@@ -63,7 +62,7 @@ module _ (horizon : ℕ) (bound : horizon ≤ no_end_number) (live : Table) wher
       },
     )
 
-    -- on such a day a train runs by a schedule if and only if it does in the lapsed table
+    -- on a day from the horizon on, both tables have the same train
     pub train_iff : (uid : List ℕ) (key : ScheduleKey) (lines : List (List ℕ)) → TrainRuns live uid day key lines ↔ TrainRuns
         (lapse_table horizon live) uid day key lines
     train_iff uid key lines = (
@@ -87,7 +86,7 @@ module _ (horizon : ℕ) (bound : horizon ≤ no_end_number) (live : Table) wher
     associated_back group key line is =
         record { group_is = is.group_is; is_live = was_live horizon live (association_key key) (association_body line) is.is_live; runs_then = is.runs_then }
 
-    -- on such a day an association is chosen if and only if it is chosen in the lapsed table
+    -- on a day from the horizon on, both tables choose the same association
     pub association_iff : (group : Group) (key : AssociationKey) (line : List ℕ) → IsChosenAssociation live group day key line ↔ IsChosenAssociation
         (lapse_table horizon live) group day key line
     association_iff group key line = (

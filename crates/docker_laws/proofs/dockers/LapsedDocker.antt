@@ -1,5 +1,5 @@
--- On each day from three days after the horizon on, a table and the table lapsed under the horizon
--- have the same docker.
+-- From three days after the horizon on, a table and the table lapsed under the horizon have the
+-- same docker.
 use Rattle.std.proofs.Common.{◌≡◌, ℕ, ◌+◌, ◌-◌, ◌≤◌, List, ◌++◌, inl, inr, ◌⊎◌, refl, ap, sym, ◌∙◌, Bool, true, false, cond, Some, None, arith}
 use Rattle.std.specs.Prelude.{Option, ◌↔◌, ◌==◌, nat_lt, option_and_then, codes}
 use Rattle.std.specs.List.{flat_map}
@@ -20,13 +20,13 @@ use Rattle.state_laws.proofs.states.TableLapsed.{was_live, body_stays}
 use Rattle.docker_laws.proofs.dockers.LapsedChoice.{train_iff, association_iff}
 use Rattle.docker_laws.proofs.dockers.FewMidnights.{HasFewMidnights, starts_near}
 
--- a docker text whose heading has this description
+-- a docker's text whose heading has this description
 abbrev pub text_with : List ℕ → ℕ → List DockerLine → List ℕ → List ℕ
 text_with place day lines description =
     ended (codes "DOCKER " ++ place ++ spaces 1 ++ day_text day ++ spaces 1 ++ description ++ spaces 4) ++ flat_map
     (λ line. ended (line_text line)) lines ++ ended last_line
 
--- the partner starts at most one day before the base
+-- the associated train starts at most one day before the base train
 pub partner_after : (indicator start day : ℕ) → partner_start indicator start ≡ Some day → start ≤ day + 1
 partner_after indicator start day is = by (indicator == 78) (indicator == 80) is
   where
@@ -46,8 +46,8 @@ partner_after indicator start day is = by (indicator == 78) (indicator == 80) is
 
 -- ---- from one table to another
 
--- each train of one table with an event on the day is a train of the other, and so are the
--- associations of its base and the partner's identity
+-- what one table has on the day, the other has: each train with an event, the associations with it
+-- as base, and its partners' identities
 pub record CarriesOver (one other : Table) (day : ℕ) : Type 0 where
   pub trains : (uid : List ℕ) (start : ℕ) (key : ScheduleKey) (lines : List (List ℕ)) → TrainRuns one uid start key lines → (event : Event)
       → event_day start lines event ≡ day → TrainRuns other uid start key lines
@@ -57,7 +57,7 @@ pub record CarriesOver (one other : Table) (day : ℕ) : Type 0 where
       × (IsPartnerIdentity one key.associated (partner_start indicator start) identity
       → IsPartnerIdentity other key.associated (partner_start indicator start) identity)
 
--- so the line of an event in one is a line in the other
+-- the line of an event in one table's docker is in the other's
 pub event_line_over : (one other : Table) (place : List ℕ) (day : ℕ) → CarriesOver one other day → (line : DockerLine) → IsEventLine one place day line
     → IsEventLine other place day line
 event_line_over one other place day carries line is = record {
@@ -72,7 +72,7 @@ event_line_over one other place day carries line is = record {
   is = is.is;
 }
 
--- so is the line of an association
+-- the line of an association in one table's docker is in the other's
 pub association_line_over : (one other : Table) (place : List ℕ) (day : ℕ) → CarriesOver one other day → (line : DockerLine)
     → IsAssociationLine one place day line → IsAssociationLine other place day line
 association_line_over one other place day carries line is =
@@ -122,7 +122,7 @@ module _ (horizon : ℕ) (bound : horizon ≤ no_end_number) (live : Table) wher
   module _ (few : HasFewMidnights live) (place : List ℕ) (day : ℕ) (from : horizon + 3 ≤ day) where
     -- ---- lines
 
-    -- a train with an event on the day started at least one day after the horizon
+    -- a train with an event on the day started at least a day after the horizon
     started_after : (uid : List ℕ) (start : ℕ) (key : ScheduleKey) (lines : List (List ℕ)) → TrainRuns live uid start key lines → (event : Event)
         → event_day start lines event ≡ day → horizon + 1 ≤ start
     started_after uid start key lines runs event today =
@@ -202,8 +202,7 @@ module _ (horizon : ℕ) (bound : horizon ≤ no_end_number) (live : Table) wher
         back (inl event) = inl ((event_line_iff line).1 event)
         back (inr association) = inr ((association_line_iff line).1 association)
 
-    -- on a day from three days after the horizon on, a table and its lapse have the same docker
-    -- list
+    -- from three days after the horizon on, a table and the lapsed table have the same docker list
     pub docker_list_iff : (lines : List DockerLine) → IsDockerList live place day lines ↔ IsDockerList (lapse_table horizon live) place day lines
     docker_list_iff lines = (
       lists_along (λ line. IsEventLine live place day line ⊎ IsAssociationLine live place day line)
@@ -212,7 +211,7 @@ module _ (horizon : ℕ) (bound : horizon ≤ no_end_number) (live : Table) wher
           (λ line. IsEventLine live place day line ⊎ IsAssociationLine live place day line) (λ line. ((line_iff line).1, (line_iff line).0)) lines,
     )
 
-    -- the description of a place stays, because a TIPLOC has no end
+    -- a place keeps its description, as a TIPLOC has no end
     description_stays : description_in (lapse_table horizon live (tiploc_key place)) ≡ description_in (live (tiploc_key place))
     description_stays = by (live (tiploc_key place))
       where
@@ -230,7 +229,7 @@ module _ (horizon : ℕ) (bound : horizon ≤ no_end_number) (live : Table) wher
     text_stays : (lines : List DockerLine) → docker_text (lapse_table horizon live) place day lines ≡ docker_text live place day lines
     text_stays lines = ap (text_with place day lines) description_stays
 
-    -- on such a day they have the same docker text
+    -- from three days after the horizon on, a table and the lapsed table have the same docker text
     pub docker_text_iff : (text : List ℕ) → IsDockerText live place day text ↔ IsDockerText (lapse_table horizon live) place day text
     docker_text_iff text = (
       λ is. (is.0, (docker_list_iff is.0).0 is.1, is.2 ∙ sym (text_stays is.0)),

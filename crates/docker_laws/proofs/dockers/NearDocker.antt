@@ -1,5 +1,5 @@
--- A table and the part of it that may count near a day have the same dockers on that day. What is
--- left out are schedules that run on no start day near it.
+-- A table and the part of it that may count near a day have the same dockers on that day. The part
+-- leaves out the schedules that run on no start day near it.
 use Rattle.std.proofs.Common.{◌≡◌, ℕ, zero, suc, ◌+◌, ◌-◌, ◌≤◌, List, [], ◌∷◌, subst, inl, inr, ◌⊎◌, refl, ap, sym, ◌∙◌, Bool, true, false, cond, Some, None, Contains, arith}
 use Rattle.std.specs.Prelude.{Option, ◌↔◌, ◌==◌, nat_lt, IsTrue}
 use Rattle.std.proofs.lemmas.List.Elements.{Contains-append_right}
@@ -24,11 +24,11 @@ use Rattle.docker_laws.proofs.dockers.LapsedDocker.{text_with, partner_after, Ca
 
 -- ---- the start days near a day
 
--- the start day is at most three days before the day, and at most one day after it
+-- a start day near the day: at most three days before it, and at most one day after it
 abbrev pub IsStartNear : ℕ → ℕ → Type 0
 IsStartNear day start = (start ≤ day + 1) × (day ≤ start + 3)
 
--- it is one of the five start days near the day
+-- such a day is one of the five start days near the day
 pub near_start : (day start : ℕ) → IsStartNear day start → Contains (near_starts day) start
 near_start day start near = by ((day + 1) - start) refl near.0 near.1
   where
@@ -48,11 +48,11 @@ near_start day start near = by ((day + 1) - start) refl near.0 near.1
     by (suc (suc (suc (suc n)))) h low high =
         Contains-append_right ((day + 1) ∷ day ∷ (day - 1) ∷ (day - 2) ∷ []) ((day - 3) ∷ []) start (first (day - 3) [] (omega arith))
 
--- a schedule that runs on such a start day runs near the day
+-- a schedule that runs on such a day runs near the day
 pub runs_near_by : (day start : ℕ) (line : List ℕ) → IsStartNear day start → IsTrue (schedule_runs line start) → runs_near day line ≡ true
 runs_near_by day start line near runs = any_forth (λ (s : ℕ). schedule_runs line s) (near_starts day) start (near_start day start near) runs
 
--- the partner starts at most one day after the base
+-- the associated train starts at most one day after the base train
 partner_before : (indicator start day : ℕ) → partner_start indicator start ≡ Some day → day ≤ start + 1
 partner_before indicator start day is = by (indicator == 78) (indicator == 80) is
   where
@@ -70,13 +70,13 @@ partner_before indicator start day is = by (indicator == 78) (indicator == 80) i
     by false true told = earlier (nat_lt 0 start) told
     by false false some = let same : start ≡ day = cc in omega arith
 
--- a train with an event on the day starts on the day or on one of the two days before
+-- a train with an event on the day starts on it or on one of the two days before
 pub started : (day start : ℕ) (lines : List (List ℕ)) (event : Event) → midnights lines ≤ 2 → event_day start lines event ≡ day
     → (start ≤ day) × (day ≤ start + 2)
 started day start lines event few today =
     subst (λ (d : ℕ). (start ≤ d) × (d ≤ start + 2)) today (event_within start lines event few)
 
--- so its partner starts near the day
+-- if a train has an event on the day, its associated train starts near the day
 pub partner_near : (day start : ℕ) → (start ≤ day) × (day ≤ start + 2) → (indicator partner : ℕ) → partner_start indicator start ≡ Some partner
     → IsStartNear day partner
 partner_near day start within indicator partner is =
@@ -88,18 +88,18 @@ partner_near day start within indicator partner is =
 
 -- ---- two tables that run the same schedules near a day, and have the same associations
 
--- each schedule of one that runs on a start day near the day runs in the other
+-- each schedule that runs near the day in one table runs in the other
 abbrev RunsOver : Table → Table → ℕ → Type 0
 RunsOver one other day =
     (start : ℕ) → IsStartNear day start → (uid : List ℕ) (key : ScheduleKey) (lines : List (List ℕ)) → IsRunning one uid start key lines
     → IsRunning other uid start key lines
 
--- each association of one is an association of the other
+-- each association of one table is in the other
 abbrev LinksOver : Table → Table → Type 0
 LinksOver one other =
     (group : Group) (start : ℕ) (key : AssociationKey) (line : List ℕ) → IsAssociated one group start key line → IsAssociated other group start key line
 
--- both tables have the same schedules running near a day, and the same associations
+-- both tables have the same schedules that run near the day, and the same associations
 record AreAlike (one other : Table) (day : ℕ) : Type 0 where
   runs : RunsOver one other day
   runs_back : RunsOver other one day
@@ -172,17 +172,17 @@ list_over one other place day forth back lines is = record {
 
 -- ---- a table and the part of it that may count
 
--- the key is left out: the table has a schedule there that runs on no start day near the day
+-- the key is left out: at it the table has a schedule that runs on no start day near the day
 abbrev pub IsLeftOut : ℕ → Table → Key → Type 0
 IsLeftOut day live key = (lines : List (List ℕ)) × (live key ≡ Some (schedule_body lines)) × (runs_near day (first_record lines) ≡ false)
 
--- part is what may count in live near the day: at each key it has what live has, or it has nothing
--- there and the key is left out
+-- `part` is what may count in `live` near the day: at each key it has what `live` has, or nothing
+-- if the key is left out
 abbrev pub IsNearPart : ℕ → Table → Table → Type 0
 IsNearPart day live part = (key : Key) → (part key ≡ live key) ⊎ ((part key ≡ None) × IsLeftOut day live key)
 
 module _ (day : ℕ) (live part : Table) (is : IsNearPart day live part) where
-  -- what the part has, the table has
+  -- whatever the part has, the table has
   was_there : (key : Key) (body : Body) → part key ≡ Some body → live key ≡ Some body
   was_there key body there = by (is key)
     where
@@ -236,11 +236,11 @@ module _ (day : ℕ) (live part : Table) (is : IsNearPart day live part) where
         carries_over part live day (turned live part day alike)
         (λ key lines there. few key lines (was_there (schedule_key key) (schedule_body lines) there))
 
-    -- both have the same docker list on the day
+    -- the table and the part have the same docker list on the day
     pub near_list_iff : (place : List ℕ) (lines : List DockerLine) → IsDockerList live place day lines ↔ IsDockerList part place day lines
     near_list_iff place lines = (list_over live part place day forth back lines, list_over part live place day back forth lines)
 
-  -- both have the same description of a place, since no TIPLOC is left out
+  -- the table and the part have the same description of a place, as no TIPLOC is left out
   pub near_description : (place : List ℕ) → description_in (part (tiploc_key place)) ≡ description_in (live (tiploc_key place))
   near_description place = by (is (tiploc_key place))
     where
@@ -252,7 +252,7 @@ module _ (day : ℕ) (live part : Table) (is : IsNearPart day live part) where
   text_same : (place : List ℕ) (lines : List DockerLine) → docker_text part place day lines ≡ docker_text live place day lines
   text_same place lines = ap (text_with place day lines) (near_description place)
 
-  -- both have the same docker text on the day
+  -- the table and the part have the same docker text on the day
   pub near_text_iff : HasFewMidnights live → (place text : List ℕ) → IsDockerText live place day text ↔ IsDockerText part place day text
   near_text_iff few place text = (
     λ told. (told.0, (near_list_iff few place told.0).0 told.1, told.2 ∙ sym (text_same place told.0)),

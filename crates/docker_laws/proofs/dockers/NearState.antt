@@ -1,5 +1,5 @@
--- A state with only what may count near a day is valid and has the same dockers on that day. So
--- does its excerpt for a place.
+-- A valid state with only what may count near a day is valid, and gives the same dockers on that
+-- day. So does its excerpt for a place.
 use Rattle.std.proofs.Common.{◌≡◌, ℕ, List, [], ◌∷◌, ◌++◌, inl, inr, ◌⊎◌, refl, ap, sym, ◌∙◌, Bool, true, false, cond, None, Contains, append-nil}
 use Rattle.std.specs.Prelude.{◌↔◌, filter}
 use Rattle.std.proofs.lemmas.List.Elements.{filter-append}
@@ -20,7 +20,7 @@ use Rattle.docker_laws.proofs.dockers.ExcerptState.{some_valid}
 use Rattle.docker_laws.proofs.dockers.ExcerptWalk.{walk_valid, walk_list_iff, walk_text_iff}
 use Rattle.docker_laws.proofs.dockers.NearDocker.{IsLeftOut, IsNearPart, near_list_iff, near_text_iff}
 
--- what may not count is a schedule that runs on no start day near the day
+-- an op that may not count is a put of a schedule that runs on no start day near the day
 may_not : (day : ℕ) (op : Op) → may_count day op ≡ false
     → (lines : List (List ℕ)) × (op ≡ put_with (schedule_body lines)) × (runs_near day (first_record lines) ≡ false)
 may_not day (put_with (schedule_body lines)) h = (lines, refl, h)
@@ -29,7 +29,7 @@ may_not day (put_with (association_body line)) h = absurd (let bad : true ≡ fa
 may_not day deleted h = absurd (let bad : true ≡ false = h in cc)
 may_not day lapsed h = absurd (let bad : true ≡ false = h in cc)
 
--- the live table of what may count is that part of the live table
+-- the live table of that state is the part of the live table that may count
 pub near_part : (day : ℕ) (state : State) → AreAscending state.entries → IsNearPart day (live_table state) (live_table (near_state day state))
 near_part day state up key = by (find_in (near_entries day state.entries) key) (find_in state.entries key)
   where
@@ -65,14 +65,14 @@ pub near_valid : (day : ℕ) (state : State) → IsValid state → IsValid (near
 near_valid day state valid =
     some_valid state (near_state day state) valid refl refl (sublist_filter (λ (entry : Keyed). may_count day entry.1.op) state.entries)
 
--- it has the same docker list on the day
+-- the state with only what may count has the same docker list on the day
 pub near_state_list : (place : List ℕ) (day : ℕ) (state : State) (lines : List DockerLine) → IsValid state
     → IsDockerList (live_table state) place day lines ↔ IsDockerList (live_table (near_state day state)) place day lines
 near_state_list place day state lines valid =
     near_list_iff day (live_table state) (live_table (near_state day state)) (near_part day state valid.entries.1)
     (bodies_few (live_table state) (good_bodies state valid)) place lines
 
--- and the same docker text
+-- the state with only what may count has the same docker text
 pub near_state_text : (place : List ℕ) (day : ℕ) (state : State) (text : List ℕ) → IsValid state
     → IsDockerText (live_table state) place day text ↔ IsDockerText (live_table (near_state day state)) place day text
 near_state_text place day state text valid =
@@ -81,11 +81,11 @@ near_state_text place day state text valid =
 
 -- ---- the excerpt for a place and a day
 
--- it is valid
+-- the excerpt for a place and a day is valid
 pub excerpt_on_valid : (place : List ℕ) (day : ℕ) (state : State) → IsValid state → IsValid (excerpt_on place day state)
 excerpt_on_valid place day state valid = walk_valid place (near_state day state) (near_valid day state valid)
 
--- it has the same docker list at the place on the day
+-- the excerpt has the same docker list at the place on the day
 pub excerpt_on_list : (place : List ℕ) (day : ℕ) (state : State) (lines : List DockerLine) → IsValid state
     → IsDockerList (live_table state) place day lines ↔ IsDockerList (live_table (excerpt_on place day state)) place day lines
 excerpt_on_list place day state lines valid =
@@ -93,7 +93,7 @@ excerpt_on_list place day state lines valid =
     let walk = walk_list_iff place (near_state day state) day lines (near_valid day state valid) in
     (λ is. walk.0 (near.0 is), λ is. near.1 (walk.1 is))
 
--- and the same docker text
+-- the excerpt has the same docker text
 pub excerpt_on_text : (place : List ℕ) (day : ℕ) (state : State) (text : List ℕ) → IsValid state
     → IsDockerText (live_table state) place day text ↔ IsDockerText (live_table (excerpt_on place day state)) place day text
 excerpt_on_text place day state text valid =

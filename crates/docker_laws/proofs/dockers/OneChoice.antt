@@ -1,4 +1,4 @@
--- A UID and a day have at most one chosen schedule, and a group and a day at most one association.
+-- A UID has at most one chosen schedule on a day, and a group at most one chosen association.
 use Rattle.std.proofs.Common.{◌≡◌, ℕ, List, ap, sym, ◌∙◌, Some}
 use Rattle.std.specs.declared.cmp.Ordering.TheVariants.{Equal}
 use Rattle.std.specs.Ordering.{nat_cmp}
@@ -21,19 +21,19 @@ pub association_choice_total : IsTotalOrder association_choice_cmp
 association_choice_total =
     then_total (on_total (λ (k : AssociationKey). k.indicator) nat_cmp_total) (on_total (λ (k : AssociationKey). k.start) (back_total nat_cmp_total))
 
--- a live schedule key has one list of lines, and a live association key one line
+-- the live schedule with a key has only one list of lines
 pub one_schedule : (live : Table) (a b : ScheduleKey) (xs ys : List (List ℕ)) → a ≡ b → live (schedule_key a) ≡ Some (schedule_body xs)
     → live (schedule_key b) ≡ Some (schedule_body ys) → xs ≡ ys
 one_schedule live a b xs ys same one two =
     let e : Some (schedule_body xs) ≡ Some (schedule_body ys) = sym one ∙ ap (λ k. live (schedule_key k)) same ∙ two in cc
 
--- a key has one live association
+-- the live association with a key has only one record
 pub one_association : (live : Table) (a b : AssociationKey) (x y : List ℕ) → a ≡ b → live (association_key a) ≡ Some (association_body x)
     → live (association_key b) ≡ Some (association_body y) → x ≡ y
 one_association live a b x y same one two =
     let e : Some (association_body x) ≡ Some (association_body y) = sym one ∙ ap (λ k. live (association_key k)) same ∙ two in cc
 
--- schedules of one UID that tie in the order of choice have one key
+-- two schedules of one UID that tie in the order of choice have the same key
 pub tied_schedules : (a b : ScheduleKey) → a.uid ≡ b.uid → schedule_choice_cmp a b ≡ Equal → a ≡ b
 tied_schedules a b uids tied =
     let parts = then_equal (nat_cmp a.indicator b.indicator) (nat_cmp b.runs_from a.runs_from) tied in
@@ -43,7 +43,7 @@ tied_schedules a b uids tied =
       indicator = exact_unsigned a.indicator b.indicator parts.0 i;
     }
 
--- associations of one group that tie in the order of choice have one key
+-- two associations of one group that tie in the order of choice have the same key
 pub tied_associations : (a b : AssociationKey) → group_of a ≡ group_of b → association_choice_cmp a b ≡ Equal → a ≡ b
 tied_associations a b groups tied =
     let parts = then_equal (nat_cmp a.indicator b.indicator) (nat_cmp b.start a.start) tied in
@@ -56,7 +56,7 @@ tied_associations a b groups tied =
       indicator = exact_unsigned a.indicator b.indicator parts.0 i;
     }
 
--- a UID and a day have at most one chosen schedule
+-- a UID has at most one chosen schedule on a day
 pub one_chosen : (live : Table) (uid : List ℕ) (day : ℕ) (a b : ScheduleKey) (xs ys : List (List ℕ)) → IsChosen live uid day a xs → IsChosen live uid day b ys
     → (a ≡ b) × (xs ≡ ys)
 one_chosen live uid day a b xs ys one two =
@@ -64,12 +64,12 @@ one_chosen live uid day a b xs ys one two =
     let keys = tied_schedules a b (one.running.uid_is ∙ sym two.running.uid_is) tied in
     (keys, one_schedule live a b xs ys keys one.running.is_live two.running.is_live)
 
--- a UID and a day have at most one train
+-- a UID has at most one train on a day
 pub one_train : (live : Table) (uid : List ℕ) (day : ℕ) (a b : ScheduleKey) (xs ys : List (List ℕ)) → TrainRuns live uid day a xs → TrainRuns live uid day b ys
     → (a ≡ b) × (xs ≡ ys)
 one_train live uid day a b xs ys one two = one_chosen live uid day a b xs ys one.chosen two.chosen
 
--- a group and a day have at most one chosen association
+-- a group has at most one chosen association on a day
 pub one_link : (live : Table) (group : Group) (day : ℕ) (a b : AssociationKey) (x y : List ℕ) → IsChosenAssociation live group day a x
     → IsChosenAssociation live group day b y → (a ≡ b) × (x ≡ y)
 one_link live group day a b x y one two =

@@ -1,5 +1,5 @@
--- Docker lines that tie in their order are one line: of one schedule or one association, and of one
--- start day.
+-- Docker lines that tie are equal: they are of one schedule or one association, and of one start
+-- day.
 use Rattle.std.proofs.Common.{◌≡◌, ℕ, List, ap, sym, ◌∙◌, subst, inl, inr, ◌⊎◌, Some, None, Bool, true, false, cond, Contains, arith}
 use Rattle.std.specs.Prelude.{Option, codes, ◌==◌}
 use Rattle.std.specs.Str.{bytes_eq}
@@ -26,7 +26,7 @@ use Rattle.cif_laws.proofs.lists.FilteredMembers.{find_some}
 use Rattle.docker_laws.proofs.dockers.OneChoice.{one_train, one_link}
 use Rattle.docker_laws.proofs.dockers.Events.{one_event, IsOfTrain, event_occasion}
 
--- what two lines that tie have in common
+-- two lines agree in all that their order compares
 pub record AreTied (a b : DockerLine) : Type 0 where
   pub occasions : occasion_rank a.occasion ≡ occasion_rank b.occasion
   pub uids : a.uid ≡ b.uid
@@ -34,7 +34,7 @@ pub record AreTied (a b : DockerLine) : Type 0 where
   pub numbers : a.number ≡ b.number
   pub associated : associated_uid a.detail ≡ associated_uid b.detail
 
--- lines that tie agree in all that the order compares
+-- two lines that tie agree in all that the order compares
 pub tied_lines_agree : (a b : DockerLine) → docker_line_cmp a b ≡ Equal → AreTied a b
 tied_lines_agree a b e =
     let p = then_equal (nat_cmp a.time b.time) _ e in
@@ -52,14 +52,14 @@ tied_lines_agree a b e =
 
 -- ---- two events
 
--- two lines are of one schedule and one start day, and equal
+-- two events' lines are of one schedule and one start day, and equal
 pub record AreOneEvent (live : Table) (place : List ℕ) (day : ℕ) (a b : DockerLine) (one : IsEventLine live place day a)
     (two : IsEventLine live place day b) : Type 0 where
   pub keys : one.key ≡ two.key
   pub starts : one.start ≡ two.start
   pub lines : a ≡ b
 
--- two event lines that tie are so
+-- two events' lines that tie are of one schedule and one start day
 pub same_event_line : (live : Table) (place : List ℕ) (day : ℕ) (a b : DockerLine) (one : IsEventLine live place day a) (two : IsEventLine live place day b)
     → docker_line_cmp a b ≡ Equal → AreOneEvent live place day a b one two
 same_event_line live place day a b one two e =
@@ -85,11 +85,11 @@ same_event_line live place day a b one two e =
 
 -- ---- an event and an association
 
--- a join, a division or a next working
+-- the occasion is a join, a division or a next working
 abbrev pub IsOfLink : Occasion → Type 0
 IsOfLink occasion = (occasion ≡ joining) ⊎ (occasion ≡ dividing) ⊎ (occasion ≡ next_working)
 
--- the category of an association never stands for an event
+-- the category of an association stands for such an occasion, never for an event
 pub category_is_of_link : (category : List ℕ) (occasion : Occasion) → category_occasion category ≡ Some occasion → IsOfLink occasion
 category_is_of_link category occasion is = first (bytes_eq category (codes "JJ")) is
   where
@@ -117,7 +117,7 @@ not_both a b (inr (inr e)) (inl f) same = let bad : ◌≡◌ {A = ℕ} 5 2 = sy
 not_both a b (inr (inr e)) (inr (inl f)) same = let bad : ◌≡◌ {A = ℕ} 5 3 = sym (ap occasion_rank e) ∙ same ∙ ap occasion_rank f in omega arith
 not_both a b (inr (inr e)) (inr (inr f)) same = let bad : ◌≡◌ {A = ℕ} 5 4 = sym (ap occasion_rank e) ∙ same ∙ ap occasion_rank f in omega arith
 
--- an event's line and an association's line have different occasions
+-- the line of an event and the line of an association have different occasions
 pub event_apart : (live : Table) (place : List ℕ) (day : ℕ) (a b : DockerLine) → IsEventLine live place day a → IsAssociationLine live place day b
     → ¬ (occasion_rank a.occasion ≡ occasion_rank b.occasion)
 event_apart live place day a b one two same =
@@ -127,7 +127,7 @@ event_apart live place day a b one two same =
 
 -- ---- two associations
 
--- a partner has one identity
+-- a UID has only one identity on a day
 one_identity_on : (live : Table) (uid : List ℕ) (day : ℕ) (x y : List ℕ) → IsIdentityOn live uid x day → IsIdentityOn live uid y day → x ≡ y
 one_identity_on live uid day x y (inl one) (inl two) =
     let same = one_train live uid day one.0 two.0 one.1 two.1 one.2 two.2 in
@@ -136,19 +136,19 @@ one_identity_on live uid day x y (inl one) (inr two) = absurd (two.0 one.0 one.1
 one_identity_on live uid day x y (inr one) (inl two) = absurd (one.0 two.0 two.1 two.2)
 one_identity_on live uid day x y (inr one) (inr two) = one.1 ∙ sym two.1
 
--- an associated train has one identity
+-- an associated train has only one identity
 pub one_identity : (live : Table) (uid : List ℕ) (day : Option ℕ) (x y : List ℕ) → IsPartnerIdentity live uid day x → IsPartnerIdentity live uid day y → x ≡ y
 one_identity live uid None x y one two = one ∙ sym two
 one_identity live uid (Some day) x y one two = one_identity_on live uid day x y one two
 
--- two lines are of one association and one start day, and equal
+-- two associations' lines are of one association and one start day, and equal
 pub record AreOneAssociation (live : Table) (place : List ℕ) (day : ℕ) (a b : DockerLine) (one : IsAssociationLine live place day a)
     (two : IsAssociationLine live place day b) : Type 0 where
   pub keys : one.key ≡ two.key
   pub starts : one.start ≡ two.start
   pub lines : a ≡ b
 
--- the first event at a location and suffix is an event there, with this suffix
+-- the first event at a location with a suffix is an event there, with that suffix
 pub first_event_is : (base : List (List ℕ)) (location : List ℕ) (suffix : ℕ) (event : Event) → first_event_at base location suffix ≡ Some event
     → Contains (events_of base) event × (column 10 (event_line base event) ≡ suffix) × (columns 3 9 (event_line base event) ≡ location)
 first_event_is base location suffix event is =
@@ -156,7 +156,7 @@ first_event_is base location suffix event is =
     let parts = both (bytes_eq (columns 3 9 (event_line base event)) location) (column 10 (event_line base event) == suffix) told.1 in
     (told.0, eqb-true _ _ parts.1, (bytes_eq-Decides (columns 3 9 (event_line base event)) location).0 parts.0)
 
--- two association lines that tie are so
+-- two associations' lines that tie are of one association and one start day
 pub same_association_line : (live : Table) (place : List ℕ) (day : ℕ) (a b : DockerLine) (one : IsAssociationLine live place day a)
     (two : IsAssociationLine live place day b)
     → docker_line_cmp a b ≡ Equal → AreOneAssociation live place day a b one two

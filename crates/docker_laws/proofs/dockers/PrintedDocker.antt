@@ -1,4 +1,4 @@
--- If the files' moments are distinct, each docker that is printed of their summary is the docker of
+-- If the files have distinct moments, every docker printed from their summary is the docker of
 -- their plain table, whatever the horizon.
 use Rattle.std.proofs.Common.{◌≡◌, ℕ, ◌+◌, ◌≤◌, List, length, map, All, subst, inl, inr, ◌⊎◌, refl, ap, sym, ◌∙◌, Bool, true, false, Some, None, arith}
 use Rattle.std.specs.Prelude.{Option, ◌↔◌, nat_lt, fold}
@@ -24,20 +24,20 @@ use Rattle.docker_laws.proofs.dockers.GoodBodies.{good_bodies}
 use Rattle.docker_laws.proofs.dockers.LapsedDocker.{docker_list_iff, docker_text_iff}
 use Rattle.state_laws.proofs.states.PlainLive.{lapse_table_none, live_is_lapsed_plain}
 
--- a horizon that is a day is not above the number for no end
+-- a horizon that is a day is at most the end number of no end
 pub day_bound : (horizon : ℕ) → IsDay horizon → horizon ≤ no_end_number
 day_bound horizon day = omega arith
 
 -- ---- of valid states
 
--- on a day from three days after the horizon on, a state and its lapse have the same docker list
+-- from three days after the horizon on, a state has the same docker list before and after it lapses
 pub state_list_iff : (horizon : ℕ) (state : State) (place : List ℕ) (day : ℕ) (lines : List DockerLine) → IsDay horizon → IsValid state → horizon + 3 ≤ day
     → IsDockerList (live_table state) place day lines ↔ IsDockerList (live_table (lapse_state horizon state)) place day lines
 state_list_iff horizon state place day lines is_day valid from =
     subst (λ table. IsDockerList (live_table state) place day lines ↔ IsDockerList table place day lines) (sym (live_lapsed horizon state))
     (docker_list_iff horizon (day_bound horizon is_day) (live_table state) (bodies_few (live_table state) (good_bodies state valid)) place day from lines)
 
--- on such a day they have the same docker text
+-- from three days after the horizon on, a state has the same docker text before and after it lapses
 pub state_text_iff : (horizon : ℕ) (state : State) (place : List ℕ) (day : ℕ) (text : List ℕ) → IsDay horizon → IsValid state → horizon + 3 ≤ day
     → IsDockerText (live_table state) place day text ↔ IsDockerText (live_table (lapse_state horizon state)) place day text
 state_text_iff horizon state place day text is_day valid from =
@@ -78,7 +78,7 @@ module _ (files : List (List (List ℕ))) (each : All IsFile files) (few : All (
 
 -- ---- the law
 
--- a docker that is printed of a summary is the docker of the plain table
+-- a docker printed from a summary is the docker of the plain table
 pub printed_is_plain : (files : List (List (List ℕ))) (horizon : ℕ) (state : State) (table : Table) (place : List ℕ) (day : ℕ) (text : List ℕ)
     → All IsFile files → All (λ file. length file ≤ most_records) files → IsDay horizon → IsSummary files horizon state → IsPlainTable files table
     → ¬ IsDayRefused horizon day

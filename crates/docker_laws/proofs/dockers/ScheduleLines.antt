@@ -1,5 +1,5 @@
--- The lines of a schedule's events on one start day: which docker lines they are, and that they are
--- in the docker.
+-- The docker lines that a schedule gives for one start day. They are in the docker, and each line
+-- of an event in the docker is one of these.
 use Rattle.std.proofs.Common.{◌≡◌, ℕ, true, rules, List, Contains, ◌<◌, ap, sym, ◌∙◌, subst, Bool, eqb-true, arith, [], cond, refl, Some, None, false}
 use Rattle.std.specs.Prelude.{◌==◌, filter, ◌&&◌, Option}
 use Rattle.std.specs.Str.{bytes_eq}
@@ -31,11 +31,11 @@ use Rattle.docker_laws.proofs.dockers.Events.{numbers_ascend}
 use Rattle.docker_laws.proofs.dockers.OneDockerLine.{tied_lines_agree}
 use Rattle.cif_laws.proofs.orders.AtMost.{eq_is}
 
--- the test of equality passes for a number and itself
+-- a number passes the test of being equal to itself
 pub number_itself : (n : ℕ) → (n == n) ≡ true
 number_itself n = search rules
 
--- a line of the list, with its event
+-- a docker line of an event at the place on the day
 pub record IsLineOfEvent (place : List ℕ) (day start : ℕ) (key : ScheduleKey) (lines : List (List ℕ)) (line : DockerLine) : Type 0 where
   pub event : Event
   pub among : Contains (events_of lines) event
@@ -47,7 +47,7 @@ module _ (place : List ℕ) (day start : ℕ) (key : ScheduleKey) (lines : List 
   test : Event → Bool
   test event = bytes_eq (columns 3 9 (event_line lines event)) place && (event_day start lines event == day)
 
-  -- each event line is the line of an event at the place on the day
+  -- each of the lines is of an event at the place on the day
   pub event_lines_back : (line : DockerLine) → Contains (event_lines place day start key lines) line → IsLineOfEvent place day start key lines line
   unfolding test
   event_lines_back line among =
@@ -62,7 +62,7 @@ module _ (place : List ℕ) (day start : ℕ) (key : ScheduleKey) (lines : List 
         is = sym found.2;
       }
 
-  -- the line of an event at the place on the day is among the event lines
+  -- each line of an event at the place on the day is among them
   pub event_lines_forth : (line : DockerLine) → IsLineOfEvent place day start key lines line → Contains (event_lines place day start key lines) line
   unfolding test
   event_lines_forth line is =
@@ -72,7 +72,7 @@ module _ (place : List ℕ) (day start : ℕ) (key : ScheduleKey) (lines : List 
       subst (Contains (event_lines place day start key lines)) (sym is.is)
       (map-Contains (line_of_event key start lines) (filter test (events_of lines)) is.event (filter_forth test (events_of lines) is.event is.among passes))
 
-  -- the order distinguishes them by their numbers
+  -- no two of them tie: the events' numbers differ
   pub event_lines_apart : AreApart docker_line_cmp (event_lines place day start key lines)
   unfolding test
   event_lines_apart =
@@ -84,18 +84,18 @@ module _ (place : List ℕ) (day start : ℕ) (key : ScheduleKey) (lines : List 
       omega arith)
       (later_filter (λ (a b : Event). a.number < b.number) test (events_of lines) (numbers_ascend lines)))
 
--- the lines on one start day
+-- the docker lines for one start day
 abbrev pub schedule_piece : (List ℕ → ℕ → Option Train) → List ℕ → ℕ → ScheduleKey → List (List ℕ) → ℕ → List DockerLine
 schedule_piece trains place day key lines start = cond (runs_by (trains key.uid start) key) (event_lines place day start key lines) []
 
--- a docker line of the schedule and the start day
+-- a docker line of this schedule and this start day
 pub record IsOfSchedule (live : Table) (place : List ℕ) (day : ℕ) (key : ScheduleKey) (start : ℕ) (line : DockerLine) : Type 0 where
   pub made : IsEventLine live place day line
   pub of_key : made.key ≡ key
   pub of_start : made.start ≡ start
 
 module _ (live : Table) (trains : List ℕ → ℕ → Option Train) (tell : TellsTrains live trains) (place : List ℕ) (day : ℕ) where
-  -- each line in the piece of a schedule for one start day is a docker line of the schedule
+  -- each line that a schedule gives for a start day is in the docker
   pub schedule_piece_back : (key : ScheduleKey) (lines : List (List ℕ)) (start : ℕ) → live (schedule_key key) ≡ Some (schedule_body lines)
       → (line : DockerLine) → Contains (schedule_piece trains place day key lines start) line → IsOfSchedule live place day key start line
   schedule_piece_back key lines start is_live line among = by (trains key.uid start) (tell key.uid start) among
@@ -135,7 +135,7 @@ module _ (live : Table) (trains : List ℕ → ℕ → Option Train) (tell : Tel
           inner true h here = made (runs_as train (exact_schedule_key train.key key (eq_is (schedule_key_cmp train.key key) h)) runs) here
           inner false h here = absurd (nil-Contains line here)
 
-  -- a docker line of an event is in the piece for its train's start day
+  -- the docker line of an event is among those that its schedule gives for its start day
   pub schedule_piece_forth : (line : DockerLine) (made : IsEventLine live place day line)
       → Contains (schedule_piece trains place day made.key made.schedule made.start) line
   schedule_piece_forth line made = by (trains made.key.uid made.start) (tell made.key.uid made.start)
@@ -154,7 +154,7 @@ module _ (live : Table) (trains : List ℕ → ℕ → Option Train) (tell : Tel
           ∙ (λ i. is_eq (tied_itself schedule_key_total made.key i)) in
           subst (λ b. Contains (cond b (event_lines place day made.start made.key made.schedule) []) line) (sym runs_is) inside
 
-  -- no two lines of one piece tie in the order
+  -- no two lines for one start day tie
   pub schedule_piece_apart : (key : ScheduleKey) (lines : List (List ℕ)) (start : ℕ)
       → AreApart docker_line_cmp (schedule_piece trains place day key lines start)
   schedule_piece_apart key lines start = by (runs_by (trains key.uid start) key)
@@ -163,7 +163,7 @@ module _ (live : Table) (trains : List ℕ → ℕ → Option Train) (tell : Tel
       by true = event_lines_apart place day start key lines
       by false = tt
 
-  -- an event's train starts on one of the start days
+  -- the train of an event starts on one of the three start days
   pub event_starts : HasGoodBodies live → (line : DockerLine) (made : IsEventLine live place day line) → Contains (start_days day) made.start
   event_starts good line made =
       let few = bodies_few live good made.key made.schedule made.train_runs.chosen.running.is_live in

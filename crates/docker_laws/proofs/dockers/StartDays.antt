@@ -1,5 +1,5 @@
--- The events of a live schedule are on its start day or on one of the two days after it. So a day
--- has at most three start days.
+-- The events of a live schedule are on the start day or on one of the two days after. So a docker's
+-- trains have at most three start days.
 use Rattle.std.proofs.Common.{◌≡◌, ℕ, zero, suc, ◌+◌, ◌-◌, ◌≤◌, List, [], ◌∷◌, subst, inl, inr, ◌⊎◌, Some, Contains, arith}
 use Rattle.std.specs.Prelude.{filter, nat_le}
 use Rattle.std.proofs.lemmas.Bool.{leb-true, le-leb}
@@ -25,7 +25,7 @@ event_within start lines event few = let front = falls_below lines event.number 
 
 -- ---- the start days
 
--- the start days of a day are the days at most two days before it
+-- the start days for a day are it and the two days before
 pub start_days_iff : (day start : ℕ) → (Contains (start_days day) start → (start ≤ day) × (day ≤ start + 2)) × ((start ≤ day) × (day ≤ start + 2)
     → Contains (start_days day) start)
 start_days_iff day start = (forth, back)

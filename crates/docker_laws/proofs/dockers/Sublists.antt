@@ -5,17 +5,17 @@ use Rattle.docker_laws.specs.Excerpt.{IsSublist}
 use Rattle.cif_laws.proofs.lists.Membership.{Contains-cons, cons-Contains, cons-Contains-first, nil-Contains, below_by_recursion, each_member, member_of, all_members}
 use Rattle.cif_laws.proofs.lists.Later.{AllLater}
 
--- some elements of a list are some elements of the list with one more in front
+-- a sublist is still one if the list gets one more element at its front
 pub sublist_behind : {A : Type 0} (xs ys : List A) (y : A) → IsSublist xs ys → IsSublist xs (y ∷ ys)
 sublist_behind [] ys y is = tt
 sublist_behind (x ∷ xs) ys y is = inr is
 
--- each list is some elements of itself
+-- each list is a sublist of itself
 pub sublist_itself : {A : Type 0} (xs : List A) → IsSublist xs xs
 sublist_itself [] = tt
 sublist_itself (x ∷ xs) = inl (refl, sublist_itself xs)
 
--- the elements that pass a test are some elements of the list
+-- the elements that pass a test are a sublist
 pub sublist_filter : {A : Type 0} (test : A → Bool) (xs : List A) → IsSublist (filter test xs) xs
 sublist_filter test [] = tt
 sublist_filter test (x ∷ xs) = by (test x) (sublist_filter test xs)
@@ -37,11 +37,11 @@ sublist_member (x ∷ xs) (y ∷ ys) z is among =
     by inner outer (inl first) (inr inside) = cons-Contains y ys z (inner first.1 inside)
     by inner outer (inr rest) where_ = cons-Contains y ys z (outer rest)
 
--- if something holds of all elements of a list, it holds of all of a sublist
+-- a property that each element of a list has, each element of a sublist has
 pub sublist_all : {A : Type 0} (P : A → Type 0) (xs ys : List A) → IsSublist xs ys → All P ys → All P xs
 sublist_all P xs ys is all = all_members P xs (λ z among. member_of P ys z all (sublist_member xs ys z is among))
 
--- if each member of a list stands in a relation to each later one, so it is in a sublist
+-- if each element is in a relation to each later one, the same is true in a sublist
 pub sublist_later : {A : Type 0} (R : A → A → Type 0) (xs ys : List A) → IsSublist xs ys → AllLater R ys → AllLater R xs
 sublist_later R [] ys is later = tt
 sublist_later R (x ∷ xs) [] is later = absurd is
@@ -73,7 +73,7 @@ sublist_onward {A} (x ∷ xs) (y ∷ ys) (z ∷ zs) first second =
     by both_step first_step skip (inr later) (inl there) = inr (first_step later there.1)
     by both_step first_step skip here (inr behind) = inr (skip behind)
 
--- two sublists joined are a sublist of the joined lists
+-- two sublists, one after the other, are a sublist of the two lists
 pub sublist_append : {A : Type 0} (us xs vs ys : List A) → IsSublist us xs → IsSublist vs ys → IsSublist (us ++ vs) (xs ++ ys)
 sublist_append [] [] vs ys first second = second
 sublist_append [] (x ∷ xs) vs ys first second = sublist_behind vs (xs ++ ys) x (sublist_append [] xs vs ys tt second)
@@ -86,7 +86,7 @@ sublist_append {A} (u ∷ us) (x ∷ xs) vs ys first second =
     by both_step skip (inl here) = inl (here.0, both_step here.1)
     by both_step skip (inr later) = inr (skip later)
 
--- a front of a list is a sublist of it
+-- a prefix of a list is a sublist of it
 pub sublist_front : {A : Type 0} (xs ys : List A) → IsSublist xs (xs ++ ys)
 sublist_front [] ys = tt
 sublist_front (x ∷ xs) ys = inl (refl, sublist_front xs ys)

@@ -1,5 +1,5 @@
--- A thin body is a body of its key if the whole one is. A schedule's thin lines have no call that
--- the whole ones lack.
+-- A thin body fits its key if the whole body does. The thin lines of a schedule call at no place
+-- where the schedule doesn't.
 use Rattle.std.proofs.Common.{◌≡◌, ℕ, suc, ◌+◌, ◌≤◌, List, [], ◌∷◌, ◌++◌, length, subst, inl, inr, ◌⊎◌, refl, ap, sym, ◌∙◌, Bool, true, false, cond, Some, None, Contains, map, All, arith, append-nil}
 use Rattle.std.specs.Prelude.{Option, filter, nat_lt, IsTrue, ◌||◌, ◌&&◌}
 use Rattle.std.specs.Str.{bytes_eq}
@@ -18,18 +18,18 @@ use Rattle.cif_laws.proofs.lists.Membership.{Contains-single, Contains-cons, con
 use Rattle.cif_laws.proofs.lists.FilteredMembers.{filter_back}
 use Rattle.state_laws.proofs.indexes.CallsTest.{calls_test}
 
--- the lines that are ends
+-- the lines that are an origin or a terminus
 abbrev ends_in : List (List ℕ) → List (List ℕ)
 ends_in lines = filter (λ line. is_end (kind_of line)) lines
 
 -- ---- members
 
--- thin lines have the same first line
+-- the thin lines have the same first line
 pub first_of_thin : (lines : List (List ℕ)) → first_record (thin_lines lines) ≡ first_record lines
 first_of_thin [] = refl
 first_of_thin (basic ∷ others) = refl
 
--- each of them is a line of the schedule
+-- each thin line is a line of the schedule
 pub thin_member : (lines : List (List ℕ)) (line : List ℕ) → Contains (thin_lines lines) line → Contains lines line
 thin_member [] line among = among
 thin_member (basic ∷ others) line among = by (Contains-cons basic (ends_in others) line among)
@@ -38,12 +38,12 @@ thin_member (basic ∷ others) line among = by (Contains-cons basic (ends_in oth
     by (inl same) = subst (Contains (basic ∷ others)) same (cons-Contains-first basic others)
     by (inr inside) = cons-Contains basic others line (filter_back (λ l. is_end (kind_of l)) others line inside).0
 
--- so they call nowhere else
+-- if the thin lines call at a place, so does the schedule
 pub thin_calls : (place : List ℕ) (lines : List (List ℕ)) → CallsAt place (thin_lines lines) → CallsAt place lines
 thin_calls place lines calls =
     record { line = calls.line; among = thin_member lines calls.line calls.among; kind = calls.kind; here = calls.here }
 
--- there are no more of them
+-- there are at most as many ends as lines
 ends_shorter : (lines : List (List ℕ)) → length (ends_in lines) ≤ length lines
 ends_shorter [] = omega arith
 ends_shorter (line ∷ lines) = by (is_end (kind_of line)) (ends_shorter lines)
@@ -94,7 +94,7 @@ thin_is lines is =
 
 -- ---- two ends pass midnight at most once
 
--- the times of what may be timed
+-- the times of occasions that may have one
 abbrev times_in : List (Occasion × ℕ) → List ℕ
 times_in timings = map (λ (time : Occasion × ℕ). time.1) timings
 
@@ -127,7 +127,7 @@ module _ (lines : List (List ℕ)) (is : IsSchedule lines) where
   basic_record = member_of IsRecord lines is.basic is.records
       (subst (λ ls. Contains ls is.basic) same_lines (cons-Contains-first is.basic (is.extra ++ is.journey)))
 
-  -- a schedule without a journey
+  -- if the journey may be missing, the basic schedule by itself is a schedule
   alone : MayLackJourney is.basic → IsSchedule (is.basic ∷ [])
   alone lacks = record {
     basic = is.basic;
@@ -151,7 +151,7 @@ module _ (lines : List (List ℕ)) (is : IsSchedule lines) where
         subst (λ ls. Contains ls journey.last) (sym journey.whole)
         (Contains-append_right (journey.first ∷ journey.between) (journey.last ∷ []) journey.last (cons-Contains-first journey.last []))
 
-    -- what holds of each line of the journey holds of its ends
+    -- a property of each line of the journey is a property of its ends
     of_ends : (P : List ℕ → Type 0) → ((line : List ℕ) → Contains is.journey line → P line) → All P (journey.first ∷ journey.last ∷ [])
     of_ends P each = all_members P (journey.first ∷ journey.last ∷ [])
         (λ line among. by line (Contains-cons journey.first (journey.last ∷ []) line among))
@@ -207,7 +207,7 @@ module _ (lines : List (List ℕ)) (is : IsSchedule lines) where
 
 -- ---- other ends
 
--- its basic schedule with any two good ends is a schedule
+-- the basic schedule with any two good ends is a schedule
 with_any_ends : (lines : List (List ℕ)) → IsSchedule lines → (first last : List ℕ) → IsRecord first → IsRecord last → HasKind origin_location first
     → HasKind terminating_location last → HasGoodFields first → HasGoodFields last → IsSchedule (first_record lines ∷ first ∷ last ∷ [])
 with_any_ends lines is first last first_is last_is origin terminus first_good last_good =
@@ -235,7 +235,7 @@ with_any_ends lines is first last first_is last_is origin terminus first_good la
       });
     })
 
--- it is kept under the same key
+-- the basic schedule with any two good ends fits the same key
 pub any_ends_of_key : (key : ScheduleKey) (lines : List (List ℕ)) → IsScheduleOf key lines → (first last : List ℕ) → IsRecord first → IsRecord last
     → HasKind origin_location first → HasKind terminating_location last → HasGoodFields first → HasGoodFields last
     → IsScheduleOf key (first_record lines ∷ first ∷ last ∷ [])
@@ -248,7 +248,7 @@ any_ends_of_key key lines is first last first_is last_is origin terminus first_g
 
 -- ---- the body
 
--- they are kept under the same key
+-- the thin lines fit the same key
 pub thin_of_key : (key : ScheduleKey) (lines : List (List ℕ)) → IsScheduleOf key lines → IsScheduleOf key (thin_lines lines)
 thin_of_key key lines is = record {
   schedule = thin_is_schedule lines is.schedule;
@@ -257,7 +257,7 @@ thin_of_key key lines is = record {
   key_is = ap schedule_named (first_of_thin lines) ∙ is.key_is;
 }
 
--- the lines that a place needs are kept under the same key
+-- the lines that a place needs fit the same key
 pub needed_of_key : (place : List ℕ) (key : ScheduleKey) (lines : List (List ℕ)) → IsScheduleOf key lines → IsScheduleOf key (lines_for place lines)
 needed_of_key place key lines is = by (calls_at place lines)
   where
@@ -265,7 +265,7 @@ needed_of_key place key lines is = by (calls_at place lines)
     by true = is
     by false = thin_of_key key lines is
 
--- so the body that a place needs is a body of the key
+-- the body that a place needs fits the key
 pub needed_is_body : (place : List ℕ) (key : Key) (body : Body) → IsBodyOf key body → IsBodyOf key (body_for place body)
 needed_is_body place (schedule_key key) (schedule_body lines) is = needed_of_key place key lines is
 needed_is_body place (schedule_key key) (tiploc_body bytes) is = is
@@ -287,7 +287,7 @@ thin_few lines is = subst (λ thin. length thin ≤ 3) (sym (thin_is lines is)) 
     by (inl journey) = subst (λ ends. length (is.basic ∷ ends) ≤ 3) (sym (ends_of_journey is.journey journey)) (omega arith)
     by (inr none) = subst (λ ends. length (is.basic ∷ ends) ≤ 3) (sym (ap ends_in none.0)) (omega arith)
 
--- thin lines call nowhere else, as a test
+-- if a schedule doesn't call at a place, its thin lines don't either
 pub thin_elsewhere : (place : List ℕ) (lines : List (List ℕ)) → calls_at place lines ≡ false → calls_at place (thin_lines lines) ≡ false
 thin_elsewhere place lines none = by (calls_at place (thin_lines lines)) refl
   where
@@ -298,7 +298,7 @@ thin_elsewhere place lines none = by (calls_at place (thin_lines lines)) refl
         absurd (let worse : false ≡ true = bad in cc)
     by false h = refl
 
--- thin lines with one more line
+-- the thin lines, with one more line
 thin_more : (basic : List ℕ) (others : List (List ℕ)) (line : List ℕ) (b : Bool) → is_end (kind_of line) ≡ b
     → thin_lines (basic ∷ others ++ line ∷ []) ≡ thin_lines (basic ∷ others) ++ cond b (line ∷ []) []
 thin_more basic others line b h =
@@ -306,17 +306,17 @@ thin_more basic others line b h =
     filter-append (λ l. is_end (kind_of l)) others (line ∷ []) ∙ (λ i. ends_in others ++ end_by line [] b h i)
     )
 
--- an end is one of them
+-- an end is one of the thin lines
 pub thin_with_end : (basic : List ℕ) (others : List (List ℕ)) (line : List ℕ) → is_end (kind_of line) ≡ true
     → thin_lines (basic ∷ others ++ line ∷ []) ≡ thin_lines (basic ∷ others) ++ line ∷ []
 thin_with_end basic others line h = thin_more basic others line true h
 
--- any other line is not
+-- a line that isn't an end isn't one of the thin lines
 pub thin_without : (basic : List ℕ) (others : List (List ℕ)) (line : List ℕ) → is_end (kind_of line) ≡ false
     → thin_lines (basic ∷ others ++ line ∷ []) ≡ thin_lines (basic ∷ others)
 thin_without basic others line h = thin_more basic others line false h ∙ append-nil (thin_lines (basic ∷ others))
 
--- a schedule calls at the place with one more line
+-- a schedule with one more line calls at the place if it did before or the line does
 pub calls_more : (place : List ℕ) (lines : List (List ℕ)) (line : List ℕ) → calls_at place (lines ++ line ∷ [])
     ≡ (calls_at place lines || (is_location (kind_of line) && bytes_eq (columns 3 9 line) place))
 calls_more place lines line =

@@ -1,5 +1,4 @@
--- The changes that a keeper keeps for a place and a day make the thinned table of the one that all
--- changes make.
+-- The changes kept for a place and a day make the thinned table of what all changes make.
 use Rattle.std.proofs.Common.{arith, append-nil, append_assoc, ◌≡◌, ℕ, List, [], ◌∷◌, ◌++◌, subst, inl, inr, ◌⊎◌, refl, ap, sym, ◌∙◌, Bool, true, false, cond, Some, None, Contains, map}
 use Rattle.std.specs.Prelude.{Option, option_and_then, filter, fold, not}
 use Rattle.std.specs.declared.cmp.Ordering.TheVariants.{Greater}
@@ -25,17 +24,17 @@ use Rattle.cif_laws.proofs.orders.Orders.{same_key, key_total}
 use Rattle.cif_laws.proofs.orders.AtMost.{less_not_greater, at_most_trans}
 use Rattle.cif_laws.proofs.lists.Membership.{cons-Contains, cons-Contains-first, nil-Contains, Contains-single}
 
--- the test that a change is of the key
+-- the change is of this key
 abbrev is_of : Key → Change → Bool
 is_of key change = is_eq (key_cmp change.key key)
 
--- the body that a change leaves at its key
+-- the body that an act leaves at its key
 abbrev left_by : Act → Option Body
 left_by act = body_of (op_of act)
 
 -- ---- one change
 
--- a thin act leaves what is left of the body
+-- a thin act leaves the thin body of what the act leaves
 thin_left : (place : List ℕ) (day : ℕ) (act : Act) → left_by (thin_act place day act) ≡ option_and_then (thin_body place day) (left_by act)
 thin_left place day delete = refl
 thin_left place day (put body) = by (may_count day (put_with body))
@@ -44,14 +43,14 @@ thin_left place day (put body) = by (may_count day (put_with body))
     by true = refl
     by false = refl
 
--- the table after a change, at its key and at the others
+-- the table after a change: at its key, and at the others
 after_here : (table : Table) (change : Change) (key : Key) → is_of key change ≡ true → after_change table change key ≡ left_by change.act
 after_here table change key h = λ i. cond (h i) (left_by change.act) (table key)
 
 after_there : (table : Table) (change : Change) (key : Key) → is_of key change ≡ false → after_change table change key ≡ table key
 after_there table change key h = λ i. cond (h i) (left_by change.act) (table key)
 
--- what is left of a table whose body at the key is this
+-- if two tables have the same at a key, so have the thinned tables
 left_at : (place : List ℕ) (day : ℕ) (one other : Table) (key : Key) → one key ≡ other key → thinned place day one key ≡ thinned place day other key
 left_at place day one other key same = λ i. cond (may_matter place key) (option_and_then (thin_body place day) (same i)) None
 
@@ -60,7 +59,7 @@ none_or true = refl
 none_or false = refl
 
 module _ (place : List ℕ) (day : ℕ) where
-  -- a change of a key that may not matter changes nothing of what is left
+  -- a change whose key may not matter leaves the thinned table as it is
   step_elsewhere : (table : Table) (change : Change) (key : Key) → may_matter place change.key ≡ false
       → thinned place day (after_change table change) key ≡ thinned place day table key
   step_elsewhere table change key no_matter = by (is_of key change) refl
@@ -74,7 +73,7 @@ module _ (place : List ℕ) (day : ℕ) where
           nothing (after_change table change) none ∙ sym (nothing table none)
       by false h = left_at place day (after_change table change) table key (after_there table change key h)
 
-  -- a change of a key that may matter leaves what the kept change makes
+  -- a change whose key may matter does to the thinned table what the thin change does
   step_kept : (table left : Table) (change : Change) (key : Key) → may_matter place change.key ≡ true → left key ≡ thinned place day table key
       → after_change left (thin_change place day change) key ≡ thinned place day (after_change table change) key
   step_kept table left change key matters same = by (is_of key change) refl
@@ -92,7 +91,7 @@ module _ (place : List ℕ) (day : ℕ) where
 
   -- ---- all changes
 
-  -- the changes that may matter
+  -- the changes whose keys may matter
   abbrev matter : List Change → List Change
   matter changes = filter (λ (change : Change). may_matter place change.key) changes
 
@@ -118,7 +117,7 @@ module _ (place : List ℕ) (day : ℕ) where
       → fold after_change (thinned place day table) (thin_changes place day changes) key ≡ thinned place day (fold after_change table changes) key
   thin_over table changes key = kept_from changes table (thinned place day table) (λ k. refl) key
 
-  -- so they do from the empty table on
+  -- from the empty table on, too
   thin_enough : (changes : List Change) → AreEnough place day changes (thin_changes place day changes)
   thin_enough changes = kept_from changes empty_table empty_table (λ key. sym (none_or (may_matter place key)))
 
@@ -142,7 +141,7 @@ untouched (change ∷ changes) table key none =
     by true h rest = absurd (none change (cons-Contains-first change changes) (same_key change.key key h))
     by false h rest = rest ∙ after_there table change key h
 
--- without the changes of a key, the key is left as it was
+-- without the changes of a key, the key is as it was before
 without_here : (key : Key) (changes : List Change) (table : Table) → fold after_change table (without key changes) key ≡ table key
 without_here key [] table = refl
 without_here key (change ∷ changes) table = by (is_of key change) refl (without_here key changes)
@@ -155,7 +154,7 @@ without_here key (change ∷ changes) table = by (is_of key change) refl (withou
         ∙ rest (after_change table change)
         ∙ after_there table change key h
 
--- and the others are left as they are with them
+-- without them, other keys are as they are with them
 without_there : (key other : Key) → is_eq (key_cmp key other) ≡ false → (changes : List Change) (one two : Table) → one other ≡ two other
     → fold after_change one (without key changes) other ≡ fold after_change two changes other
 without_there key other apart [] one two same = same
@@ -181,19 +180,19 @@ module _ (place : List ℕ) (day : ℕ) where
     all_more : (key : Key) → thinned place day (table_of (changes ++ change ∷ [])) key ≡ thinned place day (after_change (table_of changes) change) key
     all_more key = ap (λ (table : Table). thinned place day table key) (table_more empty_table changes change)
 
-    -- a change of a key that may not matter is dropped
+    -- a change whose key may not matter may be dropped
     enough_elsewhere : may_matter place change.key ≡ false → AreEnough place day (changes ++ change ∷ []) kept
     enough_elsewhere no_matter key =
         so_far key ∙ sym (step_elsewhere place day (table_of changes) change key no_matter) ∙ sym (all_more key)
 
-    -- any other is kept, thin
+    -- a change whose key may matter may be kept, thin
     enough_kept : may_matter place change.key ≡ true → AreEnough place day (changes ++ change ∷ []) (kept ++ thin_change place day change ∷ [])
     enough_kept matters key =
         (λ i. table_more empty_table kept (thin_change place day change) i key)
         ∙ step_kept place day (table_of changes) (table_of kept) change key matters (so_far key)
         ∙ sym (all_more key)
 
-    -- nothing is left of a key that a thin act deletes
+    -- after a deletion, nothing is left of the key in the thinned table
     none_left : thin_act place day change.act ≡ delete → (key : Key) → is_of key change ≡ true
         → thinned place day (after_change (table_of changes) change) key ≡ None
     none_left deletes key h =
@@ -208,7 +207,7 @@ module _ (place : List ℕ) (day : ℕ) where
         → thinned place day (after_change (table_of changes) change) key ≡ thinned place day (table_of changes) key
     same_elsewhere key h = left_at place day (after_change (table_of changes) change) (table_of changes) key (after_there (table_of changes) change key h)
 
-    -- a deletion is dropped if no kept change is of its key
+    -- a deletion may be dropped, if no change of its key is kept
     enough_dropped : thin_act place day change.act ≡ delete → HasNoChangeOf change.key kept → AreEnough place day (changes ++ change ∷ []) kept
     enough_dropped deletes none key = by (is_of key change) refl
       where
@@ -218,7 +217,7 @@ module _ (place : List ℕ) (day : ℕ) where
             untouched kept empty_table key of_key ∙ sym (none_left deletes key h) ∙ sym (all_more key)
         by false h = so_far key ∙ sym (same_elsewhere key h) ∙ sym (all_more key)
 
-    -- in place of a deletion, the kept changes of its key may go
+    -- for a deletion, the kept changes of its key may be removed
     enough_removed : thin_act place day change.act ≡ delete → AreEnough place day (changes ++ change ∷ []) (without change.key kept)
     enough_removed deletes key = by (is_of key change) refl
       where
@@ -231,7 +230,7 @@ module _ (place : List ℕ) (day : ℕ) where
         by false h =
             without_there change.key key h kept empty_table empty_table refl ∙ so_far key ∙ sym (same_elsewhere key h) ∙ sym (all_more key)
 
-    -- and so they may if the change is kept
+    -- if the change itself is kept, they may be removed too
     enough_replaced : may_matter place change.key ≡ true
         → AreEnough place day (changes ++ change ∷ []) (without change.key kept ++ thin_change place day change ∷ [])
     enough_replaced matters key =
@@ -256,7 +255,7 @@ module _ (place : List ℕ) (day : ℕ) where
 
 -- ---- what a keeper may keep
 
--- some elements of a list give some images
+-- if one list is a sublist of another, so are their images
 sublist_map : {A B : Type 0} (f : A → B) (xs ys : List A) → IsSublist xs ys → IsSublist (map f xs) (map f ys)
 sublist_map f [] ys is = tt
 sublist_map f (x ∷ xs) [] is = absurd is
@@ -268,7 +267,7 @@ sublist_map {A} f (x ∷ xs) (y ∷ ys) is = by (sublist_map f xs ys) (sublist_m
     by both_step skip (inr later) = inr (skip later)
 
 module _ (place : List ℕ) (day : ℕ) where
-  -- the kept changes of all changes
+  -- all changes, each kept thin if its key may matter, may be kept
   pub thinning_of_all : (changes : List Change) → IsThinning place day changes (thin_changes place day changes)
   thinning_of_all changes = record {
     some = sublist_map (thin_change place day) (filter (λ (change : Change). may_matter place change.key) changes) changes
@@ -276,7 +275,7 @@ module _ (place : List ℕ) (day : ℕ) where
     enough = thin_enough place day changes;
   }
 
-  -- nothing of no change
+  -- of no changes none is kept
   pub thinning_at_first : IsThinning place day [] []
   thinning_at_first = record { some = tt; enough = enough_at_first place day }
 
@@ -284,14 +283,14 @@ module _ (place : List ℕ) (day : ℕ) where
     abbrev before : List Change
     before = map (thin_change place day) changes
 
-    -- what was some of the changes is some of them with one more
+    -- some of the changes are still some of them with one more
     still_some : (others : List Change) → IsSublist others kept → IsSublist others (map (thin_change place day) (changes ++ change ∷ []))
     still_some others inside =
         subst (IsSublist others) (sym (map-append (thin_change place day) changes (change ∷ [])))
         (sublist_onward others kept (before ++ thin_change place day change ∷ []) inside
         (sublist_onward kept before (before ++ thin_change place day change ∷ []) is.some (sublist_front before (thin_change place day change ∷ []))))
 
-    -- and so it is with one more kept
+    -- also if that one is kept
     some_more : (others : List Change) → IsSublist others kept
         → IsSublist (others ++ thin_change place day change ∷ []) (map (thin_change place day) (changes ++ change ∷ []))
     some_more others inside =
@@ -299,35 +298,35 @@ module _ (place : List ℕ) (day : ℕ) where
         (sublist_append others before (thin_change place day change ∷ []) (thin_change place day change ∷ [])
         (sublist_onward others kept before inside is.some) (sublist_itself (thin_change place day change ∷ [])))
 
-    -- a change of a key that may not matter is dropped
+    -- a change whose key may not matter may be dropped
     pub thinning_elsewhere : may_matter place change.key ≡ false → IsThinning place day (changes ++ change ∷ []) kept
     thinning_elsewhere no_matter = record {
       some = still_some kept (sublist_itself kept);
       enough = enough_elsewhere place day changes kept change is.enough no_matter;
     }
 
-    -- any other is kept, thin
+    -- a change whose key may matter may be kept, thin
     pub thinning_kept : may_matter place change.key ≡ true → IsThinning place day (changes ++ change ∷ []) (kept ++ thin_change place day change ∷ [])
     thinning_kept matters = record {
       some = some_more kept (sublist_itself kept);
       enough = enough_kept place day changes kept change is.enough matters;
     }
 
-    -- a deletion is dropped if no kept change is of its key
+    -- a deletion may be dropped, if no change of its key is kept
     pub thinning_dropped : thin_act place day change.act ≡ delete → HasNoChangeOf change.key kept → IsThinning place day (changes ++ change ∷ []) kept
     thinning_dropped deletes none = record {
       some = still_some kept (sublist_itself kept);
       enough = enough_dropped place day changes kept change is.enough deletes none;
     }
 
-    -- in place of a deletion, the kept changes of its key may go
+    -- for a deletion, the kept changes of its key may be removed
     pub thinning_removed : thin_act place day change.act ≡ delete → IsThinning place day (changes ++ change ∷ []) (without change.key kept)
     thinning_removed deletes = record {
       some = still_some (without change.key kept) (sublist_filter (λ (other : Change). not (is_of change.key other)) kept);
       enough = enough_removed place day changes kept change is.enough deletes;
     }
 
-    -- and so they may if the change is kept
+    -- if the change itself is kept, they may be removed too
     pub thinning_replaced : may_matter place change.key ≡ true
         → IsThinning place day (changes ++ change ∷ []) (without change.key kept ++ thin_change place day change ∷ [])
     thinning_replaced matters = record {
@@ -335,7 +334,7 @@ module _ (place : List ℕ) (day : ℕ) where
       enough = enough_replaced place day changes kept change is.enough matters;
     }
 
--- all changes of a list are kept, each thin, if they may matter
+-- if more changes follow, each whose key may matter may be kept, thin
 pub thinning_more : (place : List ℕ) (day : ℕ) (all kept more : List Change) → IsThinning place day all kept
     → IsThinning place day (all ++ more) (kept ++ thin_changes place day more)
 thinning_more place day all kept [] is =
@@ -348,7 +347,7 @@ thinning_more place day all kept (change ∷ more) is =
     rest : List Change
     rest = filter (λ (c : Change). may_matter place c.key) more
 
-    -- with the change, if the test passes
+    -- the change is kept if the test passes
     Goal : Bool → Type 0
     Goal test = IsThinning place day (all ++ change ∷ [] ++ more) (kept ++ map (thin_change place day) (cond test (change ∷ rest) rest))
 
@@ -365,41 +364,41 @@ thinning_more place day all kept (change ∷ more) is =
 -- ---- a thin act, case by case
 
 module _ (place : List ℕ) (day : ℕ) (lines : List (List ℕ)) where
-  -- what may not count is deleted
+  -- a schedule that may not count is deleted
   pub act_far : runs_near day (first_record lines) ≡ false → thin_act place day (put (schedule_body lines)) ≡ delete
   act_far far = λ i. cond (far i) (put (schedule_body (lines_for place lines))) delete
 
   act_near : runs_near day (first_record lines) ≡ true → thin_act place day (put (schedule_body lines)) ≡ put (schedule_body (lines_for place lines))
   act_near near = λ i. cond (near i) (put (schedule_body (lines_for place lines))) delete
 
-  -- what calls at the place is put as it is
+  -- a schedule that calls at the place is put as it is
   pub act_calls : runs_near day (first_record lines) ≡ true → calls_at place lines ≡ true
       → thin_act place day (put (schedule_body lines)) ≡ put (schedule_body lines)
   act_calls near calls = act_near near ∙ (λ i. put (schedule_body (cond (calls i) lines (thin_lines lines))))
 
-  -- what doesn't is put with a thin body
+  -- a schedule that doesn't call at the place is put with a thin body
   pub act_thin : runs_near day (first_record lines) ≡ true → calls_at place lines ≡ false
       → thin_act place day (put (schedule_body lines)) ≡ put (schedule_body (thin_lines lines))
   act_thin near none = act_near near ∙ (λ i. put (schedule_body (cond (none i) lines (thin_lines lines))))
 
--- a basic schedule runs near the day with its transaction set to N if it runs near it
+-- whether a basic schedule runs near the day doesn't depend on its transaction
 pub near_of_new : (day : ℕ) (line : List ℕ) → runs_near day (as_new line) ≡ runs_near day line
 near_of_new day line = λ i. list_any
     (λ start. runs_within (new_columns line 10 15 (omega arith) i) (new_columns line 16 21 (omega arith) i) (new_columns line 22 28 (omega arith) i) start)
     (near_starts day)
 
--- ---- the greatest key so far
+-- ---- the greatest key of the kept changes
 
--- nothing of a key above all others was kept
+-- no change of a key above all these was kept
 pub none_above : (highest key : Key) (kept : List Change) → AreAtMost highest kept → IsBelow key_cmp highest key → HasNoChangeOf key kept
 none_above highest key kept low below change among same =
     low change among (subst (λ (k : Key). key_cmp k highest ≡ Greater) (sym same) (key_total.antisymm key highest ∙ ap ordering_reverse below))
 
--- no change is above any key at first
+-- without changes, none is of a key above this one
 pub none_at_first : (highest : Key) → AreAtMost highest []
 none_at_first highest change among = absurd (nil-Contains change among)
 
--- with a change of a key that is not above it, none is
+-- one more change, of a key that isn't above
 pub still_at_most : (highest : Key) (kept : List Change) (change : Change) → AreAtMost highest kept → IsAtMost key_cmp change.key highest
     → AreAtMost highest (kept ++ change ∷ [])
 still_at_most highest kept change low more other among = by (Contains-append_cases kept (change ∷ []) other among)
@@ -408,7 +407,7 @@ still_at_most highest kept change low more other among = by (Contains-append_cas
     by (inl before) = low other before
     by (inr last) = subst (λ (c : Change). IsAtMost key_cmp c.key highest) (Contains-single change other last) more
 
--- with a change of a key above it, that key is the greatest
+-- one more change, of a key above, which is now the greatest
 pub raised_at_most : (highest : Key) (kept : List Change) (change : Change) → AreAtMost highest kept → IsBelow key_cmp highest change.key
     → AreAtMost change.key (kept ++ change ∷ [])
 raised_at_most highest kept change low below =

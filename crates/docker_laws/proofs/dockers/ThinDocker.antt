@@ -31,7 +31,7 @@ use Rattle.docker_laws.proofs.dockers.ThinBody.{first_of_thin, thin_elsewhere, n
 
 -- ---- stand-ins
 
--- a schedule's lines stand for the ones that stand for them
+-- if lines are a stand-in for a schedule's, the schedule's are one for them
 turned : (place : List ℕ) (day : ℕ) (one other : List (List ℕ)) → IsStandIn place day one other → IsStandIn place day other one
 turned place day one other is = record {
   runs = λ start near. sym (is.runs start near);
@@ -43,7 +43,7 @@ turned place day one other is = record {
     swap (inl calls) = inr calls
     swap (inr calls) = inl calls
 
--- lines with the same first line stand for a schedule's if neither list calls at the place
+-- lines with the same first line are a stand-in, if neither list calls at the place
 pub stand_in_by_first : (place : List ℕ) (day : ℕ) (whole lines : List (List ℕ)) → first_record lines ≡ first_record whole → calls_at place whole ≡ false
     → calls_at place lines ≡ false → IsStandIn place day whole lines
 stand_in_by_first place day whole lines same none no_other = record {
@@ -59,7 +59,7 @@ stand_in_by_first place day whole lines same none no_other = record {
     by (inl calls) = absurd (elsewhere whole none calls)
     by (inr calls) = absurd (elsewhere lines no_other calls)
 
--- the lines that the place needs stand for all
+-- the lines that the place needs are a stand-in
 pub needed_stand_in : (place : List ℕ) (day : ℕ) (lines : List (List ℕ)) → IsStandIn place day lines (lines_for place lines)
 needed_stand_in place day lines = by (calls_at place lines) refl
   where
@@ -67,10 +67,10 @@ needed_stand_in place day lines = by (calls_at place lines) refl
     by true h = record { runs = λ start near. refl; identity = refl; calls = λ either. refl }
     by false h = stand_in_by_first place day lines (thin_lines lines) (first_of_thin lines) h (thin_elsewhere place lines h)
 
--- ---- two tables that a docker of a place and a day can't distinguish
+-- ---- two tables with the same docker for a place and a day
 
--- what one table has, the other has too as far as the docker needs it: a schedule that runs near
--- the day, and an association at the place
+-- what the docker needs of one table, the other has: each schedule that runs near the day, and each
+-- association at the place
 record Covers (one other : Table) (place : List ℕ) (day : ℕ) : Type 0 where
   runs : (start : ℕ) → IsStartNear day start → (uid : List ℕ) (key : ScheduleKey) (lines : List (List ℕ)) → IsRunning one uid start key lines
       → (others : List (List ℕ)) × IsRunning other uid start key others × IsStandIn place day lines others
@@ -96,7 +96,7 @@ module _ (one other : Table) (place : List ℕ) (day : ℕ) (forth : Covers one 
         found.2,
       )
 
-  -- a train that calls at the place runs by the same lines
+  -- a train that calls at the place runs by the same lines in the other table
   calling_over : (start : ℕ) → IsStartNear day start → (uid : List ℕ) (key : ScheduleKey) (lines : List (List ℕ)) → CallsAt place lines
       → TrainRuns one uid start key lines → TrainRuns other uid start key lines
   calling_over start near uid key lines calls is =
@@ -110,7 +110,7 @@ module _ (one other : Table) (place : List ℕ) (day : ℕ) (forth : Covers one 
     first = λ another others runs. is.first another others (back.links group here start another others runs);
   }
 
-  -- a train with an event on the day at the place starts on the day or on one of the two before
+  -- a train with an event at the place on the day starts on it or on one of the two days before
   started_near : (start : ℕ) (uid : List ℕ) (key : ScheduleKey) (lines : List (List ℕ)) (event : Event) → CallsAt place lines
       → TrainRuns one uid start key lines → event_day start lines event ≡ day → (start ≤ day) × (day ≤ start + 2)
   started_near start uid key lines event calls runs today = started day start lines event (forth.few key lines runs.chosen.running.is_live calls) today
@@ -134,7 +134,7 @@ module _ (one other : Table) (place : List ℕ) (day : ℕ) (forth : Covers one 
         is = is.is;
       }
 
--- the partner's identity is the same on a start day near the day
+-- a UID has the same identity in both tables, on a start day near the day
 module _ (one other : Table) (place : List ℕ) (day : ℕ) (forth : Covers one other place day) (back : Covers other one place day) where
   identity_over : (start : ℕ) → IsStartNear day start → (uid identity : List ℕ) → IsIdentityOn one uid identity start → IsIdentityOn other uid identity start
   identity_over start near uid identity (inl runs) =
@@ -186,7 +186,7 @@ module _ (one other : Table) (place : List ℕ) (day : ℕ) (forth : Covers one 
   line_over line (inl event) = inl (event_line_over one other place day forth back line event)
   line_over line (inr association) = inr (association_line_over line association)
 
--- so is the docker list
+-- if each of two tables has what the docker needs of the other, both have the same docker list
 list_over : (one other : Table) (place : List ℕ) (day : ℕ) → Covers one other place day → Covers other one place day → (lines : List DockerLine)
     → IsDockerList one place day lines → IsDockerList other place day lines
 list_over one other place day forth back lines is = record {
@@ -232,7 +232,7 @@ module _ (place : List ℕ) (day : ℕ) (live part : Table) (stands : StandsFor 
     few = λ key lines is_live calls. few key lines is_live;
   }
 
-  -- both have the same docker list there on that day
+  -- a table and one that stands for it have the same docker list for the place and the day
   pub stand_in_list_iff : HasFewMidnights live → HasFewMidnights part → (lines : List DockerLine)
       → IsDockerList live place day lines ↔ IsDockerList part place day lines
   stand_in_list_iff few few_part lines = (
@@ -243,7 +243,7 @@ module _ (place : List ℕ) (day : ℕ) (live part : Table) (stands : StandsFor 
   stand_in_text_same : (lines : List DockerLine) → docker_text part place day lines ≡ docker_text live place day lines
   stand_in_text_same lines = ap (text_with place day lines) (ap description_in stands.tiploc)
 
-  -- both have the same docker text
+  -- a table and one that stands for it have the same docker text for the place and the day
   pub stand_in_text_iff : HasFewMidnights live → HasFewMidnights part → (text : List ℕ)
       → IsDockerText live place day text ↔ IsDockerText part place day text
   stand_in_text_iff few few_part text = (
@@ -254,13 +254,14 @@ module _ (place : List ℕ) (day : ℕ) (live part : Table) (stands : StandsFor 
 -- ---- a table and its thinned table
 
 module _ (place : List ℕ) (day : ℕ) (live : Table) where
-  -- a live schedule that runs near the day is left, as far as the place needs it
+  -- a live schedule that runs near the day is in the thinned table, with the lines that the place
+  -- needs
   schedule_left : (key : ScheduleKey) (lines : List (List ℕ)) → live (schedule_key key) ≡ Some (schedule_body lines)
       → runs_near day (first_record lines) ≡ true → thinned place day live (schedule_key key) ≡ Some (schedule_body (lines_for place lines))
   schedule_left key lines is_live runs =
       ap (option_and_then (thin_body place day)) is_live ∙ (λ i. cond (runs i) (Some (schedule_body (lines_for place lines))) None)
 
-  -- what is left of a schedule are the lines that the place needs of a live one
+  -- a schedule in the thinned table has those lines of a live one that the place needs
   schedule_was : (key : ScheduleKey) (lines : List (List ℕ)) → thinned place day live (schedule_key key) ≡ Some (schedule_body lines)
       → (whole : List (List ℕ)) × (live (schedule_key key) ≡ Some (schedule_body whole)) × (lines_for place whole ≡ lines)
   schedule_was key lines is = by (then_some (thin_body place day) (live (schedule_key key)) (schedule_body lines) is)
@@ -311,7 +312,7 @@ module _ (place : List ℕ) (day : ℕ) (live : Table) where
       of_association key (Some (tiploc_body bytes)) is = absurd (is (tiploc_body bytes) refl)
       of_association key (Some (schedule_body lines)) is = absurd (is (schedule_body lines) refl)
 
-  -- the thinned table has good bodies if the table has
+  -- if the table has good bodies, so has the thinned table
   pub thin_good : HasGoodBodies live → HasGoodBodies (thinned place day live)
   thin_good good key body left = by (may_matter place key) left
     where
@@ -328,19 +329,19 @@ module _ (place : List ℕ) (day : ℕ) (live : Table) where
       by false h = none_some body h
 
   module _ (good : HasGoodBodies live) where
-    -- both have the same docker list there on that day
+    -- a table and its thinned table have the same docker list for the place and the day
     pub thin_list_iff : (lines : List DockerLine) → IsDockerList live place day lines ↔ IsDockerList (thinned place day live) place day lines
     thin_list_iff lines =
         stand_in_list_iff place day live (thinned place day live) (thinned_stands good) (bodies_few live good)
         (bodies_few (thinned place day live) (thin_good good)) lines
 
-    -- both have the same docker text
+    -- a table and its thinned table have the same docker text for the place and the day
     pub thin_text_iff : (text : List ℕ) → IsDockerText live place day text ↔ IsDockerText (thinned place day live) place day text
     thin_text_iff text =
         stand_in_text_iff place day live (thinned place day live) (thinned_stands good) (bodies_few live good)
         (bodies_few (thinned place day live) (thin_good good)) text
 
-    -- each excerpt of the thinned table for the place has the same docker list too
+    -- any excerpt of the thinned table for the place has the same docker list too
     pub thin_excerpt_list : (part : Table) → IsExcerpt place (thinned place day live) part → (lines : List DockerLine)
         → IsDockerList live place day lines ↔ IsDockerList part place day lines
     thin_excerpt_list part is lines =
@@ -348,7 +349,7 @@ module _ (place : List ℕ) (day : ℕ) (live : Table) where
         let excerpt = excerpt_list_iff place (thinned place day live) part is day lines in
         (λ told. excerpt.0 (thin.0 told), λ told. thin.1 (excerpt.1 told))
 
-    -- and the same docker text
+    -- any excerpt of the thinned table for the place has the same docker text too
     pub thin_excerpt_text : (part : Table) → IsExcerpt place (thinned place day live) part → (text : List ℕ)
         → IsDockerText live place day text ↔ IsDockerText part place day text
     thin_excerpt_text part is text =

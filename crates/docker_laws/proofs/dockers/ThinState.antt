@@ -1,5 +1,5 @@
--- The state of the changes that a keeper keeps of a file is valid, and has the docker of the place
--- and the day that the file's summary has.
+-- The state made of what is kept of a file is valid. It gives the docker of the place and the day
+-- that the file's summary gives.
 use Rattle.std.proofs.Common.{◌≡◌, ℕ, ◌-◌, ◌^◌, ◌<◌, ◌≤◌, List, [], ◌∷◌, length, map, subst, inl, inr, ◌⊎◌, refl, ap, sym, ◌∙◌, Bool, true, false, cond, Some, None, Contains, All, arith}
 use Rattle.std.specs.Prelude.{Option, option_and_then, ◌↔◌, fold}
 use Rattle.std.specs.declared.cmp.Ordering.TheVariants.{Less, Greater}
@@ -47,8 +47,8 @@ module _ (file : List (List ℕ)) (kept : List Change) (state : State) (of : IsS
   at_least entry other (inr below) greater =
       let less : entry_cmp other entry ≡ Less = (λ i. ordering_then (below i) (op_cmp other.op entry.op)) in cc
 
-  -- the live table of the changes' state is the table that they make, if the later change of a key
-  -- has the higher number
+  -- its live table is the table that the changes make, if a later change of a key has a higher
+  -- number
   live_is_made : AllLater Apart kept → (key : Key) → live_table state key ≡ table_of kept key
   live_is_made apart key =
       by (last_there entries empty_table key (later_map_weaker (entry_of_change file) Apart Ascends (within_file file) kept apart)) (find_in state.entries key)
@@ -68,7 +68,7 @@ module _ (file : List (List ℕ)) (kept : List Change) (state : State) (of : IsS
             greatest = λ other among. at_least last.0 other (last.3 other among);
           })))
 
--- the live table of a file's summary is the table of its changes
+-- the live table of a file's summary is the table that the file's changes make
 pub live_of_summary : (file : List (List ℕ)) (whole : State) → IsSummary (file ∷ []) 0 whole → (key : Key)
     → live_table whole key ≡ after_file empty_table file key
 live_of_summary file whole summary key =
@@ -90,16 +90,16 @@ module _ (place : List ℕ) (day : ℕ) (file : List (List ℕ)) (kept : List Ch
       sublist_later Apart kept (map (thin_change place day) (changes file)) is.some
       (later_map Apart (thin_change place day) (changes file) (changes_apart 1 file))
 
-  -- a kept change is the thin one of a change of the file
+  -- a kept change is a change of the file, thin
   was_change : (change : Change) → Contains kept change → (whole : Change) × Contains (changes file) whole × (thin_change place day whole ≡ change)
   was_change change among =
       Contains-map (thin_change place day) (changes file) change (sublist_member kept (map (thin_change place day) (changes file)) change is.some among)
 
-  -- the live table of the state of what is kept is the thinned table of the file's
+  -- the live table is the file's table, thinned
   pub thin_live : (state : State) → IsStateOfChanges file kept state → (key : Key) → live_table state key ≡ thinned place day (after_file empty_table file) key
   thin_live state of key = live_is_made file kept state of kept_apart key ∙ is.enough key
 
--- what a thin act leaves is a body of the key
+-- a thin act leaves an op that fits the key
 thin_op : (place : List ℕ) (day : ℕ) (key : Key) (act : Act) → IsOpOf key (op_of act) → IsOpOf key (op_of (thin_act place day act))
 thin_op place day key delete good = tt
 thin_op place day key (put body) good = by (may_count day (put_with body))
@@ -110,7 +110,7 @@ thin_op place day key (put body) good = by (may_count day (put_with body))
 
 -- ---- the state is valid
 
--- the ledger of one good item is good
+-- a ledger of one good item is good
 ledger_of_one : (item : LedgerItem) → IsGoodItem item → IsLedger (item ∷ [])
 ledger_of_one item good = by good.indicator
   where
@@ -145,13 +145,13 @@ ledger_of_one item good = by good.indicator
       kept = all_members (λ (i : LedgerItem). IsKept None i.stamp) (item ∷ []) (is_item (λ (i : LedgerItem). IsKept None i.stamp) tt);
     }
 
--- without a horizon nothing has to lapse
+-- without a horizon no op lapses
 pub no_lapse : (op : Op) → HasNotToLapse 0 op
 no_lapse deleted = tt
 no_lapse lapsed = tt
 no_lapse (put_with body) = omega arith
 
--- a kept change of a file is well formed, and its number is the number of a record after the header
+-- a kept change is well formed, and has the number of a record after the header
 pub kept_good : (place : List ℕ) (day : ℕ) (file : List (List ℕ)) → IsFile file → length file ≤ most_records → (kept : List Change)
     → IsThinning place day (changes file) kept → (change : Change) → Contains kept change
     → (IsGoodKey change.key × IsOpOf change.key (op_of change.act)) × ((2 ≤ change.number) × (change.number < 2 ^ 32 - 1))
@@ -210,13 +210,13 @@ module _ (place : List ℕ) (day : ℕ) (file : List (List ℕ)) (is_file : IsFi
             (live_of_summary file whole summary key)
             ∙ sym (thin_live place day file kept is state of key)
 
-    -- the state of what is kept has the same docker list
+    -- the state of what is kept has the same docker list as the file's summary
     pub thin_state_list : (lines : List DockerLine) → IsDockerList (live_table whole) place day lines ↔ IsDockerList (live_table state) place day lines
     thin_state_list lines =
         subst (λ (table : Table). IsDockerList (live_table whole) place day lines ↔ IsDockerList table place day lines) same_live
         (thin_list_iff place day (live_table whole) whole_good lines)
 
-    -- and the same docker text
+    -- the state of what is kept has the same docker text as the file's summary
     pub thin_state_text : (text : List ℕ) → IsDockerText (live_table whole) place day text ↔ IsDockerText (live_table state) place day text
     thin_state_text text =
         subst (λ (table : Table). IsDockerText (live_table whole) place day text ↔ IsDockerText table place day text) same_live

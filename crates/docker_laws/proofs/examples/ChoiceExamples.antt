@@ -13,7 +13,7 @@ use Rattle.cif_laws.proofs.records.Builders.{no_text, bs, lo, f2_origin, f2_term
 use Rattle.cif_laws.proofs.lists.Membership.{Contains-cons, nil-Contains}
 use Rattle.state_laws.proofs.states.PlainTable.{Keyed, Found, NotFound, find_in, live_at, live_none}
 
--- a live body is the put of an entry
+-- a live body comes from an entry that puts it
 pub in_state : (state : State) (key : Key) (body : Body) → live_table state key ≡ Some body → (entry : Entry) × Contains state.entries (key, entry)
     × (body_of entry.op ≡ Some body)
 in_state state key body h = by (find_in state.entries key)
@@ -38,7 +38,7 @@ placed key lines = (schedule_key key, put_lines lines)
 abbrev key_of : ℕ → ℕ → ScheduleKey
 key_of day letter = record { uid = codes "C10001"; runs_from = day; indicator = letter }
 
--- a permanent schedule, an overlay on two of its days, a cancellation of a third
+-- a permanent schedule, an overlay on two of its days, and a cancellation on a third
 abbrev permanent : List (List ℕ)
 permanent = bs (codes "N") (codes "C10001") (codes "240610") (codes "240616") (codes "1111111") (codes "1A10") (codes "P") ∷ f2_origin ∷ f2_terminus ∷ []
 
@@ -106,7 +106,7 @@ one_of_three other others h = by (in_state three (schedule_key other) (schedule_
         first (inr rest) =
             inr (second (Contains-cons (placed (key_of 23538 79) overlay) (placed (key_of 23541 67) cancellation ∷ []) (schedule_key other, found.0) rest))
 
--- on 11 June the overlay is chosen
+-- on 11 June the cancellation doesn't run
 cancelled_not : schedule_runs (first_record cancellation) 23538 ≡ false
 unfolding days_from_civil day_count days_of_years days_of_months
 cancelled_not = refl
@@ -115,7 +115,7 @@ overlay_runs : IsRunning (live_table three) (codes "C10001") 23538 (key_of 23538
 unfolding days_from_civil day_count days_of_years days_of_months
 overlay_runs = record { uid_is = refl; is_live = refl; runs_then = refl }
 
--- on a day with an overlay the overlay is chosen
+-- on 11 June the overlay is chosen
 pub overlay_chosen : IsChosen (live_table three) (codes "C10001") 23538 (key_of 23538 79) overlay
 overlay_chosen = record { running = overlay_runs; first = λ other others running. by other others running (one_of_three other others running.is_live) }
   where
@@ -133,12 +133,12 @@ overlay_chosen = record { running = overlay_runs; first = λ other others runnin
         not_both : false ≡ true → ⊥
         not_both h = cc
 
--- on 14 June the cancellation is chosen, and so no train runs
+-- on 14 June the cancellation runs
 cancellation_runs : IsRunning (live_table three) (codes "C10001") 23541 (key_of 23541 67) cancellation
 unfolding days_from_civil day_count days_of_years days_of_months
 cancellation_runs = record { uid_is = refl; is_live = refl; runs_then = refl }
 
--- on a day with a cancellation the cancellation is chosen
+-- on 14 June the cancellation is chosen, so no train runs
 pub cancellation_chosen : IsChosen (live_table three) (codes "C10001") 23541 (key_of 23541 67) cancellation
 cancellation_chosen = record { running = cancellation_runs; first = λ other others running. by other others (one_of_three other others running.is_live) }
   where

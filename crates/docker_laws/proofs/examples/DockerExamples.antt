@@ -16,7 +16,7 @@ use Rattle.cif_laws.proofs.records.Builders.{f2_schedule, night_schedule, changi
 abbrev pub leaves_f2 : Event
 leaves_f2 = record { number = 1; place = 1; occasion = departure; time = 1080 }
 
--- its arrival
+-- the arrival of the worked schedule
 abbrev pub ends_f2 : Event
 ends_f2 = record { number = 2; place = 2; occasion = arrival; time = 1140 }
 
@@ -41,11 +41,11 @@ events_of_night : events_of night_schedule
     ∷ record { number = 5; place = 4; occasion = arrival; time = 40 } ∷ []
 events_of_night = refl
 
--- the first is on 10 June, and the others on 11 June
+-- the first event is on 10 June, and the others on 11 June
 days_of_night : map (event_day 23537 night_schedule) (events_of night_schedule) ≡ 23537 ∷ 23538 ∷ 23538 ∷ 23538 ∷ 23538 ∷ []
 days_of_night = refl
 
--- the key of the train past midnight
+-- the key of the schedule that passes midnight
 abbrev pub night_key : ScheduleKey
 night_key = record { uid = codes "C20001"; runs_from = 23537; indicator = 80 }
 

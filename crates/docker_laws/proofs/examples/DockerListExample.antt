@@ -25,7 +25,7 @@ use Rattle.cif_laws.proofs.orders.Orders.{exact_key}
 abbrev live : Table
 live = live_table f2_state
 
--- the live table of a state of one key has only that key
+-- a comparison that passes the test of being Equal is Equal
 equal_by_test : (o : Ordering) → is_eq o ≡ true → o ≡ Equal
 equal_by_test Less h = cc
 equal_by_test Equal h = refl
@@ -108,7 +108,7 @@ two_events event among = by among.0 among.1 among.2
     by (suc zero) below is = inr is
     by (suc (suc k)) below is = absurd (omega arith)
 
--- an event there on that day is the departure of the train that starts then
+-- an event there on that day is the departure, and its train starts on that day
 starts_then : (start : ℕ) (event : Event) → Contains (events_of f2_schedule) event → columns 3 9 (event_line f2_schedule event) ≡ codes "ASHFELD"
     → event_day start f2_schedule event ≡ 23537 → (leaves_f2 ≡ event) × (start ≡ 23537)
 starts_then start event among here today = by (two_events event among)
@@ -151,7 +151,7 @@ f2_docker = record {
   );
 }
 
--- and its docker text
+-- the docker text of the worked file
 pub f2_docker_text : IsDockerText live (codes "ASHFELD") 23537 (docker_text live (codes "ASHFELD") 23537 (the_line ∷ []))
 f2_docker_text = (the_line ∷ [], f2_docker, refl)
 

@@ -1,4 +1,4 @@
--- Worked excerpts for COLWELL: what is needed there, what the walk leaves, and what a docker would
+-- Worked excerpts for COLWELL: what is needed there, what a walk leaves, and what the docker would
 -- lose without it.
 use Rattle.std.proofs.Common.{◌≡◌, ℕ, List, [], ◌∷◌, refl, inl, inr, Some, None, arith, ap, ◌∙◌, subst, Contains, ◌⊎◌}
 use Rattle.std.specs.Prelude.{codes, slice_index}
@@ -32,14 +32,14 @@ put_in key body = with_op key (put_with body)
 abbrev state_of : List Keyed → State
 state_of entries = record { horizon = 0; ledger = []; entries = entries }
 
--- a schedule of a week, from one TIPLOC to another
+-- a schedule that runs for a week, from one TIPLOC to another
 abbrev week : List ℕ → List ℕ → List ℕ → List ℕ → List (List ℕ)
 week uid identity origin terminus =
     bs (codes "N") uid (codes "240610") (codes "240616") (codes "1111111") identity (codes "P")
     ∷ lo origin no_text (codes "2300") no_text (codes "1") no_text
     ∷ lt terminus no_text (codes "2350") no_text (codes "1") no_text ∷ []
 
--- an overlay of one day
+-- an overlay that runs on one day
 abbrev one_day : List ℕ → List ℕ → List ℕ → List ℕ → List (List ℕ)
 one_day uid identity origin terminus =
     bs (codes "N") uid (codes "240611") (codes "240611") (codes "0100000") identity (codes "O")
@@ -50,28 +50,28 @@ one_day uid identity origin terminus =
 abbrev pub key_of : List ℕ → ℕ → ℕ → ScheduleKey
 key_of uid day letter = record { uid = uid; runs_from = day; indicator = letter }
 
--- ---- an overlay that does not call there, of a UID that calls there on other days
+-- ---- an overlay that doesn't call there, of a UID that calls there on other days
 
 -- a train that ends at the place
 abbrev pub stops : List (List ℕ)
 stops = week (codes "C40001") (codes "4D40") (codes "ASHFELD") (codes "COLWELL")
 
--- its overlay of 11 June
+-- an overlay on 11 June of the train that ends at the place
 abbrev pub short : List (List ℕ)
 short = one_day (codes "C40001") (codes "4D40") (codes "ASHFELD") (codes "BRAYTON")
 
--- the train's key
+-- the key of that train's schedule
 abbrev pub stops_key : ScheduleKey
 stops_key = key_of (codes "C40001") 23537 80
 
--- the overlay's key
+-- the key of the overlay
 abbrev pub short_key : ScheduleKey
 short_key = key_of (codes "C40001") 23538 79
 
 abbrev overlaid : State
 overlaid = state_of (put_in (schedule_key stops_key) (schedule_body stops) ∷ put_in (schedule_key short_key) (schedule_body short) ∷ [])
 
--- without the overlay
+-- the state without the overlay
 abbrev pub alone : State
 alone = state_of (put_in (schedule_key stops_key) (schedule_body stops) ∷ [])
 
@@ -91,7 +91,7 @@ runs_by_overlay : ¬ TrainRuns (live_table overlaid) (codes "C40001") 23538 stop
 unfolding days_from_civil day_count days_of_years days_of_months
 runs_by_overlay runs = runs.chosen.first short_key short (record { uid_is = refl; is_live = refl; runs_then = refl }) refl
 
--- without the overlay it would run by it
+-- without the overlay it would
 would_stop : TrainRuns (live_table alone) (codes "C40001") 23538 stops_key stops
 unfolding days_from_civil day_count days_of_years days_of_months
 would_stop = record {
@@ -123,7 +123,7 @@ alone_is_no_excerpt is = by (is (schedule_key short_key))
 overlay_is_kept : (excerpt_for place overlaid).entries ≡ overlaid.entries
 overlay_is_kept = refl
 
--- ---- a partner that does not call there
+-- ---- a partner that doesn't call there
 
 abbrev partner : List (List ℕ)
 partner = week (codes "C40002") (codes "4D42") (codes "BRAYTON") (codes "ASHFELD")
@@ -137,7 +137,7 @@ link =
     aa (codes "N") (codes "C40001") (codes "C40002") (codes "240610") (codes "240616") (codes "1111111") (codes "NP") (codes "S")
     (codes "COLWELL") no_text no_text (codes "P")
 
--- its key
+-- the key of the association at the place
 abbrev pub link_key : AssociationKey
 link_key = record { base = codes "C40001"; associated = codes "C40002"; start = 23537; location = codes "COLWELL"; suffix = 32; indicator = 80 }
 
@@ -147,7 +147,7 @@ joined = state_of (
     ∷ put_in (schedule_key partner_key) (schedule_body partner) ∷ []
     )
 
--- without the partner
+-- the state without the partner
 abbrev parted : State
 parted = state_of (put_in (association_key link_key) (association_body link) ∷ put_in (schedule_key stops_key) (schedule_body stops) ∷ [])
 
@@ -163,7 +163,7 @@ not_second : (other : ScheduleKey) (entry : Entry) → other.uid ≡ codes "C400
 unfolding schedule_in
 not_second other entry uid same = uids_differ (ap (λ (pair : Keyed). (schedule_in pair.0).uid) same ∙ uid)
 
--- the partner's schedule is the only one of its UID
+-- the UID of the partner has no other schedule
 only_partner : (other : ScheduleKey) (others : List (List ℕ)) → other.uid ≡ codes "C40002"
     → live_table joined (schedule_key other) ≡ Some (schedule_body others) → partner_key ≡ other
 unfolding schedule_in
@@ -220,7 +220,7 @@ identity_there =
       refl,
     )
 
--- without the partner the docker would not have it
+-- without the partner it would not
 identity_lost : ¬ IsPartnerIdentity (live_table parted) (codes "C40002") (Some 23537) (codes "4D42")
 identity_lost (inl runs) = no_partner runs.0 runs.1 runs.2.chosen.running.uid_is runs.2.chosen.running.is_live
 identity_lost (inr none) = let first : ◌≡◌ {A = ℕ} 52 63 = ap (λ bytes. slice_index bytes 0) none.1 in omega arith
@@ -240,8 +240,8 @@ parted_is_no_excerpt is = by (is (schedule_key partner_key))
 partner_is_kept : (excerpt_for place joined).entries ≡ joined.entries
 partner_is_kept = refl
 
--- a state with only the partner needs nothing of it, so an excerpt is taken only of a whole state:
--- joined with the association that names the partner, this one would lack it
+-- of a state with only the partner nothing is needed. So an excerpt is taken of a whole state:
+-- joined with the association later, the excerpt of this one would lack the partner
 partner_alone_is_dropped : (excerpt_for place (state_of (put_in (schedule_key partner_key) (schedule_body partner) ∷ []))).entries ≡ []
 partner_alone_is_dropped = refl
 
@@ -256,7 +256,7 @@ far = week (codes "C40004") (codes "4D44") (codes "BRAYTON") (codes "ASHFELD")
 abbrev late : List (List ℕ)
 late = week (codes "C40005") (codes "4D45") (codes "COLWELL") (codes "ASHFELD")
 
--- at the place, but deleted
+-- the key of an association at the place that is deleted
 abbrev gone_key : AssociationKey
 gone_key = record { base = codes "C40001"; associated = codes "C40003"; start = 23537; location = codes "COLWELL"; suffix = 32; indicator = 80 }
 
@@ -264,7 +264,7 @@ gone_key = record { base = codes "C40001"; associated = codes "C40003"; start = 
 abbrev pub far_link_key : AssociationKey
 far_link_key = record { base = codes "C40003"; associated = codes "C40004"; start = 23537; location = codes "ASHFELD"; suffix = 32; indicator = 80 }
 
--- its line
+-- the record of the association elsewhere
 abbrev pub far_link : List ℕ
 far_link =
     aa (codes "N") (codes "C40003") (codes "C40004") (codes "240610") (codes "240616") (codes "1111111") (codes "NP") (codes "S")
@@ -283,8 +283,8 @@ whole = state_of (
     ∷ put_in (schedule_key (key_of (codes "C40005") 23537 80)) (schedule_body late) ∷ []
     )
 
--- the walk leaves the TIPLOC, both associations there, the base with its overlay, the partner, and
--- the last schedule, which calls there
+-- the walk leaves the TIPLOC, both associations there, the base train with its overlay, the
+-- partner, and the last schedule, which calls there
 walk_leaves : (excerpt_for place whole).entries
     ≡ put_in (tiploc_key (codes "COLWELL")) (tiploc_body (spaces 63)) ∷ put_in (association_key link_key) (association_body link)
     ∷ with_op (association_key gone_key) deleted ∷ put_in (schedule_key stops_key) (schedule_body stops)
@@ -296,6 +296,6 @@ walk_leaves = refl
 whole_ascends : AreAscending whole.entries
 whole_ascends = ((refl, (refl, (refl, (refl, (refl, (refl, (refl, (refl, (refl, (refl, (refl, tt))))))))))), ((refl, (refl, (refl, (refl, (refl, (refl, (refl, (refl, (refl, (refl, tt)))))))))), ((refl, (refl, (refl, (refl, (refl, (refl, (refl, (refl, (refl, tt))))))))), ((refl, (refl, (refl, (refl, (refl, (refl, (refl, (refl, tt)))))))), ((refl, (refl, (refl, (refl, (refl, (refl, (refl, tt))))))), ((refl, (refl, (refl, (refl, (refl, (refl, tt)))))), ((refl, (refl, (refl, (refl, (refl, tt))))), ((refl, (refl, (refl, (refl, tt)))), ((refl, (refl, (refl, tt))), ((refl, (refl, tt)), ((refl, tt), (tt, tt))))))))))))
 
--- that is an excerpt
+-- what the walk leaves is an excerpt
 walk_leaves_excerpt : IsExcerptState place whole (excerpt_for place whole)
 walk_leaves_excerpt = walk_is_excerpt place whole whole_ascends

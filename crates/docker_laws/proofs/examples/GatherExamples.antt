@@ -1,5 +1,5 @@
--- A worked gathering: the train that ends at COLWELL at 23:50 and works on as the one that leaves
--- there after midnight.
+-- A worked gathering: a train ends at COLWELL at 23:50 and works on as one that leaves there after
+-- midnight.
 use Rattle.std.proofs.Common.{◌≡◌, ℕ, List, [], ◌∷◌, map, refl, true, false}
 use Rattle.std.specs.Prelude.{codes}
 use Rattle.jiff_core.specs.Calendar.{days_from_civil, day_count, days_of_years, days_of_months}
@@ -36,7 +36,7 @@ rows = (
     ∷ (schedule_key (record { uid = codes "C40001"; runs_from = 23537; indicator = 80 }), schedule_body base_lines)
     ∷ (schedule_key (record { uid = codes "C40002"; runs_from = 23538; indicator = 80 }), schedule_body next_lines) ∷ []
 
--- the days that are looked at
+-- the start days for 10 June
 days_looked_at : start_days 23537 ≡ 23537 ∷ 23536 ∷ 23535 ∷ []
 days_looked_at = refl
 
@@ -54,7 +54,7 @@ day_before : gathered (train_in rows) (link_in rows) (codes "COLWELL") 23536 row
 unfolding days_from_civil day_count days_of_years days_of_months
 day_before = refl
 
--- if the associated train is cancelled, its identity is not known
+-- if the associated train is cancelled, its identity isn't known
 abbrev cancelled : List Row
 cancelled = (
   association_key (record { base = codes "C40001"; associated = codes "C40002"; start = 23537; location = codes "COLWELL"; suffix = 32; indicator = 80 }),
@@ -72,7 +72,7 @@ partner_cancelled : map line_text (gathered (train_in cancelled) (link_in cancel
 unfolding days_from_civil day_count days_of_years days_of_months
 partner_cancelled = refl
 
--- ---- a location called at twice, by its suffixes, and two trains
+-- ---- a train that calls at one place twice, with suffixes, and one that divides there
 
 abbrev twice_lines : List (List ℕ)
 twice_lines =
@@ -108,7 +108,7 @@ division_at_colwell : map line_text (gathered (train_in divided) (link_in divide
 unfolding days_from_civil day_count days_of_years days_of_months
 division_at_colwell = refl
 
--- who calls at COLWELL; nobody calls at ELM
+-- both trains call at COLWELL, and neither at ELM
 colwell_called_at : (calls_at (codes "COLWELL") twice_lines ≡ true) × (calls_at (codes "COLWELL") divided_lines ≡ true)
     × (calls_at (codes "ELM    ") twice_lines ≡ false)
 colwell_called_at = (refl, refl, refl)

@@ -1,4 +1,4 @@
--- What is kept for COLWELL on a day of a list of changes, and four ways to keep too little.
+-- What is kept of a list of changes, for COLWELL on a day. Four ways to keep too little.
 use Rattle.std.proofs.Common.{length, length-append, ◌≡◌, ℕ, ◌≤◌, List, [], ◌∷◌, refl, inl, inr, ◌⊎◌, Some, None, arith, lit<, ap, sym, ◌∙◌, subst, Bool, true, false, cond}
 use Rattle.std.specs.Prelude.{codes, slice_index, ◌↔◌, ◌&&◌, nat_le}
 use Rattle.std.specs.declared.cmp.Ordering.TheVariants.{Greater}
@@ -41,7 +41,7 @@ night_elsewhere : lines_for (codes "EASTRIG") night_schedule
     ∷ lt (codes "BRAYTON") no_text (codes "0020") (codes "0021") (codes "2") (codes "FL") ∷ []
 night_elsewhere = refl
 
--- one that calls there keeps all its lines
+-- a train that calls at the place keeps all lines
 night_here : lines_for place night_schedule ≡ night_schedule
 night_here = refl
 
@@ -50,7 +50,7 @@ night_here = refl
 abbrev change_of : ℕ → Key → Act → Change
 change_of number key act = record { number = number; key = key; act = act }
 
--- an overlay of one day, by another way: it doesn't call at COLWELL
+-- an overlay on one day that goes another way and doesn't call at COLWELL
 abbrev way_round : List (List ℕ)
 way_round =
     bs (codes "N") (codes "C40001") (codes "240611") (codes "240611") (codes "0100000") (codes "4D40") (codes "O")
@@ -58,7 +58,7 @@ way_round =
     ∷ li (codes "DUNMERE") no_text no_text no_text (codes "2320") no_text no_text no_text no_text no_text
     ∷ lt (codes "BRAYTON") no_text (codes "2350") no_text (codes "1") no_text ∷ []
 
--- a schedule of 1 to 3 June
+-- a schedule from 1 to 3 June
 abbrev long_ago : List (List ℕ)
 long_ago =
     bs (codes "N") (codes "C40003") (codes "240601") (codes "240603") (codes "1111111") (codes "4D43") (codes "P")
@@ -72,8 +72,8 @@ all_changes =
     ∷ change_of 6 (schedule_key stops_key) (put (schedule_body stops)) ∷ change_of 9 (schedule_key short_key) (put (schedule_body way_round))
     ∷ change_of 13 (schedule_key (key_of (codes "C40003") 23528 80)) (put (schedule_body long_ago)) ∷ []
 
--- for COLWELL on 11 June: its TIPLOC, the association there, the train that calls there, the
--- overlay with its ends, and a deletion
+-- for COLWELL on 11 June: its TIPLOC, the association there, the train that calls, the overlay with
+-- its ends, and a deletion
 kept_of_all : thin_changes place 23538 all_changes
     ≡ change_of 3 (tiploc_key (codes "COLWELL")) (put (tiploc_body (spaces 63))) ∷ change_of 4 (association_key link_key) (put (association_body link))
     ∷ change_of 6 (schedule_key stops_key) (put (schedule_body stops)) ∷ change_of 9 (schedule_key short_key) (put (schedule_body short))
@@ -83,7 +83,7 @@ kept_of_all = refl
 
 -- ---- two tables with different dockers
 
--- if one table has a line and the other has none, their dockers differ
+-- if one table's docker has a line there and the other's has none, their dockers differ
 differ : (whole wrong : Table) (day : ℕ) (line : DockerLine) → IsEventLine wrong place day line
     → ((other : DockerLine) → ¬ IsEventLine whole place day other) → ((other : DockerLine) → ¬ IsAssociationLine whole place day other)
     → ¬ ((lines : List DockerLine) → IsDockerList whole place day lines ↔ IsDockerList wrong place day lines)
@@ -96,11 +96,11 @@ differ whole wrong day line has no_event no_association same = nil-Contains line
     nothing : IsDockerList whole place day []
     nothing = record { ascending = tt; members = λ other. (λ among. absurd (nil-Contains other among), λ told. absurd (none other told)) }
 
--- the change of a schedule
+-- a change that puts a schedule
 abbrev put_schedule : ℕ → ScheduleKey → List (List ℕ) → Change
 put_schedule number key lines = change_of number (schedule_key key) (put (schedule_body lines))
 
--- only the first of its changes
+-- only the first change
 abbrev stops_alone : List Change
 stops_alone = put_schedule 2 stops_key stops ∷ []
 
@@ -112,12 +112,12 @@ schedule_in : Key → ScheduleKey
 schedule_in (schedule_key key) = key
 schedule_in _ = stops_key
 
--- keys that tie are the same
+-- keys that pass the test of being equal are equal
 same_schedule : (key other : ScheduleKey) → is_eq (schedule_key_cmp key other) ≡ true → key ≡ other
 unfolding schedule_in
 same_schedule key other h = ap schedule_in (same_key (schedule_key key) (schedule_key other) h)
 
--- the key of the change is the only one
+-- only this key is live
 only_stops : (other : ScheduleKey) (others : List (List ℕ)) → table_of stops_alone (schedule_key other) ≡ Some (schedule_body others) → stops_key ≡ other
 only_stops other others h = by (is_eq (schedule_key_cmp stops_key other)) refl h
   where
@@ -125,7 +125,7 @@ only_stops other others h = by (is_eq (schedule_key_cmp stops_key other)) refl h
     by true same is = same_schedule stops_key other same
     by false same is = none_some (schedule_body others) is
 
--- by only that change, its train runs and has its line
+-- after only this change the train runs and has its line
 stops_line : (start : ℕ) → schedule_runs (first_record stops) start ≡ true → event_day start stops arrives ≡ start
     → IsEventLine (table_of stops_alone) place start (line_of_event stops_key start stops arrives)
 stops_line start runs today = record {
@@ -149,7 +149,7 @@ stops_line start runs today = record {
 
 -- ---- wrong: a schedule that may not count is dropped, and what was kept of its key stays
 
--- the schedule is revised: it ends on 10 June
+-- a revision of the schedule: it ends on 10 June
 abbrev ended : List (List ℕ)
 ended =
     bs (codes "N") (codes "C40001") (codes "240610") (codes "240610") (codes "1000000") (codes "4D40") (codes "P")
@@ -164,7 +164,7 @@ revision_deletes : thin_changes place 23543 revised ≡ put_schedule 2 stops_key
 unfolding days_from_civil day_count days_of_years days_of_months
 revision_deletes = refl
 
--- or the earlier put is dropped, and nothing is kept
+-- or the earlier put is removed, and no change is kept
 revision_removes : IsThinning place 23543 revised []
 unfolding days_from_civil day_count days_of_years days_of_months
 revision_removes =
@@ -174,7 +174,7 @@ revision_removes =
     kept : thin_changes place 23543 stops_alone ≡ stops_alone
     kept = refl
 
--- what the revised schedule's key holds
+-- the key holds the revision
 revised_is : (other : ScheduleKey) (others : List (List ℕ)) → table_of revised (schedule_key other) ≡ Some (schedule_body others) → ended ≡ others
 revised_is other others h = by (is_eq (schedule_key_cmp stops_key other)) h
   where
@@ -203,7 +203,7 @@ no_arrival line is =
 no_link : (line : DockerLine) → ¬ IsAssociationLine (table_of revised) place 23543 line
 no_link line is = none_some (association_body is.association) is.chosen.associated.is_live
 
--- with the revision dropped, one does
+-- if the revision is dropped, a train arrives
 dropped_revision_is_wrong : ¬ ((lines : List DockerLine) → IsDockerList (table_of revised) place 23543 lines
     ↔ IsDockerList (table_of stops_alone) place 23543 lines)
 unfolding days_from_civil day_count days_of_years days_of_months
@@ -231,7 +231,7 @@ not_there lines same calls =
     let bad : false ≡ true = test in
     cc
 
--- so the train that calls does not run
+-- so the train doesn't run by the schedule that calls there
 not_by_stops : (uid : List ℕ) (start : ℕ) (key : ScheduleKey) (lines : List (List ℕ)) → stops_key ≡ key → start ≡ 23538
     → ¬ TrainRuns (table_of overlaid) uid start key lines
 not_by_stops uid start key lines same day runs =
@@ -243,7 +243,7 @@ not_by_stops uid start key lines same day runs =
 no_falls_of_stops : midnights stops ≡ 0
 no_falls_of_stops = refl
 
--- and no train arrives
+-- so on 11 June no train arrives
 no_arrival_then : (line : DockerLine) → ¬ IsEventLine (table_of overlaid) place 23538 line
 no_arrival_then line is = by (is_eq (schedule_key_cmp short_key is.key)) (is_eq (schedule_key_cmp stops_key is.key)) refl is.train_runs.chosen.running.is_live
   where
@@ -265,7 +265,7 @@ no_arrival_then line is = by (is_eq (schedule_key_cmp short_key is.key)) (is_eq 
 no_link_then : (line : DockerLine) → ¬ IsAssociationLine (table_of overlaid) place 23538 line
 no_link_then line is = none_some (association_body is.association) is.chosen.associated.is_live
 
--- with the overlay dropped, one does
+-- if the overlay is dropped, a train arrives
 dropped_overlay_is_wrong : ¬ ((lines : List DockerLine) → IsDockerList (table_of overlaid) place 23538 lines
     ↔ IsDockerList (table_of stops_alone) place 23538 lines)
 unfolding days_from_civil day_count days_of_years days_of_months
@@ -273,7 +273,7 @@ dropped_overlay_is_wrong =
     differ (table_of overlaid) (table_of stops_alone) 23538 (line_of_event stops_key 23538 stops arrives) (stops_line 23538 refl refl)
     no_arrival_then no_link_then
 
--- with any other ends that aren't at COLWELL, it serves as well
+-- the overlay with other ends that aren't at COLWELL serves as well
 abbrev other_ends : List (List ℕ)
 other_ends =
     first_record way_round ∷ lo (codes "EASTRIG") no_text (codes "0000") no_text no_text no_text
@@ -282,7 +282,7 @@ other_ends =
 other_ends_serve : IsStandIn place 23538 way_round other_ends
 other_ends_serve = stand_in_by_first place 23538 way_round other_ends refl refl refl
 
--- ---- wrong: of a schedule only the basic schedule is kept
+-- ---- wrong: a schedule keeps only its first line
 
 basic_alone_is_wrong : ¬ IsSchedule (first_record stops ∷ [])
 basic_alone_is_wrong is = by is.journey_or_none
@@ -302,7 +302,7 @@ basic_alone_is_wrong is = by is.journey_or_none
         omega arith
     by (inr none) = not_cancelled (subst MayLackJourney (sym same) none.1)
 
--- ---- wrong: a partner that starts on the day after is dropped
+-- ---- wrong: a partner that starts on the next day is dropped
 
 -- a train of 12 June that doesn't call at COLWELL
 abbrev follows_on : List (List ℕ)
@@ -317,18 +317,18 @@ follows_on_key = key_of (codes "C40002") 23539 80
 abbrev partner_alone : List Change
 partner_alone = put_schedule 2 follows_on_key follows_on ∷ []
 
--- for 11 June it is kept, since a train of that day may have it as its partner one day later
+-- for 11 June it is kept: a train of that day may have it as its partner of the next day
 partner_is_kept : thin_changes place 23538 partner_alone ≡ partner_alone
 unfolding days_from_civil day_count days_of_years days_of_months
 partner_is_kept = refl
 
--- for 15 June too, since a train that starts on 13 June and passes midnight twice may have it as
--- its partner one day earlier
+-- for 15 June too: a train may start on 13 June, pass midnight twice, and have it as its partner of
+-- the day before
 partner_is_still_kept : thin_changes place 23542 partner_alone ≡ partner_alone
 unfolding days_from_civil day_count days_of_years days_of_months
 partner_is_still_kept = refl
 
--- for 10 and 16 June it is not
+-- for 10 and 16 June it isn't
 partner_is_far : (thin_changes place 23537 partner_alone ≡ change_of 2 (schedule_key follows_on_key) delete ∷ [])
     × (thin_changes place 23543 partner_alone ≡ change_of 2 (schedule_key follows_on_key) delete ∷ [])
 unfolding days_from_civil day_count days_of_years days_of_months
@@ -343,7 +343,8 @@ only_follows_on other others h = by (is_eq (schedule_key_cmp follows_on_key othe
     by true same is = same_schedule follows_on_key other same
     by false same is = none_some (schedule_body others) is
 
--- the docker of 11 June has its identity, at a train of that day whose association says `N`
+-- the docker of 11 June has its identity, if an association of that day's train has the date
+-- indicator `N`
 identity_there : IsPartnerIdentity (table_of partner_alone) (codes "C40002") (partner_start 78 23538) (codes "4D42")
 unfolding days_from_civil day_count days_of_years days_of_months
 identity_there =
@@ -361,14 +362,14 @@ identity_there =
       refl,
     )
 
--- and loses it with the partner
+-- without the partner it doesn't
 dropped_partner_is_wrong : ¬ IsPartnerIdentity empty_table (codes "C40002") (partner_start 78 23538) (codes "4D42")
 dropped_partner_is_wrong (inl runs) = none_some (schedule_body runs.1) runs.2.chosen.running.is_live
 dropped_partner_is_wrong (inr none) = let first : ◌≡◌ {A = ℕ} 52 63 = ap (λ bytes. slice_index bytes 0) none.1 in omega arith
 
 -- ---- the summary of a file
 
--- the worked file's is its state
+-- the summary of the worked file is the worked state
 summary_of_f2 : summary_of f2 ≡ f2_state
 unfolding days_from_civil day_count days_of_years days_of_months
 summary_of_f2 = refl

@@ -1,5 +1,5 @@
--- What is known in a run of good events is good: the files are, and the format can hold the
--- horizon.
+-- In a run of good events all that is known is good: the files are CIF files, and the format allows
+-- the horizon.
 use Rattle.std.proofs.Common.{◌≡◌, ℕ, zero, suc, ◌≤◌, Bool, true, false, List, [], ◌∷◌, length, get_or, ap, ◌∙◌, refl, arith, All}
 use Rattle.std.specs.Prelude.{max, nat_lt, fold, slice_set}
 use Rattle.std.specs.List.{zip}
@@ -17,7 +17,7 @@ use Rattle.state_laws.proofs.states.Lapse.{max_most}
 
 -- ---- what two know
 
--- the greater of two horizons of a format is a horizon of the format
+-- if a format allows two horizons, it allows the greater of them
 max_good : (format : Format) (a b : ℕ) → IsHorizonOf format a → IsHorizonOf format b → IsHorizonOf format (max a b)
 max_good dks_1 a b first second = ap (λ n. max n b) first ∙ zero-max b ∙ second
 max_good dks_2 a b first second = max_most a b last_day first second
@@ -29,18 +29,18 @@ none_good dks_2 = omega arith
 no_files_good : AreFiles []
 no_files_good = (All-nil IsFile, All-nil (λ file. length file ≤ most_records))
 
--- knowing no file and no horizon is good
+-- knowledge of nothing is good
 pub nothing_good : (format : Format) → IsGoodKnown format nothing
 nothing_good format = (no_files_good, none_good format)
 
--- what two know together is good
+-- if the knowledge of two is good, so is their united knowledge
 pub united_good : (format : Format) (first second : Known) → IsGoodKnown format first → IsGoodKnown format second → IsGoodKnown format (united first second)
 united_good format first second one two = (
   (All-append IsFile first.files second.files one.0.0 two.0.0, All-append (λ file. length file ≤ most_records) first.files second.files one.0.1 two.0.1),
   max_good format first.horizon second.horizon one.1 two.1,
 )
 
--- a file that was read under a limit is good knowledge
+-- a file read under a limit is good knowledge
 pub file_good : (format : Format) (text : List ℕ) (limit : ℕ) → limit ≤ most_records → IsFileText limit text (lines_of text)
     → IsGoodKnown format (record { files = lines_of text ∷ []; horizon = 0 })
 file_good format text limit low file =
@@ -54,7 +54,7 @@ file_good format text limit low file =
       none_good format,
     )
 
--- a horizon that is set is good knowledge
+-- a horizon that the format allows is good knowledge
 pub horizon_good : (format : Format) (day : ℕ) → IsHorizonOf format day → IsGoodKnown format (record { files = []; horizon = day })
 horizon_good format day is = (no_files_good, is)
 
@@ -65,7 +65,7 @@ good_at P [] i d all one = one
 good_at P (x ∷ xs) zero d all one = All-head P x xs all
 good_at P (x ∷ xs) (suc i) d all one = good_at P xs i d (All-tail P x xs all) one
 
--- what offices and messages know is good
+-- what all offices and messages know is good
 abbrev pub AllGood : Format → KnownSets → Type 0
 AllGood format known = All (IsGoodKnown format) known.offices × All (IsGoodKnown format) known.messages
 

@@ -1,4 +1,4 @@
--- What is known in a run after one more event, and how many offices and messages there are.
+-- What is known after one more event of a run, and how many offices and messages there are.
 use Rattle.std.proofs.Common.{◌≡◌, ℕ, suc, ◌+◌, Bool, true, false, cond, List, [], ◌∷◌, ◌++◌, length, refl, ap, ◌∙◌, arith, length-append, length-set}
 use Rattle.std.specs.Prelude.{fold, filter}
 use Rattle.std.specs.List.{zip}
@@ -13,7 +13,7 @@ zip_more [] (b ∷ ys) x y same = absurd (omega arith)
 zip_more (a ∷ xs) [] x y same = absurd (omega arith)
 zip_more (a ∷ xs) (b ∷ ys) x y same = ap (λ rest. (a, b) ∷ rest) (zip_more xs ys x y (omega arith))
 
--- one more event and its reply
+-- one more event, with its reply
 pub sets_more : (offices : ℕ) (events : List RunEvent) (replies : List Reply) (event : RunEvent) (reply : Reply) → length events ≡ length replies
     → known_sets offices (events ++ event ∷ []) (replies ++ reply ∷ []) ≡ after_reply (known_sets offices events replies) (event, reply)
 sets_more offices events replies event reply same =
@@ -29,7 +29,7 @@ replies_long known [] (reply ∷ replies) are = absurd are
 replies_long known (event ∷ events) [] are = absurd are
 replies_long known (event ∷ events) (reply ∷ replies) are = ap suc (replies_long (after_reply known (event, reply)) events replies are.1)
 
--- one more reply after the replies of a run that begins anywhere
+-- one more reply, in a run that begins anywhere
 pub replies_after : (known : KnownSets) (events : List RunEvent) (replies : List Reply) (event : RunEvent) (reply : Reply)
     → AreReplies known events replies → IsReply (fold after_reply known (zip events replies)) event reply → AreReplies known (events ++ event ∷ [])
     (replies ++ reply ∷ [])
@@ -39,7 +39,7 @@ replies_after known (other ∷ events) [] event reply are is = absurd are
 replies_after known (other ∷ events) (answer ∷ replies) event reply are is =
     (are.0, replies_after (after_reply known (other, answer)) events replies event reply are.1 is)
 
--- one more reply after the replies of a run from the start
+-- one more reply, in a run from its start
 pub replies_more : (offices : ℕ) (events : List RunEvent) (replies : List Reply) (event : RunEvent) (reply : Reply)
     → AreReplies (none_known offices) events replies → IsReply (known_sets offices events replies) event reply → AreReplies (none_known offices)
     (events ++ event ∷ []) (replies ++ reply ∷ [])
@@ -92,7 +92,7 @@ messages_along known (event ∷ events) (reply ∷ replies) =
 pub offices_are : (offices : ℕ) (events : List RunEvent) (replies : List Reply) → length (known_sets offices events replies).offices ≡ offices
 offices_are offices events replies = offices_along (none_known offices) events replies ∙ length-replicate offices nothing
 
--- there are as many messages as sendings that were done
+-- there are as many messages as states were sent
 pub messages_are : (offices : ℕ) (events : List RunEvent) (replies : List Reply)
     → length (known_sets offices events replies).messages ≡ sent_count events replies
 messages_are offices events replies =

@@ -1,5 +1,5 @@
--- The format can hold the summary of good knowledge. A text of fewer than 2^64 bytes has counts
--- that fit in eight bytes.
+-- The format can hold the summary of good knowledge. The counts in a text of fewer than 2^64 bytes
+-- fit in eight bytes.
 use Rattle.std.proofs.Common.{◌≡◌, ℕ, ◌+◌, ◌^◌, ◌<◌, ◌≤◌, List, [], ◌∷◌, ◌++◌, length, sym, ◌∙◌, ap, subst, arith, length-append}
 use Rattle.std.specs.List.{flat_map}
 use Rattle.std.specs.Int.{w64, to_be_bytes}
@@ -20,7 +20,7 @@ use Rattle.state_laws.proofs.states.SummaryValid.{summary_is_valid}
 
 -- ---- counts
 
--- pieces of at least one byte make at least as many bytes as there are pieces
+-- pieces of at least one byte each have at least as many bytes as there are pieces
 at_least : {A : Type 0} (f : A → List ℕ) → ((x : A) → 1 ≤ length (f x)) → (xs : List A) → length xs ≤ length (flat_map f xs)
 at_least f one [] = omega arith
 at_least f one (x ∷ xs) = let here = one x in let rest = at_least f one xs in let whole = length-append (f x) (flat_map f xs) in omega arith
@@ -52,7 +52,7 @@ counts_fit format state short =
 
 -- ---- ops
 
--- without a horizon, what an act makes has not lapsed
+-- what an act makes hasn't lapsed, so each format has it
 act_told : (act : Act) → TellsOp dks_1 (op_of act)
 act_told delete = tt
 act_told (put body) = tt

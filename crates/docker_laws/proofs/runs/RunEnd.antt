@@ -24,12 +24,12 @@ use Rattle.state_laws.proofs.states.SummaryLaws.{summary_unique, lapsed_summary}
 use Rattle.state_laws.proofs.states.OneJoin.{docker_unique}
 use Rattle.cif_laws.proofs.lists.ZipSteps.{zip_at}
 
--- an exchange that holds what is known at the end is what the run leaves
+-- if an exchange has the run's replies and holds what is known, the run leaves it
 pub holds_at_end : (format : Format) (offices : ℕ) (events : List RunEvent) (exchange : Exchange) → AreReplies (none_known offices) events exchange.replies
     → Holds format (sets_of offices events exchange) exchange.states exchange.messages → IsRun format offices events exchange
 holds_at_end format offices events exchange replies holds = record { replies = replies; states = holds.states_are; messages = holds.messages_are }
 
--- an exchange that a run of good events leaves holds what is known
+-- a run of good events leaves an exchange that holds what is known
 pub run_holds : (format : Format) (offices : ℕ) (events : List RunEvent) (exchange : Exchange) → All (IsGoodEvent format) events
     → IsRun format offices events exchange
     → Holds format (sets_of offices events exchange) exchange.states exchange.messages
@@ -39,7 +39,7 @@ run_holds format offices events exchange each run =
 
 -- ---- dockers of one set of files
 
--- the greater of two horizons refuses no day that neither refuses
+-- if neither of two horizons refuses a day, the greater doesn't either
 greater_prints : (a b day : ℕ) → ¬ IsDayRefused a day → ¬ IsDayRefused b day → ¬ IsDayRefused (max a b) day
 greater_prints a b day first second = by (nat_lt a b) refl
   where
@@ -47,7 +47,7 @@ greater_prints a b day first second = by (nat_lt a b) refl
     by true h = let below = ltb-true a b h in subst (λ n. ¬ IsDayRefused n day) (sym (max-eq_right (omega arith))) second
     by false h = subst (λ n. ¬ IsDayRefused n day) (sym (max-eq_left (ltb-false a b h))) first
 
--- under a horizon that does not refuse the day, the docker is the same
+-- under a horizon that doesn't refuse the day, the docker is the same as without one
 docker_stays : (horizon : ℕ) (state : State) (place : List ℕ) (day : ℕ) (text : List ℕ) → IsDay horizon → IsValid state → ¬ IsDayRefused horizon day
     → IsDockerText (live_table state) place day text → IsDockerText (live_table (lapse_state horizon state)) place day text
 docker_stays horizon state place day text is_day valid printed is = by (nat_lt 0 horizon) (nat_lt day (horizon + 3)) refl refl
@@ -61,11 +61,11 @@ docker_stays horizon state place day text is_day valid printed is = by (nat_lt 0
         subst (λ h. IsDockerText (live_table (lapse_state h state)) place day text) (sym zero_is)
         (subst (λ (s : State). IsDockerText (live_table s) place day text) (sym (lapsed_already 0 state (none_to_lapse state.entries))) is)
 
--- a table, a place and a day have one docker text
+-- a table has only one docker text for a place and a day
 one_text : (live : Table) (place : List ℕ) (day : ℕ) (text other : List ℕ) → IsDockerText live place day text → IsDockerText live place day other → text ≡ other
 one_text live place day text other is that = is.2 ∙ ap (docker_text live place day) (docker_unique _ is.0 that.0 is.1 that.1) ∙ sym that.2
 
--- two states of the same files print the same docker for a place and day that neither horizon
+-- two states of the same files give the same docker for a place and a day that neither horizon
 -- refuses
 pub docker_of_files : (format : Format) (one two : Known) (first second : State) → IsGoodKnown format one → IsGoodKnown format two → IsStateOf one first
     → IsStateOf two second
@@ -98,7 +98,7 @@ module _ (format : Format) (offices others : ℕ) (events more : List RunEvent) 
     that_state =
         zip_at IsStateOf (sets_of others more two).offices two.states j nothing (record { horizon = 0; ledger = []; entries = [] }) second.states in_two
 
-    -- two offices that know the same have one state
+    -- two offices that know the same have equal states
     pub same_state : AreOneKnowledge (office_known (sets_of offices events one) i) (office_known (sets_of others more two) j)
         → office_state one.states i ≡ office_state two.states j
     same_state same =
@@ -126,7 +126,7 @@ module _ (format : Format) (offices others : ℕ) (events more : List RunEvent) 
         (subst (λ h. ¬ IsDayRefused h day) that_state.horizon_is prints_too)
         text other is that
 
-  -- two messages that know the same have one text
+  -- two messages that know the same have equal texts
   pub same_message : IsMessage (sets_of offices events one) i → IsMessage (sets_of others more two) j
       → AreOneKnowledge (message_known (sets_of offices events one) i) (message_known (sets_of others more two) j)
       → message_text one.messages i ≡ message_text two.messages j
@@ -138,7 +138,7 @@ module _ (format : Format) (offices others : ℕ) (events more : List RunEvent) 
       (message_known (sets_of others more two) j).horizon this.0 that.0
       (subst (λ h. IsSummary (message_known (sets_of offices events one) i).files h this.0) same.1 this.1) that.1) ∙ sym that.2
 
--- a docker that is printed is the docker of the files' plain table
+-- a docker that an office prints is the docker of its files' plain table
 pub plain_docker : (format : Format) (offices : ℕ) (events : List RunEvent) (exchange : Exchange) → IsRun format offices events exchange
     → All (IsGoodEvent format) events
     → (office : ℕ) → IsOffice (sets_of offices events exchange) office → (plain : Table)

@@ -1,4 +1,4 @@
--- What holds for an exchange in the middle of a run still holds after each event that is done.
+-- What an exchange holds in the middle of a run, it still holds after each event that is done.
 use Rattle.std.proofs.Common.{◌≡◌, ℕ, ◌^◌, ◌<◌, ◌≤◌, List, [], ◌∷◌, ◌++◌, length, refl, sym, ◌∙◌, subst, arith, All, set}
 use Rattle.std.proofs.Math.Nat.{max_comm}
 use Rattle.std.proofs.lemmas.List.Elements.{All-set, All-push, All-nil, All-replicate, All-get_or}
@@ -33,7 +33,7 @@ module _ (format : Format) (known : KnownSets) (states : List State) (messages :
   pub office_good : (office : ℕ) → IsOffice known office → IsGoodKnown format (office_known known office)
   office_good office there = All-get_or (IsGoodKnown format) known.offices office nothing there holds.offices
 
-  -- so is what a message knows
+  -- what a message knows is good
   pub message_good : (message : ℕ) → IsMessage known message → IsGoodKnown format (message_known known message)
   message_good message there = All-get_or (IsGoodKnown format) known.messages message nothing there holds.sent
 
@@ -45,7 +45,8 @@ module _ (format : Format) (known : KnownSets) (states : List State) (messages :
   pub office_told : (office : ℕ) → IsOffice known office → IsToldState format (office_state states office)
   office_told office there = summary_told format (office_known known office) (office_state states office) (office_good office there) (office_is office there)
 
-  -- a message's bytes are the text of the summary of what it knows, with their length as the limit
+  -- a message can be read, with its length as the limit: it is the text of the summary of what it
+  -- knows
   pub message_reads : (message : ℕ) → IsMessage known message → length (message_text messages message) < 2 ^ 64
       → (state : State) × IsStateOf (message_known known message) state × IsStateText format (length (message_text messages message))
       (message_text messages message) state
@@ -61,7 +62,7 @@ module _ (format : Format) (known : KnownSets) (states : List State) (messages :
         },
       )
 
-  -- so reading them gives that summary
+  -- reading a message gives the summary of what it knows
   pub what_is_read : (message : ℕ) → IsMessage known message → length (message_text messages message) < 2 ^ 64 → (limit : ℕ) (state : State)
       → IsStateText format limit (message_text messages message) state → IsStateOf (message_known known message) state
   what_is_read message there short limit state is =
@@ -74,7 +75,7 @@ module _ (format : Format) (known : KnownSets) (states : List State) (messages :
   pub after_refusal : (event : RunEvent) (why : Refusal) → Holds format (after_reply known (event, refused why)) states messages
   after_refusal event why = holds
 
-  -- what an office knows and its state are replaced
+  -- an office gets other knowledge, and the state that fits it
   with_office_holds : (office : ℕ) (now : Known) (state : State) → IsGoodKnown format now → IsStateOf now state
       → Holds format (record { offices = set known.offices office now; messages = known.messages }) (set states office state) messages
   with_office_holds office now state good is = record {
@@ -84,7 +85,7 @@ module _ (format : Format) (known : KnownSets) (states : List State) (messages :
     messages_are = holds.messages_are;
   }
 
-  -- a state is joined to an office's state
+  -- an office's state is joined with another
   joined_in : (office : ℕ) (more : Known) (one joined : State) → IsOffice known office → IsGoodKnown format more → IsStateOf more one
       → IsJoin (office_state states office) one joined
       → Holds format (record { offices = set known.offices office (united more (office_known known office)); messages = known.messages })

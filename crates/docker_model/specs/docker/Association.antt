@@ -1,5 +1,5 @@
--- Association lines: where two trains join or divide, or where one train's next working is the
--- other. A day is any number here, without a bound; dockers are made for days 0 to 36524.
+-- Association lines: at a place two trains join or divide, or one train becomes the other's next
+-- working. A day is any number here, without a bound; dockers are made for days 0 to 36524.
 use Rattle.std.specs.Prelude.{◌≡◌, ℕ, ◌+◌, ◌-◌, Bool, ◌||◌, ◌⊎◌, ◌==◌, nat_lt, if◌then◌else◌, IsTrue, List, Option, Some, None, codes}
 use Rattle.std.specs.Str.{bytes_eq}
 use Rattle.docker_model.specs.records.Record.{columns, column}
@@ -12,29 +12,32 @@ use Rattle.docker_model.specs.docker.Event.{Event, event_day, first_event_at}
 use Rattle.docker_model.specs.docker.Choice.{TrainRuns, IsChosenAssociation, IsCancellation, group_of}
 use Rattle.docker_model.specs.docker.DockerLine.{DockerLine, line_of_association}
 
--- what an association category of two bytes stands for: JJ, VV and NP; any other gives no line
+-- the occasion that an association category of two bytes stands for: `JJ` joins, `VV` divides, `NP`
+-- is a next working. Any other category gives no line
 abbrev pub category_occasion : List ℕ → Option Occasion
 category_occasion category =
     if bytes_eq category (codes "JJ") then Some joining
     else (if bytes_eq category (codes "VV") then Some dividing else (if bytes_eq category (codes "NP") then Some next_working else None))
 
--- the date indicators S, space, N and P; any other gives no line
+-- a date indicator that gives a line: S, a space, N or P
 abbrev pub is_date_indicator : ℕ → Bool
 is_date_indicator b = (b == 83) || (b == 32) || (b == 78) || (b == 80)
 
--- the associated train's start day, if there is such a day: the next day for N, the day before for
--- P, else the base train's own. For base start days 0 to 36524
+-- the day on which the associated train starts, by the date indicator and the base train's start
+-- day. It is the day after for N, the day before for P, and otherwise the same day; none if that is
+-- outside 0 to 36524. For base start days 0 to 36524. `partner_start 78 10` is `Some 11`, and
+-- `partner_start 80 0` is `None`
 abbrev pub partner_start : ℕ → ℕ → Option ℕ
 partner_start indicator day =
     if indicator == 78 then (if nat_lt day last_day then Some (day + 1) else None)
     else (if indicator == 80 then (if nat_lt 0 day then Some (day - 1) else None) else Some day)
 
--- no train of the UID starts on the day
+-- no train of this UID starts on the day
 abbrev pub RunsNot : Table → List ℕ → ℕ → Type 0
 RunsNot live uid day = (key : ScheduleKey) (lines : List (List ℕ)) → ¬ TrainRuns live uid day key lines
 
--- the identity of the UID's train that starts on the day, from its basic schedule, or question
--- marks if it doesn't run
+-- the train identity of a UID on a day: the one in its basic schedule, or four question marks if no
+-- train of the UID starts that day
 abbrev pub IsIdentityOn : Table → List ℕ → List ℕ → ℕ → Type 0
 IsIdentityOn live uid identity day =
     ((key : ScheduleKey) × (lines : List (List ℕ)) × TrainRuns live uid day key lines × (identity ≡ columns 33 36 (first_record lines)))
@@ -45,7 +48,7 @@ abbrev pub IsPartnerIdentity : Table → List ℕ → Option ℕ → List ℕ �
 IsPartnerIdentity live uid None identity = identity ≡ codes "????"
 IsPartnerIdentity live uid (Some day) identity = IsIdentityOn live uid identity day
 
--- the line is for an association at the place on the day
+-- the line is for an association at the place, whose base train calls there on the day
 pub record IsAssociationLine (live : Table) (place : List ℕ) (day : ℕ) (line : DockerLine) : Type 0 where
   pub start : ℕ
   pub key : AssociationKey

@@ -10,21 +10,21 @@ use Rattle.docker_model.specs.file.Change.{association_key, schedule_key, Associ
 use Rattle.docker_model.specs.state.Order.{IsAtMost}
 use Rattle.docker_model.specs.state.Table.{Table}
 
--- the day is not before the first date, not after the last, and its weekday is marked: for fields
--- of six, six and seven bytes
+-- a schedule or an association runs on the day: the day is from the first date to the last, and its
+-- weekday is marked. For fields of six, six and seven bytes
 abbrev pub runs_within : List ℕ → List ℕ → List ℕ → ℕ → Bool
 runs_within first last days day =
     nat_le (date_number first) day && nat_le day (end_number last) && runs_on_weekday days (weekday_of day)
 
--- a basic schedule, a record, runs on a day by its dates and days
+-- a basic schedule runs on the day, by its dates and its days run. For a record
 abbrev pub schedule_runs : List ℕ → ℕ → Bool
 schedule_runs line day = runs_within (columns 10 15 line) (columns 16 21 line) (columns 22 28 line) day
 
--- an association, a record, runs on a day by its dates and days
+-- an association runs on the day, by its dates and its days run. For a record
 abbrev pub association_runs : List ℕ → ℕ → Bool
 association_runs line day = runs_within (columns 16 21 line) (columns 22 27 line) (columns 28 34 line) day
 
--- either, by the kind of the record
+-- a record of this kind runs on the day. Only a basic schedule or an association can
 abbrev pub runs_by_kind : Option Kind → List ℕ → ℕ → Bool
 runs_by_kind (Some association) line day = association_runs line day
 runs_by_kind (Some basic_schedule) line day = schedule_runs line day
@@ -34,11 +34,12 @@ runs_by_kind _ line day = false
 abbrev pub runs : List ℕ → ℕ → Bool
 runs line day = runs_by_kind (kind_of line) line day
 
--- C, a cancellation
+-- the STP indicator is C, for a cancellation
 abbrev pub IsCancellation : ℕ → Type 0
 IsCancellation indicator = indicator ≡ 67
 
--- the lower STP indicator is chosen, C before N before O before P, and then the later first date
+-- the order of choice, by STP indicator and first date. The lower indicator comes first, C before N
+-- before O before P; of two that are equal, the later first date
 abbrev pub choice_cmp : ℕ → ℕ → ℕ → ℕ → Ordering
 choice_cmp indicator first other_indicator other_first = ordering_then (nat_cmp indicator other_indicator) (nat_cmp other_first first)
 
@@ -56,19 +57,20 @@ pub record IsRunning (live : Table) (uid : List ℕ) (day : ℕ) (key : Schedule
   pub is_live : live (schedule_key key) ≡ Some (schedule_body lines)
   pub runs_then : IsTrue (schedule_runs (first_record lines) day)
 
--- the chosen schedule of the UID on the day: the first, in the order of choice, of the schedules
--- that run
+-- the chosen schedule of the UID on the day: of the schedules that run, the first in the order of
+-- choice
 pub record IsChosen (live : Table) (uid : List ℕ) (day : ℕ) (key : ScheduleKey) (lines : List (List ℕ)) : Type 0 where
   pub running : IsRunning live uid day key lines
   pub first : (other : ScheduleKey) (others : List (List ℕ)) → IsRunning live uid day other others → IsAtMost schedule_choice_cmp key other
 
--- the UID's train that starts on the day runs by this schedule: it is chosen, and it isn't a
+-- the UID's train that starts on the day runs by this schedule: it is the chosen one, and isn't a
 -- cancellation
 pub record TrainRuns (live : Table) (uid : List ℕ) (day : ℕ) (key : ScheduleKey) (lines : List (List ℕ)) : Type 0 where
   pub chosen : IsChosen live uid day key lines
   pub no_cancellation : ¬ IsCancellation key.indicator
 
--- what associations are chosen among
+-- the group of an association: the base train and its suffix, the associated train, and the timing
+-- point. One association of a group is chosen for a day
 pub record Group : Type 0 where
   pub base : List ℕ
   pub associated : List ℕ
@@ -79,7 +81,7 @@ pub record Group : Type 0 where
 abbrev pub group_of : AssociationKey → Group
 group_of key = record { base = key.base; associated = key.associated; location = key.location; suffix = key.suffix }
 
--- a live association of the group that runs on the base's start day
+-- a live association of the group that runs on the base train's start day
 pub record IsAssociated (live : Table) (group : Group) (day : ℕ) (key : AssociationKey) (line : List ℕ) : Type 0 where
   pub group_is : group_of key ≡ group
   pub is_live : live (association_key key) ≡ Some (association_body line)
@@ -95,7 +97,7 @@ pub record Train : Type 0 where
   pub key : ScheduleKey
   pub lines : List (List ℕ)
 
--- the answer is the chosen schedule of the UID on the day, or none if none runs
+-- this is the chosen schedule of the UID on the day, or none if none runs
 abbrev pub IsChosenOn : Table → List ℕ → ℕ → Option Train → Type 0
 IsChosenOn live uid day None = (key : ScheduleKey) (lines : List (List ℕ)) → ¬ IsRunning live uid day key lines
 IsChosenOn live uid day (Some train) = IsChosen live uid day train.key train.lines

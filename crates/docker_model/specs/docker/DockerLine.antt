@@ -9,14 +9,14 @@ use Rattle.docker_model.specs.file.Change.{ScheduleKey}
 use Rattle.docker_model.specs.state.Order.{bytes_cmp}
 use Rattle.docker_model.specs.docker.Event.{has_identity, Event, event_line, event_identity}
 
--- the end of a line: origin and destination of the train, or UID and identity of the associated
--- train
+-- the end of a docker line: the train's origin and destination, or the associated train's UID and
+-- identity
 pub data Detail : Type 0 where
   ends : (origin destination : List ℕ) → Detail
   partner : (uid identity : List ℕ) → Detail
 
--- a line: its time in half minutes and the bytes of its fields, with the train's start day and the
--- number of its event
+-- a docker line: its time in half minutes and the bytes of its fields, with the train's start day
+-- and the number of its event
 pub record DockerLine : Type 0 where
   pub time : ℕ
   pub occasion : Occasion
@@ -32,18 +32,18 @@ pub record DockerLine : Type 0 where
   pub number : ℕ
   pub detail : Detail
 
--- the platform of a location record of a kind
+-- the platform in a location record of this kind
 abbrev pub platform_by_kind : Option Kind → List ℕ → List ℕ
 platform_by_kind (Some intermediate_location) line = columns 34 36 line
 platform_by_kind _ line = columns 20 22 line
 
--- the line of a location record: a terminus has none
+-- the railway line on which a train leaves, in a location record of this kind: a terminus has none
 abbrev pub track_by_kind : Option Kind → List ℕ → List ℕ
 track_by_kind (Some origin_location) line = columns 23 25 line
 track_by_kind (Some intermediate_location) line = columns 37 39 line
 track_by_kind _ line = spaces 3
 
--- the path of a location record: an origin has none
+-- the path by which a train comes, in a location record of this kind: an origin has none
 abbrev pub path_by_kind : Option Kind → List ℕ → List ℕ
 path_by_kind (Some intermediate_location) line = columns 40 42 line
 path_by_kind (Some terminating_location) line = columns 23 25 line
@@ -57,12 +57,12 @@ public_by_kind (Some intermediate_location) departure line = shown_public (colum
 public_by_kind (Some terminating_location) arrival line = shown_public (columns 16 19 line)
 public_by_kind _ _ line = spaces 4
 
--- the TIPLOC of the schedule's first line with a record identity, such as LO for its origin
+-- the TIPLOC of the schedule's first record with a record identity, such as LO for its origin
 abbrev pub tiploc_of_first : List ℕ → List (List ℕ) → List ℕ
 tiploc_of_first identity lines = columns 3 9 (unwrap_or (find (λ line. has_identity identity line) lines) [])
 
--- the line of an event of a train: its schedule has this key and these lines, and the train starts
--- on this day
+-- the docker line of a train's event: its schedule has this key and these lines, and the train
+-- starts on this day
 abbrev pub line_of_event : ScheduleKey → ℕ → List (List ℕ) → Event → DockerLine
 line_of_event key start lines event =
     let at = event_line lines event in
@@ -82,8 +82,8 @@ line_of_event key start lines event =
       detail = ends (tiploc_of_first (codes "LO") lines) (tiploc_of_first (codes "LT") lines);
     }
 
--- the line of an association of this indicator at the base train's event, with the associated
--- train's UID and identity
+-- the docker line of an association with this STP indicator, at an event of the base train. It ends
+-- with the associated train's UID and identity
 abbrev pub line_of_association : Occasion → ℕ → ScheduleKey → ℕ → List (List ℕ) → Event → List ℕ → List ℕ → DockerLine
 line_of_association occasion indicator key start lines event associated identity =
     let at = event_line lines event in
@@ -103,8 +103,7 @@ line_of_association occasion indicator key start lines event associated identity
       detail = partner associated identity;
     }
 
--- the order of what happens at one time: arrivals, passes, joins, divisions, next workings,
--- departures
+-- the order of lines with one time: arrivals, passes, joins, divisions, next workings, departures
 abbrev pub occasion_rank : Occasion → ℕ
 occasion_rank arrival = 0
 occasion_rank pass = 1
@@ -113,12 +112,12 @@ occasion_rank dividing = 3
 occasion_rank next_working = 4
 occasion_rank departure = 5
 
--- the UID of the associated train, and nothing at an event
+-- the associated train's UID; empty in the line of an event
 abbrev pub associated_uid : Detail → List ℕ
 associated_uid (ends origin destination) = []
 associated_uid (partner uid identity) = uid
 
--- by time, occasion, UID, start day, event number and associated UID
+-- the order of docker lines: by time, occasion, UID, start day, event number and associated UID
 abbrev pub docker_line_cmp : DockerLine → DockerLine → Ordering
 docker_line_cmp a b =
     ordering_then (nat_cmp a.time b.time) (ordering_then (nat_cmp (occasion_rank a.occasion) (occasion_rank b.occasion))

@@ -1,4 +1,4 @@
--- The list of a docker: the events and association lines of a place on a day. The day is any number
+-- The list of a docker: a place's events and association lines on a day. The day is any number
 -- here, without a bound; dockers are made for days 0 to 36524.
 use Rattle.std.specs.Prelude.{◌≡◌, ℕ, ◌↔◌, ◌⊎◌, List, Contains}
 use Rattle.docker_model.specs.records.Record.{columns}
@@ -22,11 +22,11 @@ pub record IsEventLine (live : Table) (place : List ℕ) (day : ℕ) (line : Doc
   pub today : event_day start schedule event ≡ day
   pub is : line ≡ line_of_event key start schedule event
 
--- the list has these lines and no others, in strictly ascending order
+-- the list has each such line once and no other line, in strictly ascending order
 pub record Lists (IsLine : DockerLine → Type 0) (lines : List DockerLine) : Type 0 where
   pub ascending : IsStrictlyAscending docker_line_cmp lines
   pub members : (line : DockerLine) → Contains lines line ↔ IsLine line
 
--- the docker list of a live table, a place and a day
+-- the docker list of a live table, for a place and a day
 abbrev pub IsDockerList : Table → List ℕ → ℕ → List DockerLine → Type 0
 IsDockerList live place day lines = Lists (λ line. IsEventLine live place day line ⊎ IsAssociationLine live place day line) lines

@@ -10,7 +10,7 @@ use Rattle.docker_model.specs.state.Table.{Table}
 use Rattle.docker_model.specs.docker.DockerLine.{Detail, ends, partner, DockerLine}
 use Rattle.docker_model.specs.docker.DockerList.{IsDockerList}
 
--- the letter of an occasion
+-- the letter that stands for an occasion
 abbrev pub occasion_text : Occasion → List ℕ
 occasion_text arrival = codes "A"
 occasion_text pass = codes "P"
@@ -31,8 +31,8 @@ line_text line =
     ++ spaces 1 ++ line.indicator ∷ spaces 1 ++ line.suffix ∷ spaces 1 ++ line.platform ++ spaces 1 ++ line.track
     ++ spaces 1 ++ line.path ++ spaces 1 ++ line.public_time ++ spaces 1 ++ detail_text line.detail
 
--- the TPS description in a TIPLOC's body, which holds columns 10 to 72 of its record; spaces if
--- there is no such body
+-- the TPS description of a TIPLOC, in its body. The body holds columns 10 to 72 of the record;
+-- without one the description is spaces
 abbrev pub description_in : Option Body → List ℕ
 description_in (Some (tiploc_body bytes)) = columns 10 35 bytes
 description_in _ = spaces 26
@@ -46,25 +46,25 @@ heading live place day =
 abbrev pub last_line : List ℕ
 last_line = codes "END" ++ spaces 53
 
--- a text with a line feed after it
+-- a text, and then a line feed
 abbrev pub ended : List ℕ → List ℕ
 ended text = text ++ 10 ∷ []
 
--- the docker text of these lines, for a day from 0 to 36524
+-- the docker's text with these lines, for a day from 0 to 36524
 abbrev pub docker_text : Table → List ℕ → ℕ → List DockerLine → List ℕ
 docker_text live place day lines =
     ended (heading live place day) ++ flat_map (λ line. ended (line_text line)) lines ++ ended last_line
 
--- the docker text of a live table, a place and a day from 0 to 36524
+-- the docker's text for a live table, a place and a day from 0 to 36524
 abbrev pub IsDockerText : Table → List ℕ → ℕ → List ℕ → Type 0
 IsDockerText live place day text = (lines : List DockerLine) × IsDockerList live place day lines × (text ≡ docker_text live place day lines)
 
--- the 33 columns of a file's line
+-- the 33 columns of a ledger item's line
 abbrev pub file_text : LedgerItem → List ℕ
 file_text item =
     day_text item.stamp.moment.day ++ spaces 1 ++ minute_text item.stamp.moment.minute ++ spaces 1 ++ item.stamp.reference
     ++ spaces 1 ++ item.indicator ∷ spaces 1 ++ item.last_reference
 
--- the files text of a ledger
+-- the text that lists a ledger's files, one line for each
 abbrev pub files_text : List LedgerItem → List ℕ
 files_text ledger = flat_map (λ item. ended (file_text item)) ledger

@@ -7,15 +7,15 @@ use Rattle.docker_model.specs.records.Record.{columns, column}
 use Rattle.docker_model.specs.file.Journey.{Occasion, times_of, times_along, fall_count}
 use Rattle.docker_model.specs.file.File.{first_record}
 
--- an event: its number, the place of its line in the schedule, from 0, what happens, and when, in
--- half minutes
+-- an event: its number, the place of its record in the schedule, counted from 0, what happens, and
+-- when, in half minutes
 pub record Event : Type 0 where
   pub number : ℕ
   pub place : ℕ
   pub occasion : Occasion
   pub time : ℕ
 
--- the times of the lines, each with the place of its line
+-- the times of the schedule's lines, each with the place of its line
 abbrev pub placed_times : List (List ℕ) → List (ℕ × (Occasion × ℕ))
 placed_times lines = flat_map (λ placed. map (λ time. (placed.0, time)) (times_of placed.1)) (enumerate_from 0 lines)
 
@@ -25,20 +25,21 @@ events_of lines =
     map (λ counted. record { number = counted.0; place = counted.1.0; occasion = counted.1.1.0; time = counted.1.1.1 })
     (enumerate_from 1 (placed_times lines))
 
--- the falls among the events up to the one with this number. Numbers that no event has are allowed
--- too: 0 gives 0, and a number above the last gives all falls
+-- how often a schedule passes midnight up to the event with this number. For number 0 it is 0, and
+-- for one above the last it counts every time
 abbrev pub falls_to : List (List ℕ) → ℕ → ℕ
 falls_to lines number = fall_count (take number (times_along lines))
 
--- the day of an event of these lines, for a train that starts on a day
+-- the day of an event, for a train that starts on this day. If it starts on day 10, its events
+-- after one midnight are on day 11
 abbrev pub event_day : ℕ → List (List ℕ) → Event → ℕ
 event_day start lines event = start + falls_to lines event.number
 
--- the line that has an event of these lines
+-- the record that has this event
 abbrev pub event_line : List (List ℕ) → Event → List ℕ
 event_line lines event = slice_index_or lines event.place []
 
--- the identity after the last change en route, or the basic schedule's if there is none
+-- the train identity of the last change en route, or the basic schedule's if there is none
 abbrev pub changed_identity : Option (List ℕ) → List ℕ → List ℕ
 changed_identity None basic = columns 33 36 basic
 changed_identity (Some change) basic = columns 13 16 change
@@ -47,7 +48,7 @@ changed_identity (Some change) basic = columns 13 16 change
 abbrev pub has_identity : List ℕ → List ℕ → Bool
 has_identity identity line = bytes_eq (columns 1 2 line) identity
 
--- the train's identity at an event of these lines
+-- the train identity at an event, after the changes en route before it
 abbrev pub event_identity : List (List ℕ) → Event → List ℕ
 event_identity lines event =
     changed_identity (last_or None (filter (λ line. has_identity (codes "CR") line) (take event.place lines))) (first_record lines)

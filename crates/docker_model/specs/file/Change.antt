@@ -7,7 +7,8 @@ use Rattle.docker_model.specs.records.Clock.{is_blank}
 use Rattle.docker_model.specs.records.Field.{is_deletion, as_new}
 use Rattle.docker_model.specs.file.File.{follows_basic}
 
--- what identifies an association
+-- the key of an association: both UIDs, its first date, the timing point, the base train's suffix
+-- and the STP indicator
 pub record AssociationKey : Type 0 where
   pub base : List ℕ
   pub associated : List ℕ
@@ -16,7 +17,7 @@ pub record AssociationKey : Type 0 where
   pub suffix : ℕ
   pub indicator : ℕ
 
--- what identifies a schedule
+-- the key of a schedule: its UID, runs-from date and STP indicator
 pub record ScheduleKey : Type 0 where
   pub uid : List ℕ
   pub runs_from : ℕ
@@ -28,7 +29,8 @@ pub data Key : Type 0 where
   association_key : (key : AssociationKey) → Key
   schedule_key : (key : ScheduleKey) → Key
 
--- what a key is put with: 63 bytes of a TIPLOC, the line of an association, the lines of a schedule
+-- the body with which a key is put: 63 bytes of a TIPLOC, the record of an association, the records
+-- of a schedule
 pub data Body : Type 0 where
   tiploc_body : (bytes : List ℕ) → Body
   association_body : (line : List ℕ) → Body
@@ -45,11 +47,11 @@ pub record Change : Type 0 where
   pub key : Key
   pub act : Act
 
--- the code that a TIPLOC record names
+-- the key of a TIPLOC record, by its code
 abbrev pub tiploc_named : List ℕ → Key
 tiploc_named line = tiploc_key (columns 3 9 line)
 
--- the new code of a TIPLOC amendment
+-- the key of the new code in a TIPLOC amendment
 abbrev pub new_tiploc_named : List ℕ → Key
 new_tiploc_named line = tiploc_key (columns 73 79 line)
 
@@ -76,15 +78,16 @@ schedule_named line = schedule_key (record {
 abbrev pub tiploc_details : List ℕ → Body
 tiploc_details line = tiploc_body (columns 10 72 line)
 
--- a TIPLOC amendment keeps its code: the new one is blank or the same
+-- a TIPLOC amendment leaves the code as it is: the new code is blank or the same
 abbrev pub keeps_code : List ℕ → Bool
 keeps_code line = is_blank (columns 73 79 line) || bytes_eq (columns 73 79 line) (columns 3 9 line)
 
--- the lines of a schedule after its basic schedule, among the records that follow it
+-- the other records of a schedule, among all records that follow its basic schedule
 abbrev pub schedule_rest : List (List ℕ) → List (List ℕ)
 schedule_rest following = take_while (λ line. follows_basic (kind_of line)) following
 
--- what a record of a kind does, if these records follow it: each key with its act
+-- what a record of this kind does, if these records follow it: each key with its act. An amendment
+-- with a new code does two things: it deletes the old code and puts the new one
 abbrev pub acts_by_kind : Option Kind → List ℕ → List (List ℕ) → List (Key × Act)
 acts_by_kind (Some tiploc_insert) line following = (tiploc_named line, put (tiploc_details line)) ∷ []
 acts_by_kind (Some tiploc_amend) line following =
@@ -97,12 +100,12 @@ acts_by_kind (Some basic_schedule) line following =
     (schedule_named line, if is_deletion line then delete else put (schedule_body (as_new line ∷ schedule_rest following))) ∷ []
 acts_by_kind _ line following = []
 
--- the changes of a record, with the record's number
+-- the changes that one record makes, each with the record's number
 abbrev pub changes_of_record : ℕ → List ℕ → List (List ℕ) → List Change
 changes_of_record number line following =
     map (λ act. record { number = number; key = act.0; act = act.1 }) (acts_by_kind (kind_of line) line following)
 
--- the changes of records, which are numbered from this number on
+-- the changes of these records, the first of which has this number
 abbrev pub changes_from : ℕ → List (List ℕ) → List Change
 changes_from number [] = []
 changes_from number (line ∷ following) = changes_of_record number line following ++ changes_from (number + 1) following

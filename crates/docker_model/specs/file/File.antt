@@ -5,13 +5,13 @@ use Rattle.docker_model.specs.records.Record.{Kind, extra_details, origin_locati
 use Rattle.docker_model.specs.records.Field.{is_deletion, HasGoodFields}
 use Rattle.docker_model.specs.file.Journey.{midnights}
 
--- the first of some records: a file's header, or the basic schedule of a schedule's lines. Without
+-- the first of some records: the header of a file, or the basic schedule of a schedule. Without
 -- records it is empty
 abbrev pub first_record : List (List ℕ) → List ℕ
 first_record [] = []
 first_record (line ∷ lines) = line
 
--- a record that follows a basic schedule within its schedule
+-- a record that may follow the basic schedule within its schedule
 abbrev pub follows_basic : Option Kind → Bool
 follows_basic (Some extra_details) = true
 follows_basic (Some origin_location) = true
@@ -24,7 +24,7 @@ follows_basic _ = false
 abbrev pub IsWithinJourney : List ℕ → Type 0
 IsWithinJourney line = HasKind intermediate_location line ⊎ HasKind change_en_route line
 
--- one origin, any intermediate locations and changes en route, one terminating location
+-- a journey: one origin, any intermediate locations and changes en route, and one terminus
 pub record IsJourney (lines : List (List ℕ)) : Type 0 where
   pub first : List ℕ
   pub between : List (List ℕ)
@@ -34,11 +34,11 @@ pub record IsJourney (lines : List (List ℕ)) : Type 0 where
   pub calls : All IsWithinJourney between
   pub terminus : HasKind terminating_location last
 
--- at most one record, of extra details
+-- no record, or one of extra details
 abbrev pub AreExtraDetails : List (List ℕ) → Type 0
 AreExtraDetails lines = (lines ≡ []) ⊎ ((line : List ℕ) × (lines ≡ line ∷ []) × HasKind extra_details line)
 
--- the schedule is a deletion or a cancellation, and so may lack its journey
+-- the basic schedule is of a deletion or a cancellation, so its journey may be missing
 abbrev pub MayLackJourney : List ℕ → Type 0
 MayLackJourney basic = IsTrue (is_deletion basic) ⊎ (column 80 basic ≡ 67)
 
@@ -47,8 +47,8 @@ pub record IsSoundJourney (lines : List (List ℕ)) : Type 0 where
   pub fields : All HasGoodFields lines
   pub falls : midnights lines ≤ 2
 
--- a basic schedule, at most one record of extra details, and a journey. The journey lines of a
--- deletion are read only for kind and place
+-- a basic schedule, at most one record of extra details, and a journey. In a deletion the journey's
+-- fields aren't checked
 pub record IsSchedule (lines : List (List ℕ)) : Type 0 where
   pub basic : List ℕ
   pub extra : List (List ℕ)
@@ -61,19 +61,19 @@ pub record IsSchedule (lines : List (List ℕ)) : Type 0 where
   pub journey_or_none : IsJourney journey ⊎ ((journey ≡ []) × MayLackJourney basic)
   pub sound : IsTrue (is_deletion basic) ⊎ IsSoundJourney journey
 
--- a TIPLOC insert, amend or delete, or an association
+-- a record that is a unit by itself: a TIPLOC insert, amendment or deletion, or an association
 abbrev pub IsSingleKind : List ℕ → Type 0
 IsSingleKind line = HasKind tiploc_insert line ⊎ HasKind tiploc_amend line ⊎ HasKind tiploc_delete line ⊎ HasKind association line
 
--- one such record, its fields good
+-- a unit of one record, whose fields are good
 abbrev pub IsSingle : List (List ℕ) → Type 0
 IsSingle unit = (line : List ℕ) × (unit ≡ line ∷ []) × IsRecord line × IsSingleKind line × HasGoodFields line
 
--- what stands between header and trailer: single records and schedules
+-- a unit between header and trailer: a single record or a schedule
 abbrev pub IsUnit : List (List ℕ) → Type 0
 IsUnit unit = IsSingle unit ⊎ IsSchedule unit
 
--- a header, units in any order, and a trailer
+-- a CIF file: a header, units in any order, and a trailer
 pub record IsFile (records : List (List ℕ)) : Type 0 where
   pub first : List ℕ
   pub units : List (List (List ℕ))
@@ -90,10 +90,10 @@ pub record IsFile (records : List (List ℕ)) : Type 0 where
 abbrev pub most_records : ℕ
 most_records = 4_294_967_294
 
--- some file, of any length, begins with these records
+-- these records begin some file, of any length
 abbrev pub BeginsFile : List (List ℕ) → Type 0
 BeginsFile records = (rest : List (List ℕ)) × IsFile (records ++ rest)
 
--- some schedule begins with these lines
+-- these lines begin some schedule
 abbrev pub BeginsSchedule : List (List ℕ) → Type 0
 BeginsSchedule lines = (rest : List (List ℕ)) × IsSchedule (lines ++ rest)

@@ -1,4 +1,4 @@
--- Why a text is no file: the first record at fault, and the cause.
+-- Why a text isn't a file: the first record at fault, and the cause.
 use Rattle.std.specs.Prelude.{◌≡◌, ℕ, ◌+◌, ◌<◌, ◌≤◌, ◌≢◌, ◌⊎◌, List, [], ◌∷◌, ◌++◌, length, All, Any, Some, None}
 use Rattle.docker_model.specs.records.Record.{basic_schedule, trailer, HasKind, kind_of, leftmost_bad_byte}
 use Rattle.docker_model.specs.records.Field.{leftmost_bad_field}
@@ -6,7 +6,7 @@ use Rattle.docker_model.specs.file.Journey.{midnights}
 use Rattle.docker_model.specs.file.File.{IsFile, BeginsFile}
 use Rattle.docker_model.specs.file.Text.{lines_of}
 
--- the causes. A line that doesn't continue a schedule has one of them too
+-- why a record is at fault. They also say why a line can't continue a schedule
 pub data FileCause : Type 0 where
   too_many : FileCause
   after_trailer : FileCause
@@ -18,7 +18,7 @@ pub data FileCause : Type 0 where
   third_midnight : FileCause
   no_end : FileCause
 
--- their order: if several hold, the first is the cause
+-- the order of the causes: if several hold for a record, the first is reported
 abbrev pub cause_rank : FileCause → ℕ
 cause_rank too_many = 0
 cause_rank after_trailer = 1
@@ -30,11 +30,12 @@ cause_rank (bad_field at) = 6
 cause_rank third_midnight = 7
 cause_rank no_end = 8
 
--- no file that begins with the earlier records has a record of this one's kind next
+-- a record of this kind is out of place: no file has one after these earlier records
 abbrev pub IsOutOfPlace : List (List ℕ) → List ℕ → Type 0
 IsOutOfPlace earlier line = (next : List ℕ) → kind_of next ≡ kind_of line → ¬ BeginsFile (earlier ++ next ∷ [])
 
--- the last of the basic schedules among the records, and what follows it
+-- the schedule at the end of the records: the last basic schedule among them, with all records
+-- after it
 pub record EndsInSchedule (records lines : List (List ℕ)) : Type 0 where
   pub before : List (List ℕ)
   pub basic : List ℕ
@@ -44,7 +45,7 @@ pub record EndsInSchedule (records lines : List (List ℕ)) : Type 0 where
   pub kind : HasKind basic_schedule basic
   pub last : All (λ line. ¬ HasKind basic_schedule line) others
 
--- the record has the event of its schedule's third fall
+-- at this record its schedule passes midnight a third time
 abbrev pub HasThirdFall : List (List ℕ) → List ℕ → Type 0
 HasThirdFall earlier line =
     (lines : List (List ℕ)) × EndsInSchedule earlier lines × (midnights lines ≤ 2) × (2 < midnights (lines ++ line ∷ []))
@@ -61,17 +62,18 @@ HoldsOf limit earlier line (bad_field at) = leftmost_bad_field line ≡ Some at
 HoldsOf limit earlier line third_midnight = HasThirdFall earlier line
 HoldsOf limit earlier line no_end = ⊥
 
--- it is the first of the causes that hold
+-- the cause reported for a record: the first that holds
 pub record IsCause (limit : ℕ) (earlier : List (List ℕ)) (line : List ℕ) (cause : FileCause) : Type 0 where
   pub holds : HoldsOf limit earlier line cause
   pub first : (other : FileCause) → cause_rank other < cause_rank cause → ¬ HoldsOf limit earlier line other
 
--- where a text is at fault: the number of the record, from 1, and the cause
+-- a fault: the number of the record, from 1, and the cause
 pub record FileFault : Type 0 where
   pub number : ℕ
   pub cause : FileCause
 
--- the first record that is above the limit, or with which the records so far no longer begin a file
+-- the fault of the first record that is past the limit, or with which the records no longer begin a
+-- file
 pub record IsRecordFault (limit : ℕ) (records : List (List ℕ)) (fault : FileFault) : Type 0 where
   pub earlier : List (List ℕ)
   pub line : List ℕ
@@ -83,7 +85,7 @@ pub record IsRecordFault (limit : ℕ) (records : List (List ℕ)) (fault : File
   pub here : (limit ≤ length earlier) ⊎ (¬ BeginsFile (earlier ++ line ∷ []))
   pub cause : IsCause limit earlier line fault.cause
 
--- no record is at fault, and the records are no file yet
+-- the fault `no_end`: no record is at fault, but the records end before the file does
 pub record IsUnended (limit : ℕ) (records : List (List ℕ)) (fault : FileFault) : Type 0 where
   pub within : length records ≤ limit
   pub begin : BeginsFile records
@@ -91,11 +93,11 @@ pub record IsUnended (limit : ℕ) (records : List (List ℕ)) (fault : FileFaul
   pub number : fault.number ≡ length records + 1
   pub cause : fault.cause ≡ no_end
 
--- the fault of a text under a limit on its records
+-- the fault of a text, under a limit on its records
 abbrev pub IsFileFault : ℕ → List ℕ → FileFault → Type 0
 IsFileFault limit text fault = IsRecordFault limit (lines_of text) fault ⊎ IsUnended limit (lines_of text) fault
 
--- the text is a text of this file, which has at most this many records
+-- the lines of the text are this file, which has at most this many records
 pub record IsFileText (limit : ℕ) (text : List ℕ) (file : List (List ℕ)) : Type 0 where
   pub lines : lines_of text ≡ file
   pub is : IsFile file

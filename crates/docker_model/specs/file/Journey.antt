@@ -1,5 +1,5 @@
--- The times of a journey, and its falls past midnight. A journey is the lines of a schedule from
--- its origin to its terminus.
+-- The times of a journey, and how often it passes midnight. A journey is the lines of a schedule
+-- from its origin to its terminus.
 use Rattle.std.specs.Prelude.{ℕ, List, [], ◌∷◌, Option, Some, None, ◌+◌, ◌++◌, map, nat_lt, if◌then◌else◌, ◌≡◌, Contains, ◌⊎◌, Bool, ◌&&◌}
 use Rattle.std.specs.List.{flat_map, list_any}
 use Rattle.std.specs.Str.{bytes_eq}
@@ -15,13 +15,13 @@ pub data Occasion : Type 0 where
   next_working : Occasion
   departure : Occasion
 
--- an occasion and its time, if there is one
+-- an occasion with its time, if it has one
 abbrev pub timed : Occasion → Option ℕ → List (Occasion × ℕ)
 timed occasion None = []
 timed occasion (Some time) = (occasion, time) ∷ []
 
--- the times of a record of a kind, in their order: an origin's departure; the arrival, pass and
--- departure of an intermediate location, as far as it has them; a terminus's arrival
+-- the times of a record of this kind, in their order. An origin has a departure, and a terminus an
+-- arrival. An intermediate location may have an arrival, a pass and a departure
 abbrev pub times_by_kind : Option Kind → List ℕ → List (Occasion × ℕ)
 times_by_kind (Some origin_location) line = timed departure (scheduled_time (columns 11 15 line))
 times_by_kind (Some intermediate_location) line =
@@ -39,23 +39,24 @@ times_of line = times_by_kind (kind_of line) line
 abbrev pub times_along : List (List ℕ) → List ℕ
 times_along lines = map (λ time. time.1) (flat_map times_of lines)
 
--- how many times are below the one before. Equal times are no fall
+-- how many falls there are: times that are below the one before. Equal times are no fall, so 5 3 3
+-- 1 has two
 abbrev pub fall_count : List ℕ → ℕ
 fall_count [] = 0
 fall_count (time ∷ []) = 0
 fall_count (time ∷ later ∷ times) = (if nat_lt later time then 1 else 0) + fall_count (later ∷ times)
 
--- how often the schedule's lines pass midnight
+-- how often the schedule passes midnight, which it does wherever a time is below the one before
 abbrev pub midnights : List (List ℕ) → ℕ
 midnights lines = fall_count (times_along lines)
 
--- an LO, LI or LT of this TIPLOC stands among the lines
+-- the schedule calls at this TIPLOC: one of its LO, LI and LT records has it
 pub record CallsAt (place : List ℕ) (lines : List (List ℕ)) : Type 0 where
   pub line : List ℕ
   pub among : Contains lines line
   pub kind : HasKind origin_location line ⊎ HasKind intermediate_location line ⊎ HasKind terminating_location line
   pub here : columns 3 9 line ≡ place
 
--- the test that an LO, LI or LT of this TIPLOC is among the lines
+-- whether the schedule calls at this TIPLOC
 abbrev pub calls_at : List ℕ → List (List ℕ) → Bool
 calls_at place lines = list_any (λ line. is_location (kind_of line) && bytes_eq (columns 3 9 line) place) lines

@@ -1,5 +1,5 @@
--- Times of day. A scheduled time is in half minutes, and a public time in minutes. A field has the
--- stated width; past the end of a shorter one, bytes read as 0.
+-- Times of day. A scheduled time is in half minutes, a public time in minutes. Each field has the
+-- width that its definition states; past the end of a shorter one, bytes read as 0.
 use Rattle.std.specs.Prelude.{ℕ, ◌+◌, ◌*◌, Bool, ◌&&◌, ◌||◌, ◌==◌, nat_lt, if◌then◌else◌, List, take, slice_index, Option, Some, None, codes}
 use Rattle.std.specs.List.{list_all}
 use Rattle.std.specs.Char.{is_ascii_digit}

@@ -1,5 +1,5 @@
--- Dates: a day is a number, 0 for 1 January 1960. The calendar is the one of the crate `jiff`. A
--- field has the stated width; past the end of a shorter one, bytes read as 0.
+-- Dates: a day is a number, 0 for 1 January 1960. The calendar is that in the crate `jiff`. Each
+-- field has the width that its definition states; past the end of a shorter one, bytes read as 0.
 use Rattle.std.specs.Prelude.{ℕ, ◌+◌, ◌-◌, ◌*◌, List, slice_index, nat_le, if◌then◌else◌, Bool, ◌&&◌, pos, ◌+ℤ◌, unsigned_abs, ◌≤◌, codes, ◌||◌, ◌==◌, ◌%◌, count_by}
 use Rattle.std.specs.List.{list_all, range_with_len}
 use Rattle.std.specs.Int.{is_in_range}
@@ -8,8 +8,8 @@ use Rattle.std.specs.Str.{bytes_eq}
 use Rattle.jiff.specs.Words.{days_in_month}
 use Rattle.jiff_core.specs.Calendar.{days_from_civil}
 
--- the number that two digits of a field spell, from this place on, counted from 0: for a field that
--- has both
+-- the number that two digits of a field spell, from this place on, counted from 0. For a field that
+-- has both. The digits of `2025` at place 2 spell 25
 abbrev pub two_digits : List ℕ → ℕ → ℕ
 two_digits field i = 10 * (slice_index field i - 48) + (slice_index field (i + 1) - 48)
 
@@ -22,8 +22,8 @@ full_year n = if nat_le 60 n then 1900 + n else 2000 + n
 abbrev pub is_calendar_day : ℕ → ℕ → ℕ → Bool
 is_calendar_day year month day = is_in_range 1 12 month && is_in_range 1 (days_in_month (pos year) month) day
 
--- the number of a day of the calendar from 1960 on, in days since 1 January 1960, which is 3653
--- days before 1 January 1970
+-- the number of a calendar day from 1960 on: the days since 1 January 1960, which is 3653 days
+-- before 1 January 1970. The day number of 2 January 1960 is 1
 abbrev pub day_number : ℕ → ℕ → ℕ → ℕ
 day_number year month day = unsigned_abs (days_from_civil (pos year) month day +ℤ pos 3653)
 
@@ -35,7 +35,7 @@ last_day = 36524
 abbrev pub IsDay : ℕ → Type 0
 IsDay day = day ≤ last_day
 
--- the end number for no end
+-- the end number that stands for no end
 abbrev pub no_end_number : ℕ
 no_end_number = 65535
 
@@ -79,11 +79,11 @@ runs_on_weekday field weekday = slice_index field weekday == 49
 abbrev pub weekday_of : ℕ → ℕ
 weekday_of day = (day + 4) % 7
 
--- the year of a day number from 0 to 36524: the last that begins by then
+-- the year of a day number from 0 to 36524: the last year that has begun by then
 abbrev pub year_of : ℕ → ℕ
 year_of day = 1959 + count_by (λ year. nat_le (day_number year 1 1) day) (range_with_len 1960 100)
 
--- the month of a day number from 0 to 36524: the last of its year that begins by then
+-- the month of a day number from 0 to 36524: the last month of its year that has begun by then
 abbrev pub month_of : ℕ → ℕ
 month_of day = count_by (λ month. nat_le (day_number (year_of day) month 1) day) (range_with_len 1 12)
 

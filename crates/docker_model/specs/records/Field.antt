@@ -1,5 +1,5 @@
--- The checked fields of each kind of record, in the order of their columns, and the leftmost that
--- is not good. A field has the stated width.
+-- The fields that are checked in each kind of record, in the order of their columns. The leftmost
+-- bad one is reported. Each field has the width that its definition states.
 use Rattle.std.specs.Prelude.{ℕ, Bool, List, ◌||◌, ◌==◌, slice_index, not, ◌≡◌, IsTrue, slice_set, if◌then◌else◌, [], ◌∷◌, ◌++◌, Option, Some, None, option_map, find}
 use Rattle.docker_model.specs.records.Record.{IsTextOfLength, column, Kind, header, tiploc_insert, tiploc_amend, tiploc_delete, association, basic_schedule, extra_details, origin_location, intermediate_location, terminating_location, change_en_route, trailer, kind_of, columns}
 use Rattle.docker_model.specs.records.Date.{is_date, is_date_day_first, is_end_date, is_days}
@@ -23,7 +23,7 @@ is_update_indicator field = (slice_index field 0 == 70) || (slice_index field 0 
 abbrev pub is_tiploc : List ℕ → Bool
 is_tiploc field = not (slice_index field 0 == 32)
 
--- a TIPLOC of seven bytes, the first of which is not a space
+-- a TIPLOC's code: seven bytes, the first not a space
 abbrev pub IsTiploc : List ℕ → Type 0
 IsTiploc code = IsTextOfLength 7 code × ¬ (slice_index code 0 ≡ 32)
 
@@ -59,7 +59,7 @@ HasNewTransaction line = column 3 line ≡ 78
 abbrev pub as_new : List ℕ → List ℕ
 as_new line = slice_set line 2 78
 
--- the checked fields of a record of a kind. A deletion's end date and days run don't count
+-- the checked fields of a record of this kind. A deletion's end date and days run aren't checked
 abbrev pub checked_fields : Kind → List ℕ → List CheckedField
 checked_fields header line =
     checked 23 28 is_date_day_first ∷ checked 29 32 is_clock ∷ checked 47 47 is_update_indicator ∷ []
@@ -90,12 +90,12 @@ abbrev pub fields_of : Option Kind → List ℕ → List CheckedField
 fields_of None line = []
 fields_of (Some kind) line = checked_fields kind line
 
--- the first column of the leftmost checked field that is not good: for a line of 80 bytes
+-- the first column of the leftmost bad field. For a line of 80 bytes
 abbrev pub leftmost_bad_field : List ℕ → Option ℕ
 leftmost_bad_field line =
     option_map (λ (field : CheckedField). field.first)
     (find (λ field. not (field.is_good (columns field.first field.last line))) (fields_of (kind_of line) line))
 
--- each checked field of the record is good: for a line of 80 bytes
+-- each checked field of the record is good. For a line of 80 bytes
 abbrev pub HasGoodFields : List ℕ → Type 0
 HasGoodFields line = leftmost_bad_field line ≡ None

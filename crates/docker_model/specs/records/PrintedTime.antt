@@ -1,4 +1,4 @@
--- Days and times as printed. A field has the stated width.
+-- Days and times as they are printed. Each field has the width that its definition states.
 use Rattle.std.specs.Prelude.{ℕ, List, replicate, ◌+◌, ◌/◌, ◌%◌, [], ◌∷◌, ◌++◌, codes, ◌==◌, if◌then◌else◌}
 use Rattle.std.specs.Str.{bytes_eq}
 use Rattle.docker_model.specs.records.Date.{year_of, month_of, day_of_month}
@@ -31,6 +31,6 @@ minute_text minute = two_digit_text (minute / 60) ++ two_digit_text (minute % 60
 abbrev pub time_text : ℕ → List ℕ
 time_text time = minute_text (time / 2) ++ (if time % 2 == 1 then codes "H" else codes " ")
 
--- a public time of four bytes as printed: 0000 is none
+-- a public time of four bytes as it is printed: 0000 becomes spaces
 abbrev pub shown_public : List ℕ → List ℕ
 shown_public field = if bytes_eq field (codes "0000") then spaces 4 else field

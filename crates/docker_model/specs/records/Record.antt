@@ -12,7 +12,7 @@ is_printable b = nat_le 0x20 b && nat_le b 0x7E
 abbrev pub IsRecord : List ℕ → Type 0
 IsRecord bytes = (length bytes ≡ 80) × AllPass is_printable bytes
 
--- a text of this many bytes
+-- the bytes are a text of this length: each printable
 abbrev pub IsTextOfLength : ℕ → List ℕ → Type 0
 IsTextOfLength n bytes = (length bytes ≡ n) × AllPass is_printable bytes
 
@@ -20,11 +20,12 @@ IsTextOfLength n bytes = (length bytes ≡ n) × AllPass is_printable bytes
 abbrev pub leftmost_bad_byte : List ℕ → Option ℕ
 leftmost_bad_byte bytes = option_map (λ i. i + 1) (position (λ b. not (is_printable b)) bytes)
 
--- the bytes from one column to another, both included: for a line that has these columns
+-- the bytes from one column to another, both included: for a line that has these columns. Columns 1
+-- to 2 of `BSN` are `BS`
 abbrev pub columns : ℕ → ℕ → List ℕ → List ℕ
 columns first last line = slice_range line (first - 1) last
 
--- the byte in one column: for a line that has it. Past the end of a shorter line it reads as 0
+-- the byte in one column. For a line that has it; past the end of a shorter line it reads as 0
 abbrev pub column : ℕ → List ℕ → ℕ
 column n line = slice_index line (n - 1)
 
@@ -43,7 +44,7 @@ pub data Kind : Type 0 where
   change_en_route : Kind
   trailer : Kind
 
--- each kind with its record identity
+-- the record identity of each kind
 abbrev pub identities : List (List ℕ × Kind)
 identities =
     (codes "HD", header) ∷ (codes "TI", tiploc_insert) ∷ (codes "TA", tiploc_amend) ∷ (codes "TD", tiploc_delete)

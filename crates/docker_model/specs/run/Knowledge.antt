@@ -7,31 +7,31 @@ use Rattle.docker_model.specs.state.State.{State}
 use Rattle.docker_model.specs.state.StateText.{Format, IsHorizonOf}
 use Rattle.docker_model.specs.run.Run.{Files, Known, KnownSets, Exchange, IsStateOf, IsMessageOf, known_sets, RunEvent, take_file, send_state, deliver, reload, horizon_event, Reply, done, refused}
 
--- two lists of the same files
+-- two lists have the same files
 abbrev pub HaveSameFiles : Files → Files → Type 0
 HaveSameFiles first second = (file : List (List ℕ)) → Contains first file ↔ Contains second file
 
--- the same files and the same horizon
+-- two are the same knowledge: the same files and the same horizon
 abbrev pub AreOneKnowledge : Known → Known → Type 0
 AreOneKnowledge first second = HaveSameFiles first.files second.files × (first.horizon ≡ second.horizon)
 
--- each of the set is a file of at most 4,294,967,294 records
+-- each is a CIF file of at most 4,294,967,294 records
 abbrev pub AreFiles : Files → Type 0
 AreFiles files = All IsFile files × All (λ file. length file ≤ most_records) files
 
--- files, and a horizon that a state of the format may have
+-- knowledge that a run may hold: files, and a horizon that the format allows
 abbrev pub IsGoodKnown : Format → Known → Type 0
 IsGoodKnown format known = AreFiles known.files × IsHorizonOf format known.horizon
 
--- an event that a run of the format is given: a limit of at most 4,294,967,294 records, and a
--- horizon that a state of the format may have
+-- an event that a run may contain: it has a limit of at most 4,294,967,294 records, or a horizon
+-- that the format allows
 abbrev pub IsGoodEvent : Format → RunEvent → Type 0
 IsGoodEvent format (take_file office text limit) = limit ≤ most_records
 IsGoodEvent format (horizon_event office day) = IsHorizonOf format day
 IsGoodEvent format _ = ⊤
 
--- each state is the summary of what its office knows, each message is the text of the summary of
--- what it knows itself, and files and horizons are good
+-- the states and messages fit what is known. Each state is the summary of what its office knows,
+-- each message is the text of the summary of what it knows itself, and files and horizons are good
 pub record Holds (format : Format) (known : KnownSets) (states : List State) (messages : List (List ℕ)) : Type 0 where
   pub offices : All (IsGoodKnown format) known.offices
   pub sent : All (IsGoodKnown format) known.messages
@@ -46,11 +46,11 @@ office_state states office = slice_index_or states office (record { horizon = 0;
 abbrev pub message_text : List (List ℕ) → ℕ → List ℕ
 message_text messages message = slice_index_or messages message []
 
--- what is known when an exchange ends
+-- what offices and messages know when an exchange ends
 abbrev pub sets_of : ℕ → List RunEvent → Exchange → KnownSets
 sets_of offices events exchange = known_sets offices events exchange.replies
 
--- the event is a sending
+-- the event sends a state
 abbrev pub is_sending : RunEvent → Bool
 is_sending (take_file office text limit) = false
 is_sending (send_state office) = true
@@ -58,10 +58,10 @@ is_sending (deliver office message) = false
 is_sending (reload office message) = false
 is_sending (horizon_event office day) = false
 
--- the event is a sending, and it was done
+-- the event sends a state, and it was done
 abbrev pub is_sent : RunEvent × Reply → Bool
 is_sent happened = elim happened.1 [ done ↦ is_sending happened.0 | refused why ↦ false ]
 
--- how many sendings were done
+-- how many states were sent
 abbrev pub sent_count : List RunEvent → List Reply → ℕ
 sent_count events replies = length (filter is_sent (zip events replies))

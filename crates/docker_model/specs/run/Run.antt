@@ -7,7 +7,7 @@ use Rattle.docker_model.specs.state.State.{State}
 use Rattle.docker_model.specs.state.Summary.{IsSummary}
 use Rattle.docker_model.specs.state.StateText.{Format, state_text}
 
--- what may happen. A message that is lost is one that no event delivers
+-- an event of a run. A message that is lost is one that no event delivers
 pub data RunEvent : Type 0 where
   take_file : (office : ℕ) (text : List ℕ) (limit : ℕ) → RunEvent
   send_state : (office : ℕ) → RunEvent
@@ -37,11 +37,11 @@ pub record Known : Type 0 where
   pub files : Files
   pub horizon : ℕ
 
--- no file and no horizon
+-- knowledge of no file, without a horizon
 abbrev pub nothing : Known
 nothing = record { files = []; horizon = 0 }
 
--- what both know: the files of both, and the greater horizon
+-- the knowledge of both: the files of either, and the greater horizon
 abbrev pub united : Known → Known → Known
 united first second = record { files = first.files ++ second.files; horizon = max first.horizon second.horizon }
 
@@ -58,13 +58,13 @@ office_known known office = slice_index_or known.offices office nothing
 abbrev pub message_known : KnownSets → ℕ → Known
 message_known known message = slice_index_or known.messages message nothing
 
--- the office knows this now
+-- the sets of knowledge, once this office knows this
 abbrev pub with_office : KnownSets → ℕ → Known → KnownSets
 with_office known office now = record { offices = slice_set known.offices office now; messages = known.messages }
 
--- what is known after an event that was done: a file is added, a message gets what the office
--- knows, what a message knows is united with what the office knows, or replaces it, or the greater
--- horizon is taken
+-- what is known after an event that was done. The office learns a file, or sets a horizon, of which
+-- the greater counts. A message is sent that knows what the office knows. Delivering a message
+-- unites its knowledge with the office's; reloading it replaces the office's
 abbrev pub after_done : KnownSets → RunEvent → KnownSets
 after_done known (take_file office text limit) =
     with_office known office (united (record { files = lines_of text ∷ []; horizon = 0 }) (office_known known office))
@@ -73,11 +73,11 @@ after_done known (deliver office message) = with_office known office (united (me
 after_done known (reload office message) = with_office known office (message_known known message)
 after_done known (horizon_event office day) = with_office known office (united (record { files = []; horizon = day }) (office_known known office))
 
--- a refused event changes nothing
+-- what is known after an event and its reply: a refused event changes nothing
 abbrev pub after_reply : KnownSets → RunEvent × Reply → KnownSets
 after_reply known happened = elim happened.1 [ done ↦ after_done known happened.0 | refused why ↦ known ]
 
--- at first no office knows anything, and there is no message
+-- what is known before the first event: no office knows anything, and there is no message
 abbrev pub none_known : ℕ → KnownSets
 none_known offices = record { offices = replicate offices nothing; messages = [] }
 
@@ -93,30 +93,32 @@ IsOffice known office = office < length known.offices
 abbrev pub IsMessage : KnownSets → ℕ → Type 0
 IsMessage known message = message < length known.messages
 
--- the reply is one that a file may get at an office
+-- the reply to a file at an office that exists: done, a fault of the file, or out of memory
 abbrev pub IsFileReply : ℕ → List ℕ → Reply → Type 0
 IsFileReply limit text done = IsFileText limit text (lines_of text)
 IsFileReply limit text (refused (bad_file fault)) = IsFileFault limit text fault
 IsFileReply limit text (refused no_memory) = ⊤
 IsFileReply limit text (refused _) = ⊥
 
--- the reply is one that any other event may get there
+-- the reply is done or out of memory
 abbrev pub IsDoneOrNoMemory : Reply → Type 0
 IsDoneOrNoMemory done = ⊤
 IsDoneOrNoMemory (refused no_memory) = ⊤
 IsDoneOrNoMemory (refused _) = ⊥
 
--- the reply to an event that names an office
+-- the reply to an event that names an office: `no_office` if it doesn't exist, and otherwise
+-- `There` holds
 pub record IsOfficeReply (known : KnownSets) (office : ℕ) (reply : Reply) (There : Type 0) : Type 0 where
   pub absent : ¬ IsOffice known office → reply ≡ refused no_office
   pub there : IsOffice known office → There
 
--- the reply to an event that names a message
+-- the reply to an event that names a message, at an office that exists: `no_message` if there is no
+-- such message
 pub record IsMessageReply (known : KnownSets) (message : ℕ) (reply : Reply) : Type 0 where
   pub absent : ¬ IsMessage known message → reply ≡ refused no_message
   pub there : IsMessage known message → IsDoneOrNoMemory reply
 
--- the reply is one that the event may have: a horizon is set wherever the office exists
+-- the reply is one that the event may have. Setting a horizon never fails at an office that exists
 abbrev pub IsReply : KnownSets → RunEvent → Reply → Type 0
 IsReply known (take_file office text limit) reply = IsOfficeReply known office reply (IsFileReply limit text reply)
 IsReply known (send_state office) reply = IsOfficeReply known office reply (IsDoneOrNoMemory reply)
@@ -124,7 +126,7 @@ IsReply known (deliver office message) reply = IsOfficeReply known office reply 
 IsReply known (reload office message) reply = IsOfficeReply known office reply (IsMessageReply known message reply)
 IsReply known (horizon_event office day) reply = IsOfficeReply known office reply (reply ≡ done)
 
--- each event has one reply, and it is one that the event may have there
+-- there is one reply for each event, and the event may get it at that point
 abbrev pub AreReplies : KnownSets → List RunEvent → List Reply → Type 0
 AreReplies known [] [] = ⊤
 AreReplies known [] (reply ∷ replies) = ⊥
@@ -135,19 +137,19 @@ AreReplies known (event ∷ events) (reply ∷ replies) = IsReply known event re
 abbrev pub IsStateOf : Known → State → Type 0
 IsStateOf known state = IsSummary known.files known.horizon state
 
--- a message's bytes are the text, in the format of the messages, of the summary of what it knows
+-- the bytes are a message with this knowledge: the text of its summary, in the format of messages
 abbrev pub IsMessageOf : Format → Known → List ℕ → Type 0
 IsMessageOf format known text = (state : State) × IsStateOf known state × (text ≡ state_text format state)
 
--- what a run leaves: the offices' states, the messages, the replies
+-- what a run leaves: the states of the offices, the messages, the replies
 pub record Exchange : Type 0 where
   pub states : List State
   pub messages : List (List ℕ)
   pub replies : List Reply
 
--- it is what a run of these events at this many offices leaves, with messages of a format: each
--- state is the summary of what its office knows, each message the text of the summary of what it
--- knows itself
+-- a run of these events at this many offices leaves this, with messages in this format. Each state
+-- is the summary of what its office knows. Each message is the text of the summary of what it knows
+-- itself
 pub record IsRun (format : Format) (offices : ℕ) (events : List RunEvent) (exchange : Exchange) : Type 0 where
   pub replies : AreReplies (none_known offices) events exchange.replies
   pub states : AllZip IsStateOf (known_sets offices events exchange.replies).offices exchange.states

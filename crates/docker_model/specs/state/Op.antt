@@ -1,4 +1,4 @@
--- Ops: what a key holds, and which of two wins. Keys in their order.
+-- Ops: what an entry says of its key. Keys, bodies, ops and entries, each with its order.
 use Rattle.std.specs.Prelude.{ℕ, if◌then◌else◌, List, Option, Some, None}
 use Rattle.std.specs.List.{concat}
 use Rattle.std.specs.declared.cmp.Ordering.{Ordering}
@@ -23,7 +23,7 @@ body_tag (tiploc_body bytes) = 1
 body_tag (association_body line) = 2
 body_tag (schedule_body lines) = 3
 
--- the order of associations: by their parts from left to right. For well formed keys this is the
+-- the order of associations: by their fields from left to right. For well formed keys this is the
 -- order of their bytes
 abbrev pub association_key_cmp : AssociationKey → AssociationKey → Ordering
 association_key_cmp a b =
@@ -31,14 +31,14 @@ association_key_cmp a b =
     (ordering_then (nat_cmp a.start b.start) (ordering_then (bytes_cmp a.location b.location)
     (ordering_then (nat_cmp a.suffix b.suffix) (nat_cmp a.indicator b.indicator)))))
 
--- the order of schedules: by their parts from left to right. For well formed keys this is the order
--- of their bytes
+-- the order of schedules: by their fields from left to right. For well formed keys this is the
+-- order of their bytes
 abbrev pub schedule_key_cmp : ScheduleKey → ScheduleKey → Ordering
 schedule_key_cmp a b =
     ordering_then (bytes_cmp a.uid b.uid) (ordering_then (nat_cmp a.runs_from b.runs_from) (nat_cmp a.indicator b.indicator))
 
--- keys are ordered by tag, and then within a tag. For well formed keys this is the order of their
--- bytes
+-- the order of keys: TIPLOCs, then associations, then schedules, each in their own order. For well
+-- formed keys this is the order of their bytes
 abbrev pub key_cmp : Key → Key → Ordering
 key_cmp (tiploc_key a) (tiploc_key b) = bytes_cmp a b
 key_cmp (tiploc_key a) (association_key b) = Less
@@ -56,7 +56,7 @@ body_bytes (tiploc_body bytes) = bytes
 body_bytes (association_body line) = line
 body_bytes (schedule_body lines) = concat lines
 
--- the end number of an end date of six bytes if it can be read, else the number for no end
+-- the end number of an end date of six bytes, or no end if it isn't a date
 abbrev pub readable_end : List ℕ → ℕ
 readable_end field = if is_end_date field then end_number field else no_end_number
 
@@ -66,14 +66,14 @@ body_end (tiploc_body bytes) = no_end_number
 body_end (association_body line) = readable_end (columns 22 27 line)
 body_end (schedule_body lines) = readable_end (columns 16 21 (first_record lines))
 
--- the order of bodies: by end number, then by bytes, then by tag. The order distinguishes bodies
--- whose lines are records, but not all bodies with lines of other lengths
+-- the order of bodies: by end number, then by bytes, then by tag. Two bodies whose lines are
+-- records are equal in it only if they are the same
 abbrev pub body_cmp : Body → Body → Ordering
 body_cmp a b =
     ordering_then (nat_cmp (body_end a) (body_end b))
     (ordering_then (bytes_cmp (body_bytes a) (body_bytes b)) (nat_cmp (body_tag a) (body_tag b)))
 
--- what is known of a key: it is deleted, it was put and has lapsed, or it is put with a body
+-- what an entry says of its key: it is deleted, it was put and has lapsed, or it is put with a body
 pub data Op : Type 0 where
   deleted : Op
   lapsed : Op
@@ -90,8 +90,8 @@ body_of deleted = None
 body_of lapsed = None
 body_of (put_with body) = Some body
 
--- deleted is below lapsed, and lapsed is below every put. The order distinguishes ops of records,
--- whose bodies' lines have 80 bytes
+-- the order of ops: deleted is below lapsed, and lapsed below every put. Two ops whose lines are
+-- records are equal in it only if they are the same
 abbrev pub op_cmp : Op → Op → Ordering
 op_cmp deleted deleted = Equal
 op_cmp deleted lapsed = Less
@@ -103,11 +103,12 @@ op_cmp (put_with a) deleted = Greater
 op_cmp (put_with a) lapsed = Greater
 op_cmp (put_with a) (put_with b) = body_cmp a b
 
--- an op with its stamp. Of two entries of one key the greater wins
+-- an entry: an op with its stamp. The greater of two entries of one key wins
 pub record Entry : Type 0 where
   pub stamp : Stamp
   pub op : Op
 
--- entries are ordered by stamp, and then by op. The order distinguishes entries of records
+-- the order of entries: by stamp, then by op. Two entries whose lines are records are equal in it
+-- only if they are the same
 abbrev pub entry_cmp : Entry → Entry → Ordering
 entry_cmp a b = ordering_then (stamp_cmp a.stamp b.stamp) (op_cmp a.op b.op)

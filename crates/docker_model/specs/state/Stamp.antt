@@ -8,40 +8,40 @@ use Rattle.docker_model.specs.records.Clock.{minute_of}
 use Rattle.docker_model.specs.file.File.{first_record}
 use Rattle.docker_model.specs.state.Order.{bytes_cmp, IsAtMost}
 
--- the day and the minute of an extract
+-- a moment: the day and the minute in the header of an extract
 pub record Moment : Type 0 where
   pub day : ℕ
   pub minute : ℕ
 
--- the moment and the current file reference of a file
+-- a file stamp: the file's moment and its current file reference
 pub record FileStamp : Type 0 where
   pub moment : Moment
   pub reference : List ℕ
 
--- the file stamp and the record number of a change
+-- the stamp of a change: the file stamp and the record number
 pub record Stamp : Type 0 where
   pub file : FileStamp
   pub number : ℕ
 
--- what a ledger keeps of a file: its file stamp, its update indicator and its last file reference
+-- a ledger item, for one file: its file stamp, its update indicator and its last file reference
 pub record LedgerItem : Type 0 where
   pub stamp : FileStamp
   pub indicator : ℕ
   pub last_reference : List ℕ
 
--- moments, by day and then by minute
+-- the order of moments: by day, then by minute
 abbrev pub moment_cmp : Moment → Moment → Ordering
 moment_cmp a b = ordering_then (nat_cmp a.day b.day) (nat_cmp a.minute b.minute)
 
--- file stamps, by moment and then by reference
+-- the order of file stamps: by moment, then by reference
 abbrev pub file_stamp_cmp : FileStamp → FileStamp → Ordering
 file_stamp_cmp a b = ordering_then (moment_cmp a.moment b.moment) (bytes_cmp a.reference b.reference)
 
--- stamps, by file stamp and then by record number
+-- the order of stamps: by file stamp, then by record number
 abbrev pub stamp_cmp : Stamp → Stamp → Ordering
 stamp_cmp a b = ordering_then (file_stamp_cmp a.file b.file) (nat_cmp a.number b.number)
 
--- ledger items, by file stamp, indicator and last reference
+-- the order of ledger items: by file stamp, indicator and last reference
 abbrev pub ledger_item_cmp : LedgerItem → LedgerItem → Ordering
 ledger_item_cmp a b =
     ordering_then (file_stamp_cmp a.stamp b.stamp)
@@ -58,7 +58,7 @@ moment_of file = record {
 abbrev pub file_stamp_of : List (List ℕ) → FileStamp
 file_stamp_of file = record { moment = moment_of file; reference = columns 33 39 (first_record file) }
 
--- what a ledger keeps of a file
+-- the ledger item of a file, by its header
 abbrev pub ledger_item_of : List (List ℕ) → LedgerItem
 ledger_item_of file = record {
   stamp = file_stamp_of file;
@@ -87,8 +87,7 @@ abbrev pub IsFloor : List LedgerItem → Option FileStamp → Type 0
 IsFloor items None = HasNoFull items
 IsFloor items (Some stamp) = IsGreatestFull items stamp
 
--- what has this file stamp is kept under a floor: it is at or above it. Without a floor everything
--- is kept
+-- a file stamp is kept if it isn't below the floor, or if there is none
 abbrev pub IsKept : Option FileStamp → FileStamp → Type 0
 IsKept None stamp = ⊤
 IsKept (Some floor) stamp = IsAtMost file_stamp_cmp floor stamp

@@ -1,4 +1,4 @@
--- States, which are valid, and their join.
+-- States: when one is valid, and the join of two.
 use Rattle.std.specs.Prelude.{ℕ, List, ◌≡◌, ◌<◌, ◌⊎◌, IsTrue, ◌-◌, ◌^◌, length, ⊤, Option, All, ◌≤◌, map, Contains, Some, option_and_then, find, max, ◌↔◌, ◌++◌}
 use Rattle.std.specs.Ordering.{on, is_eq}
 use Rattle.docker_model.specs.records.Record.{IsTextOfLength, is_printable, association, HasKind, IsRecord}
@@ -12,7 +12,7 @@ use Rattle.docker_model.specs.state.Op.{Entry, Op, deleted, lapsed, put_with, ke
 use Rattle.docker_model.specs.state.Table.{Table}
 use Rattle.docker_model.specs.state.Lapse.{HasNotToLapse, lapse_entries, lapse_entry}
 
--- the horizon, 0 for none, the files known, and each key with its entry
+-- a state: the horizon, 0 for none, the ledger of known files, and each key with its entry
 pub record State : Type 0 where
   pub horizon : ℕ
   pub ledger : List LedgerItem
@@ -26,7 +26,7 @@ pub record IsGoodItem (item : LedgerItem) : Type 0 where
   pub indicator : (item.indicator ≡ 70) ⊎ (item.indicator ≡ 85)
   pub last_reference : IsTextOfLength 7 item.last_reference
 
--- an association's key that a record can name
+-- the key of an association that a record can name
 pub record IsGoodAssociationKey (key : AssociationKey) : Type 0 where
   pub base : IsTextOfLength 6 key.base
   pub associated : IsTextOfLength 6 key.associated
@@ -35,7 +35,7 @@ pub record IsGoodAssociationKey (key : AssociationKey) : Type 0 where
   pub suffix : IsTrue (is_printable key.suffix)
   pub indicator : IsStpLetter key.indicator
 
--- a schedule's key that a record can name
+-- the key of a schedule that a record can name
 pub record IsGoodScheduleKey (key : ScheduleKey) : Type 0 where
   pub uid : IsTextOfLength 6 key.uid
   pub runs_from : IsDay key.runs_from
@@ -47,7 +47,7 @@ IsGoodKey (tiploc_key code) = IsTiploc code
 IsGoodKey (association_key key) = IsGoodAssociationKey key
 IsGoodKey (schedule_key key) = IsGoodScheduleKey key
 
--- an association's line, kept under this key
+-- the record is a good association with this key
 pub record IsAssociationOf (key : AssociationKey) (line : List ℕ) : Type 0 where
   pub is_record : IsRecord line
   pub kind : HasKind association line
@@ -55,21 +55,21 @@ pub record IsAssociationOf (key : AssociationKey) (line : List ℕ) : Type 0 whe
   pub new : HasNewTransaction line
   pub key_is : association_named line ≡ association_key key
 
--- a schedule's lines, at most 4,294,967,294, kept under this key
+-- the lines are a good schedule with this key, and at most 4,294,967,294
 pub record IsScheduleOf (key : ScheduleKey) (lines : List (List ℕ)) : Type 0 where
   pub schedule : IsSchedule lines
   pub few : length lines < 2 ^ 32 - 1
   pub new : HasNewTransaction (first_record lines)
   pub key_is : schedule_named (first_record lines) ≡ schedule_key key
 
--- the body is well formed and agrees with the key
+-- the body fits the key, and is well formed
 abbrev pub IsBodyOf : Key → Body → Type 0
 IsBodyOf (tiploc_key code) (tiploc_body bytes) = IsTextOfLength 63 bytes
 IsBodyOf (association_key key) (association_body line) = IsAssociationOf key line
 IsBodyOf (schedule_key key) (schedule_body lines) = IsScheduleOf key lines
 IsBodyOf _ _ = ⊥
 
--- the op is well formed and agrees with the key
+-- the op fits the key, and is well formed
 abbrev pub IsOpOf : Key → Op → Type 0
 IsOpOf key deleted = ⊤
 IsOpOf key lapsed = ⊤
@@ -83,14 +83,13 @@ pub record IsLedger (ledger : List LedgerItem) : Type 0 where
   pub is_floor : IsFloor ledger floor
   pub kept : All (λ item. IsKept floor item.stamp) ledger
 
--- the record number of a stamp is at least 2 and at most 4,294,967,294, and its file stands in the
--- ledger
+-- the stamp names a file in the ledger, and a record number from 2 to 4,294,967,294
 pub record IsStampIn (ledger : List LedgerItem) (stamp : Stamp) : Type 0 where
   pub in_ledger : Contains (map (λ (item : LedgerItem). item.stamp) ledger) stamp.file
   pub low : 2 ≤ stamp.number
   pub high : stamp.number < 2 ^ 32 - 1
 
--- an entry of this key, well formed, over this ledger
+-- a key with its entry, both well formed, over this ledger
 pub record IsGoodEntry (ledger : List LedgerItem) (entry : Key × Entry) : Type 0 where
   pub key : IsGoodKey entry.0
   pub stamp : IsStampIn ledger entry.1.stamp
@@ -127,25 +126,25 @@ live_table state key = option_and_then (λ (entry : Entry). body_of entry.op) (e
 abbrev pub HasGoodBodies : Table → Type 0
 HasGoodBodies live = (key : Key) (body : Body) → live key ≡ Some body → IsBodyOf key body
 
--- the state under a horizon: with it, and each entry lapsed under it
+-- the state with this horizon, where each entry has lapsed under it
 abbrev pub lapse_state : ℕ → State → State
 lapse_state horizon state = record { horizon = horizon; ledger = state.ledger; entries = lapse_entries horizon state.entries }
 
--- the state after a horizon was set: under the greater of its own and this one
+-- the state after a horizon was set: the greater of the old one and this one holds
 abbrev pub raise_horizon : ℕ → State → State
 raise_horizon horizon state = lapse_state (max state.horizon horizon) state
 
--- the same ledger and entries without a horizon: what has lapsed stays so
+-- the same ledger and entries without a horizon. An entry that has lapsed stays so
 abbrev pub without_horizon : State → State
 without_horizon state = record { horizon = 0; ledger = state.ledger; entries = state.entries }
 
--- the entry is among these, and none of its key is greater
+-- this is the key's greatest entry among these
 pub record IsGreatestAmong (entries : List (Key × Entry)) (key : Key) (entry : Entry) : Type 0 where
   pub among : Contains entries (key, entry)
   pub greatest : (other : Entry) → Contains entries (key, other) → IsAtMost entry_cmp other entry
 
--- joined is the join of two states: the union of the ledgers and, for each key, the greater entry.
--- Both are kept under the floor of the union, and each entry is lapsed under the greater horizon
+-- the join of two states: the union of their ledgers, and for each key the greater entry. Items and
+-- entries below the floor of the union are left out. Each entry lapses under the greater horizon
 pub record IsJoin (first second joined : State) : Type 0 where
   pub horizon : joined.horizon ≡ max first.horizon second.horizon
   pub floor : Option FileStamp

@@ -1,5 +1,4 @@
--- Why bytes are not a state's text in a format: the first part that is bad after the parts before
--- it.
+-- Why bytes aren't a state's text in a format: the first part that is bad.
 use Rattle.std.specs.Prelude.{ℕ, List, ◌≤◌, ◌≡◌, ◌+◌, [], ◌∷◌, ◌++◌, slice_index, ◌≢◌, length, ◌<◌, ◌⊎◌}
 use Rattle.std.specs.Int.{w32, from_be_bytes, w16}
 use Rattle.docker_model.specs.records.Record.{IsTextOfLength}
@@ -11,7 +10,7 @@ use Rattle.docker_model.specs.state.State.{IsGoodItem, State, IsGoodKey, IsAssoc
 use Rattle.docker_model.specs.state.StateText.{Format, key_in, stamp_in, IsOpByte, mark, item_in, state_text}
 use Rattle.docker_model.specs.state.StatePart.{RaisesFloor, IsAboveItems, IsAboveEntries, IsLineCount, before_tag, AreLinesUpTo, before_stamp, EntryPart, before_op, IsTag, before_line, before_key, before_body, HaveNotToLapse, Before, before_entry_count, before_horizon, at_end, in_entry, before_item, before_mark, before_ledger_count, AreGood, text_before, items_before, width}
 
--- the causes. A bad horizon is possible only in DKS2
+-- why a part is bad. A bad horizon is possible only in DKS2
 pub data StateCause : Type 0 where
   bad_mark : StateCause
   bad_item : StateCause
@@ -25,31 +24,32 @@ pub data StateCause : Type 0 where
   too_long : StateCause
   bad_horizon : StateCause
 
--- where a text is at fault: an offset, and the cause
+-- a fault: the offset where it stands, and the cause
 pub record StateFault : Type 0 where
   pub at : ℕ
   pub cause : StateCause
 
--- a ledger item is bad
+-- the ledger item is bad, after these items: it isn't well formed, isn't above them, or raises the
+-- floor
 abbrev pub IsBadItem : List LedgerItem → LedgerItem → StateCause → Type 0
 IsBadItem ledger item bad_item = ¬ IsGoodItem item
 IsBadItem ledger item bad_order = IsGoodItem item × ¬ IsAboveItems ledger item
 IsBadItem ledger item bad_floor = IsGoodItem item × IsAboveItems ledger item × RaisesFloor ledger item
 IsBadItem ledger item _ = ⊥
 
--- a key is bad
+-- the key is bad, after the entries of this state: it isn't well formed, or isn't above their keys
 abbrev pub IsBadKey : State → Key → StateCause → Type 0
 IsBadKey state key bad_body = ¬ IsGoodKey key
 IsBadKey state key bad_order = IsGoodKey key × ¬ IsAboveEntries state key
 IsBadKey state key _ = ⊥
 
--- a body, or the number of its lines, is good, and an association's body has not lapsed
+-- a good body, or for a schedule a good number of lines. An association's body mustn't have lapsed
 abbrev pub IsBodyPart : State → Key → List ℕ → Type 0
 IsBodyPart state (tiploc_key code) bytes = IsTextOfLength 63 bytes
 IsBodyPart state (association_key key) bytes = IsAssociationOf key bytes × (state.horizon ≤ body_end (association_body bytes))
 IsBodyPart state (schedule_key key) bytes = IsLineCount (from_be_bytes w32 bytes)
 
--- a part of an entry is bad
+-- this part of an entry is bad, after the state and the entry's parts so far
 abbrev pub IsBadEntryPart : Format → State → EntryPart → List ℕ → StateCause → Type 0
 IsBadEntryPart format state before_tag bytes cause = (cause ≡ bad_tag) × ¬ IsTag (slice_index bytes 0)
 IsBadEntryPart format state (before_key tag) bytes cause = IsBadKey state (key_in tag bytes) cause
@@ -59,7 +59,7 @@ IsBadEntryPart format state (before_body key stamp) bytes cause = (cause ≡ bad
 IsBadEntryPart format state (before_line key stamp count lines) bytes cause =
     (cause ≡ bad_body) × ¬ (AreLinesUpTo key count (lines ++ bytes ∷ []) × HaveNotToLapse state (lines ++ bytes ∷ []))
 
--- the next part is bad after those before it. A count is never bad
+-- the next part is bad, after these good ones. A count is never bad
 abbrev pub IsBadPart : Format → Before → List ℕ → StateCause → Type 0
 IsBadPart format before_mark bytes cause = (cause ≡ bad_mark) × (bytes ≢ mark format)
 IsBadPart format before_horizon bytes cause = (cause ≡ bad_horizon) × ¬ IsDay (from_be_bytes w16 bytes)
@@ -69,7 +69,7 @@ IsBadPart format (before_entry_count horizon ledger) bytes cause = ⊥
 IsBadPart format (in_entry count state part) bytes cause = IsBadEntryPart format state part bytes cause
 IsBadPart format (at_end state) bytes cause = ⊥
 
--- a part that lies below the limit is bad; the offset is where its item begins
+-- the fault of a bad part below the limit: its offset is where the part's item begins
 pub record HasBadPart (format : Format) (limit : ℕ) (text : List ℕ) (fault : StateFault) : Type 0 where
   pub before : Before
   pub good : AreGood format before
@@ -81,7 +81,8 @@ pub record HasBadPart (format : Format) (limit : ℕ) (text : List ℕ) (fault :
   pub bad : IsBadPart format before bytes fault.cause
   pub item_at : fault.at ≡ length (items_before format before)
 
--- the state needs a byte at the limit, and there is one
+-- the fault `too_long`: the next part would need bytes past the limit, and the text has a byte
+-- there. The offset is the limit
 pub record IsLong (format : Format) (limit : ℕ) (text : List ℕ) (fault : StateFault) : Type 0 where
   pub before : Before
   pub good : AreGood format before
@@ -93,7 +94,8 @@ pub record IsLong (format : Format) (limit : ℕ) (text : List ℕ) (fault : Sta
   pub cause : fault.cause ≡ too_long
   pub limit_at : fault.at ≡ limit
 
--- the text ends before the state does; the offset is where the item that is not whole begins
+-- the fault `too_short`: the text ends before the next part is whole. The offset is where the
+-- part's item begins
 pub record IsShort (format : Format) (limit : ℕ) (text : List ℕ) (fault : StateFault) : Type 0 where
   pub before : Before
   pub good : AreGood format before
@@ -104,7 +106,7 @@ pub record IsShort (format : Format) (limit : ℕ) (text : List ℕ) (fault : St
   pub cause : fault.cause ≡ too_short
   pub item_at : fault.at ≡ length (items_before format before)
 
--- bytes follow the state; the offset is where the first of them stands
+-- the fault `has_tail`: bytes follow the state. The offset is where the first of them stands
 pub record HasTail (format : Format) (limit : ℕ) (text : List ℕ) (fault : StateFault) : Type 0 where
   pub state : State
   pub valid : AreGood format (at_end state)
@@ -115,12 +117,12 @@ pub record HasTail (format : Format) (limit : ℕ) (text : List ℕ) (fault : St
   pub cause : fault.cause ≡ has_tail
   pub end_at : fault.at ≡ length (state_text format state)
 
--- the fault of a text in a format under a limit on its bytes
+-- the fault of a text in a format, under a limit on its bytes
 abbrev pub IsStateFault : Format → ℕ → List ℕ → StateFault → Type 0
 IsStateFault format limit text fault =
     HasBadPart format limit text fault ⊎ IsLong format limit text fault ⊎ IsShort format limit text fault ⊎ HasTail format limit text fault
 
--- the text belongs to a valid state in a format, within the limit
+-- the text is a valid state's in this format, and no longer than the limit
 pub record IsStateText (format : Format) (limit : ℕ) (text : List ℕ) (state : State) : Type 0 where
   pub valid : AreGood format (at_end state)
   pub is : text ≡ state_text format state

@@ -1,5 +1,6 @@
--- The parts of a state's text: what the parts before a part say, how wide the next one is, and when
--- they are good.
+-- The parts of a state's text: how wide the next part is, and when the parts so far are good. An
+-- item is the mark, the horizon, a count, a ledger item or an entry; only an entry has several
+-- parts.
 use Rattle.std.specs.Int.{w32, to_be_bytes}
 use Rattle.std.specs.List.{concat}
 use Rattle.std.specs.Prelude.{ℕ, List, [], length, ◌∷◌, ◌++◌, ◌==◌, if◌then◌else◌, ◌≡◌, ◌⊎◌, ◌-◌, ◌^◌, ◌<◌, All, ◌≤◌, ⊤}
@@ -12,7 +13,7 @@ use Rattle.docker_model.specs.state.Op.{key_tag, key_cmp, body_end}
 use Rattle.docker_model.specs.state.State.{State, IsGoodKey, IsStampIn, IsLedger}
 use Rattle.docker_model.specs.state.StateText.{Format, head_text, mark, ledger_text, entries_text, state_text, key_bytes, stamp_bytes, IsHorizonOf, IsToldState, TellsHorizon}
 
--- how far an entry has been read: what its parts so far say
+-- how far an entry has been read, and what its parts so far say
 pub data EntryPart : Type 0 where
   before_tag : EntryPart
   before_key : (tag : ℕ) → EntryPart
@@ -21,8 +22,8 @@ pub data EntryPart : Type 0 where
   before_body : (key : Key) (stamp : Stamp) → EntryPart
   before_line : (key : ScheduleKey) (stamp : Stamp) (count : ℕ) (lines : List (List ℕ)) → EntryPart
 
--- what the parts before a part say: the horizon, the counts, and what has been read of the ledger,
--- of the entries and of the next entry
+-- how far a state's text has been read, and what it says so far: the horizon, the counts, the
+-- ledger, the entries, and the parts of an unfinished entry
 pub data Before : Type 0 where
   before_mark : Before
   before_horizon : Before
@@ -32,7 +33,7 @@ pub data Before : Type 0 where
   in_entry : (count : ℕ) (state : State) (part : EntryPart) → Before
   at_end : (state : State) → Before
 
--- the bytes of the whole items before
+-- the bytes of the items read so far
 abbrev pub items_before : Format → Before → List ℕ
 items_before format before_mark = []
 items_before format before_horizon = mark format
@@ -42,11 +43,11 @@ items_before format (before_entry_count horizon ledger) = ledger_text format hor
 items_before format (in_entry count state part) = entries_text format count state
 items_before format (at_end state) = state_text format state
 
--- a tag and its key
+-- the bytes of a key: its tag, then the key
 abbrev pub key_text : Key → List ℕ
 key_text key = key_tag key ∷ key_bytes key
 
--- the bytes of the parts that an entry has so far
+-- the bytes that an unfinished entry has so far
 abbrev pub part_text : EntryPart → List ℕ
 part_text before_tag = []
 part_text (before_key tag) = tag ∷ []
@@ -56,26 +57,26 @@ part_text (before_body key stamp) = key_text key ++ stamp_bytes stamp ++ 1 ∷ [
 part_text (before_line key stamp count lines) =
     key_text (schedule_key key) ++ stamp_bytes stamp ++ 1 ∷ to_be_bytes w32 count ++ concat lines
 
--- the bytes of the parts before in the same item
+-- the bytes so far of the item that is unfinished
 abbrev pub parts_before : Before → List ℕ
 parts_before (in_entry count state part) = part_text part
 parts_before _ = []
 
--- the bytes of all parts before
+-- the bytes of all parts so far
 abbrev pub text_before : Format → Before → List ℕ
 text_before format before = items_before format before ++ parts_before before
 
--- the width of a key of a tag
+-- how many bytes a key with this tag has
 abbrev pub key_width : ℕ → ℕ
 key_width tag = if tag == 1 then 7 else (if tag == 2 then 23 else 9)
 
--- the width of a body, or of a schedule's line count
+-- how many bytes a body has, or for a schedule the number of its lines
 abbrev pub body_width : Key → ℕ
 body_width (tiploc_key code) = 63
 body_width (association_key key) = 80
 body_width (schedule_key key) = 4
 
--- the width of the next part of an entry
+-- how many bytes the next part of an entry has
 abbrev pub part_width : EntryPart → ℕ
 part_width before_tag = 1
 part_width (before_key tag) = key_width tag
@@ -84,7 +85,7 @@ part_width (before_op key stamp) = 1
 part_width (before_body key stamp) = body_width key
 part_width (before_line key stamp count lines) = 80
 
--- the width of the next part. None is next at the end
+-- how many bytes the next part has: 0 at the end
 abbrev pub width : Before → ℕ
 width before_mark = 4
 width before_horizon = 2
@@ -94,11 +95,11 @@ width (before_entry_count horizon ledger) = 8
 width (in_entry count state part) = part_width part
 width (at_end state) = 0
 
--- the tags that there are
+-- the tag of a TIPLOC, an association or a schedule
 abbrev pub IsTag : ℕ → Type 0
 IsTag tag = (tag ≡ 1) ⊎ (tag ≡ 2) ⊎ (tag ≡ 3)
 
--- the numbers of lines that there are
+-- the number of a schedule's lines that a text may state
 abbrev pub IsLineCount : ℕ → Type 0
 IsLineCount count = (0 < count) × (count < 2 ^ 32 - 1)
 
@@ -110,35 +111,36 @@ IsAboveEntries state key = All (λ entry. IsBelow key_cmp entry.0 key) state.ent
 abbrev pub IsAboveItems : List LedgerItem → LedgerItem → Type 0
 IsAboveItems ledger item = All (λ earlier. IsBelow ledger_item_cmp earlier item) ledger
 
--- the item is of a full extract with a file stamp above the first item's
+-- the item raises the floor: it is of a full extract that is newer than the first item
 abbrev pub RaisesFloor : List LedgerItem → LedgerItem → Type 0
 RaisesFloor [] item = ⊥
 RaisesFloor (first ∷ ledger) item = IsFull item × IsBelow file_stamp_cmp first.stamp item.stamp
 
--- a schedule begins with the lines, and the first of them is new and of this key
+-- the lines begin a schedule with this key, whose transaction is N
 pub record AreLinesOf (key : ScheduleKey) (lines : List (List ℕ)) : Type 0 where
   pub begin : BeginsSchedule lines
   pub new : HasNewTransaction (first_record lines)
   pub key_is : schedule_named (first_record lines) ≡ schedule_key key
 
--- the lines are of this key, and the last of this many lines completes the schedule
+-- the lines begin a schedule with this key, and if there are as many as the count says they
+-- complete it
 pub record AreLinesUpTo (key : ScheduleKey) (count : ℕ) (lines : List (List ℕ)) : Type 0 where
   pub lines_of : AreLinesOf key lines
   pub complete : length lines ≡ count → IsSchedule lines
 
--- the key of an entry is good
+-- the entry's key is good at this point: well formed, and above the keys before it
 abbrev pub IsKeyHere : State → Key → Type 0
 IsKeyHere state key = IsGoodKey key × IsAboveEntries state key
 
--- the key and the stamp of an entry are good
+-- the entry's key and stamp are good at this point
 abbrev pub IsStampHere : State → Key → Stamp → Type 0
 IsStampHere state key stamp = IsKeyHere state key × IsStampIn state.ledger stamp
 
--- the lines have not lapsed, as the first of them shows
+-- the schedule hasn't lapsed under the state's horizon, by the end date in its first line
 abbrev pub HaveNotToLapse : State → List (List ℕ) → Type 0
 HaveNotToLapse state lines = state.horizon ≤ body_end (schedule_body lines)
 
--- the parts of an entry so far are good
+-- the parts of an unfinished entry are good so far
 abbrev pub IsPartHere : State → EntryPart → Type 0
 IsPartHere state before_tag = ⊤
 IsPartHere state (before_key tag) = IsTag tag
@@ -153,7 +155,7 @@ IsPartHere state (before_line key stamp count lines) =
 abbrev pub IsCount : ℕ → Type 0
 IsCount count = count < 2 ^ 64
 
--- each part before is good
+-- each part so far is good
 abbrev pub AreGood : Format → Before → Type 0
 AreGood format before_mark = ⊤
 AreGood format before_horizon = TellsHorizon format

@@ -1,5 +1,5 @@
--- The text of a state, in bytes, in either of two formats: with the mark DKS1 it has no horizon,
--- with DKS2 it has one. All numbers are big endian.
+-- The bytes of a state's text, in two formats. The mark DKS1 has no horizon after it, and DKS2 has
+-- one. All numbers are big endian.
 use Rattle.std.specs.Prelude.{ℕ, List, codes, [], ◌++◌, ◌∷◌, length, slice_range, slice_index, ◌==◌, if◌then◌else◌, ⊤, ◌≡◌, ◌⊎◌, All}
 use Rattle.std.specs.List.{concat, flat_map}
 use Rattle.std.specs.Int.{w16, to_be_bytes, w32, w64, from_be_bytes}
@@ -9,7 +9,7 @@ use Rattle.docker_model.specs.state.Stamp.{FileStamp, LedgerItem, Stamp}
 use Rattle.docker_model.specs.state.Op.{Op, deleted, lapsed, put_with, Entry, key_tag}
 use Rattle.docker_model.specs.state.State.{State, IsValid}
 
--- the formats, by their marks
+-- the two formats, each with its mark
 pub data Format : Type 0 where
   dks_1 : Format
   dks_2 : Format
@@ -19,7 +19,7 @@ abbrev pub mark : Format → List ℕ
 mark dks_1 = codes "DKS1"
 mark dks_2 = codes "DKS2"
 
--- the horizon after the mark, if the format has it
+-- the bytes of the horizon, if the format has one
 abbrev pub horizon_bytes : Format → ℕ → List ℕ
 horizon_bytes dks_1 horizon = []
 horizon_bytes dks_2 horizon = to_be_bytes w16 horizon
@@ -47,7 +47,7 @@ key_bytes (schedule_key key) = key.uid ++ to_be_bytes w16 key.runs_from ++ key.i
 abbrev pub stamp_bytes : Stamp → List ℕ
 stamp_bytes stamp = file_stamp_bytes stamp.file ++ to_be_bytes w32 stamp.number
 
--- a body; for a schedule, the number of its lines and then the lines
+-- the bytes of a body. A schedule has the number of its lines first
 abbrev pub put_bytes : Body → List ℕ
 put_bytes (tiploc_body bytes) = bytes
 put_bytes (association_body line) = line
@@ -63,11 +63,12 @@ op_bytes (put_with body) = 1 ∷ put_bytes body
 abbrev pub entry_bytes : Key × Entry → List ℕ
 entry_bytes entry = key_tag entry.0 ∷ key_bytes entry.0 ++ stamp_bytes entry.1.stamp ++ op_bytes entry.1.op
 
--- mark, horizon, the number of ledger items, and these items
+-- the text up to these ledger items: mark, horizon, the number of items, and the items
 abbrev pub ledger_text : Format → ℕ → ℕ → List LedgerItem → List ℕ
 ledger_text format horizon count ledger = head_text format horizon ++ to_be_bytes w64 count ++ flat_map item_bytes ledger
 
--- mark, horizon and ledger items with their number, then the number of entries, and these entries
+-- the text up to the state's entries: mark, horizon, ledger with its number of items, the number of
+-- entries, and the entries
 abbrev pub entries_text : Format → ℕ → State → List ℕ
 entries_text format count state =
     ledger_text format state.horizon (length state.ledger) state.ledger ++ to_be_bytes w64 count ++ flat_map entry_bytes state.entries
@@ -119,17 +120,17 @@ abbrev pub TellsHorizon : Format → Type 0
 TellsHorizon dks_1 = ⊥
 TellsHorizon dks_2 = ⊤
 
--- the horizons that a state of the format may have: 0 if the format has none
+-- a horizon that a state in this format may have: 0 if the format has none
 abbrev pub IsHorizonOf : Format → ℕ → Type 0
 IsHorizonOf dks_1 horizon = horizon ≡ 0
 IsHorizonOf dks_2 horizon = IsDay horizon
 
--- the ops that the format has: lapsed only in DKS2
+-- an op that an entry in this format may have: lapsed only in DKS2
 abbrev pub TellsOp : Format → Op → Type 0
 TellsOp dks_1 lapsed = ⊥
 TellsOp _ _ = ⊤
 
--- the bytes that may begin an op of the format: 2, for lapsed, only in DKS2
+-- the first byte that an op in this format may have: 2, for lapsed, only in DKS2
 abbrev pub IsOpByte : Format → ℕ → Type 0
 IsOpByte dks_1 byte = (byte ≡ 0) ⊎ (byte ≡ 1)
 IsOpByte dks_2 byte = (byte ≡ 0) ⊎ (byte ≡ 1) ⊎ (byte ≡ 2)

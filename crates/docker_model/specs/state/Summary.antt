@@ -1,4 +1,4 @@
--- The summary of a set of files, which is a list of them in any order, under a horizon.
+-- The summary of a set of files under a horizon. The set is a list in any order.
 use Rattle.std.specs.Prelude.{◌≡◌, ℕ, ◌↔◌, List, map, Option, Contains}
 use Rattle.docker_model.specs.file.Change.{Key, Change, changes}
 use Rattle.docker_model.specs.state.Order.{IsStrictlyAscending, IsAtMost}
@@ -11,7 +11,7 @@ use Rattle.docker_model.specs.state.State.{State, AreAscending}
 abbrev pub IsFloorOf : List (List (List ℕ)) → Option FileStamp → Type 0
 IsFloorOf files floor = IsFloor (map ledger_item_of files) floor
 
--- a file of the set that is kept under the floor
+-- the file is one of the set, and isn't below the floor
 pub record IsKeptFile (files : List (List (List ℕ))) (floor : Option FileStamp) (file : List (List ℕ)) : Type 0 where
   pub among : Contains files file
   pub kept : IsKept floor (file_stamp_of file)
@@ -20,7 +20,7 @@ pub record IsKeptFile (files : List (List (List ℕ))) (floor : Option FileStamp
 abbrev pub entry_of : List (List ℕ) → Change → Entry
 entry_of file change = record { stamp = record { file = file_stamp_of file; number = change.number }; op = op_of change.act }
 
--- a change of the key in a kept file makes this entry
+-- the entry comes from a change of this key in a kept file
 pub record IsEntryOf (files : List (List (List ℕ))) (floor : Option FileStamp) (key : Key) (entry : Entry) : Type 0 where
   pub file : List (List ℕ)
   pub kept : IsKeptFile files floor file
@@ -29,13 +29,13 @@ pub record IsEntryOf (files : List (List (List ℕ))) (floor : Option FileStamp)
   pub key_is : change.key ≡ key
   pub entry_is : entry_of file change ≡ entry
 
--- this entry is the greatest that a change of the key in a kept file makes
+-- the greatest entry that comes from changes of this key in kept files
 pub record IsGreatestEntryOf (files : List (List (List ℕ))) (floor : Option FileStamp) (key : Key) (entry : Entry) : Type 0 where
   pub is : IsEntryOf files floor key entry
   pub greatest : (other : Entry) → IsEntryOf files floor key other → IsAtMost entry_cmp other entry
 
--- the state is the summary under a horizon, 0 for none: the ledger items of the kept files and, for
--- each key, the greatest entry among the changes of kept files, lapsed under the horizon
+-- the summary under a horizon, 0 for none. It has the ledger items of the kept files. Each key has
+-- the greatest entry that comes from their changes, lapsed under the horizon
 pub record IsSummary (files : List (List (List ℕ))) (horizon : ℕ) (state : State) : Type 0 where
   pub horizon_is : state.horizon ≡ horizon
   pub floor : Option FileStamp

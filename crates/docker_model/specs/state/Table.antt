@@ -1,5 +1,5 @@
--- The plain table of a set of files: the newest full extract and then the later files, each record
--- in order.
+-- The plain table of a set of files: apply the newest full extract and then the later files, record
+-- by record.
 use Rattle.std.specs.Prelude.{◌≡◌, ℕ, Bool, ◌==◌, if◌then◌else◌, List, [], ◌∷◌, ◌↔◌, Option, None, fold, Contains}
 use Rattle.std.specs.List.{list_any}
 use Rattle.std.specs.Ordering.{is_eq, on}
@@ -8,7 +8,7 @@ use Rattle.docker_model.specs.state.Order.{IsStrictlyAscending}
 use Rattle.docker_model.specs.state.Stamp.{ledger_item_of, moment_of, moment_cmp}
 use Rattle.docker_model.specs.state.Op.{op_of, body_of, key_cmp}
 
--- what a table has at each key
+-- a table: the body at each key, or none
 abbrev pub Table : Type 0
 Table = Key → Option Body
 
@@ -32,17 +32,19 @@ after_files table files = fold after_file table files
 abbrev pub is_full : List (List ℕ) → Bool
 is_full file = (ledger_item_of file).indicator == 70
 
--- the last full extract and the files after it, or all files if there is no full extract
+-- the last full extract and the files after it, or all files if there is no full extract. An
+-- update, a full extract and another update leave the last two
 abbrev pub from_last_full : List (List (List ℕ)) → List (List (List ℕ))
 from_last_full [] = []
 from_last_full (file ∷ files) = if list_any is_full files then from_last_full files else file ∷ files
 
--- files in moment order: the files of the set, and no others
+-- the files in the order of their moments
 pub record IsInMomentOrder (files ordered : List (List (List ℕ))) : Type 0 where
   pub same : (file : List (List ℕ)) → Contains ordered file ↔ Contains files file
   pub ascending : IsStrictlyAscending (on moment_of moment_cmp) ordered
 
--- the plain table of a set of files with distinct moments
+-- the plain table of a set of files with distinct moments: the newest full extract, and then the
+-- later files
 pub record IsPlainTable (files : List (List (List ℕ))) (table : Table) : Type 0 where
   pub ordered : List (List (List ℕ))
   pub order : IsInMomentOrder files ordered

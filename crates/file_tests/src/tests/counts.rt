@@ -1,14 +1,16 @@
 //! Files that are judged without being kept.
 ghost use Rattle.std.specs.Prelude.{◌<◌};
 
-use super::{
-    AA, BS, BS_CANCELLED, BS_DELETED, BS_NIGHT, BS_OVERLAY, CR, F2, HD, LI_0010, LO, LO_0915,
-    LO_2355, LO_2400, LT, LT_0020, TA_RENAMED, TA_SAME, TI, ZZ, at, same, same_in, text,
-};
+use super::compare::{same, same_in};
+use super::{F2, at};
 use cif_file::{FileCause, ReadFault, judge_file};
 use cif_line::{Bytes, Extract};
 use std::alloc::Global;
 use std::process::Abort;
+use test_records::{
+    AA_DIVIDE, BS, BS_CANCELLED, BS_DELETED, BS_NIGHT, BS_OVERLAY, CR_5E51, HD, LI_0010, LO,
+    LO_0915, LO_2355, LO_2400, LT, LT_0020, TA, TA_SAME, TI, ZZ, text,
+};
 
 /// The lines of a file, how many records and changes it has, and the row's name.
 type Row = (&'static [&'static [u8]], u32, u64, &'static str);
@@ -24,7 +26,7 @@ const ROWS: &[Row] = &[
         "a deletion's journey",
     ),
     (&[HD, TI, ZZ], 3, 1, "an insertion"),
-    (&[HD, TA_RENAMED, ZZ], 3, 2, "a rename"),
+    (&[HD, TA, ZZ], 3, 2, "a rename"),
     (&[HD, TA_SAME, ZZ], 3, 1, "an amendment of the same code"),
     (
         &[HD, BS, LO, LT, BS_OVERLAY, LO_0915, LT, BS_CANCELLED, ZZ],
@@ -34,7 +36,7 @@ const ROWS: &[Row] = &[
     ),
     (
         &[
-            HD, BS, LO, LT, AA, BS_NIGHT, LO_2355, CR, LI_0010, LT_0020, ZZ,
+            HD, BS, LO, LT, AA_DIVIDE, BS_NIGHT, LO_2355, CR_5E51, LI_0010, LT_0020, ZZ,
         ],
         11,
         3,
@@ -60,7 +62,7 @@ fn check_count(rt: &impl Abort, alloc: Global, text: &[u8], step: usize, row: Ro
 fn counts(rt: HostRuntime) {
     let alloc = rt.alloc();
     for row in ROWS {
-        let text = text(&rt, alloc, row.0, b"\n");
+        let text = text(alloc, row.0, b"\n").expect(&rt, "room");
         check_count(&rt, alloc, text.as_slice(), 1, *row);
         check_count(&rt, alloc, text.as_slice(), 81, *row);
         check_count(&rt, alloc, text.as_slice(), 4096, *row);
@@ -69,7 +71,7 @@ fn counts(rt: HostRuntime) {
 
 #[test]
 fn a_limit_on_records(rt: HostRuntime) {
-    let whole = text(&rt, rt.alloc(), &F2, b"\r\n");
+    let whole = text(rt.alloc(), &F2, b"\r\n").expect(&rt, "room");
     let mut source = Bytes::new(whole.as_slice(), 7);
     let count = judge_file(rt.alloc(), &mut source, 5).expect(&rt, "a file");
     same(&rt, count.changes(), 1);

@@ -1,11 +1,13 @@
 //! Files that are read from a source.
 ghost use Rattle.std.specs.Prelude.{◌<◌};
 
-use super::{F2, HD, TI, at, check_f2, prints, same, same_in, text};
+use super::compare::{prints, same, same_in};
+use super::{F2, at, check_f2};
 use cif_file::{FileCause, FileFault, ReadFault, judge_file, read_file};
 use cif_line::{Bytes, Endless, Failed, Source};
 use std::alloc::Global;
 use std::process::Abort;
+use test_records::{HD, TI, text};
 
 /// A source that fails at the end of its bytes, and at each later read. It can't show its bytes.
 #[derive(Drop)]
@@ -58,7 +60,7 @@ fn check_reads(rt: &impl Abort, alloc: Global, text: &[u8], step: usize)
 
 #[test]
 fn a_file_by_reads_of_any_length(rt: HostRuntime) {
-    let whole = text(&rt, rt.alloc(), &F2, b"\n");
+    let whole = text(rt.alloc(), &F2, b"\n").expect(&rt, "room");
     check_reads(&rt, rt.alloc(), whole.as_slice(), 1);
     check_reads(&rt, rt.alloc(), whole.as_slice(), 7);
     check_reads(&rt, rt.alloc(), whole.as_slice(), 81);
@@ -91,7 +93,7 @@ fn front_fails(rt: &impl Abort, alloc: Global, text: &[u8], length: usize, name:
 
 #[test]
 fn sources_that_fail(rt: HostRuntime) {
-    let whole = text(&rt, rt.alloc(), &F2, b"\n");
+    let whole = text(rt.alloc(), &F2, b"\n").expect(&rt, "room");
     front_fails(&rt, rt.alloc(), whole.as_slice(), 0, "0 bytes");
     front_fails(&rt, rt.alloc(), whole.as_slice(), 81, "81 bytes");
     front_fails(&rt, rt.alloc(), whole.as_slice(), 100, "100 bytes");
@@ -139,8 +141,8 @@ fn check_endless(
 #[test]
 fn sources_without_end(rt: HostRuntime) {
     let alloc = rt.alloc();
-    let header = text(&rt, alloc, &[HD], b"\n");
-    let insert = text(&rt, alloc, &[TI], b"\n");
+    let header = text(alloc, &[HD], b"\n").expect(&rt, "room");
+    let insert = text(alloc, &[TI], b"\n").expect(&rt, "room");
     let (hd, ti) = (header.as_slice(), insert.as_slice());
     check_endless(&rt, alloc, hd, ti, 1000, at(1001, FileCause::TooMany));
     check_endless(&rt, alloc, hd, hd, 1000, at(2, FileCause::Place));

@@ -1,7 +1,7 @@
 //! The devices in memory, and a sink that fails once and can't show its bytes.
 ghost use Rattle.std.specs.Prelude.{◌-◌, ◌^◌, ◌<◌, ◌≡◌, None};
 
-use super::{prints, same};
+use super::compare::{prints, same};
 use cif_line::{Bytes, Endless, Failed, Fuse, Kept, Memory, Sink, Source, write_all};
 use std::process::Abort;
 

@@ -1,4 +1,4 @@
-use super::same;
+use super::compare::same;
 use cif_line::{Kind, Line, kind};
 use std::process::Abort;
 

@@ -1,4 +1,4 @@
-use super::{prints, same};
+use super::compare::{prints, same};
 use cif_line::{Line, LineFault};
 use std::process::Abort;
 

@@ -1,5 +1,5 @@
 //! Records of each kind that has a view, and their leftmost bad fields.
-use super::{prints, same};
+use super::compare::{prints, same};
 use cif_line::{
     Assoc, Basic, Call, ChangeEnRoute, Days, Extract, FieldFault, Header, Kind, Line, Origin, Stp,
     Terminus, Time, Tiploc, TiplocRecord, Transaction, Until, assoc, basic, call, change, header,
@@ -91,6 +91,15 @@ fn bad_field_is(rt: &impl Abort, text: &[u8], last: u8, wanted: Option<u8>) {
         _ => None,
     };
     same(rt, fault, wanted.map(FieldFault));
+}
+
+// The text of a line and its last byte, and its leftmost bad field.
+type BadField = (&'static [u8], u8, Option<u8>);
+
+fn bad_fields_are(rt: &impl Abort, rows: &[BadField]) {
+    for (text, last, wanted) in rows {
+        bad_field_is(rt, text, *last, *wanted);
+    }
 }
 
 fn half_minutes_are(rt: &impl Abort, time: Option<Time>, wanted: Option<u16>) {
@@ -296,164 +305,160 @@ fn a_change_en_route(rt: HostRuntime) {
     same(&rt, change_of(&rt, &line).identity(), b"    ");
 }
 
-#[test]
-fn leftmost_bad_fields_of_timing_points(rt: HostRuntime) {
-    bad_field_is(&rt, b"TI SHFELD         A", b' ', Some(3));
-    bad_field_is(
-        &rt,
+const OF_TIMING_POINTS: &[BadField] = &[
+    (b"TI SHFELD         A", b' ', Some(3)),
+    (
         b"TA SHFELD         A                                                      SHFLDN",
         b' ',
         Some(3),
-    );
-    bad_field_is(
-        &rt,
+    ),
+    (
         b"TAASHFELD         A                                                      SHFLDN",
         b' ',
         Some(73),
-    );
-    bad_field_is(
-        &rt,
+    ),
+    (
         b"TAASHFELD         A                                                           N",
         b' ',
         Some(73),
-    );
-    bad_field_is(
-        &rt,
+    ),
+    (
         b"TIASHFELD         A                                                      SHFLDN",
         b' ',
         None,
-    );
-    bad_field_is(&rt, b"TD SHFELD", b' ', Some(3));
-    bad_field_is(&rt, b"TDASHFELD", b' ', None);
-}
+    ),
+    (b"TD SHFELD", b' ', Some(3)),
+    (b"TDASHFELD", b' ', None),
+];
 
 #[test]
-fn leftmost_bad_fields_of_associations(rt: HostRuntime) {
-    bad_field_is(
-        &rt,
+fn leftmost_bad_fields_of_timing_points(rt: HostRuntime) {
+    bad_fields_are(&rt, OF_TIMING_POINTS);
+}
+
+const OF_ASSOCIATIONS: &[BadField] = &[
+    (
         b"AAXC30001C300022302299999981000002VVS OLWELL2 TP",
         b'X',
         Some(3),
-    );
-    bad_field_is(
-        &rt,
+    ),
+    (
         b"AANC30001C300022302299999981000002VVS OLWELL2 TP",
         b'X',
         Some(16),
-    );
-    bad_field_is(
-        &rt,
+    ),
+    (
         b"AANC30001C300022406109999981000002VVS OLWELL2 TP",
         b'X',
         Some(22),
-    );
-    bad_field_is(
-        &rt,
+    ),
+    (
         b"AANC30001C300022406102406101000002VVS OLWELL2 TP",
         b'X',
         Some(28),
-    );
-    bad_field_is(
-        &rt,
+    ),
+    (
         b"AANC30001C300022406102406101000000VVS OLWELL2 TP",
         b'X',
         Some(38),
-    );
-    bad_field_is(
-        &rt,
+    ),
+    (
         b"AANC30001C300022406102406101000000VVSCOLWELL2 TP",
         b'X',
         Some(80),
-    );
-    bad_field_is(
-        &rt,
+    ),
+    (
         b"AANC30001C300022406102406101000000VVSCOLWELL2 TP",
         b'N',
         None,
-    );
-    bad_field_is(
-        &rt,
+    ),
+    (
         b"AANC30001C300022406109999991000000VVSCOLWELL2 TP",
         b'P',
         None,
-    );
-    bad_field_is(
-        &rt,
+    ),
+    (
         b"AADC30001C300022302292406101000000VVS OLWELL2 TP",
         b'X',
         Some(16),
-    );
-    bad_field_is(
-        &rt,
+    ),
+    (
         b"AADC30001C30002240610             VVS OLWELL2 TP",
         b'X',
         Some(38),
-    );
-    bad_field_is(
-        &rt,
+    ),
+    (
         b"AADC30001C30002240610             VVSCOLWELL2 TP",
         b'X',
         Some(80),
-    );
-    bad_field_is(
-        &rt,
+    ),
+    (
         b"AADC30001C300022406109999981000002VVSCOLWELL2 TP",
         b'O',
         None,
-    );
-    bad_field_is(
-        &rt,
+    ),
+    (
         b"AARC30001C300022406109999981000000VVSCOLWELL2 TP",
         b'X',
         Some(22),
-    );
+    ),
+];
+
+#[test]
+fn leftmost_bad_fields_of_associations(rt: HostRuntime) {
+    bad_fields_are(&rt, OF_ASSOCIATIONS);
 }
+
+const OF_CALLS: &[BadField] = &[
+    (b"LI OLWELL 2400 1060 1010h240010 23", b' ', Some(3)),
+    (b"LICOLWELL 2400 1060 1010h240010 23", b' ', Some(11)),
+    (b"LICOLWELL 1010 1060 1010h240010 23", b' ', Some(16)),
+    (b"LICOLWELL 1010 1012 1010h240010 23", b' ', Some(21)),
+    (b"LICOLWELL 1010 1012      240010 23", b' ', Some(26)),
+    (b"LICOLWELL 1010 1012      101010 23", b' ', Some(30)),
+    (b"LICOLWELL 1010 1012      101010123", b' ', None),
+    (b"LICOLWELL                        3", b' ', None),
+    (b"LICOLWELL     H1012      101010123", b' ', Some(11)),
+    (b"LICOLWELL 1010 1012       01010123", b' ', Some(26)),
+];
 
 #[test]
 fn leftmost_bad_fields_of_calls(rt: HostRuntime) {
-    bad_field_is(&rt, b"LI OLWELL 2400 1060 1010h240010 23", b' ', Some(3));
-    bad_field_is(&rt, b"LICOLWELL 2400 1060 1010h240010 23", b' ', Some(11));
-    bad_field_is(&rt, b"LICOLWELL 1010 1060 1010h240010 23", b' ', Some(16));
-    bad_field_is(&rt, b"LICOLWELL 1010 1012 1010h240010 23", b' ', Some(21));
-    bad_field_is(&rt, b"LICOLWELL 1010 1012      240010 23", b' ', Some(26));
-    bad_field_is(&rt, b"LICOLWELL 1010 1012      101010 23", b' ', Some(30));
-    bad_field_is(&rt, b"LICOLWELL 1010 1012      101010123", b' ', None);
-    bad_field_is(&rt, b"LICOLWELL                        3", b' ', None);
-    bad_field_is(&rt, b"LICOLWELL     H1012      101010123", b' ', Some(11));
-    bad_field_is(&rt, b"LICOLWELL 1010 1012       01010123", b' ', Some(26));
+    bad_fields_are(&rt, OF_CALLS);
 }
 
-#[test]
-fn leftmost_bad_fields(rt: HostRuntime) {
-    bad_field_is(
-        &rt,
+const OF_OTHER_RECORDS: &[BadField] = &[
+    (
         b"HDTPS.UDFROC1.PD2406090906242100DFROC1ADFROC1ZXA",
         b' ',
         Some(47),
-    );
-    bad_field_is(
-        &rt,
+    ),
+    (
         b"HDTPS.UDFROC1.PD2406090906242460DFROC1ADFROC1ZXA",
         b' ',
         Some(29),
-    );
-    bad_field_is(
-        &rt,
+    ),
+    (
         b"HDTPS.UDFROC1.PD2406093106242460DFROC1ADFROC1ZXA",
         b' ',
         Some(23),
-    );
-    bad_field_is(&rt, b"BSNC100012302292406141111100 POO1A10", b'P', Some(10));
-    bad_field_is(&rt, b"BSXC100012302292406141111100 POO1A10", b'P', Some(3));
-    bad_field_is(&rt, b"BSNC10001240610      1111100 POO1A10", b'P', Some(16));
-    bad_field_is(&rt, b"BSNC100012406109999991111120 POO1A10", b'P', Some(22));
-    bad_field_is(&rt, b"BSNC100012406109999991111100 POO1A10", b'X', Some(80));
-    bad_field_is(&rt, b"BSNC100012406109999991111100 POO1A10", b'O', None);
-    bad_field_is(&rt, b"LO ASHFEL 2400 09001  SL", b' ', Some(3));
-    bad_field_is(&rt, b"LOASHFELD 2400 09001  SL", b' ', Some(11));
-    bad_field_is(&rt, b"LOASHFELD      09001  SL", b' ', Some(11));
-    bad_field_is(&rt, b"LOASHFELD 0900 9   1  SL", b' ', Some(16));
-    bad_field_is(&rt, b"LTBRAYTON 0930H24002  FL", b' ', Some(16));
+    ),
+    (b"BSNC100012302292406141111100 POO1A10", b'P', Some(10)),
+    (b"BSXC100012302292406141111100 POO1A10", b'P', Some(3)),
+    (b"BSNC10001240610      1111100 POO1A10", b'P', Some(16)),
+    (b"BSNC100012406109999991111120 POO1A10", b'P', Some(22)),
+    (b"BSNC100012406109999991111100 POO1A10", b'X', Some(80)),
+    (b"BSNC100012406109999991111100 POO1A10", b'O', None),
+    (b"LO ASHFEL 2400 09001  SL", b' ', Some(3)),
+    (b"LOASHFELD 2400 09001  SL", b' ', Some(11)),
+    (b"LOASHFELD      09001  SL", b' ', Some(11)),
+    (b"LOASHFELD 0900 9   1  SL", b' ', Some(16)),
+    (b"LTBRAYTON 0930H24002  FL", b' ', Some(16)),
+];
+
+#[test]
+fn leftmost_bad_fields(rt: HostRuntime) {
+    bad_fields_are(&rt, OF_OTHER_RECORDS);
 }
 
 #[test]

@@ -1,4 +1,4 @@
-use super::same;
+use super::compare::same;
 use cif_line::Time;
 use std::process::Abort;
 

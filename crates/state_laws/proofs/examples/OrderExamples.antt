@@ -1,5 +1,5 @@
--- Orders and their bytes, computed: what the order of bytes would be without the tag, with the low
--- byte first, and for keys that no record can name.
+-- Orders and bytes, computed. Bytes would order keys differently without the tag, with numbers
+-- whose low byte comes first, and for keys that no record can name.
 use Rattle.std.proofs.Common.{◌≡◌, ℕ, List, ◌∷◌, refl}
 use Rattle.std.specs.Prelude.{codes}
 use Rattle.std.specs.Int.{w16, to_le_bytes}
@@ -37,8 +37,7 @@ later_day_in_bytes = refl
 low_byte_first : bytes_cmp (to_le_bytes w16 255) (to_le_bytes w16 256) ≡ Greater
 low_byte_first = refl
 
--- keys of associations whose UIDs differ in length: the first key is below by parts, and above by
--- bytes
+-- associations whose UIDs differ in length: by fields the first key is below, and by bytes above
 abbrev association_of : List ℕ → List ℕ → Key
 association_of base associated =
     association_key (record { base = base; associated = associated; start = 0; location = codes "ASHFELD"; suffix = 32; indicator = 80 })
@@ -49,7 +48,7 @@ short_by_parts = refl
 short_by_bytes : bytes_cmp (key_bytes (association_of (codes "A") (codes "C"))) (key_bytes (association_of (codes "AB") (codes "A"))) ≡ Greater
 short_by_bytes = refl
 
--- items with one stamp: the update indicator is compared before the last reference
+-- items with one file stamp: the update indicator is compared before the last reference
 abbrev item_of : ℕ → List ℕ → LedgerItem
 item_of indicator last =
     record { stamp = record { moment = record { day = 23536; minute = 1260 }; reference = codes "DFROC1A" }; indicator = indicator; last_reference = last }

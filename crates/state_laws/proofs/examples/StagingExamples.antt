@@ -1,5 +1,5 @@
--- A worked staging: an office under the horizon of 15 June receives the state of a file whose
--- schedule ends on the 14th.
+-- A worked staging: an office under the horizon of 15 June receives a schedule that ends on the
+-- 14th.
 use Rattle.std.proofs.Common.{◌≡◌, ap, ◌∙◌, arith, [], ◌∷◌, Contains, subst, inl, inr, None}
 use Rattle.docker_model.specs.file.Change.{Key}
 use Rattle.docker_model.specs.state.Stamp.{LedgerItem}
@@ -45,6 +45,6 @@ committed_so = record {
         subst (λ e. Contains (raise_horizon 23542 f2_state).entries (key, e)) is (lapsed_to 23542 f2_state.entries key before here)
     back key entry before (inr mine) is = absurd (nil-Contains (key, before) mine.0)
 
--- the commit enters it lapsed, with its stamp
+-- after the commit it has lapsed, and keeps its stamp
 commit_raises : IsCommit own f2_state.ledger f2_state.entries (state_with 23542 (lapsed_entry ∷ []))
 commit_raises = subst (IsCommit own f2_state.ledger f2_state.entries) raised_state committed_so

@@ -18,17 +18,17 @@ f2_item = record {
   last_reference = codes "DFROC1Z";
 }
 
--- it is what the file's header gives
+-- the file's header gives this item
 pub item_of_f2 : ledger_item_of f2 ≡ f2_item
 unfolding days_from_civil day_count days_of_years days_of_months
 item_of_f2 = refl
 
--- the key of its schedule
+-- the key of the file's schedule
 pub key_of_f2 : schedule_named f2_basic ≡ schedule_key (record { uid = codes "C10001"; runs_from = 23537; indicator = 80 })
 unfolding days_from_civil day_count days_of_years days_of_months
 key_of_f2 = refl
 
--- the end number of its schedule
+-- the end number of the file's schedule
 pub end_of_f2 : body_end (schedule_body f2_schedule) ≡ 23541
 unfolding days_from_civil day_count days_of_years days_of_months
 end_of_f2 = refl
@@ -44,7 +44,7 @@ f2_state = record {
   ) ∷ [];
 }
 
--- the state that knows no file
+-- the state of an office that knows no file
 abbrev pub empty_state : State
 empty_state = record { horizon = 0; ledger = []; entries = [] }
 
@@ -71,7 +71,7 @@ start_of_entry = refl
 lines_in_text : drop 69 (state_text dks_1 f2_state) ≡ concat f2_schedule
 lines_in_text = refl
 
--- the item, key and stamp that these bytes encode
+-- item, key and stamp, read back from these bytes
 item_again : item_in (slice_range (state_text dks_1 f2_state) 12 31) ≡ f2_item
 item_again = refl
 

@@ -1,4 +1,4 @@
--- The worked file's state is valid, and is the summary of that file.
+-- The worked state is valid, and is the summary of the worked file.
 use Rattle.std.proofs.Common.{refl, inr, lit≤, lit<, ◌≡◌, [], ◌∷◌, arith, ap, ◌∙◌, Contains, None, sym, subst}
 use Rattle.std.specs.Prelude.{⊤, codes}
 use Rattle.std.proofs.lemmas.List.Elements.{All-from_recursion}
@@ -68,7 +68,7 @@ f2_state_valid = record {
   entries = (All-from_recursion (IsGoodEntry (f2_item ∷ [])) ((schedule_key f2_key, f2_entry) ∷ []) (good_entry, tt), (tt, tt));
 }
 
--- the summary of this one file
+-- the ledger item of the worked file
 item_is : ledger_item_of f2 ≡ f2_item
 item_is = item_of_f2
 
@@ -94,7 +94,7 @@ f2_entry_of = record {
   entry_is = entry_is;
 }
 
--- the only entry that a change makes is this one, at this key
+-- the file makes only this entry, at this key
 only_entry : (key : Key) (entry : Entry) (made : IsEntryOf (f2 ∷ []) None key entry) → (schedule_key f2_key ≡ key) × (f2_entry ≡ entry)
 only_entry key entry made =
     let file_is : f2 ≡ made.file = Contains-single f2 made.file made.kept.among in

@@ -1,5 +1,5 @@
--- The indexes of a join, made from the indexes of the joined states: each key of the join has what
--- one of the states has there, or nothing. Likewise after a horizon is set.
+-- The indexes of a join, made from the joined states' indexes: at each key the join has what one of
+-- the states has there, or nothing. The indexes after a horizon is set.
 use Rattle.std.proofs.Common.{◌≡◌, ℕ, ◌<◌, ◌≤◌, List, refl, ap, sym, ◌∙◌, inl, inr, ◌⊎◌, Some, None, Contains}
 use Rattle.std.specs.Prelude.{Option, ◌↔◌, option_and_then}
 use Rattle.std.proofs.lemmas.List.Elements.{Contains-append_cases}
@@ -15,7 +15,7 @@ use Rattle.state_laws.proofs.states.Lapse.{below_or, put_lapses, put_stays}
 use Rattle.state_laws.proofs.states.TableLapsed.{body_gone, live_stays}
 use Rattle.state_laws.proofs.joins.StagedEntry.{entry_at_iff}
 
--- the lapse of an op has the same body as the op, or none
+-- a lapsed op has the body that it had, or none
 lapsed_body : (horizon : ℕ) (op : Op) → (body_of (lapse horizon op) ≡ body_of op) ⊎ (body_of (lapse horizon op) ≡ None)
 lapsed_body horizon deleted = inl refl
 lapsed_body horizon lapsed = inl refl
@@ -26,7 +26,7 @@ lapsed_body horizon (put_with body) = by (below_or horizon body)
     by (inl below) = inr (ap body_of (put_lapses horizon body below))
     by (inr above) = inl (ap body_of (put_stays horizon body above))
 
--- at a key a join has live what one of the two states has live there, or nothing
+-- at each key a join has live what one of the two states has live there, or nothing
 pub join_from_either : (own other joined : State) → AreAscending own.entries → AreAscending other.entries → IsJoin own other joined
     → IsFromEither (live_table own) (live_table other) (live_table joined)
 join_from_either own other joined up_own up_other join key = by (entry_at joined key) refl
@@ -52,7 +52,7 @@ join_from_either own other joined up_own up_other join key = by (entry_at joined
         let told = (join.entries key entry).0 ((entry_at_iff joined join.entries_ascend key entry).0 is) in
         pick told.0 entry is told.3 (lapsed_body joined.horizon told.0.op) (Contains-append_cases own.entries other.entries (key, told.0) told.1.among)
 
--- after a horizon is set, a table has at a key what it had there, or nothing
+-- at each key a lapsed table has what the table had there, or nothing
 pub lapse_from_either : (horizon : ℕ) (live : Table) → IsFromEither live live (lapse_table horizon live)
 lapse_from_either horizon live key = by (live key) refl
   where
@@ -68,7 +68,7 @@ lapse_from_either horizon live key = by (live key) refl
     by (Some body) is = pick body is (below_or horizon body)
 
 module _ (one two live : Table) (from : IsFromEither one two live) where
-  -- the index of calls, made from two
+  -- the index of calls, made from two of them
   pub calling_from_either : (first second index : List CallingRow) → IsCallingIndex one first → IsCallingIndex two second
       → IsStrictlyAscending calling_cmp index
       → ((row : CallingRow) → Contains index row ↔ IsCallingFromEither one two live first second row) → IsCallingIndex live index
@@ -96,7 +96,7 @@ module _ (one two live : Table) (from : IsFromEither one two live) where
       back place key lines made (inr (inl e)) = inr ((is_second.members place key).1 (lines, record { is_live = sym e ∙ made.is_live; calls = made.calls }), e)
       back place key lines made (inr (inr none)) = none_some (schedule_body lines) (sym none ∙ made.is_live)
 
-  -- the index of associations, made from two
+  -- the index of associations, made from two of them
   pub linked_from_either : (first second index : List LinkedRow) → IsLinkedIndex one first → IsLinkedIndex two second → IsStrictlyAscending linked_cmp index
       → ((row : LinkedRow) → Contains index row ↔ IsLinkedFromEither one two live first second row) → IsLinkedIndex live index
   linked_from_either first second index is_first is_second up same = record {

@@ -18,9 +18,9 @@ use Rattle.state_laws.proofs.states.PlainTable.{one_per_key}
 use Rattle.state_laws.proofs.states.ReducedEntries.{IsReduced, reduced_twice}
 use Rattle.state_laws.proofs.states.ReducedMembers.{reduced_along, reduced_unique}
 
--- ---- a join reduces what the two states have together
+-- ---- a join reduces the items and entries of both states
 
--- a join reduces the items and the entries of both states
+-- a join has what is kept of the items and entries of both states
 pub join_reduced : (a b c : State) → IsJoin a b c → IsReduced (a.ledger ++ b.ledger) (a.entries ++ b.entries) c
 join_reduced a b c is = record {
   floor = is.floor;
@@ -31,7 +31,7 @@ join_reduced a b c is = record {
   of_keys = is.entries;
 }
 
--- a state under the greater horizon that reduces them is the join
+-- the join is the state, under the greater horizon, of what is kept of both states
 pub reduced_join : (a b c : State) → c.horizon ≡ max a.horizon b.horizon → IsReduced (a.ledger ++ b.ledger) (a.entries ++ b.entries) c → IsJoin a b c
 reduced_join a b c horizon is = record {
   horizon = horizon;
@@ -43,25 +43,25 @@ reduced_join a b c horizon is = record {
   entries = is.of_keys;
 }
 
--- two states in the other order have the same join
+-- the join of two states is also their join in the other order
 pub join_commutes : (a b c : State) → IsJoin a b c → IsJoin b a c
 join_commutes a b c is =
     reduced_join b a c (is.horizon ∙ max_comm a.horizon b.horizon)
     (reduced_along (a.ledger ++ b.ledger) (b.ledger ++ a.ledger) (a.entries ++ b.entries) (b.entries ++ a.entries) (same_members_turned a.ledger b.ledger)
     (same_members_turned a.entries b.entries) c (join_reduced a b c is))
 
--- two states have one join
+-- two states have only one join
 pub join_unique : (a b c d : State) → IsJoin a b c → IsJoin a b d → c ≡ d
 join_unique a b c d is_c is_d =
     reduced_unique (a.ledger ++ b.ledger) (a.entries ++ b.entries) c d (is_c.horizon ∙ sym is_d.horizon) (join_reduced a b c is_c) (join_reduced a b d is_d)
 
 -- ---- three states
 
--- the horizon of a join is not below the horizon of the first state
+-- the horizon of a join isn't below the first state's
 pub horizon_left : (a b c : State) → IsJoin a b c → a.horizon ≤ c.horizon
 horizon_left a b c is = subst (λ h. a.horizon ≤ h) (sym is.horizon) (le-max_left a.horizon b.horizon)
 
--- the horizon of a join is not below the horizon of the second state
+-- the horizon of a join isn't below the second state's
 pub horizon_right : (a b c : State) → IsJoin a b c → b.horizon ≤ c.horizon
 horizon_right a b c is = subst (λ h. b.horizon ≤ h) (sym is.horizon) (le-max_right a.horizon b.horizon)
 
@@ -81,7 +81,7 @@ max_rotates a b c =
     (omega arith) in
     omega arith
 
--- three states have one join, whichever two are joined first
+-- three states have the same join, whichever two are joined first
 pub join_associates : (a b c ab bc x y : State) → IsJoin a b ab → IsJoin ab c x → IsJoin b c bc → IsJoin a bc y → x ≡ y
 join_associates a b c ab bc x y is_ab is_x is_bc is_y =
     let turn = join_commutes a bc y is_y in
@@ -107,7 +107,7 @@ one_of_two xs x among = by (Contains-append_cases xs xs x among)
     by (inl here) = here
     by (inr here) = here
 
--- a valid state joined with itself is itself
+-- a valid state joined with itself stays as it is
 pub join_idempotent : (a : State) → IsValid a → IsJoin a a a
 join_idempotent a valid = record {
   horizon = sym (max-eq_left {n = a.horizon} {m = a.horizon} (omega arith));

@@ -1,5 +1,5 @@
--- Setting a horizon. One that is not greater changes nothing. A horizon may be set after a join
--- instead of before it. Without a horizon nothing lapses.
+-- Setting a horizon. One that isn't greater changes nothing. It may be set after a join instead of
+-- before. Without a horizon nothing lapses.
 use Rattle.std.proofs.Common.{◌≡◌, ℕ, ◌≤◌, List, [], ◌∷◌, Contains, subst, ap, sym, ◌∙◌, arith}
 use Rattle.std.specs.Prelude.{Option, ◌↔◌, max}
 use Rattle.std.proofs.Math.Nat.{le-max_left, max-eq_left, max-zero, zero-max}
@@ -19,7 +19,7 @@ use Rattle.state_laws.proofs.states.KeptEntries.{lapse_ascends, entries_stay}
 
 -- ---- what stays
 
--- if no put has to lapse under a horizon, setting it changes only the horizon
+-- if no put lapses under a horizon, setting it changes only the horizon
 pub lapsed_already : (horizon : ℕ) (state : State) → HaveLapsed horizon state.entries
     → lapse_state horizon state ≡ record { horizon = horizon; ledger = state.ledger; entries = state.entries }
 lapsed_already horizon state all = λ i. record {
@@ -28,24 +28,24 @@ lapsed_already horizon state all = λ i. record {
   entries = entries_stay horizon state.entries (recursion_from_All (λ (entry : Keyed). HasNotToLapse horizon entry.1.op) state.entries all) i;
 }
 
--- an entry of a valid state stays under its horizon
+-- an entry of a valid state doesn't lapse under the state's horizon
 pub entry_of_valid_stays : (state : State) (key : Key) (entry : Entry) → IsValid state → Contains state.entries (key, entry)
     → lapse_entry state.horizon entry ≡ entry
 entry_of_valid_stays state key entry valid among =
     entry_stays state.horizon entry (All-contains (λ (e : Keyed). HasNotToLapse state.horizon e.1.op) state.entries (key, entry) valid.have_lapsed among)
 
--- a horizon that is not greater changes nothing
+-- a horizon that isn't greater changes nothing
 pub not_greater : (horizon : ℕ) (state : State) → IsValid state → horizon ≤ state.horizon → raise_horizon horizon state ≡ state
 not_greater horizon state valid low = ap (λ h. lapse_state h state) (max-eq_left low) ∙ lapsed_already state.horizon state valid.have_lapsed
 
--- setting a valid state's horizon on the state without it gives the state
+-- if a valid state loses its horizon and the same one is set, the state is as it was
 pub set_last : (state : State) → IsValid state → raise_horizon state.horizon (without_horizon state) ≡ state
 set_last state valid =
     ap (λ h. lapse_state h (without_horizon state)) (zero-max state.horizon) ∙ lapsed_already state.horizon (without_horizon state) valid.have_lapsed
 
 -- ---- lapsing again
 
--- a join whose other state's horizon is set last
+-- a join, where the other state's horizon is set last
 pub join_then_set : (a b c : State) → IsJoin a (without_horizon b) c → IsJoin a b (raise_horizon b.horizon c)
 join_then_set a b c is = record {
   horizon = horizons;
@@ -72,13 +72,13 @@ join_then_set a b c is = record {
     twofold : (entry : Entry) → lapse_entry (max c.horizon b.horizon) (lapse_entry c.horizon entry) ≡ lapse_entry (max c.horizon b.horizon) entry
     twofold entry = entry_twice (max c.horizon b.horizon) c.horizon entry ∙ ap (λ h. lapse_entry h entry) (max-eq_left (le-max_left c.horizon b.horizon))
 
--- without a horizon no op has to lapse
+-- without a horizon no op lapses
 pub none_has_to : (op : Op) → HasNotToLapse 0 op
 none_has_to deleted = tt
 none_has_to lapsed = tt
 none_has_to (put_with body) = omega arith
 
--- and no entry has to
+-- without a horizon no entry lapses
 pub none_to_lapse : (entries : List Keyed) → HaveLapsed 0 entries
 none_to_lapse entries = All-from_recursion (λ (entry : Keyed). HasNotToLapse 0 entry.1.op) entries (each entries)
   where
@@ -86,7 +86,7 @@ none_to_lapse entries = All-from_recursion (λ (entry : Keyed). HasNotToLapse 0 
     each [] = tt
     each (x ∷ xs) = (none_has_to x.1.op, each xs)
 
--- the summary of files without a horizon, stated by the greatest entries themselves
+-- the summary of files without a horizon: each key has the greatest entry itself
 pub record IsPlainSummary (files : List (List (List ℕ))) (state : State) : Type 0 where
   pub no_horizon : state.horizon ≡ 0
   pub floor : Option FileStamp
@@ -99,7 +99,7 @@ pub record IsPlainSummary (files : List (List (List ℕ))) (state : State) : Typ
 lapse_entry_none : (entry : Entry) → lapse_entry 0 entry ≡ entry
 lapse_entry_none entry = λ i. record { stamp = entry.stamp; op = lapse_none entry.op i }
 
--- it is the summary under no horizon
+-- this is the summary under the horizon 0
 pub plain_summary : (files : List (List (List ℕ))) (state : State) → IsPlainSummary files state ↔ IsSummary files 0 state
 plain_summary files state = (
   λ is. record {

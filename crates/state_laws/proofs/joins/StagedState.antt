@@ -1,5 +1,4 @@
--- The received items with the staged entries are a valid state, and a commit is the join with that
--- state.
+-- The received items and the staged entries are a valid state. The join with it is the commit.
 use Rattle.std.proofs.Common.{◌≡◌, List, ◌++◌, ◌∙◌, ap, subst, arith, inl, inr, ◌⊎◌, Contains}
 use Rattle.std.specs.Prelude.{Option}
 use Rattle.std.specs.Ordering.{ordering_reverse}
@@ -18,7 +17,7 @@ use Rattle.cif_laws.proofs.orders.AtMost.{at_most_itself, at_most_below}
 use Rattle.state_laws.proofs.joins.RaisedHorizon.{none_to_lapse}
 use Rattle.state_laws.proofs.states.OneJoin.{floor_unique}
 
--- what is staged of a valid state's entries, with the state's items, is a valid state
+-- the items of a valid state, with what is staged of its entries, are a valid state
 pub staged_is_valid : (own received : State) (floor : Option FileStamp) (staged : List (Key × Entry)) → IsValid received
     → IsStaged own floor received.entries staged
     → IsValid (staged_state received.ledger staged)
@@ -42,7 +41,7 @@ module _ (own received : State) (floor : Option FileStamp) (staged : List (Key �
   floors : floor ≡ join.floor
   floors = floor_unique (own.ledger ++ received.ledger) (own.ledger ++ received.ledger) (λ item. (λ x. x, λ x. x)) floor join.floor is_floor join.is_floor
 
-  -- a staged entry is above the state's own entry of its key
+  -- a staged entry is greater than our entry of its key
   above : (key : Key) (mine entry : Entry) → Contains own.entries (key, mine) → Contains staged (key, entry) → ¬ IsAtMost entry_cmp entry mine
   above key mine entry here there low = low (entry_total.antisymm entry mine ∙ ap ordering_reverse (((stages.members key entry).0 there).1.greater mine here))
 

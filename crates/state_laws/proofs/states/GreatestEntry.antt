@@ -11,15 +11,15 @@ use Rattle.state_laws.proofs.states.PlainTable.{Keyed}
 
 -- ---- the greatest entry of a key
 
--- no entry of the key is among these
+-- none of these entries is of the key
 abbrev pub NoEntry : List Keyed → Key → Type 0
 NoEntry entries key = (entry : Entry) → ¬ Contains entries (key, entry)
 
--- an entry of the key among these, with none of them above it
+-- some entry of the key is the greatest among these
 abbrev pub GreatestEntry : List Keyed → Key → Type 0
 GreatestEntry entries key = (entry : Entry) × Contains entries (key, entry) × ((other : Entry) → Contains entries (key, other) → IsAtMost entry_cmp other entry)
 
--- with one more entry of the key
+-- the greatest entry, with one more first
 greater_of : (first : Keyed) (entries : List Keyed) (key : Key) → first.0 ≡ key → NoEntry entries key ⊎ GreatestEntry entries key
     → GreatestEntry (first ∷ entries) key
 greater_of first entries key same (inl none) =
@@ -69,7 +69,7 @@ still first entries key apart (inr best) =
     by other (inl e) = absurd (apart (ap (λ (pair : Keyed). pair.0) e))
     by other (inr inside) = best.2 other inside
 
--- a key has a greatest entry among these entries, or none
+-- a key has no entry among these, or a greatest one
 pub greatest_in : (entries : List Keyed) (key : Key) → NoEntry entries key ⊎ GreatestEntry entries key
 greatest_in [] key = inl (λ entry among. nil-Contains (key, entry) among)
 greatest_in (first ∷ entries) key = by (is_eq (key_cmp first.0 key)) refl (greatest_in entries key)

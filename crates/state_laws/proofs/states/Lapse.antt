@@ -1,5 +1,5 @@
--- The lapse keeps the order of ops and entries. Lapsing again under the same horizon changes
--- nothing. Lapsing under two horizons is lapsing under the greater.
+-- The lapse keeps the order of ops and entries. A second lapse under the same horizon changes
+-- nothing. A lapse under two horizons is one under the greater.
 use Rattle.std.proofs.Common.{◌≡◌, ℕ, ◌<◌, ◌≤◌, subst, inl, inr, ◌⊎◌, refl, ap, sym, ◌∙◌, Bool, true, false, cond, arith}
 use Rattle.std.specs.Prelude.{max, nat_lt}
 use Rattle.std.specs.declared.cmp.Ordering.{Ordering}
@@ -16,7 +16,7 @@ use Rattle.docker_model.specs.state.Lapse.{lapse, HasNotToLapse, lapse_entry}
 
 -- ---- a put lapses or stays
 
--- the end of a body is below the horizon or not
+-- a body ends before the horizon, or it doesn't
 pub below_or : (horizon : ℕ) (body : Body) → (body_end body < horizon) ⊎ (horizon ≤ body_end body)
 below_or horizon body = by (nat_lt (body_end body) horizon) refl
   where
@@ -24,21 +24,21 @@ below_or horizon body = by (nat_lt (body_end body) horizon) refl
     by true h = inl (ltb-true (body_end body) horizon h)
     by false h = inr (ltb-false (body_end body) horizon h)
 
--- a put whose end is below the horizon lapses
+-- a put whose end number is below the horizon lapses
 pub put_lapses : (horizon : ℕ) (body : Body) → body_end body < horizon → lapse horizon (put_with body) ≡ lapsed
 put_lapses horizon body below = λ i. cond (lt-ltb (body_end body) horizon below i) lapsed (put_with body)
 
--- any other put stays
+-- a put whose end number isn't below the horizon stays
 pub put_stays : (horizon : ℕ) (body : Body) → horizon ≤ body_end body → lapse horizon (put_with body) ≡ put_with body
 put_stays horizon body above = λ i. cond (le-ltb (body_end body) horizon above i) lapsed (put_with body)
 
--- an op that need not lapse stays
+-- an op that doesn't lapse stays as it is
 pub op_stays : (horizon : ℕ) (op : Op) → HasNotToLapse horizon op → lapse horizon op ≡ op
 op_stays horizon deleted has_not = refl
 op_stays horizon lapsed has_not = refl
 op_stays horizon (put_with body) has_not = put_stays horizon body has_not
 
--- what has lapsed need not lapse again
+-- an op that has lapsed doesn't lapse again
 pub has_lapsed : (horizon : ℕ) (op : Op) → HasNotToLapse horizon (lapse horizon op)
 has_lapsed horizon deleted = tt
 has_lapsed horizon lapsed = tt
@@ -48,7 +48,7 @@ has_lapsed horizon (put_with body) = by (below_or horizon body)
     by (inl below) = subst (HasNotToLapse horizon) (sym (put_lapses horizon body below)) tt
     by (inr above) = subst (HasNotToLapse horizon) (sym (put_stays horizon body above)) above
 
--- lapsing again changes nothing
+-- a second lapse under the same horizon changes nothing
 pub lapse_again : (horizon : ℕ) (op : Op) → lapse horizon (lapse horizon op) ≡ lapse horizon op
 lapse_again horizon op = op_stays horizon (lapse horizon op) (has_lapsed horizon op)
 
@@ -68,7 +68,7 @@ max_most a b n first second = by (nat_lt a b) refl
     by true h = let below = ltb-true a b h in subst (λ m. m ≤ n) (sym (max-eq_right (omega arith))) second
     by false h = subst (λ m. m ≤ n) (sym (max-eq_left (ltb-false a b h))) first
 
--- lapsing under two horizons is lapsing under the greater
+-- a lapse under two horizons is one under the greater
 pub lapse_twice : (second first : ℕ) (op : Op) → lapse second (lapse first op) ≡ lapse (max second first) op
 lapse_twice second first deleted = refl
 lapse_twice second first lapsed = refl
@@ -88,7 +88,7 @@ lapse_twice second first (put_with body) = by (below_or first body) (below_or se
 
 -- ---- the order
 
--- a lapsed op is at most what a put lapses to
+-- `lapsed` is at most what a put becomes
 lapsed_least : (horizon : ℕ) (body : Body) → IsAtMost op_cmp lapsed (lapse horizon (put_with body))
 lapsed_least horizon body = by (below_or horizon body)
   where
@@ -106,7 +106,7 @@ deleted_least horizon body = by (below_or horizon body)
 number_above : (m n : ℕ) → n < m → nat_cmp m n ≡ Greater
 number_above m n below = sym (nat_cmp_is m n Greater below)
 
--- the ends of bodies in order are in order
+-- if bodies are in order, so are their end numbers
 ends_in_order : (a b : Body) → IsAtMost body_cmp a b → body_end a ≤ body_end b
 ends_in_order a b most = by (nat_lt (body_end b) (body_end a)) refl
   where
@@ -116,7 +116,7 @@ ends_in_order a b most = by (nat_lt (body_end b) (body_end a)) refl
         (nat_cmp (body_tag a) (body_tag b)))))
     by false h = ltb-false _ _ h
 
--- the lapse keeps the order of ops
+-- if ops are in order, so are the lapsed ops
 pub lapse_keeps_order : (horizon : ℕ) (a b : Op) → IsAtMost op_cmp a b → IsAtMost op_cmp (lapse horizon a) (lapse horizon b)
 lapse_keeps_order horizon deleted deleted most = most
 lapse_keeps_order horizon deleted lapsed most = most
@@ -135,7 +135,7 @@ lapse_keeps_order horizon (put_with a) (put_with b) most = by (below_or horizon 
         subst (λ op. IsAtMost op_cmp op (lapse horizon (put_with b))) (sym (put_stays horizon a above))
         (subst (IsAtMost op_cmp (put_with a)) (sym (put_stays horizon b (omega arith))) most)
 
--- the lapse keeps the order of entries, because their stamps stay
+-- if entries are in order, so are the lapsed entries: their stamps stay
 pub lapse_entry_keeps_order : (horizon : ℕ) (a b : Entry) → IsAtMost entry_cmp a b → IsAtMost entry_cmp (lapse_entry horizon a) (lapse_entry horizon b)
 lapse_entry_keeps_order horizon a b most = by (stamp_cmp a.stamp b.stamp) most
   where
@@ -150,6 +150,6 @@ lapse_entry_keeps_order horizon a b most = by (stamp_cmp a.stamp b.stamp) most
 pub entry_twice : (second first : ℕ) (entry : Entry) → lapse_entry second (lapse_entry first entry) ≡ lapse_entry (max second first) entry
 entry_twice second first entry = λ i. record { stamp = entry.stamp; op = lapse_twice second first entry.op i }
 
--- an entry that need not lapse stays
+-- an entry that doesn't lapse stays as it is
 pub entry_stays : (horizon : ℕ) (entry : Entry) → HasNotToLapse horizon entry.op → lapse_entry horizon entry ≡ entry
 entry_stays horizon entry has_not = λ i. record { stamp = entry.stamp; op = op_stays horizon entry.op has_not i }

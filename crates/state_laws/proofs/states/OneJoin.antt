@@ -1,5 +1,5 @@
--- A set of files has at most one summary, two states have at most one join, and a place and day
--- have at most one docker.
+-- A set of files has at most one summary, two states at most one join, and a place at most one
+-- docker on a day.
 use Rattle.std.proofs.Common.{◌≡◌, List, refl, ap, subst, Contains, Some, None}
 use Rattle.std.specs.Prelude.{◌↔◌, Option}
 use Rattle.docker_model.specs.state.Order.{IsAtMost}
@@ -10,7 +10,7 @@ use Rattle.cif_laws.proofs.orders.Orders.{file_stamp_total, exact_file_stamp, do
 use Rattle.cif_laws.proofs.orders.Ascending.{same_list}
 use Rattle.cif_laws.proofs.orders.AtMost.{level}
 
--- items have one floor, in whatever order they are
+-- items have only one floor, in whatever order a list has them
 pub floor_unique : (first second : List LedgerItem) → ((item : LedgerItem) → Contains first item ↔ Contains second item)
     → (f g : Option FileStamp) → IsFloor first f → IsFloor second g → f ≡ g
 floor_unique first second same None None f g = refl
@@ -21,7 +21,7 @@ floor_unique first second same (Some s) (Some t) f g =
     let down : IsAtMost file_stamp_cmp t s = subst (λ x. IsAtMost file_stamp_cmp x s) g.stamped (f.greatest g.full ((same g.full).1 g.among) g.is_full) in
     ap Some (exact_file_stamp s t (level file_stamp_total s t up down))
 
--- the lines of a docker list determine it
+-- a docker list is determined by its lines
 pub docker_unique : (IsLine : DockerLine → Type 0) (xs ys : List DockerLine) → Lists IsLine xs → Lists IsLine ys → xs ≡ ys
 docker_unique IsLine xs ys is_x is_y =
     same_list docker_line_total xs ys is_x.ascending is_y.ascending (λ line.

@@ -9,7 +9,7 @@ use Rattle.cif_laws.proofs.orders.Ascending.{same_list}
 use Rattle.state_laws.proofs.states.MomentOrder.{moment_order}
 use Rattle.cif_laws.proofs.orders.Orders.{moment_total}
 
--- there is one
+-- there is a plain table
 pub some_plain_table : (files : List (List (List ℕ))) → HaveDistinctMoments files → (table : Table) × IsPlainTable files table
 some_plain_table files distinct =
     let order = moment_order files distinct in

@@ -11,7 +11,7 @@ use Rattle.state_laws.proofs.states.MomentOrder.{moment_order}
 use Rattle.state_laws.proofs.states.TableLapsed.{body_stays}
 use Rattle.state_laws.proofs.states.LapsedPlainTable.{live_is_plain}
 
--- without a horizon a table is unchanged
+-- the horizon 0 changes no table
 pub lapse_table_none : (table : Table) (key : Key) → lapse_table 0 table key ≡ table key
 lapse_table_none table key = by (table key)
   where
@@ -24,7 +24,7 @@ pub live_is_lapsed_plain : (files : List (List (List ℕ))) (horizon : ℕ) (sta
     → IsPlainTable files table → live_table state ≡ lapse_table horizon table
 live_is_lapsed_plain files horizon state table summary plain = λ i key. live_is_plain files horizon state table summary plain key i
 
--- if the moments are distinct, there is a plain table; without a horizon it is the live table
+-- if the moments are distinct, there is a plain table, and without a horizon it is the live table
 pub live_table_is_plain : (files : List (List (List ℕ))) (state : State) → IsSummary files 0 state → HaveDistinctMoments files
     → IsPlainTable files (live_table state)
 live_table_is_plain files state summary distinct =

@@ -22,13 +22,13 @@ use Rattle.cif_laws.proofs.lists.AllOf.{all_append, all_map, all_weaker}
 use Rattle.cif_laws.proofs.files.ChangeOrder.{Apart, changes_apart}
 use Rattle.cif_laws.proofs.orders.AtMost.{less_not_greater, at_most_trans}
 
--- ---- tables as the last entries of a list
+-- ---- a table as what a list of entries leaves
 
 -- a key with its entry
 abbrev pub Keyed : Type 0
 Keyed = Key × Entry
 
--- the table after an entry
+-- a table after one more entry
 abbrev pub step : Table → Keyed → Table
 step table entry key = cond (is_eq (key_cmp entry.0 key)) (body_of entry.1.op) (table key)
 
@@ -36,11 +36,11 @@ step table entry key = cond (is_eq (key_cmp entry.0 key)) (body_of entry.1.op) (
 abbrev pub Ascends : Keyed → Keyed → Type 0
 Ascends first second = first.0 ≡ second.0 → IsBelow stamp_cmp first.1.stamp second.1.stamp
 
--- no entry has the key, and the entries leave the table as it was there
+-- no entry has this key, and the entries leave the table there as it was
 abbrev pub NoneThere : List Keyed → Table → Key → Type 0
 NoneThere entries table key = ((entry : Entry) → ¬ Contains entries (key, entry)) × (fold step table entries key ≡ table key)
 
--- the entries leave the body of the last entry of the key, which is the greatest
+-- the entries leave at this key the body of its last entry, which is the greatest
 abbrev pub LastThere : List Keyed → Table → Key → Type 0
 LastThere entries table key =
     (entry : Entry) × Contains entries (key, entry) × (fold step table entries key ≡ body_of entry.op)
@@ -78,7 +78,7 @@ not_first entry entries table key above last =
         inr (subst (λ (pair : Keyed). IsBelow stamp_cmp pair.1.stamp last.0.stamp) e below)
     by other (inr inside) = last.3 other inside
 
--- at a key the table has what it had before, or the body of the key's last entry
+-- at each key the table is as it was, or has the body of the key's last entry
 pub last_there : (entries : List Keyed) (table : Table) (key : Key) → AllLater Ascends entries → NoneThere entries table key ⊎ LastThere entries table key
 last_there [] table key up = inl (λ entry among. nil-Contains (key, entry) among, refl)
 last_there (entry ∷ entries) table key up = by (last_there entries (step table entry) key up.1)
@@ -94,15 +94,15 @@ last_there (entry ∷ entries) table key up = by (last_there entries (step table
 abbrev pub entry_of_change : List (List ℕ) → Change → Keyed
 entry_of_change file change = (change.key, entry_of file change)
 
--- the entries of a file's changes
+-- the entries that a file's changes make
 abbrev pub entries_of : List (List ℕ) → List Keyed
 entries_of file = map (entry_of_change file) (changes file)
 
--- the entries of the changes of files in order
+-- the entries that the changes of files make, file by file
 abbrev pub entries_along : List (List (List ℕ)) → List Keyed
 entries_along files = flat_map entries_of files
 
--- the table after changes of a file is the table after their entries
+-- the changes of a file leave the same table as their entries
 pub fold_entries : (file : List (List ℕ)) (table : Table) (cs : List Change) → fold after_change table cs ≡ fold step table (map (entry_of_change file) cs)
 fold_entries file table [] = refl
 fold_entries file table (change ∷ cs) = fold_entries file (after_change table change) cs
@@ -111,7 +111,7 @@ fold_append : (table : Table) (xs ys : List Keyed) → fold step table (xs ++ ys
 fold_append table [] ys = refl
 fold_append table (x ∷ xs) ys = fold_append (step table x) xs ys
 
--- the table after files is the table after their entries, one by one
+-- files leave the same table as the entries of their changes
 pub after_files_is : (table : Table) (files : List (List (List ℕ))) → after_files table files ≡ fold step table (entries_along files)
 after_files_is table [] = refl
 after_files_is table (file ∷ files) =
@@ -128,7 +128,7 @@ within_file file first second (inl below) same =
     (λ i. ordering_then (tied_itself file_stamp_total (file_stamp_of file) i) (number_below first.number second.number below i))
 within_file file first second (inr apart) same = absurd (apart same)
 
--- the entry is from a file that comes after this one
+-- the entry comes from a later file
 abbrev IsLaterThan : List (List ℕ) → Keyed → Type 0
 IsLaterThan file entry = IsBelow moment_cmp (moment_of file) entry.1.stamp.file.moment
 
@@ -166,12 +166,12 @@ entries_ascend (file ∷ files) up =
       each cs,
     )
 
--- ---- the kept files are the last full extract and the files after it
+-- ---- the kept files are the last full extract and all after it
 
 abbrev CmpStamps : List (List ℕ) → List (List ℕ) → Ordering
 CmpStamps first second = file_stamp_cmp (file_stamp_of first) (file_stamp_of second)
 
--- a file of an earlier moment has a lower file stamp
+-- a file with an earlier moment has a lower file stamp
 stamp_below : (first second : List (List ℕ)) → IsBelow (on moment_of moment_cmp) first second → CmpStamps first second ≡ Less
 stamp_below first second below = λ i. ordering_then (below i) (bytes_cmp (file_stamp_of first).reference (file_stamp_of second).reference)
 
@@ -203,15 +203,15 @@ none_is (first ∷ files) h file among =
 abbrev Ascending : List (List (List ℕ)) → Type 0
 Ascending files = IsStrictlyAscending (on moment_of moment_cmp) files
 
--- no full extract among the files is above the file
+-- no full extract among the files is newer than this file
 abbrev NoneAbove : List (List (List ℕ)) → List (List ℕ) → Type 0
 NoneAbove files file = (other : List (List ℕ)) → Contains files other → is_full other ≡ true → ¬ (CmpStamps other file ≡ Greater)
 
--- some full extract among the files is above the file
+-- some full extract among the files is newer than this file
 abbrev SomeAbove : List (List (List ℕ)) → List (List ℕ) → Type 0
 SomeAbove files file = (other : List (List ℕ)) × Contains files other × (is_full other ≡ true) × (CmpStamps file other ≡ Less)
 
--- a kept file is one of the files, and no full extract is above it
+-- the file is kept: it is one of the files, and no full extract among them is newer
 abbrev KeptThere : List (List (List ℕ)) → List (List ℕ) → Type 0
 KeptThere files file = Contains files file × NoneAbove files file
 
@@ -225,7 +225,7 @@ none_above_head first files file above among none other there full = by (Contain
         less_not_greater (CmpStamps other file) (subst (λ f. CmpStamps f file ≡ Less) same below)
     by (inr inside) = none other inside full
 
--- if no later file is full, every file is kept
+-- if no later file is a full extract, every file is kept
 all_kept : (first : List (List ℕ)) (files : List (List (List ℕ))) (file : List (List ℕ)) → AllByRecursion (IsBelow (on moment_of moment_cmp) first) files
     → list_any is_full files ≡ false → Contains (first ∷ files) file → NoneAbove (first ∷ files) file
 all_kept first files file above none among other there full = by (Contains-cons first files other there) (Contains-cons first files file among)
@@ -278,7 +278,7 @@ kept_or_dropped (first ∷ files) up file among = by (list_any is_full files) re
         deeper (inl kept) = inl (subst (λ v. Contains (cond v (from_last_full files) (first ∷ files)) file) (sym h) kept)
         deeper (inr above) = inr (above.0, cons-Contains first files above.0 above.1, above.2, above.3)
 
--- the last full extract and the files after it stay in moment order
+-- the last full extract and the files after it are still in moment order
 pub suffix_ascends : (files : List (List (List ℕ))) → Ascending files → Ascending (from_last_full files)
 suffix_ascends [] up = tt
 suffix_ascends (first ∷ files) up = by (list_any is_full files) (suffix_ascends files up.1)
@@ -316,7 +316,7 @@ not_dropped files ordered same (Some stamp) is file kept above =
 
 module _ (files ordered : List (List (List ℕ))) (order : IsInMomentOrder files ordered) (floor : Option FileStamp)
     (is_floor : IsFloor (map ledger_item_of files) floor) where
-  -- an entry of a kept file is among the entries from the last full extract on
+  -- an entry of a kept file is among those from the last full extract on
   pub in_entries : (key : Key) (entry : Entry) → IsEntryOf files floor key entry → Contains (entries_along (from_last_full ordered)) (key, entry)
   in_entries key entry made =
       let there = (order.same made.file).1 made.kept.among in
@@ -329,7 +329,7 @@ module _ (files ordered : List (List (List ℕ))) (order : IsInMomentOrder files
       by (inl kept) = kept
       by (inr above) = absurd (not_dropped files ordered order.same floor is_floor made.file made.kept.kept above)
 
-  -- an entry from the last full extract on is from a kept file
+  -- an entry from the last full extract on comes from a kept file
   pub out_entries : (key : Key) (entry : Entry) → Contains (entries_along (from_last_full ordered)) (key, entry) → IsEntryOf files floor key entry
   out_entries key entry among =
       let found = Contains-flat_map entries_of (from_last_full ordered) (key, entry) among in
@@ -346,7 +346,7 @@ module _ (files ordered : List (List (List ℕ))) (order : IsInMomentOrder files
 
 -- ---- the entry of a key in a state
 
--- the entry of the key that a search finds
+-- a search finds an entry of the key
 abbrev pub Found : List Keyed → Key → Type 0
 Found entries key = (pair : Keyed) × (find (λ entry. is_eq (key_cmp entry.0 key)) entries ≡ Some pair) × Contains entries (key, pair.1)
 
@@ -354,7 +354,7 @@ Found entries key = (pair : Keyed) × (find (λ entry. is_eq (key_cmp entry.0 ke
 abbrev pub NotFound : List Keyed → Key → Type 0
 NotFound entries key = (find (λ entry. is_eq (key_cmp entry.0 key)) entries ≡ None) × ((entry : Entry) → ¬ Contains entries (key, entry))
 
--- a search finds the entry of a key, or there is none
+-- a search finds an entry of the key, or there is none
 pub find_in : (entries : List Keyed) (key : Key) → Found entries key ⊎ NotFound entries key
 find_in [] key = inr (refl, λ entry among. nil-Contains (key, entry) among)
 find_in (first ∷ entries) key = by (is_eq (key_cmp first.0 key)) refl (find_in entries key)
@@ -389,7 +389,7 @@ find_in (first ∷ entries) key = by (is_eq (key_cmp first.0 key)) refl (find_in
         no entry (inl e) = other_key first.0 key h (ap (λ (pair : Keyed). pair.0) e)
         no entry (inr inside) = none.1 entry inside
 
--- entries in key order have at most one for each key
+-- entries in key order have at most one of each key
 pub one_per_key : (entries : List Keyed) → IsStrictlyAscending (on (λ (entry : Keyed). entry.0) key_cmp) entries → (key : Key) (first second : Entry)
     → Contains entries (key, first) → Contains entries (key, second) → first ≡ second
 one_per_key [] up key first second in_first in_second = absurd (nil-Contains (key, first) in_first)
@@ -408,11 +408,11 @@ one_per_key (entry ∷ entries) up key first second in_first in_second =
     by rest (inr inside) (inl f) = absurd (not_both_here first second f inside)
     by rest (inr inside) (inr within) = rest inside within
 
--- what the live table has if an entry is found
+-- the live table at a key whose entry is found
 pub live_at : (state : State) (key : Key) (pair : Keyed) → find (λ entry. is_eq (key_cmp entry.0 key)) state.entries ≡ Some pair
     → live_table state key ≡ body_of pair.1.op
 live_at state key pair h = λ i. option_and_then (λ (entry : Entry). body_of entry.op) (option_and_then (λ (entry : Keyed). Some entry.1) (h i))
 
--- it has nothing if none is found
+-- the live table at a key without an entry: nothing
 pub live_none : (state : State) (key : Key) → find (λ entry. is_eq (key_cmp entry.0 key)) state.entries ≡ None → live_table state key ≡ None
 live_none state key h = λ i. option_and_then (λ (entry : Entry). body_of entry.op) (option_and_then (λ (entry : Keyed). Some entry.1) (h i))

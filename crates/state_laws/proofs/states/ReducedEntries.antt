@@ -1,5 +1,5 @@
--- What is kept of items and entries, lapsed under a horizon. Reducing in two steps, the first under
--- a horizon that is not greater, is the same as reducing at once.
+-- What is kept of items and entries, lapsed under a horizon. It may be found in two steps, the
+-- first under a horizon that isn't greater.
 use Rattle.std.proofs.Common.{◌≡◌, ℕ, ◌≤◌, List, ◌++◌, Contains, subst, inl, inr, ◌⊎◌, ap, sym, ◌∙◌, Some, None}
 use Rattle.std.specs.Prelude.{Option, ◌↔◌}
 use Rattle.std.proofs.Math.Nat.{max-eq_left}
@@ -17,13 +17,15 @@ use Rattle.state_laws.proofs.states.GreatestEntry.{NoEntry, GreatestEntry, great
 use Rattle.state_laws.proofs.states.Lapse.{lapse_entry_keeps_order, entry_twice, entry_stays}
 use Rattle.state_laws.proofs.states.KeptEntries.{kept_up, lapse_below, level_lapsed, lapses_or_not}
 
--- the entry of the key that is kept of these entries: the greatest, lapsed under a horizon
+-- this is what is kept of the key's entries: the greatest, if it isn't below the floor, lapsed
+-- under the horizon
 abbrev pub KeptOf : List Keyed → Option FileStamp → ℕ → Key → Entry → Type 0
 KeptOf entries floor horizon key entry =
     (greatest : Entry) × IsGreatestAmong entries key greatest × IsKept floor greatest.stamp.file × (lapse_entry horizon greatest ≡ entry)
 
--- the state has the items that their floor keeps, and for each key the greatest entry, if it is
--- kept, lapsed under the state's horizon
+-- the state has what is kept of these items and entries: the items that aren't below their floor,
+-- and for each key the greatest entry if it is kept. All entries have lapsed under the state's
+-- horizon
 pub record IsReduced (items : List LedgerItem) (entries : List Keyed) (state : State) : Type 0 where
   pub floor : Option FileStamp
   pub is_floor : IsFloor items floor
@@ -35,7 +37,7 @@ pub record IsReduced (items : List LedgerItem) (entries : List Keyed) (state : S
 module _ (items more : List LedgerItem) (entries others : List Keyed) (once twice : State) (first : IsReduced items entries once)
     (second : IsReduced (once.ledger ++ more) (once.entries ++ others) twice)
     (rises : once.horizon ≤ twice.horizon) where
-  -- ---- the ledger, as it is without a horizon
+  -- ---- the ledger, which has no horizon
   Top : LedgerItem → Type 0
   Top item = (top : LedgerItem) × Contains (once.ledger ++ more) top × IsFull top × IsAtMost file_stamp_cmp item.stamp top.stamp
 
@@ -101,7 +103,7 @@ module _ (items more : List LedgerItem) (entries others : List Keyed) (once twic
     Whole : Type 0
     Whole = (best : Entry) × IsGreatestAmong (entries ++ others) key best
 
-    -- an entry in the second step is at most the greatest of all
+    -- an entry of the second step is at most the greatest of all
     under_best : (best : Entry) → IsGreatestAmong (entries ++ others) key best → (other : Entry) → Contains (once.entries ++ others) (key, other)
         → IsAtMost entry_cmp other best
     under_best best is other among = by (Contains-append_cases once.entries others (key, other) among)
@@ -114,7 +116,8 @@ module _ (items more : List LedgerItem) (entries others : List Keyed) (once twic
             (subst (λ e. IsAtMost entry_cmp e told.0) told.3 (lapse_below once.horizon told.0))
             (is.greatest told.0 (Contains-append_left entries others (key, told.0) told.1.among))
 
-    -- if the greatest of all is kept, it is in the first step, lapsed, or among the others
+    -- if the greatest of all is kept, the second step has it: lapsed from the first step, or among
+    -- the others
     stands : (best : Entry) → IsGreatestAmong (entries ++ others) key best → IsKept second.floor best.stamp.file
         → Contains once.entries (key, lapse_entry once.horizon best) ⊎ Contains others (key, best)
     stands best is kept = by (Contains-append_cases entries others (key, best) is.among)
@@ -129,12 +132,12 @@ module _ (items more : List LedgerItem) (entries others : List Keyed) (once twic
           λ i. lapse_entry once.horizon best,
         ))
 
-    -- the greatest entry after both steps and the greatest of all lapse to one entry
+    -- the greatest of the second step and the greatest of all are equal once they have lapsed
     same_lapse : (best top : Entry) → IsGreatestAmong (entries ++ others) key best → IsGreatestAmong (once.entries ++ others) key top
         → IsKept second.floor best.stamp.file → IsKept second.floor top.stamp.file → lapse_entry twice.horizon best ≡ lapse_entry twice.horizon top
     same_lapse best top is_best is_top kept_best kept_top = by (stands best is_best kept_best)
       where
-        -- the greatest of all is there as it was
+        -- the second step has the greatest of all as it was
         itself : Contains (once.entries ++ others) (key, best) → lapse_entry twice.horizon best ≡ lapse_entry twice.horizon top
         itself there =
             one_per_key twice.entries second.entries_ascend key (lapse_entry twice.horizon best) (lapse_entry twice.horizon top)
@@ -147,7 +150,7 @@ module _ (items more : List LedgerItem) (entries others : List Keyed) (once twic
             ))
             ((second.of_keys key (lapse_entry twice.horizon top)).1 (top, is_top, kept_top, λ i. lapse_entry twice.horizon top))
 
-        -- it has lapsed there, and so has every entry in between
+        -- the second step has it lapsed, as all between the two have
         between : lapse once.horizon best.op ≡ lapsed → Contains once.entries (key, lapse_entry once.horizon best)
             → lapse_entry twice.horizon best ≡ lapse_entry twice.horizon top
         between has there =
@@ -213,7 +216,7 @@ module _ (items more : List LedgerItem) (entries others : List Keyed) (once twic
             with_top (lapse_entry once.horizon told.0) told.2 (Contains-append_left once.entries others (key, lapse_entry once.horizon told.0) there) top
         by (inr top) (inr there) = with_top told.0 told.2 (Contains-append_right once.entries others (key, told.0) there) top
 
-  -- reducing in two steps is reducing at once
+  -- what is kept in two steps is what is kept in one
   pub reduced_twice : IsReduced (items ++ more) (entries ++ others) twice
   reduced_twice = record {
     floor = second.floor;

@@ -1,4 +1,5 @@
--- What a state reduces depends only on the members of the lists, and one horizon gives one state.
+-- What is kept depends only on which items and entries there are, not on their order. For one
+-- horizon there is one such state.
 use Rattle.std.proofs.Common.{List, Some, None, ◌≡◌, subst, sym}
 use Rattle.std.specs.Prelude.{Option}
 use Rattle.std.specs.Cmp.{on_total}
@@ -24,7 +25,7 @@ floor_along items more same (Some stamp) greatest = record {
   greatest = λ item among. greatest.greatest item ((same item).1 among);
 }
 
--- the greatest entry of a key depends only on the members
+-- the greatest entry of a key depends only on which entries there are
 pub greatest_along : (entries others : List Keyed) → SameMembers entries others → (key : Key) (entry : Entry) → IsGreatestAmong entries key entry
     → IsGreatestAmong others key entry
 greatest_along entries others same key entry best = record {
@@ -37,7 +38,7 @@ kept_of_along : (entries others : List Keyed) → SameMembers entries others →
 kept_of_along entries others same f g floors h key entry told =
     (told.0, greatest_along entries others same key told.0 told.1, subst (λ floor. IsKept floor told.0.stamp.file) floors told.2, told.3)
 
--- what a state reduces depends only on the members
+-- what is kept depends only on which items and entries there are
 pub reduced_along : (items more : List LedgerItem) (entries others : List Keyed) → SameMembers items more → SameMembers entries others
     → (state : State) → IsReduced items entries state → IsReduced more others state
 reduced_along items more entries others same same_entries state is = record {
@@ -56,7 +57,7 @@ reduced_along items more entries others same same_entries state is = record {
   );
 }
 
--- there is one reduced state for one horizon
+-- for one horizon there is one state of what is kept
 pub reduced_unique : (items : List LedgerItem) (entries : List Keyed) (s t : State) → s.horizon ≡ t.horizon → IsReduced items entries s
     → IsReduced items entries t → s ≡ t
 reduced_unique items entries s t horizons is_s is_t =

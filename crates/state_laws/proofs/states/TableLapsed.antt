@@ -1,5 +1,5 @@
--- A table under a horizon has the bodies whose end number is not below the horizon. The live table
--- of a lapsed state is the lapsed live table.
+-- A table under a horizon: it has the bodies whose end number isn't below the horizon. The live
+-- table of a lapsed state is the lapsed live table.
 use Rattle.std.proofs.Common.{◌≡◌, ℕ, ◌<◌, ◌≤◌, List, [], ◌∷◌, inl, inr, ◌⊎◌, refl, ap, sym, ◌∙◌, Bool, true, false, cond, Some, None}
 use Rattle.std.specs.Prelude.{Option, find, option_and_then}
 use Rattle.std.specs.Ordering.{is_eq}
@@ -14,20 +14,20 @@ use Rattle.state_laws.proofs.states.PlainTable.{Keyed}
 
 -- ---- a body lapses or stays
 
--- a body whose end is below the horizon is dropped
+-- a body whose end number is below the horizon is dropped
 pub body_gone : (horizon : ℕ) (body : Body) → body_end body < horizon → unlapsed horizon body ≡ None
 body_gone horizon body below = λ i. cond (lt-ltb (body_end body) horizon below i) None (Some body)
 
--- a body that doesn't end before the horizon stays
+-- a body whose end number isn't below the horizon stays
 pub body_stays : (horizon : ℕ) (body : Body) → horizon ≤ body_end body → unlapsed horizon body ≡ Some body
 body_stays horizon body above = λ i. cond (le-ltb (body_end body) horizon above i) None (Some body)
 
--- a table under a horizon keeps each body whose end number is not below it
+-- a body that doesn't end before the horizon is still in the table under it
 pub live_stays : (horizon : ℕ) (table : Table) (key : Key) (body : Body) → table key ≡ Some body → horizon ≤ body_end body
     → lapse_table horizon table key ≡ Some body
 live_stays horizon table key body is above = ap (option_and_then (unlapsed horizon)) is ∙ body_stays horizon body above
 
--- what a table has under a horizon, it had before
+-- a body in the table under a horizon was in the table
 pub was_live : (horizon : ℕ) (table : Table) (key : Key) (body : Body) → lapse_table horizon table key ≡ Some body → table key ≡ Some body
 was_live horizon table key body is = by (table key) is
   where
@@ -41,7 +41,7 @@ was_live horizon table key body is = by (table key) is
 
 -- ---- the live table of a state
 
--- the body of a lapsed op is the lapsed body
+-- a lapsed op has the body that is left under the horizon
 pub body_lapses : (horizon : ℕ) (op : Op) → body_of (lapse horizon op) ≡ option_and_then (unlapsed horizon) (body_of op)
 body_lapses horizon deleted = refl
 body_lapses horizon lapsed = refl

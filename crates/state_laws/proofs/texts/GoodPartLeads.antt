@@ -1,4 +1,4 @@
--- A good part leads on, from one part of a state's text to the next.
+-- A good part of a state's text leads to the next part.
 use Rattle.std.proofs.Common.{refl, arith, ◌≡◌, ℕ, ap, sym, subst, [], ◌++◌, ◌∙◌, append-nil, ◌<◌, ◌^◌, List, ◌∷◌, length, append_assoc, length-append, inl, inr, ◌≤◌}
 use Rattle.std.specs.List.{flat_map, concat}
 use Rattle.std.specs.Int.{w16, to_be_bytes, from_be_bytes, w64, w32}
@@ -17,7 +17,7 @@ use Rattle.state_laws.proofs.texts.StateReadBack.{read_16, item_read, item_width
 use Rattle.state_laws.proofs.texts.TextStages.{Leads, one_step, then_leads}
 use Rattle.state_laws.proofs.texts.TextsBefore.{after_items_text, read_64, after_entries_text, entry_done_text, after_lines_text, read_32}
 
--- the steps
+-- the first parts: mark, horizon and count
 step_mark_1 : Leads dks_1 before_mark (before_ledger_count 0)
 step_mark_1 = one_step dks_1 before_mark (before_ledger_count 0) (mark dks_1) refl (omega arith) (λ cause bad. bad.1 refl) refl refl
 
@@ -32,7 +32,7 @@ step_horizon horizon day =
     one_step dks_2 before_horizon (before_ledger_count horizon) (to_be_bytes w16 horizon) refl (omega arith)
     (λ cause bad. bad.1 (subst IsDay (sym (day_read horizon day)) day)) (ap before_ledger_count (day_read horizon day)) refl
 
--- mark and horizon lead to the ledger
+-- the mark leads to the horizon
 pub horizon_leads : (format : Format) → AreGood format before_horizon → Leads format before_mark before_horizon
 horizon_leads dks_1 good = absurd good
 horizon_leads dks_2 good = step_mark_2
@@ -42,20 +42,20 @@ pub head_leads : (format : Format) (horizon : ℕ) → IsHorizonOf format horizo
 head_leads dks_1 horizon none = subst (λ h. Leads dks_1 before_mark (before_ledger_count h)) (sym none) step_mark_1
 head_leads dks_2 horizon day = then_leads dks_2 before_mark before_horizon (before_ledger_count horizon) step_mark_2 (step_horizon horizon day)
 
--- the text after the count of items
+-- the text up to the count of items
 pub count_of_ledger : (format : Format) (horizon count : ℕ) → text_before format (after_items horizon count []) ≡ text_before format
     (before_ledger_count horizon) ++ to_be_bytes w64 count
 count_of_ledger format horizon count =
     after_items_text format horizon count [] (omega arith) ∙ append-nil (head_text format horizon ++ to_be_bytes w64 count)
     ∙ ap (λ xs. xs ++ to_be_bytes w64 count) (sym (append-nil (head_text format horizon)))
 
--- a count of items leads to the items
+-- the count of items leads to the items
 pub step_ledger_count : (format : Format) (horizon : ℕ) (count : ℕ) → count < 2 ^ 64 → Leads format (before_ledger_count horizon) (after_items horizon count [])
 step_ledger_count format horizon count fits =
     one_step format (before_ledger_count horizon) (after_items horizon count []) (to_be_bytes w64 count) refl (omega arith) (λ cause bad. bad)
     (ap (λ n. after_items horizon n []) (read_64 count fits)) (count_of_ledger format horizon count)
 
--- the text after a good item
+-- the text with one more good item
 pub item_text : (format : Format) (horizon : ℕ) → (count : ℕ) (ledger : List LedgerItem) (item : LedgerItem) → length ledger < count
     → text_before format (after_items horizon count (ledger ++ item ∷ [])) ≡ text_before format (before_item horizon count ledger) ++ item_bytes item
 item_text format horizon count ledger item below =
@@ -66,7 +66,7 @@ item_text format horizon count ledger item below =
     ∙ sym (append_assoc front (flat_map item_bytes ledger) (item_bytes item))
     ∙ ap (λ xs. xs ++ item_bytes item) (sym (append-nil (ledger_text format horizon count ledger)))
 
--- a good item that is above those before it and does not raise the floor is not bad
+-- an item isn't bad if it is well formed, is above those before it, and doesn't raise the floor
 pub no_bad_item : (ledger : List LedgerItem) (item : LedgerItem) (cause : StateCause) → IsGoodItem item → IsAboveItems ledger item → ¬ RaisesFloor ledger item
     → ¬ IsBadItem ledger item cause
 no_bad_item ledger item bad_item good above floor bad = bad good
@@ -74,7 +74,7 @@ no_bad_item ledger item bad_order good above floor bad = bad.1 above
 no_bad_item ledger item bad_floor good above floor bad = floor bad.2
 no_bad_item ledger item _ good above floor bad = bad
 
--- such an item leads on
+-- such an item leads to the next part
 pub step_item : (format : Format) (horizon : ℕ) → (count : ℕ) (ledger : List LedgerItem) (item : LedgerItem) → length ledger < count → IsGoodItem item
     → IsAboveItems ledger item → ¬ RaisesFloor ledger item
     → Leads format (before_item horizon count ledger) (after_items horizon count (ledger ++ item ∷ []))
@@ -84,7 +84,7 @@ step_item format horizon count ledger item below good above floor =
     (ap (λ it. after_items horizon count (ledger ++ it ∷ [])) (item_read item good))
     (item_text format horizon count ledger item below)
 
--- a count of entries leads to the entries
+-- the count of entries leads to the entries
 pub step_entry_count : (format : Format) (horizon : ℕ) → (count : ℕ) (ledger : List LedgerItem) → count < 2 ^ 64
     → Leads format (before_entry_count horizon ledger) (after_entries count (record { horizon = horizon; ledger = ledger; entries = [] }))
 step_entry_count format horizon count ledger fits =
@@ -97,7 +97,7 @@ step_entry_count format horizon count ledger fits =
     ∙ ap (λ xs. xs ++ to_be_bytes w64 count) (sym (append-nil (ledger_text format horizon (length ledger) ledger)))
     )
 
--- the text of a part with one more part
+-- the text with one more part of an entry
 pub part_more : (format : Format) → (count : ℕ) (state : State) (old part : List ℕ) → entries_text format count state ++ (old ++ part) ≡
     (entries_text format count state ++ old) ++ part
 part_more format count state old part = sym (append_assoc (entries_text format count state) old part)
@@ -109,13 +109,13 @@ step_tag format count state tag is =
     one_step format (in_entry count state before_tag) (in_entry count state (before_key tag)) (tag ∷ []) refl (omega arith) (λ cause bad. bad.1 is) refl
     (part_more format count state [] (tag ∷ []))
 
--- a good key above the keys before it is not bad
+-- a key isn't bad if it is well formed and above those before it
 pub no_bad_key : (state : State) (key : Key) (cause : StateCause) → IsGoodKey key → IsAboveEntries state key → ¬ IsBadKey state key cause
 no_bad_key state key bad_body good above bad = bad good
 no_bad_key state key bad_order good above bad = bad.1 above
 no_bad_key state key _ good above bad = bad
 
--- a key has bytes
+-- a key has at least one byte
 pub key_some : (key : Key) → 0 < key_width (key_tag key)
 key_some (tiploc_key code) = omega arith
 key_some (association_key key) = omega arith
@@ -141,7 +141,7 @@ step_stamp format count state key stamp ledger is =
     (ap (λ s. in_entry count state (before_op key s)) (stamp_read state.ledger stamp ledger is))
     (part_more format count state (key_text key) (stamp_bytes stamp))
 
--- the ops that a format can hold
+-- the op bytes of a format
 zero_told : (format : Format) → IsOpByte format 0
 zero_told dks_1 = inl refl
 zero_told dks_2 = inl refl
@@ -154,7 +154,7 @@ two_told : (format : Format) → TellsOp format lapsed → IsOpByte format 2
 two_told dks_1 told = absurd told
 two_told dks_2 told = inr (inr refl)
 
--- the op of a deletion leads to the place after the entry
+-- a deletion leads to the part after the entry
 pub step_deleted : (format : Format) → (count : ℕ) (state : State) (key : Key) (stamp : Stamp) → length state.entries < count
     → Leads format (in_entry count state (before_op key stamp)) (after_entries count (with_entry state key stamp deleted))
 step_deleted format count state key stamp below =
@@ -162,7 +162,7 @@ step_deleted format count state key stamp below =
     (λ cause bad. bad.1 (zero_told format)) refl
     (entry_done_text format count state key stamp deleted below ∙ part_more format count state (key_text key ++ stamp_bytes stamp) (0 ∷ []))
 
--- if the format can hold a lapsed op, the op leads to the place after the entry
+-- if the format has lapsed ops, one leads to the part after the entry
 pub step_lapsed : (format : Format) → (count : ℕ) (state : State) (key : Key) (stamp : Stamp) → TellsOp format lapsed → length state.entries < count
     → Leads format (in_entry count state (before_op key stamp)) (after_entries count (with_entry state key stamp lapsed))
 step_lapsed format count state key stamp told below =
@@ -178,7 +178,7 @@ step_put format count state key stamp =
     (λ cause bad. bad.1 (one_told format)) refl
     (part_more format count state (key_text key ++ stamp_bytes stamp) (1 ∷ []))
 
--- the text after a body, which follows an op
+-- the text up to the end of a body
 pub body_text : (format : Format) → (count : ℕ) (state : State) (key : Key) (stamp : Stamp) (body : Body) → length state.entries < count
     → text_before format (after_entries count (with_entry state key stamp (put_with body))) ≡
     (entries_text format count state ++ (key_text key ++ stamp_bytes stamp ++ 1 ∷ [])) ++ put_bytes body
@@ -187,7 +187,7 @@ body_text format count state key stamp body below =
     ∙ ap (λ xs. entries_text format count state ++ xs) (sym (append_assoc (key_text key ++ stamp_bytes stamp) (1 ∷ []) (put_bytes body)))
     ∙ part_more format count state (key_text key ++ stamp_bytes stamp ++ 1 ∷ []) (put_bytes body)
 
--- the body of a TIPLOC leads to the place after the entry
+-- a TIPLOC's body leads to the part after the entry
 pub step_tiploc : (format : Format) → (count : ℕ) (state : State) (code : List ℕ) (stamp : Stamp) (bytes : List ℕ) → length state.entries < count
     → IsTextOfLength 63 bytes
     → Leads format (in_entry count state (before_body (tiploc_key code) stamp))
@@ -197,7 +197,7 @@ step_tiploc format count state code stamp bytes below is =
     (after_entries count (with_entry state (tiploc_key code) stamp (put_with (tiploc_body bytes)))) bytes is.0 (omega arith)
     (λ cause bad. bad.1 is) refl (body_text format count state (tiploc_key code) stamp (tiploc_body bytes) below)
 
--- the line of an association that need not lapse leads to the place after the entry
+-- an association's body that hasn't lapsed leads to the part after the entry
 pub step_association : (format : Format) → (count : ℕ) (state : State) (key : _) (stamp : Stamp) (line : List ℕ) → length state.entries < count
     → IsAssociationOf key line → state.horizon ≤ body_end (association_body line)
     → Leads format (in_entry count state (before_body (association_key key) stamp))
@@ -207,7 +207,7 @@ step_association format count state key stamp line below is stays =
     (after_entries count (with_entry state (association_key key) stamp (put_with (association_body line)))) line is.is_record.0 (omega arith)
     (λ cause bad. bad.1 (is, stays)) refl (body_text format count state (association_key key) stamp (association_body line) below)
 
--- the text after the number of lines
+-- the text up to the number of lines
 pub count_text : (format : Format) → (count : ℕ) (state : State) (key : ScheduleKey) (stamp : Stamp) (n : ℕ) → length state.entries < count
     → text_before format (after_lines count state key stamp n []) ≡ text_before format
     (in_entry count state (before_body (schedule_key key) stamp)) ++ to_be_bytes w32 n
@@ -217,7 +217,7 @@ count_text format count state key stamp n below =
     ∙ ap (λ xs. entries_text format count state ++ xs) (append-nil (head ++ 1 ∷ to_be_bytes w32 n) ∙ sym (append_assoc head (1 ∷ []) (to_be_bytes w32 n)))
     ∙ part_more format count state (head ++ 1 ∷ []) (to_be_bytes w32 n)
 
--- the number of a schedule's lines leads to the lines
+-- the number of a schedule's lines leads to its first line
 pub step_count : (format : Format) → (count : ℕ) (state : State) (key : ScheduleKey) (stamp : Stamp) (n : ℕ) → length state.entries < count → IsLineCount n
     → Leads format (in_entry count state (before_body (schedule_key key) stamp)) (after_lines count state key stamp n [])
 step_count format count state key stamp n below is =
@@ -232,7 +232,7 @@ concat-append : (xs ys : List (List ℕ)) → concat (xs ++ ys) ≡ concat xs ++
 concat-append [] ys = refl
 concat-append (x ∷ xs) ys = ap (λ zs. x ++ zs) (concat-append xs ys) ∙ sym (append_assoc x (concat xs) (concat ys))
 
--- the text after a schedule's line
+-- the text up to a schedule's line
 pub line_text : (format : Format) → (count : ℕ) (state : State) (key : ScheduleKey) (stamp : Stamp) (n : ℕ) (lines : List (List ℕ)) (line : List ℕ)
     → length state.entries < count → length lines < n
     → text_before format (after_lines count state key stamp n (lines ++ line ∷ [])) ≡ text_before format
@@ -245,7 +245,7 @@ line_text format count state key stamp n lines line below more =
     ∙ ap (λ xs. entries_text format count state ++ xs) (sym (append_assoc head (concat lines) line))
     ∙ part_more format count state (head ++ concat lines) line
 
--- a good line of a schedule leads on
+-- a good line of a schedule leads to the next part
 pub step_line : (format : Format) → (count : ℕ) (state : State) (key : ScheduleKey) (stamp : Stamp) (n : ℕ) (lines : List (List ℕ)) (line : List ℕ)
     → length state.entries < count → length lines < n
     → length line ≡ 80 → AreLinesUpTo key n (lines ++ line ∷ []) → HaveNotToLapse state (lines ++ line ∷ [])

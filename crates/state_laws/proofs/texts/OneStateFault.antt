@@ -1,4 +1,4 @@
--- A text has at most one state fault, and a state's text has none.
+-- A text has at most one fault. A state's text has none.
 use Rattle.std.proofs.Common.{◌≡◌, ℕ, ◌+◌, ◌≤◌, List, [], ◌∷◌, ◌++◌, length, refl, ap, sym, ◌∙◌, subst, inl, inr, arith, append_assoc, append-nil, length-append}
 use Rattle.docker_model.specs.file.Change.{Key}
 use Rattle.docker_model.specs.state.Stamp.{LedgerItem}
@@ -9,7 +9,7 @@ use Rattle.docker_model.specs.state.StateFault.{StateCause, bad_item, bad_order,
 use Rattle.cif_laws.proofs.lists.Fronts.{same_front}
 use Rattle.state_laws.proofs.texts.TextsApart.{same_end, IsStopped, one_stop, stop_of_bad, stop_of_long, stop_of_short, stop_at_end}
 
--- a bad part has one cause
+-- a bad part has only one cause
 one_item_cause : (ledger : List LedgerItem) (item : LedgerItem) (first second : StateCause) → IsBadItem ledger item first → IsBadItem ledger item second
     → first ≡ second
 one_item_cause ledger item bad_item bad_item one two = refl
@@ -54,7 +54,7 @@ one_cause format (before_entry_count horizon ledger) bytes first second one two 
 one_cause format (in_entry count state part) bytes first second one two = one_part_cause format state part bytes first second one two
 one_cause format (at_end state) bytes first second one two = absurd one
 
--- faults with the same place and cause are equal
+-- two faults with the same offset and cause are equal
 fault_is : (first second : StateFault) → first.at ≡ second.at → first.cause ≡ second.cause → first ≡ second
 fault_is first second ats causes = λ i. record { at = ats i; cause = causes i }
 
@@ -95,7 +95,7 @@ bad_and_short format limit text first second one two =
     let ends = two.ends in
     omega arith
 
--- at the end of a state there is no bad part, only what follows
+-- at the end of a state's text no part is bad; only a byte may follow
 end_and_bad : (format : Format) → (limit : ℕ) (text : List ℕ) (state : State) (fault : StateFault) → IsStopped format limit text (at_end state)
     → HasBadPart format limit text fault → ⊥
 end_and_bad format limit text state fault stopped one =

@@ -1,5 +1,4 @@
--- A part of a state's text is bad, or the place after it is good and the text before that place
--- ends with the part.
+-- A part of a state's text is bad, or it leads to the next part.
 use Rattle.std.proofs.Common.{◌≡◌, ℕ, ◌-◌, ◌<◌, ◌≤◌, ◌^◌, List, [], ◌∷◌, ◌++◌, length, refl, ap, sym, ◌∙◌, subst, inl, inr, ◌⊎◌, arith, true, false, cond, nat_le, append-nil, length-append}
 use Rattle.std.specs.Prelude.{slice_index}
 use Rattle.std.specs.Int.{w16, w32, w64, to_be_bytes, from_be_bytes}
@@ -25,12 +24,12 @@ use Rattle.state_laws.proofs.texts.PartDecisions.{good_item_decided, above_items
 use Rattle.state_laws.proofs.texts.LedgerGrown.{one_item_more, no_items}
 use Rattle.state_laws.proofs.texts.StateGrown.{good_after_items, good_after_entries, tells_deleted, tells_put, no_entries, one_entry_more}
 
--- the place after the part is good, and the text before it ends with the part
+-- the part leads to the next one: what is read is good, and the text so far ends with the part
 abbrev pub Good : (format : Format) → Before → List ℕ → Type 0
 Good format before bytes =
     AreGood format (advance format before bytes) × (text_before format (advance format before bytes) ≡ text_before format before ++ bytes)
 
--- the part is bad, or the place after it is good and the text before it ends with the part
+-- the part is bad, or leads to the next one
 abbrev pub Judged : (format : Format) → Before → List ℕ → Type 0
 Judged format before bytes = ((cause : StateCause) × IsBadPart format before bytes cause) ⊎ Good format before bytes
 
@@ -99,11 +98,11 @@ judge_entry_count format horizon ledger bytes good size small =
           ∙ (λ i. sym (append-nil (items_before format (before_entry_count horizon ledger))) i ++ eight_bytes bytes size small i),
     )
 
--- a state that the format can hold, with room for one more entry
+-- a state that the format can hold, and after which an entry is still to come
 abbrev pub StateHere : (format : Format) → ℕ → State → Type 0
 StateHere format count state = IsToldState format state × (length state.ledger < 2 ^ 64) × (length state.entries < count) × (count < 2 ^ 64)
 
--- a good entry leads to a good place after it
+-- if an entry is good, so is what is read up to the part after it
 pub entry_done : (format : Format) → (count : ℕ) (state : State) (key : Key) (stamp : Stamp) (op : Op) → StateHere format count state
     → IsStampHere state key stamp → IsOpOf key op → HasNotToLapse state.horizon op → TellsOp format op
     → AreGood format (after_entries count (with_entry state key stamp op))
@@ -113,7 +112,7 @@ entry_done format count state key stamp op told here of stays tells =
     good_after_entries format count (with_entry state key stamp op) (one_entry_more format state key stamp op told.0 here of stays tells) told.1
     (omega arith) told.3
 
--- good lines lead to a good place after them
+-- if lines are good, so is what is read up to the part after them
 pub good_after_lines : (format : Format) → (count : ℕ) (state : State) (key : ScheduleKey) (stamp : Stamp) (n : ℕ) (lines : List (List ℕ))
     → StateHere format count state → IsStampHere state (schedule_key key) stamp
     → IsLineCount n → length lines ≤ n → (lines ≡ []) ⊎ (AreLinesUpTo key n lines × HaveNotToLapse state lines)
@@ -191,7 +190,7 @@ judge_stamp format count state key bytes told here size small = by (stamp_in_dec
         )
     by (inr bad) = inl (bad_stamp, (refl, bad))
 
--- the op that a byte encodes
+-- which op a byte stands for
 op_of_byte : (format : Format) (byte : ℕ) → IsOpByte format byte → (byte ≡ 0) ⊎ (byte ≡ 1) ⊎ ((byte ≡ 2) × TellsOp format lapsed)
 op_of_byte dks_1 byte (inl e) = inl e
 op_of_byte dks_1 byte (inr e) = inr (inl e)
@@ -228,7 +227,7 @@ judge_op format count state key stamp bytes told here size = by (op_byte_decided
               entry_done_text format count state key stamp lapsed told.2 ∙ part_more format count state (key_text key ++ stamp_bytes stamp) (2 ∷ []),
             ))
 
--- a TIPLOC need not lapse
+-- a TIPLOC doesn't lapse
 tiploc_stays : {format : Format} (state : State) → IsToldState format state → state.horizon ≤ 65535
 tiploc_stays state told = let day = told.valid.horizon in omega arith
 
@@ -284,7 +283,7 @@ judge_part format count state (before_op key stamp) bytes told here size small =
 judge_part format count state (before_body key stamp) bytes told here size small = judge_body format count state key stamp bytes told here size small
 judge_part format count state (before_line key stamp n lines) bytes told here size small = judge_line format count state key stamp n lines bytes told here
 
--- each part whose bytes have the right width is judged
+-- any part of the right width is bad or leads to the next one
 pub judge : (format : Format) → (before : Before) (bytes : List ℕ) → AreGood format before → 0 < width before → length bytes ≡ width before → AreBytes bytes
     → Judged format before bytes
 judge format before_mark bytes good some size small = judge_mark format bytes

@@ -1,4 +1,5 @@
--- Each good place before a part of a state's text is reached by the parts before it.
+-- Each point in a state's text, if what is before it is good, is reached from the start part by
+-- part.
 use Rattle.std.proofs.Common.{List, ◌∷◌, ◌++◌, ◌≡◌, [], refl, ap, sym, ◌∙◌, subst, Contains, Some, None, ℕ, ◌<◌, ◌≤◌, length, arith, append_assoc, append-nil, length-append, inl, inr, ◌^◌, ◌⊎◌}
 use Rattle.std.specs.Prelude.{Option}
 use Rattle.std.specs.List.{AllByRecursion}
@@ -26,7 +27,7 @@ use Rattle.state_laws.proofs.texts.GoodPartLeads.{step_item, step_line, step_tag
 use Rattle.cif_laws.proofs.lists.AllOf.{all_behind, all_front}
 use Rattle.cif_laws.proofs.orders.Ascending.{below_next}
 
--- an item of a ledger is good, above those before it, and raises no floor
+-- an item of a ledger is well formed
 pub item_good : (before : List LedgerItem) (item : LedgerItem) (later : List LedgerItem) → IsLedger (before ++ item ∷ later) → IsGoodItem item
 item_good before item later is = (all_behind IsGoodItem before (item ∷ later) (recursion_from_All IsGoodItem (before ++ item ∷ later) is.each)).0
 
@@ -56,7 +57,7 @@ item_floor (first ∷ before) item later is raises =
     by None none kept = none item among raises.0
     by (Some stamp) greatest kept = not_above stamp (file_stamp_cmp stamp first.stamp) refl kept (greatest.greatest item among raises.0)
 
--- the items of a ledger
+-- the items of a ledger lead on, one by one
 pub items_lead : (format : Format) (horizon : ℕ) → (count : ℕ) (before later : List LedgerItem) → IsLedger (before ++ later) → length (before ++ later) ≤ count
     → Leads format (after_items horizon count before) (after_items horizon count (before ++ later))
 items_lead format horizon count before [] is within = no_step format _ _ (ap (after_items horizon count) (sym (append-nil before)))
@@ -71,7 +72,7 @@ items_lead format horizon count before (item ∷ later) is within =
     (item_floor before item later is))
     (then_leads format _ _ _ rest (no_step format _ _ (ap (after_items horizon count) grouped))))
 
--- a front of a schedule's lines begins a schedule
+-- a prefix of a schedule's lines begins a schedule
 pub begins_front : (front rest : List (List ℕ)) → BeginsSchedule (front ++ rest) → BeginsSchedule front
 begins_front front rest begins = (rest ++ begins.0, subst IsSchedule (append_assoc front rest begins.0) begins.1)
 
@@ -96,7 +97,7 @@ lines_front key n front rest some are within =
     by [] low whole done = subst IsSchedule (append-nil front) (done (ap length (append-nil front) ∙ whole))
     by (line ∷ more) low whole done = let size = length-append front (line ∷ more) in absurd (omega arith)
 
--- if the first of the lines need not lapse, a front of them need not either
+-- if lines haven't lapsed, a prefix of them hasn't either
 front_stays : (state : State) (front rest : List (List ℕ)) → 0 < length front → HaveNotToLapse state (front ++ rest) → HaveNotToLapse state front
 front_stays state front rest some stays = subst (λ line. state.horizon ≤ readable_end (columns 16 21 line)) (first_of_front front rest some) stays
 
@@ -105,7 +106,7 @@ line_size lines line more begins =
     let all = recursion_from_All IsRecord ((lines ++ line ∷ more) ++ begins.0) begins.1.records in
     (all_behind IsRecord lines (line ∷ more) (all_front IsRecord (lines ++ line ∷ more) begins.0 all)).0.0
 
--- the lines of a schedule lead to the place after the entry
+-- the lines of a schedule lead to the part after the entry
 pub lines_lead : (format : Format) → (count : ℕ) (state : State) (key : ScheduleKey) (stamp : Stamp) (n : ℕ) (lines more : List (List ℕ))
     → length state.entries < count
     → AreLinesUpTo key n (lines ++ more) → HaveNotToLapse state (lines ++ more) → length (lines ++ more) ≤ n
@@ -180,7 +181,7 @@ body_leads format count state (association_key key) stamp (schedule_body lines) 
 body_leads format count state (schedule_key key) stamp (tiploc_body bytes) below is stays = absurd is
 body_leads format count state (schedule_key key) stamp (association_body line) below is stays = absurd is
 
--- an entry that the format can hold, under a horizon
+-- an entry that a state under this horizon may have in the format
 abbrev pub IsToldEntry : Format → ℕ → List LedgerItem → Key × Entry → Type 0
 IsToldEntry format horizon ledger entry = IsGoodEntry ledger entry × HasNotToLapse horizon entry.1.op × TellsOp format entry.1.op
 
@@ -197,7 +198,7 @@ entry_leads format count state key stamp (put_with body) below ledger told above
     then_leads format _ _ _ (put_leads format count state key stamp below ledger ((told.0.key, above), told.0.stamp))
     (body_leads format count state key stamp body below told.0.op told.1)
 
--- the entries of a state
+-- a state with this horizon, ledger and entries
 abbrev state_of : (horizon : ℕ) → List LedgerItem → List (Key × Entry) → State
 state_of horizon ledger entries = record { horizon = horizon; ledger = ledger; entries = entries }
 
@@ -218,7 +219,7 @@ entries_lead format horizon count ledger before (entry ∷ later) is good up wit
     then_leads format _ _ _ (entry_leads format count (state_of horizon ledger before) entry.0 entry.1.stamp entry.1.op (omega arith) is good.0 above)
     (then_leads format _ _ _ rest (no_step format _ _ (ap (λ entries. after_entries count (state_of horizon ledger entries)) grouped)))
 
--- the items of a ledger so far, and the count of entries, are reached from the mark
+-- the mark leads to any item of a ledger, and to the count of entries
 ledger_leads : (format : Format) (horizon : ℕ) → (count : ℕ) (ledger : List LedgerItem) → IsHorizonOf format horizon → IsLedger ledger → count < 2 ^ 64
     → length ledger ≤ count → Leads format before_mark (after_items horizon count ledger)
 ledger_leads format horizon count ledger is_horizon is fits within =
@@ -269,7 +270,7 @@ part_leads format count state (before_line key stamp n lines) below ledger here 
         let more = here.2 in
         lines_lead format count state key stamp n [] lines below (record { lines_of = are.0; complete = λ whole. absurd (omega arith) }) are.1 (omega arith)
 
--- a good place before a part is reached from the beginning
+-- the start leads to any point before which all is good
 pub reach : (format : Format) (before : Before) → AreGood format before → Leads format before_mark before
 reach format before_mark good = no_step format _ _ refl
 reach format before_horizon good = horizon_leads format good

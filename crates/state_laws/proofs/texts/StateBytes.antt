@@ -1,4 +1,4 @@
--- What bytes of the right width encode is written as these bytes.
+-- Bytes of the right width, decoded and encoded again, are the same bytes.
 use Rattle.std.proofs.Common.{◌≡◌, ℕ, zero, suc, ◌<◌, ◌^◌, List, [], ◌∷◌, ◌++◌, length, take, drop, get_or, refl, ap, sym, subst, inl, inr, arith}
 use Rattle.std.specs.Prelude.{slice_index, slice_range}
 use Rattle.std.specs.List.{AllByRecursion}
@@ -8,17 +8,17 @@ use Rattle.docker_model.specs.state.Op.{key_tag}
 use Rattle.docker_model.specs.state.StateText.{item_bytes, key_bytes, stamp_bytes, item_in, key_in, stamp_in, association_key_in, schedule_key_in}
 use Rattle.docker_model.specs.state.StatePart.{key_width, IsTag}
 
--- each of these numbers is a byte
+-- each number is a byte
 abbrev pub AreBytes : List ℕ → Type 0
 AreBytes bytes = AllByRecursion (λ b. b < 256) bytes
 
--- the number at each place is a byte
+-- the number at each index is a byte
 pub small_at : (bytes : List ℕ) → AreBytes bytes → (i : ℕ) → get_or bytes i 0 < 256
 small_at [] small i = omega arith
 small_at (b ∷ bytes) small zero = small.0
 small_at (b ∷ bytes) small (suc i) = small_at bytes small.1 i
 
--- a list of a known length, each of its elements written out
+-- a list of known length, written out element by element
 abbrev head_of : List ℕ → ℕ
 head_of [] = 0
 head_of (x ∷ xs) = x
@@ -40,11 +40,11 @@ cells_are (suc n) (x ∷ xs) size = ap (λ rest. x ∷ rest) (cells_are n xs (om
 two_bytes : (a b : ℕ) → a < 256 → b < 256 → to_be_bytes w16 (from_be_bytes w16 (a ∷ b ∷ [])) ≡ a ∷ b ∷ []
 two_bytes a b low high = be_bytes_2 (a ∷ b ∷ []) _ refl (small_at (a ∷ b ∷ []) (low, (high, tt))) refl
 
--- the number that four bytes encode is written as these bytes
+-- four bytes, decoded as a number and encoded again, are the same
 pub four_bytes : (bytes : List ℕ) → length bytes ≡ 4 → AreBytes bytes → to_be_bytes w32 (from_be_bytes w32 bytes) ≡ bytes
 four_bytes bytes size small = be_bytes_4 bytes _ size (small_at bytes small) refl
 
--- the number that eight bytes encode is written as these bytes
+-- eight bytes, decoded as a number and encoded again, are the same
 pub eight_bytes : (bytes : List ℕ) → length bytes ≡ 8 → AreBytes bytes → to_be_bytes w64 (from_be_bytes w64 bytes) ≡ bytes
 eight_bytes bytes size small = be_bytes_8 bytes _ size (small_at bytes small) refl
 
@@ -61,7 +61,7 @@ eight_fit bytes small =
     let b7 = small_at bytes small 7 in
     omega arith
 
--- the ledger item that 19 bytes encode is written as these bytes
+-- 19 bytes, decoded as a ledger item and encoded again, are the same
 pub item_written : (bytes : List ℕ) → length bytes ≡ 19 → AreBytes bytes → item_bytes (item_in bytes) ≡ bytes
 item_written bytes size all = subst (λ xs. AreBytes xs → item_bytes (item_in xs) ≡ xs) (cells_are 19 bytes size) written all
   where
@@ -71,7 +71,7 @@ item_written bytes size all = subst (λ xs. AreBytes xs → item_bytes (item_in 
         let minute = two_bytes _ _ small.1.1.0 small.1.1.1.0 in
         λ i. day i ++ minute i ++ drop 4 (cells 19 bytes)
 
--- the stamp that 15 bytes encode is written as these bytes
+-- 15 bytes, decoded as a stamp and encoded again, are the same
 pub stamp_written : (bytes : List ℕ) → length bytes ≡ 15 → AreBytes bytes → stamp_bytes (stamp_in bytes) ≡ bytes
 stamp_written bytes size all = subst (λ xs. AreBytes xs → stamp_bytes (stamp_in xs) ≡ xs) (cells_are 15 bytes size) written all
   where
@@ -98,7 +98,7 @@ schedule_written bytes size all = subst (λ xs. AreBytes xs → key_bytes (sched
         let day = two_bytes _ _ small.1.1.1.1.1.1.0 small.1.1.1.1.1.1.1.0 in
         λ i. take 6 (cells 9 bytes) ++ day i ++ drop 8 (cells 9 bytes)
 
--- the key that bytes of its width encode is written as these bytes
+-- the bytes of a key, decoded and encoded again, are the same
 pub key_written : (tag : ℕ) (bytes : List ℕ) → IsTag tag → length bytes ≡ key_width tag → AreBytes bytes → key_bytes (key_in tag bytes) ≡ bytes
 key_written tag bytes (inl e) size all = subst (λ t. key_bytes (key_in t bytes) ≡ bytes) (sym e) refl
 key_written tag bytes (inr (inl e)) size all =
@@ -106,12 +106,12 @@ key_written tag bytes (inr (inl e)) size all =
 key_written tag bytes (inr (inr e)) size all =
     subst (λ t. length bytes ≡ key_width t → key_bytes (key_in t bytes) ≡ bytes) (sym e) (λ wide. schedule_written bytes wide all) size
 
--- the key that bytes encode has the tag under which they were read
+-- a key decoded under a tag has that tag
 pub tag_of_key : (tag : ℕ) (bytes : List ℕ) → IsTag tag → key_tag (key_in tag bytes) ≡ tag
 tag_of_key tag bytes (inl e) = subst (λ t. key_tag (key_in t bytes) ≡ t) (sym e) refl
 tag_of_key tag bytes (inr (inl e)) = subst (λ t. key_tag (key_in t bytes) ≡ t) (sym e) refl
 tag_of_key tag bytes (inr (inr e)) = subst (λ t. key_tag (key_in t bytes) ≡ t) (sym e) refl
 
--- a list of one byte is the list of its first element
+-- a list of one byte, written out
 pub single : (bytes : List ℕ) → length bytes ≡ 1 → slice_index bytes 0 ∷ [] ≡ bytes
 single bytes size = subst (λ xs. slice_index xs 0 ∷ [] ≡ xs) (cells_are 1 bytes size) refl

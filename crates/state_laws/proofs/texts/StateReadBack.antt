@@ -1,4 +1,4 @@
--- An item, a key and a stamp are read back from their bytes. The bytes have the right width.
+-- An item, a key and a stamp are read back from their bytes, which have the right width.
 use Rattle.std.proofs.Common.{◌≡◌, ℕ, suc, ◌+◌, ◌-◌, ◌<◌, ◌^◌, List, [], ◌∷◌, ◌++◌, length, take, drop, refl, ap, ◌∙◌, subst, arith, append_assoc, length-append, Contains}
 use Rattle.std.specs.Prelude.{slice_index, slice_range}
 use Rattle.std.specs.Int.{w16, w32, to_be_bytes, from_be_bytes}
@@ -12,7 +12,7 @@ use Rattle.docker_model.specs.state.StateText.{file_stamp_bytes, item_bytes, key
 use Rattle.docker_model.specs.state.StatePart.{key_width}
 use Rattle.cif_laws.proofs.lists.Membership.{Contains-map}
 
--- what is left after a front
+-- what is left of two lists once the first is dropped
 pub drop_past : (xs ys : List ℕ) (n k : ℕ) → length xs ≡ n → drop (n + k) (xs ++ ys) ≡ drop k ys
 drop_past [] ys n k size = ap (λ j. drop j ys) (omega arith)
 drop_past (x ∷ xs) ys n k size =
@@ -185,7 +185,7 @@ schedule_sized key good =
     let one = length-append key.uid (to_be_bytes w16 key.runs_from ++ (key.indicator ∷ [])) in
     omega arith
 
--- a good key has the width of its tag
+-- a good key has as many bytes as its tag says
 pub key_width_is : (key : Key) → IsGoodKey key → length (key_bytes key) ≡ key_width (key_tag key)
 key_width_is (tiploc_key code) good = good.0.0
 key_width_is (association_key key) good = ap length (association_bytes_are key) ∙ association_sized key good

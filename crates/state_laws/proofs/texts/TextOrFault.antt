@@ -1,4 +1,4 @@
--- Every text is the text of a state within the limit or has a state fault: a walk over its parts.
+-- Every text is a state's within the limit, or has a fault: a walk over its parts.
 use Rattle.std.proofs.Common.{◌≡◌, ℕ, zero, suc, ◌+◌, ◌<◌, ◌≤◌, List, [], ◌∷◌, ◌++◌, length, take, drop, refl, ap, sym, ◌∙◌, subst, inl, inr, ◌⊎◌, arith, append_assoc, append-nil, length-append, All}
 use Rattle.std.proofs.lemmas.List.{take-append-drop, length-take-le}
 use Rattle.std.proofs.lemmas.List.Elements.{recursion_from_All}
@@ -13,7 +13,7 @@ use Rattle.cif_laws.proofs.lists.Decisions.{Decided, le_decided}
 use Rattle.state_laws.proofs.texts.StateBytes.{AreBytes}
 use Rattle.state_laws.proofs.texts.PartJudged.{Judged, judge}
 
--- a part of an entry that is next has at least one byte
+-- the next part of an entry has at least one byte
 key_width_some : (tag : ℕ) → IsTag tag → 0 < key_width tag
 key_width_some tag (inl e) = subst (λ t. 0 < key_width t) (sym e) (omega arith)
 key_width_some tag (inr (inl e)) = subst (λ t. 0 < key_width t) (sym e) (omega arith)
@@ -29,7 +29,7 @@ part_some state (before_body (association_key key) stamp) here = omega arith
 part_some state (before_body (schedule_key key) stamp) here = omega arith
 part_some state (before_line key stamp n lines) here = omega arith
 
--- a good place is the end of a state or has a next part
+-- a point in a text is the end of a state, or has a next part
 pub end_or_part : (format : Format) → (before : Before) → AreGood format before → ((state : State) × (before ≡ at_end state)) ⊎ (0 < width before)
 end_or_part format before_mark good = inr (omega arith)
 end_or_part format before_horizon good = inr (omega arith)
@@ -39,7 +39,7 @@ end_or_part format (before_entry_count horizon ledger) good = inr (omega arith)
 end_or_part format (in_entry count state part) good = inr (part_some state part good.4)
 end_or_part format (at_end state) good = inl (state, refl)
 
--- what the walk over the parts finds
+-- what the walk finds: a state, or a fault
 abbrev pub Answer : (format : Format) → ℕ → List ℕ → Type 0
 Answer format limit text = ((state : State) × IsStateText format limit text state) ⊎ ((fault : StateFault) × IsStateFault format limit text fault)
 
@@ -200,7 +200,7 @@ walk format limit text zero before rest told few = one_step_on format limit text
 walk format limit text (suc steps) before rest told few =
     one_step_on format limit text before rest told (λ after more further less. walk format limit text steps after more further (omega arith))
 
--- a text of bytes is the text of a state within the limit or has a state fault
+-- a text of bytes is a state's within the limit, or has a fault
 pub text_or_fault : (format : Format) → (limit : ℕ) (text : List ℕ) → All (λ b. b < 256) text → Answer format limit text
 text_or_fault format limit text small =
     walk format limit text (length text) before_mark text

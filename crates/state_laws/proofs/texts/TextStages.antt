@@ -1,5 +1,4 @@
--- Reading a text part by part. The parts determine what stands before the next part, and so does
--- the text.
+-- Reading a text part by part. The parts so far determine what comes next, and so does the text.
 use Rattle.std.proofs.Common.{◌≡◌, ℕ, ◌<◌, List, ◌++◌, length, [], ◌∷◌, ap, ◌∙◌, sym, subst, append_assoc, append-nil, ◌⊎◌, refl, inl, inr}
 use Rattle.std.specs.Prelude.{⊤}
 use Rattle.std.specs.List.{concat}
@@ -10,34 +9,34 @@ use Rattle.docker_model.specs.state.StateFault.{StateCause, IsBadPart}
 use Rattle.state_laws.specs.TextStage.{advance}
 use Rattle.cif_laws.proofs.lists.Fronts.{same_front}
 
--- the bytes are the next part, and it is not bad
+-- the bytes are the next part, and not bad
 pub record IsNextPart (format : Format) (before : Before) (part : List ℕ) : Type 0 where
   pub size : length part ≡ width before
   pub some : 0 < width before
   pub not_bad : (cause : StateCause) → ¬ IsBadPart format before part cause
   pub text : text_before format (advance format before part) ≡ text_before format before ++ part
 
--- each of these parts is the next after the parts before it
+-- each of these parts is the next one after those before it
 abbrev pub Follow : (format : Format) → Before → List (List ℕ) → Type 0
 Follow format before [] = ⊤
 Follow format before (part ∷ parts) = IsNextPart format before part × Follow format (advance format before part) parts
 
--- the place after these parts
+-- the point after these parts
 abbrev pub after_parts : (format : Format) → Before → List (List ℕ) → Before
 after_parts format before [] = before
 after_parts format before (part ∷ parts) = after_parts format (advance format before part) parts
 
--- some parts lead from one place to the other
+-- some parts lead from one point of the text to the other
 pub record Leads (format : Format) (before after : Before) : Type 0 where
   pub parts : List (List ℕ)
   pub follow : Follow format before parts
   pub to : after_parts format before parts ≡ after
 
--- a place leads to itself
+-- a point leads to itself
 pub no_step : (format : Format) → (before after : Before) → before ≡ after → Leads format before after
 no_step format before after same = record { parts = []; follow = tt; to = same }
 
--- a part that is not bad leads on
+-- a part that isn't bad leads to the point after it
 pub one_step : (format : Format) → (before after : Before) (part : List ℕ) → length part ≡ width before → 0 < width before
     → ((cause : StateCause) → ¬ IsBadPart format before part cause) → advance format before part ≡ after
     → text_before format after ≡ text_before format before ++ part → Leads format before after
@@ -47,7 +46,7 @@ one_step format before after part size some not_bad to text = record {
   to = to;
 }
 
--- one way, followed by another
+-- if one point leads to another, and that to a third, the first leads to the third
 pub then_leads : (format : Format) → (before between after : Before) → Leads format before between → Leads format between after → Leads format before after
 then_leads format before between after first second = by before first.parts first.follow first.to
   where
@@ -57,7 +56,7 @@ then_leads format before between after first second = by before first.parts firs
         let rest = by (advance format from part) parts follow.1 to in
         record { parts = part ∷ rest.parts; follow = (follow.0, rest.follow); to = rest.to }
 
--- the text before the place that these parts lead to
+-- the text up to the point to which these parts lead
 pub after_text : (format : Format) → (before : Before) (parts : List (List ℕ)) → Follow format before parts
     → text_before format (after_parts format before parts) ≡ text_before format before ++ concat parts
 after_text format before [] follow = sym (append-nil (text_before format before))
@@ -65,14 +64,15 @@ after_text format before (part ∷ parts) follow =
     after_text format (advance format before part) parts follow.1 ∙ ap (λ front. front ++ concat parts) follow.0.text
     ∙ append_assoc (text_before format before) part (concat parts)
 
--- the text before the second place goes on with the first place's next part
+-- the second point is later: the text up to it has, after the text up to the first, at least the
+-- first's next part
 pub record IsLater (format : Format) (before after : Before) : Type 0 where
   pub part : List ℕ
   pub more : List ℕ
   pub is_next : IsNextPart format before part
   pub text : text_before format after ≡ text_before format before ++ part ++ more
 
--- two places are equal, or one is later than the other
+-- two points are equal, or one is later than the other
 abbrev pub AreInLine : (format : Format) → Before → Before → Type 0
 AreInLine format first second = (first ≡ second) ⊎ (IsLater format first second ⊎ IsLater format second first)
 
@@ -102,7 +102,7 @@ in_line_from format from (part ∷ parts) (other ∷ others) rest more f g same 
     (after_parts format (advance format from v) others)) told.0
     (λ follow. in_line_from format (advance format from part) parts others rest more f.1 follow told.1) g.1
 
--- two places whose texts begin one text are equal, or one is later than the other
+-- two points up to which one text is the same are equal, or one is later than the other
 pub in_line : (format : Format) → (from first second : Before) (rest more : List ℕ) → Leads format from first → Leads format from second
     → text_before format first ++ rest ≡ text_before format second ++ more → AreInLine format first second
 in_line format from first second rest more one two same =

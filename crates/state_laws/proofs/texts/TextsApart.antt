@@ -1,4 +1,4 @@
--- States with the same text are equal. Reading a text under a limit stops at one place only.
+-- States with the same text are equal. Reading a text under a limit stops at only one point.
 use Rattle.std.proofs.Common.{◌≡◌, ℕ, ◌+◌, ◌≤◌, List, [], ◌++◌, length, ap, sym, ◌∙◌, subst, inl, inr, arith, append_assoc, append-nil, length-append}
 use Rattle.std.proofs.lemmas.List.{append_cancel_left}
 use Rattle.docker_model.specs.state.State.{State}
@@ -9,27 +9,27 @@ use Rattle.cif_laws.proofs.lists.Fronts.{same_front}
 use Rattle.state_laws.proofs.texts.TextStages.{IsLater, AreInLine, in_line}
 use Rattle.state_laws.proofs.texts.PartsReached.{reach}
 
--- the state at the end of a text; elsewhere, another state
+-- the state of a text that is read to its end; elsewhere another state
 pub state_or : State → Before → State
 state_or other (at_end state) = state
 state_or other _ = other
 
--- two ends that are equal have one state
+-- equal ends of a text have one state
 pub same_end : (first second : State) → at_end first ≡ at_end second → first ≡ second
 unfolding state_or
 same_end first second same = ap (state_or first) same
 
--- no place is later than the end
+-- no point is later than the end
 pub no_part_at_end : (format : Format) → (state : State) (after : Before) → IsLater format (at_end state) after → ⊥
 no_part_at_end format state after later = let some = later.is_next.some in omega arith
 
--- two good places whose texts begin one text are equal, or one is later than the other
+-- two good points in one text are equal, or one is later than the other
 pub both_in_line : (format : Format) → (text : List ℕ) (first second : Before) (rest more : List ℕ) → AreGood format first → AreGood format second
     → text ≡ text_before format first ++ rest → text ≡ text_before format second ++ more → AreInLine format first second
 both_in_line format text first second rest more good also one two =
     in_line format before_mark first second rest more (reach format first good) (reach format second also) (sym one ∙ two)
 
--- no state's text begins another state's
+-- a state's text isn't a proper prefix of another state's text
 pub no_front : (format : Format) → (first second : State) (rest : List ℕ) → AreGood format (at_end first) → AreGood format (at_end second)
     → state_text format first ++ rest ≡ state_text format second → (first ≡ second) × (rest ≡ [])
 no_front format first second rest good also same =
@@ -49,7 +49,7 @@ pub one_text : (format : Format) → (first second : State) → AreGood format (
     → state_text format first ≡ state_text format second → first ≡ second
 one_text format first second good also same = (no_front format first second [] good also (append-nil (state_text format first) ∙ same)).0
 
--- if a part is bad, no place of the text is later
+-- if a part is bad, no point of the text is later
 pub bad_stops : (format : Format) → (text : List ℕ) (before after : Before) (bytes rest more : List ℕ) (cause : StateCause) → length bytes ≡ width before
     → IsBadPart format before bytes cause
     → text ≡ text_before format before ++ bytes ++ rest → text ≡ text_before format after ++ more → IsLater format before after → ⊥
@@ -63,7 +63,7 @@ bad_stops format text before after bytes rest more cause size bad one two later 
     let told = same_front bytes later.part rest (later.more ++ more) (size ∙ sym later.is_next.size) behind in
     later.is_next.not_bad cause (subst (λ xs. IsBadPart format before xs cause) told.0 bad)
 
--- a text that begins with a state's has no bad part
+-- a text that begins with a state's text has no bad part
 pub no_bad_part : (format : Format) → (limit : ℕ) (text : List ℕ) (state : State) (rest : List ℕ) (fault : StateFault) → AreGood format (at_end state)
     → text ≡ state_text format state ++ rest → ¬ HasBadPart format limit text fault
 no_bad_part format limit text state rest fault good is has =
@@ -78,7 +78,7 @@ no_bad_part format limit text state rest fault good is has =
     by (inr (inl later)) = bad_stops format text has.before (at_end state) has.bytes has.rest rest fault.cause has.size has.bad has.whole whole later
     by (inr (inr later)) = no_part_at_end format state has.before later
 
--- reading under the limit goes as far as here, and no further
+-- reading the text under the limit comes to this point, and to no later one
 pub record IsStopped (format : Format) (limit : ℕ) (text : List ℕ) (before : Before) : Type 0 where
   pub good : AreGood format before
   pub rest : List ℕ
@@ -87,7 +87,7 @@ pub record IsStopped (format : Format) (limit : ℕ) (text : List ℕ) (before :
   pub stops : (after : Before) (more : List ℕ) → IsLater format before after → text ≡ text_before format after ++ more
       → length (text_before format after) ≤ limit → ⊥
 
--- reading a text under a limit stops at only one place
+-- reading a text under a limit stops at only one point
 pub one_stop : (format : Format) → (limit : ℕ) (text : List ℕ) (first second : Before) → IsStopped format limit text first → IsStopped format limit text second
     → first ≡ second
 one_stop format limit text first second one two = by (both_in_line format text first second one.rest two.rest one.good two.good one.whole two.whole)
@@ -97,7 +97,7 @@ one_stop format limit text first second one two = by (both_in_line format text f
     by (inr (inl later)) = absurd (one.stops second two.rest later two.whole two.within)
     by (inr (inr later)) = absurd (two.stops first one.rest later one.whole one.within)
 
--- how much longer the text before a later place is
+-- how many bytes a later point is further on
 pub later_size : (format : Format) → (before after : Before) (later : IsLater format before after)
     → length (text_before format before) + width before + length later.more ≡ length (text_before format after)
 later_size format before after later =
@@ -118,7 +118,7 @@ stop_of_bad format limit text fault has = record {
   stops = λ after more later is within. bad_stops format text has.before after has.bytes has.rest more fault.cause has.size has.bad has.whole is later;
 }
 
--- reading stops before a part that the limit cuts
+-- reading stops before a part that goes past the limit
 pub stop_of_long : (format : Format) → (limit : ℕ) (text : List ℕ) (fault : StateFault) (is : IsLong format limit text fault)
     → IsStopped format limit text is.before
 stop_of_long format limit text fault is = record {
@@ -129,7 +129,7 @@ stop_of_long format limit text fault is = record {
   stops = λ after more later whole within. (let size = later_size format is.before after later in let needs = is.needs in omega arith);
 }
 
--- reading stops before a part that the text cuts
+-- reading stops before a part that isn't whole because the text ends
 pub stop_of_short : (format : Format) → (limit : ℕ) (text : List ℕ) (fault : StateFault) (is : IsShort format limit text fault)
     → IsStopped format limit text is.before
 stop_of_short format limit text fault is =

@@ -1,4 +1,4 @@
--- The place after items, entries and lines, and the text before it.
+-- What comes after items, entries and lines, and the text up to there.
 use Rattle.std.proofs.Common.{◌≡◌, ℕ, ◌<◌, ◌≤◌, ◌^◌, List, [], ◌∷◌, ◌++◌, length, ap, sym, ◌∙◌, inl, inr, ◌⊎◌, arith, append_assoc, append-nil, length-append, true, false, nat_le, cond}
 use Rattle.std.specs.List.{concat, flat_map}
 use Rattle.std.specs.Int.{w32, w64, to_be_bytes, from_be_bytes}
@@ -22,7 +22,7 @@ read_32 = from_be_bytes-to_be_bytes_4
 pub read_64 : (n : ℕ) → n < 2 ^ 64 → from_be_bytes w64 (to_be_bytes w64 n) ≡ n
 read_64 = from_be_bytes-to_be_bytes_8
 
--- after the items comes another item, if not all are read
+-- after some of the items comes another item
 pub more_items : (horizon : ℕ) → (count : ℕ) (ledger : List LedgerItem) → length ledger < count
     → after_items horizon count ledger ≡ before_item horizon count ledger
 more_items horizon count ledger below = λ i. cond (lt-leb count (length ledger) below i) (before_entry_count horizon ledger) (before_item horizon count ledger)
@@ -32,7 +32,7 @@ pub all_items : (horizon : ℕ) → (ledger : List LedgerItem) → after_items h
 all_items horizon ledger =
     λ i. cond (le-leb (length ledger) (length ledger) (omega arith) i) (before_entry_count horizon ledger) (before_item horizon (length ledger) ledger)
 
--- after the entries comes another entry, if not all are read
+-- after some of the entries comes another entry
 pub more_entries : (count : ℕ) (state : State) → length state.entries < count → after_entries count state ≡ in_entry count state before_tag
 more_entries count state below = λ i. cond (lt-leb count (length state.entries) below i) (at_end state) (in_entry count state before_tag)
 
@@ -41,7 +41,7 @@ pub all_entries : (state : State) → after_entries (length state.entries) state
 all_entries state =
     λ i. cond (le-leb (length state.entries) (length state.entries) (omega arith) i) (at_end state) (in_entry (length state.entries) state before_tag)
 
--- after the lines comes another line, if not all are read
+-- after some of the lines comes another line
 pub more_lines : (count : ℕ) (state : State) (key : ScheduleKey) (stamp : Stamp) (n : ℕ) (lines : List (List ℕ)) → length lines < n
     → after_lines count state key stamp n lines ≡ in_entry count state (before_line key stamp n lines)
 more_lines count state key stamp n lines below =
@@ -56,7 +56,7 @@ all_lines count state key stamp lines =
     (after_entries count (with_entry state (schedule_key key) stamp (put_with (schedule_body lines))))
     (in_entry count state (before_line key stamp (length lines) lines))
 
--- the texts before these places
+-- the text up to the part after these items
 pub after_items_text : (format : Format) (horizon : ℕ) → (count : ℕ) (ledger : List LedgerItem) → length ledger ≤ count
     → text_before format (after_items horizon count ledger) ≡ ledger_text format horizon count ledger
 after_items_text format horizon count ledger within = by (leb_tells count (length ledger))
@@ -72,7 +72,7 @@ after_items_text format horizon count ledger within = by (leb_tells count (lengt
         (λ i. text_before format (cond (told.0 i) (before_entry_count horizon ledger) (before_item horizon count ledger)))
         ∙ append-nil (ledger_text format horizon count ledger)
 
--- what stands before the place after these entries is the text up to the last of them
+-- the text up to the part after these entries
 pub after_entries_text : (format : Format) → (count : ℕ) (state : State) → length state.entries ≤ count
     → text_before format (after_entries count state) ≡ entries_text format count state
 after_entries_text format count state within = by (leb_tells count (length state.entries))
@@ -97,7 +97,7 @@ with_entry_text format count state key stamp op =
     ∙ ap (λ xs. flat_map entry_bytes state.entries ++ xs) (append-nil bytes))
     ∙ sym (append_assoc front (flat_map entry_bytes state.entries) bytes)
 
--- the text before the place after an entry
+-- the text up to the part after an entry
 pub entry_done_text : (format : Format) → (count : ℕ) (state : State) (key : Key) (stamp : Stamp) (op : Op) → length state.entries < count
     → text_before format (after_entries count (with_entry state key stamp op)) ≡ entries_text format count state ++
     (key_text key ++ stamp_bytes stamp ++ op_bytes op)
@@ -105,7 +105,7 @@ entry_done_text format count state key stamp op below =
     let size = length-append state.entries ((key, record { stamp = stamp; op = op }) ∷ []) in
     after_entries_text format count (with_entry state key stamp op) (omega arith) ∙ with_entry_text format count state key stamp op
 
--- the text before the place after lines
+-- the text up to the part after these lines
 pub after_lines_text : (format : Format) → (count : ℕ) (state : State) (key : ScheduleKey) (stamp : Stamp) (n : ℕ) (lines : List (List ℕ))
     → length state.entries < count → length lines ≤ n
     → text_before format (after_lines count state key stamp n lines) ≡ entries_text format count state ++ part_text (before_line key stamp n lines)

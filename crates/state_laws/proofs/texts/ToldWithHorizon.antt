@@ -1,4 +1,4 @@
--- The format with a horizon can hold each valid state. So it can hold the state of a text without
+-- The format with a horizon can hold each valid state, and so any state read from a text without
 -- one.
 use Rattle.std.proofs.Common.{◌≡◌, ℕ, List, [], ◌∷◌}
 use Rattle.std.specs.List.{AllByRecursion}
@@ -10,7 +10,7 @@ use Rattle.docker_model.specs.state.StateText.{dks_1, dks_2, IsToldState, TellsO
 use Rattle.docker_model.specs.state.StatePart.{AreGood, at_end}
 use Rattle.docker_model.specs.state.StateFault.{IsStateText}
 
--- it can hold each op
+-- the format with a horizon can hold any op
 pub any_op_told : (op : Op) → TellsOp dks_2 op
 any_op_told deleted = tt
 any_op_told lapsed = tt
@@ -28,7 +28,6 @@ valid_is_told state valid = record {
     each [] = tt
     each (x ∷ xs) = (any_op_told x.1.op, each xs)
 
--- the state of a text in the format without a horizon has none, and the other format can hold it
--- too
+-- a state read from a text without a horizon has none, and the other format can hold it too
 pub migrated_is_told : (limit : ℕ) (text : List ℕ) (state : State) → IsStateText dks_1 limit text state → (state.horizon ≡ 0) × AreGood dks_2 (at_end state)
 migrated_is_told limit text state is = (is.valid.0.horizon, (valid_is_told state is.valid.0.valid, is.valid.1, is.valid.2))

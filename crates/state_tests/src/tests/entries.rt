@@ -1,37 +1,22 @@
-//! Stamps, entries and ops: their order, what their join is, and what lapses.
+//! Stamps, entries and ops: their order, their joins, and what lapses.
 
-use super::same;
+use super::compare::same;
 use cif_file::Body;
 use cif_line::{Day, Line};
 use docker_join::{Entry, FileStamp, Merge, Op, Pick, Stamp};
 use std::alloc::Global;
 use std::process::Abort;
+use test_records::{AA_ENDS_1960, AA_ENDS_2059, AA_NO_END, AA_NO_END_DIVIDE};
 
-/// An association of C10001 and C20001 at Colwell that ends on 1 January 1960.
-const ENDS_1960: &[u8; 80] =
-    b"AANC10001C200012406106001011111100VVSCOLWELL  TP                               P";
-
-/// The same association, ending on 31 December 2059.
-const ENDS_2059: &[u8; 80] =
-    b"AANC10001C200012406105912311111100VVSCOLWELL  TP                               P";
-
-/// The same association without an end: the trains join.
-const JOIN: &[u8; 80] =
-    b"AANC10001C200012406109999991111100JJSCOLWELL  TP                               P";
-
-/// The same association without an end: the train divides.
-const DIVIDE: &[u8; 80] =
-    b"AANC10001C200012406109999991111100VVSCOLWELL  TP                               P";
-
-/// The horizon after 31 December 2059, the last day of the calendar.
+/// The day number after the last one, as a horizon.
 const AFTER_2059: u16 = 36525;
 
 /// The put of an association.
-fn put(rt: &impl Abort, line: &[u8; 80]) -> Op {
+fn put(rt: &impl Abort, line: &[u8]) -> Op {
     Op::Put(Body::Assoc(Line::new(line).expect(rt, "a line")))
 }
 
-/// The file stamp of a file.
+/// The file stamp with this day, minute and reference.
 fn file(rt: &impl Abort, day: u16, minute: u16, reference: &[u8; 7]) -> FileStamp {
     FileStamp {
         day: Day::from_number(day).expect(rt, "a day"),
@@ -40,21 +25,21 @@ fn file(rt: &impl Abort, day: u16, minute: u16, reference: &[u8; 7]) -> FileStam
     }
 }
 
-/// The op of the entry at this place in ascending order.
+/// The op of an entry. The entries are numbered in ascending order.
 fn op(rt: &impl Abort, place: u8) -> Op {
     match place {
         1 => Op::Deleted,
         2 => Op::Lapsed,
-        3 => put(rt, ENDS_1960),
-        4 => put(rt, ENDS_2059),
+        3 => put(rt, AA_ENDS_1960),
+        4 => put(rt, AA_ENDS_2059),
         5 => Op::Put(Body::Tiploc([b' '; 63])),
-        7 => put(rt, DIVIDE),
+        7 => put(rt, AA_NO_END_DIVIDE),
         8 => Op::Deleted,
-        _ => put(rt, JOIN),
+        _ => put(rt, AA_NO_END),
     }
 }
 
-/// The record number of that entry.
+/// The record number of an entry.
 fn number(place: u8) -> u32 {
     match place {
         0 => 2,
@@ -63,7 +48,7 @@ fn number(place: u8) -> u32 {
     }
 }
 
-/// The entry at this place in ascending order.
+/// The entry with this number, in ascending order.
 pub(super) fn entry(rt: &impl Abort, place: u8) -> Entry {
     let stamp = Stamp {
         file: file(rt, 23536, 1260, b"DFROC1A"),
@@ -73,7 +58,7 @@ pub(super) fn entry(rt: &impl Abort, place: u8) -> Entry {
     Entry { stamp, op }
 }
 
-/// Asserts that a file stamp is below another, and that their join is the greater one.
+/// Asserts that a file stamp is below another, and that their join is the other one.
 fn file_is_below(rt: &impl Abort, alloc: Global, low: FileStamp, high: FileStamp) {
     same(rt, low < high, true);
     same(rt, low.pick(high), high);
@@ -110,7 +95,7 @@ fn stamps(rt: HostRuntime) {
     same(&rt, high.join(rt.alloc(), next), Ok(next));
 }
 
-/// Asserts that one entry is below another, and that their join is the greater one.
+/// Asserts that one entry is below another, and that their join is the other one.
 fn is_below(rt: &impl Abort, alloc: Global, low: u8, high: u8) {
     same(rt, entry(rt, low) < entry(rt, high), true);
     same(rt, entry(rt, low).pick(entry(rt, high)), entry(rt, high));
@@ -131,12 +116,12 @@ fn entries(rt: HostRuntime) {
     is_below(&rt, rt.alloc(), 7, 8);
 }
 
-/// Asserts that a horizon leaves the op of an entry as it is.
+/// Asserts that the op of an entry stays as it is under a horizon.
 fn stays(rt: &impl Abort, place: u8, horizon: u16) {
     same(rt, op(rt, place).lapse(horizon), op(rt, place));
 }
 
-/// Asserts that the entry lapses under the horizon.
+/// Asserts that the op of an entry lapses under a horizon.
 fn lapses(rt: &impl Abort, place: u8, horizon: u16) {
     same(rt, op(rt, place).lapse(horizon), Op::Lapsed);
 }

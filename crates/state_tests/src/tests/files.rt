@@ -1,19 +1,20 @@
-//! The state of one file, and the join of several.
+//! The states of single files, and their joins.
 
-use super::records::{
-    BS, BS_C10002, BS_C10003, BS_DELETED, BS_LONGER, BS_REVISED, HD_5A, HD_7B, HD_8A, HD_9A,
-    HD_9A_FULL, HD_9B, HD_9C, HD_10B, LO, LO_0850, LO_0905, LO_1000, LO_1100, LT, LT_0935, LT_1030,
-    LT_1130, NEW, TA, TI, ZZ,
-};
-use super::{file, joined, made_is, pair, same, shown, shown_again, state, state_is};
+use super::compare::same;
+use super::{file, joined, made_is, pair, shown, shown_again, state, state_is};
 use cif_file::{CifFile, Key};
 use cif_line::Tiploc;
 use docker_join::Merge;
 use docker_state::State;
 use std::alloc::Global;
 use std::process::Abort;
+use test_records::{
+    BODY_OF_TA, BS, BS_C10002, BS_C10003, BS_DELETED, BS_LONGER, BS_REVISED, HD, HD_5A, HD_7B,
+    HD_8A, HD_9B, HD_9C, HD_10B, HD_FULL, LO, LO_0850, LO_0905, LO_1000, LO_1100, LT, LT_0935,
+    LT_1030, LT_1130, TA, TI, ZZ,
+};
 
-/// Asserts that a state has nothing at a timing point.
+/// Asserts that a state has no entry for a timing point.
 fn has_none_at(rt: &impl Abort, state: &State, code: &str) {
     let code = Tiploc::from_text(code).expect(rt, "a TIPLOC");
     same(rt, state.get(&Key::Tiploc(code)), None);
@@ -27,7 +28,7 @@ fn no_file(rt: HostRuntime) {
     has_none_at(&rt, &empty, "ASHFELD");
     let twice = joined(&rt, alloc, empty, State::empty(alloc));
     state_is(&rt, alloc, &twice, &[]);
-    let one = state(&rt, alloc, &[HD_9A, TI, ZZ]);
+    let one = state(&rt, alloc, &[HD, TI, ZZ]);
     let before = shown(&rt, alloc, &one);
     same(&rt, before.is_empty(), false);
     let all = joined(&rt, alloc, twice, one);
@@ -40,14 +41,14 @@ fn file_is(rt: &impl Abort, alloc: Global, file: &[&[u8]], lines: &[&[u8]]) {
     made_is(rt, alloc, state(rt, alloc, file), lines);
 }
 
-/// How the state of a file is shown that deletes an entry after putting it.
+/// How a file's state is shown if the file puts a schedule and then deletes it.
 const PUT_AND_DELETED: &[&[u8]] = &[
     b"item 23536 1260 DFROC1A U DFROC1Z",
     b"C10001 23537: record 5 of 23536 1260 DFROC1A",
     b"deleted",
 ];
 
-/// How the state of the same file is shown if it is a full extract.
+/// How that file's state is shown if the file is a full extract.
 const PUT_AND_DELETED_IN_FULL: &[&[u8]] = &[
     b"item 23536 1260 DFROC1A F DFROC1Z",
     b"floor 23536 1260 DFROC1A",
@@ -58,26 +59,26 @@ const PUT_AND_DELETED_IN_FULL: &[&[u8]] = &[
 #[test]
 fn one_file(rt: HostRuntime) {
     let alloc = rt.alloc();
-    let update: &[&[u8]] = &[HD_9A, BS, LO, LT, BS_DELETED, ZZ];
+    let update: &[&[u8]] = &[HD, BS, LO, LT, BS_DELETED, ZZ];
     file_is(&rt, alloc, update, PUT_AND_DELETED);
-    let full: &[&[u8]] = &[HD_9A_FULL, BS, LO, LT, BS_DELETED, ZZ];
+    let full: &[&[u8]] = &[HD_FULL, BS, LO, LT, BS_DELETED, ZZ];
     file_is(&rt, alloc, full, PUT_AND_DELETED_IN_FULL);
 }
 
-/// Joins the states of two files, then joins the first once more.
+/// Joins the states of two files, and then joins the first one again.
 fn merged_back(rt: &impl Abort, alloc: Global, one: &[&[u8]], other: &[&[u8]]) -> State {
     let both = pair(rt, alloc, one, other);
     joined(rt, alloc, both, state(rt, alloc, one))
 }
 
-/// Joins the states of two files, then joins the second once more.
+/// Joins the states of two files, and then joins each again.
 fn merged_twice(rt: &impl Abort, alloc: Global, one: &[&[u8]], other: &[&[u8]]) -> State {
     let second = state(rt, alloc, other);
     joined(rt, alloc, second, merged_back(rt, alloc, one, other))
 }
 
-/// Asserts that the join of the states of two files is shown as these lines, in either order, and
-/// again after either is joined once more.
+/// Asserts that the join of two files' states is shown as these lines, in either order and after
+/// either is joined again.
 fn pair_is(rt: &impl Abort, alloc: Global, one: &[&[u8]], other: &[&[u8]], lines: &[&[u8]]) {
     made_is(rt, alloc, pair(rt, alloc, one, other), lines);
     made_is(rt, alloc, pair(rt, alloc, other, one), lines);
@@ -85,8 +86,8 @@ fn pair_is(rt: &impl Abort, alloc: Global, one: &[&[u8]], other: &[&[u8]], lines
     made_is(rt, alloc, merged_twice(rt, alloc, one, other), lines);
 }
 
-/// A file of one schedule.
-const ONE_SCHEDULE: &[&[u8]] = &[HD_9A, BS, LO, LT, ZZ];
+/// A file with one schedule.
+const ONE_SCHEDULE: &[&[u8]] = &[HD, BS, LO, LT, ZZ];
 
 /// How the join of a schedule and its revision is shown.
 pub(super) const REVISED: &[&[u8]] = &[
@@ -110,19 +111,19 @@ const DELETED_FIRST: &[&[u8]] = &[
     b"deleted",
 ];
 
-/// How the join of a timing point and its new code is shown.
+/// How the join of a timing point's insert and its new code is shown.
 const RENAMED: &[&[u8]] = &[
     b"item 23536 1260 DFROC1A U DFROC1Z",
     b"item 23537 1260 DFROC1B U DFROC1A",
     b"ASHFELD: record 2 of 23537 1260 DFROC1B",
     b"deleted",
     b"ASHFLDN: record 2 of 23537 1260 DFROC1B",
-    &NEW,
+    &BODY_OF_TA,
     b"live ASHFLDN",
-    &NEW,
+    &BODY_OF_TA,
 ];
 
-/// How the join of two files with one file stamp is shown.
+/// How the join of two files with equal file stamps is shown.
 const OF_ONE_STAMP: &[&[u8]] = &[
     b"item 23536 1260 DFROC1A F DFROC1Z",
     b"item 23536 1260 DFROC1A U DFROC1Z",
@@ -145,14 +146,14 @@ fn two_files(rt: HostRuntime) {
     let deletion: &[&[u8]] = &[HD_9B, BS_DELETED, ZZ];
     let older: &[&[u8]] = &[HD_8A, BS, LO, LT, ZZ];
     pair_is(&rt, alloc, deletion, older, DELETED_FIRST);
-    let (inserted, amended): (&[&[u8]], &[&[u8]]) = (&[HD_9A, TI, ZZ], &[HD_10B, TA, ZZ]);
+    let (inserted, amended): (&[&[u8]], &[&[u8]]) = (&[HD, TI, ZZ], &[HD_10B, TA, ZZ]);
     pair_is(&rt, alloc, inserted, amended, RENAMED);
-    let full: &[&[u8]] = &[HD_9A_FULL, BS, LO, LT, ZZ];
+    let full: &[&[u8]] = &[HD_FULL, BS, LO, LT, ZZ];
     pair_is(&rt, alloc, ONE_SCHEDULE, full, OF_ONE_STAMP);
 }
 
-/// Asserts which of two schedules from files with the same stamp wins: the one with this basic
-/// record and this origin.
+/// Asserts which of two schedules with equal stamps wins: the one with this basic schedule and this
+/// origin.
 fn stays(rt: &impl Abort, alloc: Global, other: &[&[u8]], basic: &[u8], origin: &[u8]) {
     let lines: &[&[u8]] = &[
         b"item 23536 1260 DFROC1A U DFROC1Z",
@@ -171,14 +172,14 @@ fn stays(rt: &impl Abort, alloc: Global, other: &[&[u8]], basic: &[u8], origin: 
 #[test]
 fn equal_stamps(rt: HostRuntime) {
     let alloc = rt.alloc();
-    let later_end: &[&[u8]] = &[HD_9A, BS_LONGER, LO_0850, LT, ZZ];
+    let later_end: &[&[u8]] = &[HD, BS_LONGER, LO_0850, LT, ZZ];
     stays(&rt, alloc, later_end, BS_LONGER, LO_0850);
-    let greater_bytes: &[&[u8]] = &[HD_9A, BS, LO_0905, LT, ZZ];
+    let greater_bytes: &[&[u8]] = &[HD, BS, LO_0905, LT, ZZ];
     stays(&rt, alloc, greater_bytes, BS, LO_0905);
-    stays(&rt, alloc, &[HD_9A, BS_DELETED, ZZ], BS, LO);
+    stays(&rt, alloc, &[HD, BS_DELETED, ZZ], BS, LO);
 }
 
-/// How the join of an update, a later full extract and a still later update is shown.
+/// How the join of an update, a later full extract and an even later update is shown.
 const THREE_FILES: &[&[u8]] = &[
     b"item 23534 1260 DFROC1B F DFROC1A",
     b"item 23536 1260 DFROC1C U DFROC1B",
@@ -201,8 +202,8 @@ const THREE_FILES: &[&[u8]] = &[
     LT_1030,
 ];
 
-/// Asserts that the join of the states of three files is shown as these lines, whichever two are
-/// joined first.
+/// Asserts that the join of three files' states is shown as these lines, whichever two are joined
+/// first.
 fn three_are(rt: &impl Abort, alloc: Global, first: &[&[u8]], second: &[&[u8]], third: &[&[u8]]) {
     let front = pair(rt, alloc, first, second);
     let all = joined(rt, alloc, front, state(rt, alloc, third));
@@ -226,7 +227,7 @@ fn a_late_full_extract(rt: HostRuntime) {
     three_are(&rt, alloc, u9, f7, u5);
 }
 
-/// The join of two states. If memory runs out, a second try with the states that were returned.
+/// The join of two states. If memory runs out, the states that were returned are joined again.
 fn joined_again(
     rt: &impl Abort,
     alloc: Global,
@@ -244,8 +245,8 @@ fn joined_again(
     }
 }
 
-/// The state of a file of five records and one change. If memory runs out, a second try with the
-/// file that was returned.
+/// The state of a file of five records and one change. If memory runs out, it is made again from
+/// the file that was returned.
 fn of_file_again(rt: &impl Abort, alloc: Global, file: CifFile) -> State {
     match State::of_file(alloc, file) {
         Ok(state) => state,
@@ -257,7 +258,7 @@ fn of_file_again(rt: &impl Abort, alloc: Global, file: CifFile) -> State {
     }
 }
 
-/// Asserts that two states are joined by the second try at the latest.
+/// Asserts that joining two states succeeds at the first or the second try.
 fn join_succeeds(rt: &impl Abort, alloc: Global, one: State, other: State) {
     let before = shown(rt, alloc, &one);
     let before_other = shown(rt, alloc, &other);
@@ -266,8 +267,7 @@ fn join_succeeds(rt: &impl Abort, alloc: Global, one: State, other: State) {
     same(rt, joined.entries().len(), 2);
 }
 
-/// Asserts that the state of a file of five records and one change is made by the second try at the
-/// latest.
+/// Asserts that making the state of such a file succeeds at the first or the second try.
 fn of_file_succeeds(rt: &impl Abort, alloc: Global, records: &[&[u8]]) {
     let one = state(rt, alloc, records);
     let before = shown(rt, alloc, &one);

@@ -1,15 +1,15 @@
 //! What lapses under a horizon, and what stays.
 
-use super::records::{
-    AA_NO_END, BS, BS_C10003, BS_JULY, BS_NO_END, BS_REVISED, CENTRAL, HD_8A, HD_9A, HD_10B, LO,
-    LO_0905, LT, LT_0935, TI, ZZ,
-};
 use super::{joined, made_is, set, set_on};
 use docker_state::State;
 use std::alloc::Global;
 use std::process::Abort;
+use test_records::{
+    AA_NO_END, BODY_OF_TI, BS, BS_C10003, BS_JULY, BS_NO_END, BS_REVISED, HD, HD_8A, HD_10B, LO,
+    LO_0905, LT, LT_0935, TI, ZZ,
+};
 
-/// How a schedule is shown on its last day.
+/// How a schedule is shown under the horizon of its last day.
 const LIVE: &[&[u8]] = &[
     b"horizon 23541",
     b"item 23536 1260 DFROC1A U DFROC1Z",
@@ -23,7 +23,7 @@ const LIVE: &[&[u8]] = &[
     LT,
 ];
 
-/// How it is shown the day after.
+/// How it is shown under the horizon a day later.
 const LAPSED: &[&[u8]] = &[
     b"horizon 23542",
     b"item 23536 1260 DFROC1A U DFROC1Z",
@@ -31,9 +31,9 @@ const LAPSED: &[&[u8]] = &[
     b"lapsed",
 ];
 
-/// Asserts that a schedule is shown as these lines after horizons are set one by one.
+/// Asserts that a schedule is shown as these lines after these horizons are set, one by one.
 fn under_is(rt: &impl Abort, alloc: Global, days: &[&str], lines: &[&[u8]]) {
-    let file: &[&[u8]] = &[HD_9A, BS, LO, LT, ZZ];
+    let file: &[&[u8]] = &[HD, BS, LO, LT, ZZ];
     made_is(rt, alloc, set_on(rt, alloc, file, days), lines);
 }
 
@@ -45,10 +45,10 @@ fn a_horizon(rt: HostRuntime) {
     under_is(&rt, alloc, &["2024-06-15", "2024-06-10"], LAPSED);
 }
 
-/// The file of a revision.
+/// A file that revises a schedule.
 const REVISION: &[&[u8]] = &[HD_10B, BS_REVISED, LO_0905, LT_0935, ZZ];
 
-/// An older file, whose schedule ends later.
+/// An older file, in which the schedule ends later.
 const OLDER: &[&[u8]] = &[HD_8A, BS_JULY, LO, LT, ZZ];
 
 /// How the join of both is shown under a horizon after the end of the revision.
@@ -60,15 +60,14 @@ const REVISION_LAPSED: &[&[u8]] = &[
     b"lapsed",
 ];
 
-/// Asserts that the revision has lapsed in the join of two states, after these days are set for the
-/// join.
+/// Asserts that the revision has lapsed after two states are joined and these horizons are set.
 fn has_lapsed(rt: &impl Abort, alloc: Global, one: State, other: State, days: &[&str]) {
     let both = joined(rt, alloc, one, other);
     made_is(rt, alloc, set(rt, both, days), REVISION_LAPSED);
 }
 
-/// Asserts that the revision has lapsed whether these days are set for the first file, for the
-/// second, or after the join.
+/// Asserts that the revision has lapsed, whether the horizons are set on the first file's state, on
+/// the second's, or after the join.
 fn lapses(
     rt: &impl Abort,
     alloc: Global,
@@ -93,12 +92,12 @@ fn a_horizon_between_two_files(rt: HostRuntime) {
     lapses(&rt, alloc, (REVISION, none), (OLDER, none), day);
 }
 
-/// A schedule without an end, and a deletion, under the last possible horizon.
+/// How a schedule without an end and a deletion are shown under the last possible horizon.
 const WITHOUT_END: &[&[u8]] = &[
     b"horizon 36524",
     b"item 23536 1260 DFROC1A U DFROC1Z",
     b"ASHFELD: record 2 of 23536 1260 DFROC1A",
-    &CENTRAL,
+    &BODY_OF_TI,
     b"C10001: record 3 of 23536 1260 DFROC1A",
     AA_NO_END,
     b"C10001 23537: record 4 of 23536 1260 DFROC1A",
@@ -108,7 +107,7 @@ const WITHOUT_END: &[&[u8]] = &[
     b"C10003 23537: record 7 of 23536 1260 DFROC1A",
     b"deleted",
     b"live ASHFELD",
-    &CENTRAL,
+    &BODY_OF_TI,
     b"live C10001",
     AA_NO_END,
     b"live C10001 23537",
@@ -120,7 +119,7 @@ const WITHOUT_END: &[&[u8]] = &[
 #[test]
 fn what_has_no_end_stays(rt: HostRuntime) {
     let alloc = rt.alloc();
-    let file: &[&[u8]] = &[HD_9A, TI, AA_NO_END, BS_NO_END, LO, LT, BS_C10003, ZZ];
+    let file: &[&[u8]] = &[HD, TI, AA_NO_END, BS_NO_END, LO, LT, BS_C10003, ZZ];
     let one = set_on(&rt, alloc, file, &["2059-12-31"]);
     made_is(&rt, alloc, one, WITHOUT_END);
 }

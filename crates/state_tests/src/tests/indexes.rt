@@ -1,19 +1,17 @@
 //! Indexes of rows: which rows call or are linked at which places, what a lapse removes, and what a
-//! join contains.
+//! join has.
 
-use super::same;
+use super::compare::same;
 use cif_file::{AssocKey, Body, Key, Lines, ScheduleKey};
 use cif_line::{Day, Line, Stp, Tiploc, Uid};
 use docker_join::{Entry, FileStamp, Merge, Op, Stamp, Table};
 use state_index::{Index, Mark, Moves, Room, notes_of_rows};
 use std::alloc::Global;
 use std::process::Abort;
+use test_records::AA_NO_END;
 
-/// An association at Colwell.
-const AT_COLWELL: &[u8; 80] =
-    b"AANC10001C200012406109999991111100JJSCOLWELL  TP                               P";
-
-/// A schedule that calls at Ashfeld twice, at Brayton and at Colwell, and is changed at Denham.
+/// A schedule that calls at Ashfeld twice, at Brayton and at Colwell. At Denham it only has a
+/// change en route.
 const ROUND: &[&[u8; 80]] = &[
     b"BSNC100012406109999991111100                                                    ",
     b"LOASHFELD  1200                                                                 ",
@@ -50,11 +48,11 @@ fn file(rt: &impl Abort, day: u16) -> FileStamp {
 }
 
 /// The put of an association.
-fn link(rt: &impl Abort, record: &[u8; 80]) -> Op {
+fn link(rt: &impl Abort, record: &[u8]) -> Op {
     Op::Put(Body::Assoc(Line::new(record).expect(rt, "a line")))
 }
 
-/// The put of a schedule of these records.
+/// The put of a schedule with these records.
 fn put(rt: &impl Abort, alloc: Global, records: &[&[u8; 80]]) -> Op {
     let mut lines = Vec::new(alloc);
     for record in records {
@@ -85,7 +83,7 @@ fn association(rt: &impl Abort) -> Key {
     })
 }
 
-/// A table with one more row, from a file dated this day.
+/// A table and one more row, from a file of this day.
 fn and(
     rt: &impl Abort,
     alloc: Global,
@@ -105,10 +103,10 @@ fn and(
         .expect(rt, "memory")
 }
 
-/// The table of an association, a round trip, a short trip, and a schedule that is deleted.
+/// The table of an association, a round trip, a short trip and a deleted schedule.
 fn timetable(rt: &impl Abort, alloc: Global) -> Table<Entry> {
     let all = Table::new(alloc);
-    let all = and(rt, alloc, all, association(rt), 23536, link(rt, AT_COLWELL));
+    let all = and(rt, alloc, all, association(rt), 23536, link(rt, AA_NO_END));
     let round = put(rt, alloc, ROUND);
     let all = and(rt, alloc, all, schedule(rt, b"C10001"), 23536, round);
     let short = put(rt, alloc, SHORT);
@@ -116,7 +114,7 @@ fn timetable(rt: &impl Abort, alloc: Global) -> Table<Entry> {
     and(rt, alloc, all, schedule(rt, b"C30001"), 23536, Op::Deleted)
 }
 
-/// A later table: another short trip, and the round trip is deleted.
+/// A later table, in which another short trip is put and the round trip is deleted.
 fn update(rt: &impl Abort, alloc: Global) -> Table<Entry> {
     let short = put(rt, alloc, SHORT);
     let all = Table::new(alloc);
@@ -144,14 +142,14 @@ fn joined(rt: &impl Abort, alloc: Global, floor: &Option<FileStamp>) -> Index {
     Index::of_join(alloc, &first, &second, &moves).expect(rt, "memory")
 }
 
-/// Asserts that a mark points to this row at this place.
+/// Asserts that a mark is of this place and this row.
 fn mark_is(rt: &impl Abort, index: &Index, mark: &Mark, code: &str, at: u32) {
     let place = index.places.get(mark.place as usize).expect(rt, "a place");
     same(rt, place, tiploc(rt, code).bytes());
     same(rt, mark.at, at);
 }
 
-/// Asserts that marks point to these rows at these places.
+/// Asserts that marks are of these places and these rows.
 fn marks_are(rt: &impl Abort, index: &Index, marks: &[Mark], wanted: &[(&str, u32)]) {
     same(rt, marks.len(), wanted.len());
     for (mark, (code, at)) in marks.iter().zip(wanted) {
@@ -159,7 +157,7 @@ fn marks_are(rt: &impl Abort, index: &Index, marks: &[Mark], wanted: &[(&str, u3
     }
 }
 
-/// Asserts that these rows call, and that the association is linked at Colwell.
+/// Asserts which rows call, and that the association is linked at Colwell.
 fn index_is(rt: &impl Abort, index: &Index, calls: &[(&str, u32)]) {
     marks_are(rt, index, index.calls.as_slice(), calls);
     marks_are(rt, index, index.links.as_slice(), &[("COLWELL", 0)]);

@@ -1,24 +1,25 @@
-//! A state assembled from its parts.
+//! A state that is built from its parts.
 
-use super::records::{BS_DELETED, HD_9A, ZZ};
-use super::{same, shown, shown_again, state};
+use super::compare::same;
+use super::{shown, shown_again, state};
 use cif_file::Key;
 use docker_join::{Entry, Op};
 use docker_state::{LedgerItem, Parts, State};
 use std::alloc::Global;
 use std::process::Abort;
+use test_records::{BS_DELETED, HD, ZZ};
 
-/// Asserts the last key that was given.
+/// Asserts which key was given last.
 fn last_is(rt: &impl Abort, parts: &Parts, wanted: Option<Key>) {
     same(rt, parts.last().copied(), wanted);
 }
 
-/// Asserts the items that were given.
+/// Asserts which ledger items were given.
 fn ledger_is(rt: &impl Abort, parts: &Parts, wanted: &[LedgerItem]) {
     assert_eq!(rt; parts.ledger(), wanted);
 }
 
-/// The state of one deletion, built from its parts.
+/// The state of one deletion, built again from its parts.
 fn rebuilt(rt: &impl Abort, alloc: Global, one: &State) -> State {
     let (items, rows) = (one.ledger(), one.entries());
     if items.len() != 1 {
@@ -44,7 +45,7 @@ fn rebuilt(rt: &impl Abort, alloc: Global, one: &State) -> State {
 #[test]
 fn parts(rt: HostRuntime) {
     let alloc = rt.alloc();
-    let one = state(&rt, alloc, &[HD_9A, BS_DELETED, ZZ]);
+    let one = state(&rt, alloc, &[HD, BS_DELETED, ZZ]);
     let again = rebuilt(&rt, alloc, &one);
     let before = shown(&rt, alloc, &one);
     shown_again(&rt, alloc, &again, before.as_slice());

@@ -1,27 +1,28 @@
-//! What calls and what is linked at a TIPLOC.
+//! The schedules that call at a TIPLOC, and the associations linked there.
 
-use super::records::{
-    AA_COLWELL, BS, BS_C30001, BS_C30002, BS_C30002_DELETED, BS_DELETED, HD_8A, HD_9A, HD_9B,
-    HD_10B, LI_COLWELL, LI_COLWELL_AGAIN, LO, LO_1000_PLAIN, LO_COLWELL, LT, LT_1100_PLAIN,
-    LT_DUNMERE, ZZ,
-};
+use super::compare::same;
 use super::shown::{add, add_body, add_key, add_number};
-use super::{joined, pair, same, set_on, state, text};
+use super::{joined, pair, set_on, state};
 use cif_file::{Body, Key};
 use cif_line::{Tiploc, Uid};
 use docker_state::{Standing, State};
 use std::alloc::Global;
 use std::process::Abort;
+use test_records::{
+    AA_DIVIDE, BS, BS_C30001, BS_C30002, BS_C30002_DELETED, BS_DELETED, HD, HD_8A, HD_9B, HD_10B,
+    LI_1010, LI_1040, LO, LO_1000_PLAIN, LO_COLWELL_1045, LT, LT_1100_PLAIN, LT_DUNMERE_1100, ZZ,
+    text,
+};
 
-/// Adds a key that was found and its body to a text.
+/// Adds a key and its body to a text.
 fn add_found(rt: &impl Abort, alloc: Global, text: &mut Vec<u8>, key: &Key, body: &Body) {
     add_key(rt, alloc, text, key);
     add(rt, text, b"\n");
     add_body(rt, text, body);
 }
 
-/// Adds rows that were found at a place to a text: for each a word, and its number among the
-/// state's rows, from 0. No clause says the number, because no answer rests on it.
+/// Adds the rows found at a place to a text, each with a word and its index among the state's rows,
+/// from 0. No clause gives the index, as no answer depends on it.
 fn add_standing(
     rt: &impl Abort,
     alloc: Global,
@@ -45,8 +46,7 @@ fn add_of_uid(rt: &impl Abort, alloc: Global, text: &mut Vec<u8>, state: &State,
     }
 }
 
-/// Asserts that what calls and what is linked at a TIPLOC, and the schedules of C30002, are shown
-/// as these lines.
+/// Asserts how the rows found at a TIPLOC, and the schedules of C30002, are shown.
 fn found_is(rt: &impl Abort, alloc: Global, state: &State, tiploc: &str, lines: &[&[u8]]) {
     let mut found = Vec::new(alloc);
     let tiploc = Tiploc::from_text(tiploc).expect(rt, "a TIPLOC");
@@ -54,62 +54,67 @@ fn found_is(rt: &impl Abort, alloc: Global, state: &State, tiploc: &str, lines: 
     add_standing(rt, alloc, &mut found, b"linked ", state.linked(&tiploc));
     let uid = Uid::from_field(b"C30002").expect(rt, "a UID");
     add_of_uid(rt, alloc, &mut found, state, &uid);
-    let wanted = text(rt, alloc, lines);
+    let wanted = text(alloc, lines, b"\n").expect(rt, "memory");
     same(rt, found.as_slice(), wanted.as_slice());
 }
 
-/// A file of two schedules that call at Colwell, one of them twice, and of their association there.
-/// The rows of its state are the association, C30001 and C30002.
+/// A file with two schedules that call at Colwell, one of them twice, and their association there.
+/// Its state has as rows the association, C30001 and C30002.
 const FILE: &[&[u8]] = &[
-    HD_9A,
+    HD,
     BS_C30001,
     LO_1000_PLAIN,
-    LI_COLWELL,
-    LI_COLWELL_AGAIN,
+    LI_1010,
+    LI_1040,
     LT_1100_PLAIN,
     BS_C30002,
-    LO_COLWELL,
-    LT_DUNMERE,
-    AA_COLWELL,
+    LO_COLWELL_1045,
+    LT_DUNMERE_1100,
+    AA_DIVIDE,
     ZZ,
 ];
 
-/// What is shown at Colwell for that file.
+/// What is found at Colwell in that file's state.
 const AT_COLWELL: &[&[u8]] = &[
     b"calls 1: C30001 23537",
     BS_C30001,
     LO_1000_PLAIN,
-    LI_COLWELL,
-    LI_COLWELL_AGAIN,
+    LI_1010,
+    LI_1040,
     LT_1100_PLAIN,
     b"calls 2: C30002 23537",
     BS_C30002,
-    LO_COLWELL,
-    LT_DUNMERE,
+    LO_COLWELL_1045,
+    LT_DUNMERE_1100,
     b"linked 0: C30001",
-    AA_COLWELL,
+    AA_DIVIDE,
     b"of it C30002 23537",
     BS_C30002,
-    LO_COLWELL,
-    LT_DUNMERE,
+    LO_COLWELL_1045,
+    LT_DUNMERE_1100,
 ];
 
-/// What is shown at a place where nothing calls.
-const AT_ELM: &[&[u8]] = &[b"of it C30002 23537", BS_C30002, LO_COLWELL, LT_DUNMERE];
+/// What is found at Elm, where nothing calls.
+const AT_ELM: &[&[u8]] = &[
+    b"of it C30002 23537",
+    BS_C30002,
+    LO_COLWELL_1045,
+    LT_DUNMERE_1100,
+];
 
-/// What is shown at Colwell after C10001 is put and C30002 deleted: rows 1 and 3 of four.
+/// What is found at Colwell once C10001 is put and C30002 deleted: rows 1 and 3 of four.
 const LEFT_AT_COLWELL: &[&[u8]] = &[
     b"calls 2: C30001 23537",
     BS_C30001,
     LO_1000_PLAIN,
-    LI_COLWELL,
-    LI_COLWELL_AGAIN,
+    LI_1010,
+    LI_1040,
     LT_1100_PLAIN,
     b"linked 0: C30001",
-    AA_COLWELL,
+    AA_DIVIDE,
 ];
 
-/// What calls at Ashfeld then.
+/// What is found at Ashfeld then.
 const AT_ASHFELD: &[&[u8]] = &[
     b"calls 1: C10001 23537",
     BS,
@@ -118,8 +123,8 @@ const AT_ASHFELD: &[&[u8]] = &[
     b"calls 2: C30001 23537",
     BS_C30001,
     LO_1000_PLAIN,
-    LI_COLWELL,
-    LI_COLWELL_AGAIN,
+    LI_1010,
+    LI_1040,
     LT_1100_PLAIN,
 ];
 

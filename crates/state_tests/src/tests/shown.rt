@@ -1,4 +1,4 @@
-//! A state shown as lines of text.
+//! A state, shown as lines of text.
 
 use cif_file::{Body, Key};
 use cif_line::Line;
@@ -92,7 +92,7 @@ fn add_row(rt: &impl Abort, alloc: Global, text: &mut Vec<u8>, row: &(Key, Entry
     add_op(rt, text, &row.1.op);
 }
 
-/// Adds a horizon to a text, if one was set.
+/// Adds a horizon to a text, if it isn't 0.
 fn add_horizon(rt: &impl Abort, alloc: Global, text: &mut Vec<u8>, horizon: u16) {
     if horizon > 0 {
         add(rt, text, b"horizon ");

@@ -1,4 +1,4 @@
-//! Receiving the entries of another state.
+//! Receiving the entries of another state, one by one.
 ghost use Rattle.std.specs.Prelude.{◌≡◌, ◌++◌, [], map};
 ghost use Rattle.docker_model.specs.state.Stamp.{IsFloor};
 ghost use Rattle.docker_model.specs.state.State.{AreEntries, IsGoodEntry};
@@ -7,17 +7,18 @@ ghost use Rattle.docker_join.specs.Meaning.{entry_meant, op_meant};
 ghost use Rattle.docker_state.specs.Meaning.{row_meant};
 ghost use Rattle.docker_state.specs.Staging.{IsAboveStaged, IsOffered};
 
+use super::compare::same;
 use super::files::REVISED;
-use super::records::{
-    BS, BS_C10002, BS_C10003, BS_REVISED, HD_5A, HD_7B, HD_9A, HD_10B, LO, LO_0905, LO_1000, LT,
-    LT_0935, LT_1030, ZZ,
-};
-use super::{pair, same, state, state_is};
+use super::{pair, state, state_is};
 use cif_file::{Body, Key, Lines};
 use docker_join::{Entry, Op};
 use docker_state::{Staging, State};
 use std::alloc::Global;
 use std::process::Abort;
+use test_records::{
+    BS, BS_C10002, BS_C10003, BS_REVISED, HD, HD_5A, HD_7B, HD_10B, LO, LO_0905, LO_1000, LT,
+    LT_0935, LT_1030, ZZ,
+};
 
 /// A copy of this op.
 fn copied(rt: &impl Abort, alloc: Global, op: &Op) -> Op
@@ -70,7 +71,8 @@ fn offer_all(
     }
 }
 
-/// Receives another state entry by entry, and returns how many entries were staged at the commit.
+/// Receives another state entry by entry, and returns how many entries had been staged at the
+/// commit.
 fn receive(rt: &impl Abort, alloc: Global, own: &mut State, other: &State) -> u64 {
     let ledger = Vec::from_slice(alloc, other.ledger()).expect(rt, "memory");
     let mut staging = Staging::new(alloc, own, ledger).expect(rt, "memory");
@@ -80,7 +82,7 @@ fn receive(rt: &impl Abort, alloc: Global, own: &mut State, other: &State) -> u6
     count
 }
 
-/// Asserts how many entries are staged, and that the state is then shown as these lines.
+/// Asserts how many entries are staged, and how the state is shown after the commit.
 fn receive_is(
     rt: &impl Abort,
     alloc: Global,
@@ -93,8 +95,8 @@ fn receive_is(
     state_is(rt, alloc, own, lines);
 }
 
-/// Asserts that a state receives the state of a file as expected, and nothing more from a second
-/// try.
+/// Asserts that receiving a file's state gives this result, and that a second time nothing is
+/// staged.
 fn received_is(
     rt: &impl Abort,
     alloc: Global,
@@ -108,19 +110,19 @@ fn received_is(
     receive_is(rt, alloc, &mut own, &received, 0, lines);
 }
 
-/// A file of one schedule.
-const SCHEDULE: &[&[u8]] = &[HD_9A, BS, LO, LT, ZZ];
+/// A file with one schedule.
+const SCHEDULE: &[&[u8]] = &[HD, BS, LO, LT, ZZ];
 
-/// Its revision.
+/// A later file that revises it.
 const REVISION: &[&[u8]] = &[HD_10B, BS_REVISED, LO_0905, LT_0935, ZZ];
 
-/// An update that deletes a schedule and puts another.
+/// An update that deletes one schedule and puts another.
 const UPDATE: &[&[u8]] = &[HD_5A, BS_C10003, BS, LO, LT, ZZ];
 
-/// A later full extract with a third schedule.
+/// A later full extract, with a third schedule.
 const EXTRACT: &[&[u8]] = &[HD_7B, BS_C10002, LO_1000, LT_1030, ZZ];
 
-/// How a state of only that extract is shown.
+/// How a state with only that extract is shown.
 const EXTRACT_ONLY: &[&[u8]] = &[
     b"item 23534 1260 DFROC1B F DFROC1A",
     b"floor 23534 1260 DFROC1B",

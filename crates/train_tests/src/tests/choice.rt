@@ -1,19 +1,20 @@
 //! Which schedule is chosen, and its records.
 
-use super::records::{
-    BS_C10002, BS_CANCELLED, BS_NEW, BS_OVERLAY, BS_SUNDAY, BS_WEEK, END, HD, LO, LO_0915, LO_0920,
-    LO_0940, LT, ZZ,
-};
+use super::texts::{END, NONE_ON_17_JUNE};
 use super::{joined, says};
 use docker_state::State;
 use std::alloc::Global;
 use std::process::Abort;
+use test_records::{
+    BS_C10002_WEEK, BS_CANCELLED, BS_NEW, BS_OVERLAY, BS_SUNDAY, BS_WEEK, HD, LO, LO_0915, LO_0920,
+    LO_0940, LT, ZZ,
+};
 
-/// A file of a permanent schedule of C10001, its overlay, its cancellation, a new schedule and a
-/// second permanent one that begins later, and of a schedule of C10002.
+/// A file with five schedules of C10001 and one of C10002. Those of C10001 are a permanent one, its
+/// overlay, its cancellation, a new one, and a second permanent one that begins later.
 const TRAINS: &[&[u8]] = &[
     HD,
-    BS_C10002,
+    BS_C10002_WEEK,
     LO,
     LT,
     BS_WEEK,
@@ -40,7 +41,7 @@ const PERMANENT: &[u8] =
 const OVERLAY: &[u8] =
     b"TRAIN  C10001  2024-06-11 O RUNS      2024-06-09 2100 DFROC1A          8        ";
 
-/// C10001 runs by the new schedule, record 12, which takes precedence over the overlay.
+/// C10001 runs by the new schedule, record 12, which is chosen before the overlay.
 const NEW: &[u8] =
     b"TRAIN  C10001  2024-06-13 N RUNS      2024-06-09 2100 DFROC1A         12        ";
 
@@ -56,15 +57,11 @@ const SUNDAY: &[u8] =
 const OTHER: &[u8] =
     b"TRAIN  C10002  2024-06-14 P RUNS      2024-06-09 2100 DFROC1A          2        ";
 
-/// No schedule of C10001 runs after 16 June.
-const NONE: &[u8] =
-    b"TRAIN  C10001  2024-06-17   NONE                                                ";
-
 /// No schedule of C10001 runs before 10 June.
 const NONE_BEFORE: &[u8] =
     b"TRAIN  C10001  2024-06-09   NONE                                                ";
 
-/// A UID that isn't in the file.
+/// C10003 isn't in the file.
 const NOBODY: &[u8] =
     b"TRAIN  C10003  2024-06-10   NONE                                                ";
 
@@ -88,12 +85,12 @@ fn permanent_and_overlay(rt: HostRuntime) {
 fn cancellation(rt: HostRuntime) {
     let state = trains(&rt, rt.alloc());
     let cancelled: &[&[u8]] = &[CANCELLED, BS_CANCELLED, END];
-    let other: &[&[u8]] = &[OTHER, BS_C10002, LO, LT, END];
+    let other: &[&[u8]] = &[OTHER, BS_C10002_WEEK, LO, LT, END];
     says(&rt, rt.alloc(), &state, "C10001", "2024-06-14", cancelled);
     says(&rt, rt.alloc(), &state, "C10002", "2024-06-14", other);
 }
 
-/// A new schedule takes precedence over an overlay. Of two permanent schedules, the later one does.
+/// A new schedule is chosen before an overlay. Of two permanent schedules the later one is chosen.
 #[test]
 fn new_and_later(rt: HostRuntime) {
     let state = trains(&rt, rt.alloc());
@@ -113,7 +110,7 @@ fn none(rt: HostRuntime) {
         &state,
         "C10001",
         "2024-06-17",
-        &[NONE, END],
+        &[NONE_ON_17_JUNE, END],
     );
     says(
         &rt,

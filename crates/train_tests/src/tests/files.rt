@@ -1,12 +1,13 @@
-//! Which of two files a schedule came from.
+//! Which of two files a schedule comes from.
 
-use super::records::{
-    BS_CANCELLED, BS_CANCELLED_DELETED, BS_DELETED, BS_OVERLAY, BS_REVISED, BS_REVISED_KEPT,
-    BS_WEEK, END, HD, HD_10, LO, LO_0915, LO_0920, LT, ZZ,
-};
+use super::texts::END;
 use super::{joined, says};
 use std::alloc::Global;
 use std::process::Abort;
+use test_records::{
+    BS_CANCELLED, BS_CANCELLED_DELETED, BS_DELETED_PLAIN, BS_OVERLAY, BS_REVISED_SHORTER,
+    BS_SHORTER, BS_WEEK, HD, HD_10B_0605, LO, LO_0915, LO_0920, LT, ZZ,
+};
 
 /// A permanent schedule, its overlay and its cancellation.
 const FIRST: &[&[u8]] = &[
@@ -22,13 +23,13 @@ const FIRST: &[&[u8]] = &[
 ];
 
 /// A later file that deletes the permanent schedule.
-const DELETES: &[&[u8]] = &[HD_10, BS_DELETED, ZZ];
+const DELETES: &[&[u8]] = &[HD_10B_0605, BS_DELETED_PLAIN, ZZ];
 
 /// A later file that deletes the cancellation.
-const RESTORES: &[&[u8]] = &[HD_10, BS_CANCELLED_DELETED, ZZ];
+const RESTORES: &[&[u8]] = &[HD_10B_0605, BS_CANCELLED_DELETED, ZZ];
 
 /// A later file that revises the permanent schedule.
-const REVISES: &[&[u8]] = &[HD_10, BS_REVISED, LO_0920, LT, ZZ];
+const REVISES: &[&[u8]] = &[HD_10B_0605, BS_REVISED_SHORTER, LO_0920, LT, ZZ];
 
 /// C10001 runs by the overlay, record 5 of the first file.
 const OVERLAY: &[u8] =
@@ -42,21 +43,21 @@ const RESTORED: &[u8] =
 const REVISED: &[u8] =
     b"TRAIN  C10001  2024-06-12 P RUNS      2024-06-10 0605 DFROC1B          2        ";
 
-/// C10001 doesn't run.
+/// No schedule of C10001 runs on 12 June.
 const NONE: &[u8] =
     b"TRAIN  C10001  2024-06-12   NONE                                                ";
 
-/// C10001 doesn't run, because the revision ends on 13 June.
+/// No schedule of C10001 runs on 15 June: the revision ends on 13 June.
 const NONE_AFTER: &[u8] =
     b"TRAIN  C10001  2024-06-15   NONE                                                ";
 
-/// Asserts that these files, joined in this order, give these lines for C10001 on a day.
+/// Asserts that these files, joined in this order, give these lines for C10001 on this day.
 fn files_say(rt: &impl Abort, alloc: Global, files: &[&[&[u8]]], on: &str, wanted: &[&[u8]]) {
     let state = joined(rt, alloc, files);
     says(rt, alloc, &state, "C10001", on, wanted);
 }
 
-/// A later file deletes a schedule, and its overlay stays.
+/// A later file deletes a schedule. Its overlay stays.
 #[test]
 fn deleted(rt: HostRuntime) {
     let overlay: &[&[u8]] = &[OVERLAY, BS_OVERLAY, LO_0915, LT, END];
@@ -72,7 +73,7 @@ fn deleted(rt: HostRuntime) {
     );
 }
 
-/// A later file deletes a cancellation, and the train runs again by the schedule of the first file.
+/// A later file deletes a cancellation. The train runs again, by the schedule of the first file.
 #[test]
 fn restored(rt: HostRuntime) {
     let restored: &[&[u8]] = &[RESTORED, BS_WEEK, LO, LT, END];
@@ -80,10 +81,10 @@ fn restored(rt: HostRuntime) {
     files_say(&rt, rt.alloc(), &[RESTORES, FIRST], "2024-06-14", restored);
 }
 
-/// A revision replaces the schedule that it revises. It is kept with the transaction `N`.
+/// A revision replaces the schedule. It is kept with the transaction `N`.
 #[test]
 fn revised(rt: HostRuntime) {
-    let revised: &[&[u8]] = &[REVISED, BS_REVISED_KEPT, LO_0920, LT, END];
+    let revised: &[&[u8]] = &[REVISED, BS_SHORTER, LO_0920, LT, END];
     let files: &[&[&[u8]]] = &[FIRST, REVISES];
     files_say(&rt, rt.alloc(), files, "2024-06-12", revised);
     files_say(&rt, rt.alloc(), files, "2024-06-15", &[NONE_AFTER, END]);

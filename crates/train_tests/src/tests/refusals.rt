@@ -1,25 +1,23 @@
 //! What is refused: days before the horizon, words that name no UID, and a full sink.
 
-use super::records::{BS_WEEK, END, HD, LO, LT, ZZ};
-use super::{day, joined, same, says, text, uid};
+use super::compare::same;
+use super::texts::{END, NONE_ON_17_JUNE};
+use super::{day, joined, says, uid};
 use cif_line::Kept;
 use docker_state::State;
 use docker_train::{DockerFault, TrainFault, find_train, print_train, uid_of_word};
 use std::alloc::Global;
 use std::process::Abort;
+use test_records::{BS_WEEK, HD, LO, LT, ZZ, text};
 
 /// A permanent schedule of C10001 from 10 to 16 June.
 const WEEK: &[&[u8]] = &[HD, BS_WEEK, LO, LT, ZZ];
 
-/// The answer for 13 June.
+/// The heading for 13 June.
 const THURSDAY: &[u8] =
     b"TRAIN  C10001  2024-06-13 P RUNS      2024-06-09 2100 DFROC1A          2        ";
 
-/// The answer for 17 June.
-const NONE: &[u8] =
-    b"TRAIN  C10001  2024-06-17   NONE                                                ";
-
-/// The answer for 10 June.
+/// The heading for 10 June.
 const MONDAY: &[u8] =
     b"TRAIN  C10001  2024-06-10 P RUNS      2024-06-09 2100 DFROC1A          2        ";
 
@@ -37,7 +35,7 @@ fn is_refused(rt: &impl Abort, alloc: Global, state: &State, on: &str) {
     );
 }
 
-/// A day before the horizon is refused. The horizon itself isn't.
+/// A day before the horizon is refused. The day of the horizon isn't.
 #[test]
 fn before_the_horizon(rt: HostRuntime) {
     let thursday: &[&[u8]] = &[THURSDAY, BS_WEEK, LO, LT, END];
@@ -48,7 +46,8 @@ fn before_the_horizon(rt: HostRuntime) {
     says(&rt, rt.alloc(), &state, "C10001", "2024-06-13", thursday);
 }
 
-/// A lapsed schedule is refused before the horizon, and doesn't exist from then on.
+/// After a schedule has lapsed, its days before the horizon are refused, and no schedule runs from
+/// the horizon on.
 #[test]
 fn lapsed(rt: HostRuntime) {
     let mut state = joined(&rt, rt.alloc(), &[WEEK]);
@@ -60,14 +59,14 @@ fn lapsed(rt: HostRuntime) {
         &state,
         "C10001",
         "2024-06-17",
-        &[NONE, END],
+        &[NONE_ON_17_JUNE, END],
     );
 }
 
-/// Prints C10001 on 10 June to a sink with this room, and asserts what it answers.
+/// Prints C10001 on 10 June to a sink with this room, and asserts the fault.
 fn takes(rt: &impl Abort, alloc: Global, state: &State, room: usize, wanted: Option<TrainFault>) {
     let mut kept = Kept::new(alloc, room).expect(rt, "room");
-    let all = text(alloc, &[MONDAY, BS_WEEK, LO, LT, END]).expect(rt, "a text");
+    let all = text(alloc, &[MONDAY, BS_WEEK, LO, LT, END], b"\n").expect(rt, "a text");
     let (uid, day) = (uid(rt, "C10001"), day(rt, "2024-06-10"));
     same(rt, print_train(state, &uid, day, &mut kept).err(), wanted);
     same(
@@ -77,7 +76,7 @@ fn takes(rt: &impl Abort, alloc: Global, state: &State, room: usize, wanted: Opt
     );
 }
 
-/// Five lines of 81 bytes need 405 bytes. A sink with less room receives the first bytes of them.
+/// Five lines of 81 bytes are 405 bytes. A sink with less room gets only the first of them.
 #[test]
 fn full_sink(rt: HostRuntime) {
     let state = joined(&rt, rt.alloc(), &[WEEK]);
@@ -92,7 +91,7 @@ fn is_uid(rt: &impl Abort, word: &str, wanted: bool) {
     same(rt, uid_of_word(word).is_some(), wanted);
 }
 
-/// Words of six printable bytes name a UID. Other words don't.
+/// A word of six printable bytes names a UID. No other word does.
 #[test]
 fn words(rt: HostRuntime) {
     is_uid(&rt, "C10001", true);

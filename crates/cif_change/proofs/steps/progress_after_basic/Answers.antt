@@ -1,4 +1,4 @@
--- What is kept of a basic schedule.
+-- These are the stage, the flags and the times after a basic schedule.
 use Rattle.std.proofs.Common.{◌≡◌, refl, ap, sym, ◌∙◌, Bool, Some}
 use Rattle.std.specs.Prelude.{◌||◌, ◌==◌}
 use Rattle.docker_model.specs.records.Record.{column}

@@ -1,4 +1,4 @@
--- What the sink has so far is what it had, and then the piece up to `done`.
+-- The sink has what it had, and then the first `done` bytes of the piece.
 use Rattle.std.proofs.Common.{◌≡◌, ◌-◌, ◌≤◌, length, take}
 use Rattle.cif_device.specs.Device.{Takes}
 use Rattle.cif_device.proofs.device.write_all.Given as goal

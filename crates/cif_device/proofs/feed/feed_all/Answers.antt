@@ -1,4 +1,4 @@
--- Each piece is taken after the ones before it.
+-- The taker takes each piece after those before it.
 use Rattle.std.proofs.Common.{Ok, Err, ◌≡◌, ◌+◌, ◌<◌, ◌++◌, length, take, refl, ap, arith, ◌∙◌, subst}
 use Rattle.std.proofs.lemmas.List.{length-take-le}
 use Rattle.cif_device.specs.Device.{IsEnd}

@@ -1,4 +1,4 @@
--- The taker has taken what was read, a byte a turn at least.
+-- The taker has taken what was read, at least one byte per turn.
 use Rattle.std.proofs.Common.{◌≡◌, ◌-◌, ◌^◌, false, vec_len}
 use Rattle.cif_device.specs.Taken.{BehindEach, HasFed}
 use Rattle.cif_device.proofs.feed.feed_all.Given as goal

@@ -1,4 +1,4 @@
--- What was fed to the reading is what the source lost.
+-- The reading was fed what the source gave.
 use Rattle.std.proofs.Common.{rules, [], subst, Err}
 use Rattle.cif_line.specs.FeedEnds.{EndsFeeding}
 use Rattle.cif_file.specs.FileTaken.{TakesFile, RefusesPiece}
@@ -78,7 +78,7 @@ returns-clause-no_further g c =
     no_further g.K.Keeper.keeps c.args.limit (g.S.Source.left c.args.source.now) (g.S.Source.left c.feed_all.new.source)
     (c.in-Err-Refused.ensures.no_further c.args.limit [] start)
 
--- `auto` proves these too: they are written so that a wrong body is refused without a long search.
+-- `auto` proves these too. Written out, they get a wrong body refused without a long search.
 pub returns-in-Err-Source-clause-memory : goal.returns-in-Err-Source-clause-memory
 returns-in-Err-Source-clause-memory g c = search rules
 

@@ -6,7 +6,7 @@ use Rattle.cif_laws.proofs.records.Dates.{is_calendar_day-IsDate}
 use Rattle.cif_line.proofs.CivilDays.{day_of_parts}
 use Rattle.cif_line.proofs.day.day_of.Goals as goal
 
--- the number of the day, and that it is the number of a day
+-- the number of the day, which is from 0 to 36524
 its_number : (c : goal.After-days_since_min)
     → (c.days_since_min.result ≡ day_number c.args.year c.args.month c.args.day + 4_367_934) × (day_number c.args.year c.args.month c.args.day ≤ last_day)
 its_number c =

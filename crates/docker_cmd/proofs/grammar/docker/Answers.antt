@@ -7,11 +7,11 @@ use Rattle.docker_cmd.specs.declared.tasks.Subcommand.{Subcommand}
 use Rattle.docker_cmd.specs.declared.tasks.Subcommand.TheVariants.{New}
 use Rattle.docker_cmd.proofs.grammar.docker.Goals as goal
 
--- a program with these subcommands
+-- the program after these subcommands were added
 abbrev with_all : App → List Subcommand → App
 with_all app ss = fold with_subcommand app (map shape_of ss)
 
--- one more subcommand comes last
+-- one more subcommand is added at the end
 with_last : (app : App) (ss : List Subcommand) (s : Subcommand) → with_all app (ss ++ s ∷ []) ≡ with_subcommand (with_all app ss) (shape_of s)
 with_last app [] s = refl
 with_last app (t ∷ ss) s = with_last (with_subcommand app (shape_of t)) ss s

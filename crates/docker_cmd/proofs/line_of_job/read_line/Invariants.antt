@@ -3,7 +3,7 @@ use Rattle.cif_line.specs.Device.{Reads}
 use Rattle.docker_cmd.proofs.LineOfJobLemmas.{ArePrintable}
 use Rattle.docker_cmd.proofs.line_of_job.read_line.Given as goal
 
--- the line so far was read, one byte per turn
+-- the line has the bytes that were read, one per turn
 abbrev pub invariant-loop : goal.invariant-loop
 invariant-loop g l = record {
   so_far : Reads (g.S.Source.left l.fn.source) l.line.items (g.S.Source.left l.source);

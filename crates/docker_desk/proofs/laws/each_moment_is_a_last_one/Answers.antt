@@ -2,5 +2,5 @@ use Rattle.docker_desk.proofs.KnownLemmas.{steps_apart}
 use Rattle.docker_desk.proofs.laws.each_moment_is_a_last_one.Goals as goal
 
 pub returns : goal.returns
-returns g c = λ setting first last earlier later are.
+returns c = λ setting first last earlier later are.
     let apart = steps_apart setting first last earlier later are in (apart.0, apart.1.0, apart.1.1)

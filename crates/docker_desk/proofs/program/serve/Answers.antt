@@ -1,30 +1,21 @@
-use Rattle.std.proofs.Common.{◌+◌, refl, subst}
-use Rattle.docker_program.specs.Program.{fault_sink}
+use Rattle.std.proofs.Common.{ap, refl}
+use Rattle.std.specs.Prelude.{Bool, ◌&&◌}
+use Rattle.docker_cmd.specs.Words.{texts}
 use Rattle.docker_desk.specs.Moments.{moment}
-use Rattle.docker_desk.specs.Serving.{EndsWithStatus}
-use Rattle.docker_desk.proofs.ServeLemmas.{served, still_none}
+use Rattle.docker_desk.proofs.ServeLemmas.{begins, served_as, still}
 use Rattle.docker_desk.proofs.program.serve.Goals as goal
 
-pub returns-in-Ok-clause-serves : goal.returns-in-Ok-clause-serves
-returns-in-Ok-clause-serves g c =
-    served g.F.Files.held _ _ _ _ _ _ c.in-Some.terms.name.now c.in-Some.terms.may_write
-    (moment g.W.Stores.held g.W.Stores.past g.W.Stores.number
-    (g.F.Source.failures c.open_session.new.files + g.W.Stores.failures c.open_session.new.store)
-    c.in-Ok.session.desk c.in-Ok.session.seen c.open_session.new.files c.open_session.new.store)
-    (moment g.W.Stores.held g.W.Stores.past g.W.Stores.number
-    (g.F.Source.failures c.serve_lines-ending.new.files + g.W.Stores.failures c.serve_lines-ending.new.store)
-    c.serve_lines-ending.new.session.desk c.serve_lines-ending.new.session.seen
-    c.serve_lines-ending.new.files c.serve_lines-ending.new.store)
-    c.serve_lines-ending.result c.end_session.result c.in-Some.ensures.named
-    (record {
-      state = c.in-Ok.ensures.ends.0;
-      saved = c.in-Ok.ensures.ends.1;
-      stored = c.open_session.ensures.kept.0;
-      past = c.open_session.ensures.asked;
-      look = c.in-Ok.ensures.number;
-      failures = still_none _ _ _ _ c.in-Ok.ensures.counted c.open_session.ensures.kept.1;
-    })
-    c.serve_lines-ending.ensures.answers refl refl refl c.serve_lines-ending.ensures.counted refl
-    (subst (λ unsaved. EndsWithStatus c.serve_lines-ending.result unsaved c.end_session.result
-    (fault_sink (g.L.Sink.taken c.args.faults.now) (g.L.Sink.taken c.end_session.new.faults) (g.L.Sink.failures c.args.faults.now)
-    (g.L.Sink.failures c.end_session.new.faults))) c.is_unsaved-unsaved.ensures c.end_session.ensures)
+pub returns-in-Ok : goal.returns-in-Ok
+returns-in-Ok g c =
+    served_as (texts c.args.words.now) g.D.Folder.names_bytes _ _ _ c.end_session.result c.in-Some.terms.name.now c.in-Some.terms.may_write
+    (moment c.in-Ok.session.desk (g.D.Folder.look_of c.in-Ok.session.seen) (g.D.Folder.history c.open_session.new.folder)
+    (g.D.Folder.failures c.open_session.new.folder))
+    (moment c.serve_lines-ending.new.session.desk (g.D.Folder.look_of c.serve_lines-ending.new.session.seen)
+    (g.D.Folder.history c.serve_lines-ending.new.folder) (g.D.Folder.failures c.serve_lines-ending.new.folder))
+    c.serve_lines-ending.result (c.in-Some.terms.may_write && c.is_unsaved-unsaved.result) c.host.view_is
+    c.in-Some.ensures.named
+    (begins (λ session. session.desk) c.in-Some.terms.name.now (g.D.Folder.history c.host.inside.folder) (g.D.Folder.history c.open_session.new.folder)
+    c.in-Ok.session (g.D.Folder.look_of c.in-Ok.session.seen) (g.D.Folder.failures c.open_session.new.folder) c.in-Ok.ensures.opens c.in-Ok.ensures.look)
+    (still _ _ c.in-Ok.ensures.counted) c.serve_lines-ending.ensures.answers refl refl c.serve_lines-ending.ensures.counted
+    c.serve_lines-ending.ensures.not_passed c.end_session.ensures
+    (ap (λ (unsaved : Bool). c.in-Some.terms.may_write && unsaved) c.is_unsaved-unsaved.ensures)

@@ -6,8 +6,7 @@ pub loop-init : goal.loop-init
 loop-init g c = record {
   so_far = so_far_first _ _ c.new-ahead.result _ _ c.new-ahead.ensures;
   few = (let none = c.requires.none in omega (arith, none));
-  drafts = λ is. is;
-  stdin = refl;
+  input = refl;
   output = refl;
   going = λ before. (refl, before);
 }
@@ -18,8 +17,7 @@ loop-preserved g c =
     record {
       so_far = so_far_on _ c.loop.counter _ _ _ _ _ _ _ _ _ c.serve_next-next.result c.loop.invariant.so_far c.in_default.is c.serve_next-next.ensures.serves;
       few = (let few = c.loop.invariant.few in let more = c.serve_next-next.ensures.few in omega (arith, few, more));
-      drafts = λ is. c.loop.invariant.drafts (c.serve_next-next.ensures.drafts is);
-      stdin = counts.0 ∙ c.loop.invariant.stdin;
+      input = counts.0 ∙ c.loop.invariant.input;
       output = counts.1 ∙ c.loop.invariant.output;
       going = λ before.
           let going = c.loop.invariant.going before in

@@ -7,7 +7,7 @@ use Rattle.docker_desk.proofs.serving.serve_next.Goals as goal
 pub returns-in-Ok-Line-clause-serves : goal.returns-in-Ok-Line-clause-serves
 returns-in-Ok-Line-clause-serves g c =
     after_whole _ _ _ _ _ _ _ c.in-Ok-Line.line.items c.as_slice.result.now (answer_meant c.answer_line-answer.result) _ _ _ c.as_slice.ensures.value
-    c.answer_line-answer.ensures.does
+    c.answer_line-answer.ensures
     (next_read _ _ c.in-Ok-Line.field-0 (whole_line c.in-Ok-Line.line.items) (ap asked_meant c.in-Ok-Line.field-0-is) c.in-Ok-Line.ensures.ends)
     c.tell_answer.ensures
 

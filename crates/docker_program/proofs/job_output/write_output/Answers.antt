@@ -1,18 +1,10 @@
-use Rattle.std.proofs.Common.{◌≡◌, None, rules}
-use Rattle.docker_program.specs.SourceNames.{stored_by}
-use Rattle.docker_program.proofs.JobOutputLemmas.{counted_printed, ends_printed}
+use Rattle.std.proofs.Common.{◌≡◌, ℕ, IfSome, subst}
+use Rattle.docker_program.specs.Writing.{EndsWriting, drafting, written}
 use Rattle.docker_program.proofs.job_output.write_output.Goals as goal
 
 pub returns-in-Some-clause-ends : goal.returns-in-Some-clause-ends
-returns-in-Some-clause-ends g c = c.write_file.ensures.ends (g.K.Sink.taken c.args.output.now)
-
-pub returns-in-None-clause-ends : goal.returns-in-None-clause-ends
-returns-in-None-clause-ends g c =
-    let none : stored_by c.args.prepared.now.job ≡ None = search rules in
-    ends_printed g.K.Sink.taken g.K.Sink.failures c.args.output.now c.emit.new.sink c.args.prepared.now (g.W.Stores.held c.args.store.now)
-    c.emit.result none c.emit.ensures.ends
-
-pub returns-in-None-clause-counted : goal.returns-in-None-clause-counted
-returns-in-None-clause-counted g c =
-    counted_printed g.K.Sink.taken g.K.Sink.failures c.args.output.now c.emit.new.sink c.args.prepared.now (g.W.Stores.failures c.args.store.now)
-    c.emit.result c.emit.ensures.ends
+returns-in-Some-clause-ends g c = λ look is.
+    let same : g.D.Folder.look_of c.in-Some.looked.seen ≡ look = subst (λ looked. IfSome looked (λ it. g.D.Folder.look_of it.seen ≡ look)) c.in-Some.is is in
+    subst (λ (n : ℕ). EndsWriting (drafting n g.D.Folder.names_bytes) (written (g.K.Sink.taken c.args.output.now) (g.K.Sink.taken c.args.output.now)
+    (g.D.Folder.history c.args.folder.now) (g.D.Folder.history c.write_file.new.folder)) c.args.prepared.now c.write_file.result)
+    same (c.write_file.ensures.ends (g.K.Sink.taken c.args.output.now))

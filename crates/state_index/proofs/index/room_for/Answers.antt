@@ -1,4 +1,4 @@
--- `auto` proves these too: they are written so that a wrong body is refused without a long search.
+-- `auto` proves these too. Written out, they get a wrong body refused without a long search.
 use Rattle.std.proofs.Common.{rules}
 use Rattle.state_index.proofs.index.room_for.Goals as goal
 

@@ -1,4 +1,4 @@
--- Each part is one of the format of the text.
+-- Each part belongs to the format of the text.
 use Rattle.state_text.proofs.steps.step.Given as goal
 
 abbrev pub ghost-after_horizon : goal.ghost-after_horizon

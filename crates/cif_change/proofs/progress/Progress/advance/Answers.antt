@@ -1,4 +1,4 @@
--- One more line of a known kind, by its place.
+-- The next line is judged by its kind and by the stage before it.
 use Rattle.std.proofs.Common.{ap, sym, ◌∙◌, Some}
 use Rattle.std.specs.Prelude.{option_map}
 use Rattle.std.proofs.lemmas.Bool.{false≢true}

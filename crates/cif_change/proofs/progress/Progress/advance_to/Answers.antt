@@ -1,4 +1,5 @@
--- One more line at its place, of a deletion or not.
+-- The kind of the line may come next. It is judged by its fields and, unless the schedule is a
+-- deletion, by its times.
 use Rattle.std.proofs.Common.{ap, ◌∙◌, refl}
 use Rattle.std.proofs.lemmas.Bool.{false≢true}
 use Rattle.cif_change.specs.JourneyRead.{progress_meant, stage_then, stage_meant}

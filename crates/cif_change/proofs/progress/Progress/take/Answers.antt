@@ -1,4 +1,4 @@
--- No schedule goes on with a line of no kind.
+-- A line of no kind never comes next.
 use Rattle.std.proofs.Common.{ap, sym, ◌∙◌}
 use Rattle.std.specs.Prelude.{option_map}
 use Rattle.std.proofs.lemmas.Bool.{false≢true}

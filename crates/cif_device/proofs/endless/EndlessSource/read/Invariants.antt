@@ -1,4 +1,4 @@
--- The bytes up to `at` are those that the source went on by.
+-- The source has given the first `at` bytes of the buffer.
 use Rattle.std.proofs.Common.{◌≡◌, ◌≤◌, length, take}
 use Rattle.cif_device.specs.Device.{Goes}
 use Rattle.cif_device.proofs.endless.EndlessSource.read.Given as goal

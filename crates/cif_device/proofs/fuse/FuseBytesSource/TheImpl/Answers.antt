@@ -1,4 +1,4 @@
--- The clauses speak of the bytes that are left, and the source names the same bytes.
+-- The clauses name the bytes that are left in the device within, and the source names the same.
 use Rattle.std.proofs.Common.{Some, ap}
 use Rattle.std.proofs.lemmas.Result.{IfOk-weaker, on_err_weaker}
 use Rattle.cif_device.proofs.fuse.FuseBytesSource.TheImpl.Goals as goal

@@ -1,4 +1,4 @@
--- A read is always Ok, so that what a source promises of a failure holds of it.
+-- A read never fails, so whatever a source promises of a failure holds.
 use Rattle.std.proofs.Common.{Some, ap, refl}
 use Rattle.cif_device.proofs.memory.BytesSource.TheImpl.Goals as goal
 

@@ -1,7 +1,7 @@
 -- The line comes after the earlier ones. If it ends the journey, the schedule makes its change.
 use Rattle.std.proofs.Common.{subst, refl, ◌++◌, ◌∷◌, []}
 use Rattle.cif_file.specs.KeeperRead.{Closes}
-use Rattle.cif_file.proofs.FrontLemmas.{line_added, line_closed, on_ok}
+use Rattle.cif_file.proofs.FrontLemmas.{line_added, line_closed, added_to, on_ok}
 use Rattle.cif_file.proofs.front.Front.add_line.Goals as goal
 
 pub returns-in-Some-clause-read : goal.returns-in-Some-clause-read
@@ -11,9 +11,10 @@ returns-in-Some-clause-read g c = λ opened place records before.
     (λ closed between.
     line_closed g.K.Keeper.keeps c.args.self.now c.close.new.self opened c.args.line.now records before over.1
     c.close.ensures.header between
-    (λ lines made kept.
+    (λ lines made some read is kept.
     subst (λ o. Closes g.K.Keeper.keeps c.add_line.new.self o c.close.new.self.keeper) over.0 closed
-    (lines ++ c.args.line.now ∷ []) made (c.in_ok-add_line.ensures.kept lines made kept)))
+    (lines ++ c.args.line.now ∷ []) made read is
+    (added_to g.K.Keeper.keeps c.args.self.now.keeper c.add_line.new.self lines c.args.line.now made some c.in_ok-add_line.ensures.kept kept)))
 
 pub returns-in-None-clause-read : goal.returns-in-None-clause-read
 returns-in-None-clause-read g c = λ opened place records before.

@@ -1,4 +1,4 @@
--- The schedule makes its change, and then the record begins a unit.
+-- The schedule's change is made, and then the record begins a unit.
 use Rattle.cif_file.proofs.FrontLemmas.{over_of_closed, on_ok_one}
 use Rattle.cif_file.proofs.front.Front.begin_anew.Goals as goal
 

@@ -1,4 +1,4 @@
--- The schedule's cause is the file's.
+-- If the schedule can't continue, its cause is the file's cause.
 use Rattle.std.proofs.Common.{ap, ◌∙◌, refl}
 use Rattle.std.specs.Prelude.{is_ok}
 use Rattle.docker_model.specs.file.File.{follows_basic}

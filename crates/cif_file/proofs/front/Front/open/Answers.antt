@@ -1,7 +1,5 @@
 -- A basic schedule begins its schedule.
-use Rattle.std.proofs.Common.{◌∙◌, ap, refl, subst}
-use Rattle.docker_model.specs.records.Field.{as_new}
-use Rattle.cif_file.specs.KeeperRead.{AddsLine}
+use Rattle.std.proofs.Common.{◌∙◌, refl}
 use Rattle.cif_file.proofs.FrontLemmas.{basic_added}
 use Rattle.cif_file.proofs.UnitLemmas.{schedule_is_first}
 use Rattle.cif_file.proofs.front.Front.open.Goals as goal
@@ -14,5 +12,4 @@ returns-clause-read g c = λ records over counted.
     basic_added g.K.Keeper.keeps c.args.self.now _ c.opened_schedule-opened.result records c.args.view.now over c.requires.is c.requires.by_kind.1
     c.requires.good_fields (c.opened_schedule-opened.ensures.number
     ∙ counted) c.opened_schedule-opened.ensures.key c.opened_schedule-opened.ensures.progress refl refl
-    (subst (λ line. AddsLine g.K.Keeper.keeps c.args.self.now.keeper line c.add_line.new.self) (c.as_new.ensures ∙ ap as_new c.line.ensures.line)
-    c.in_ok-add_line.ensures.kept)
+    c.in_ok-begin.ensures.kept

@@ -1,4 +1,4 @@
--- The next record, by the place after the records before it.
+-- The next record is judged by the place to which the earlier ones lead.
 use Rattle.std.proofs.Common.{◌∙◌, ap, sym}
 use Rattle.std.specs.Prelude.{option_map}
 use Rattle.cif_line.specs.Kind.{meaning}

@@ -1,5 +1,5 @@
--- After lines of a schedule: a line that may stand there continues it, and a record that begins a
--- unit needs the lines to be whole.
+-- After lines of a schedule comes a line that continues it, or a record that begins a unit. For the
+-- second the schedule has to be whole.
 use Rattle.std.proofs.lemmas.Result.{err_from_is_err_and}
 use Rattle.std.proofs.Common.{◌∙◌, ap, sym, subst, refl}
 use Rattle.std.proofs.lemmas.Bool.{false≢true}

@@ -1,4 +1,4 @@
--- A fault stays. If there is none, the piece is read.
+-- An earlier fault is returned again. Without one, the piece is read.
 use Rattle.std.proofs.Common.{◌++◌, sym, ap, subst, ◌∙◌}
 use Rattle.cif_file.specs.KeeperRead.{KeepsAll}
 use Rattle.cif_file.specs.ParserRead.{ParserState, IsReading}

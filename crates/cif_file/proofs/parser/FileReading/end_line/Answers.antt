@@ -1,4 +1,4 @@
--- A line that ends, with its bytes that came before.
+-- A line ends here, and is taken together with its earlier bytes.
 use Rattle.std.proofs.Common.{◌++◌, sym, ap, ◌∙◌}
 use Rattle.std.proofs.lemmas.Bool.{false≢true}
 use Rattle.cif_laws.specs.LinesTold.{told_lines}

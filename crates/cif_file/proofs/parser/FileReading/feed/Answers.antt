@@ -1,4 +1,4 @@
--- Line by line, and the records between them.
+-- The piece is taken line by line, with whole records at once wherever no line is open.
 use Rattle.std.proofs.Common.{[], ◌∷◌, ◌++◌}
 use Rattle.std.proofs.lemmas.Result.{err_from_is_err_and}
 use Rattle.cif_file.specs.ParserRead.{IsReading}

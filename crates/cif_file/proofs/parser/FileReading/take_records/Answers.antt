@@ -1,4 +1,4 @@
--- Record by record.
+-- The text is taken record by record.
 use Rattle.std.proofs.Common.{refl}
 use Rattle.std.proofs.lemmas.Result.{err_from_is_err_and}
 use Rattle.cif_file.specs.ParserRead.{IsReading}

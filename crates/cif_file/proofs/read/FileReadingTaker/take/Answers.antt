@@ -1,4 +1,4 @@
--- The reading takes what it reads.
+-- The reading takes the piece that it is fed.
 use Rattle.cif_file.proofs.ReadLemmas.{takes_more, refuses_more}
 use Rattle.cif_file.proofs.read.FileReadingTaker.take.Goals as goal
 

@@ -1,4 +1,4 @@
--- The cause: above the limit, else after the trailer, else the line's own.
+-- The limit is the first cause, then the trailer, and then the line's own cause.
 use Rattle.std.proofs.Common.{◌≡◌, ap, subst, refl, true, false}
 use Rattle.std.specs.Prelude.{◌↔◌}
 use Rattle.docker_model.specs.file.File.{IsFile}

@@ -1,4 +1,4 @@
--- The line was judged: it is taken, or refused for its length or a byte.
+-- The line is taken if it is a record. Otherwise it is refused for its length or for a byte.
 use Rattle.std.proofs.Common.{refl, subst}
 use Rattle.cif_file.specs.ParserRead.{CountsNext, FaultsNext}
 use Rattle.cif_change.specs.Cause.{cause_meant}

@@ -1,4 +1,4 @@
--- Its own cause is a wrong length.
+-- The line's own cause is its length.
 use Rattle.cif_file.proofs.ParserLemmas.{refused_long}
 use Rattle.cif_file.proofs.records.Records.too_long.Goals as goal
 

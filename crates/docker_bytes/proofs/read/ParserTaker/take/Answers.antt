@@ -1,4 +1,4 @@
--- What the parser reads it takes.
+-- The parser takes the pieces that it reads.
 use Rattle.docker_bytes.proofs.ReadLemmas.{takes_more, refuses_more}
 use Rattle.docker_bytes.proofs.read.ParserTaker.take.Goals as goal
 

@@ -4,15 +4,14 @@ use Rattle.std.specs.Prelude.{IfOk}
 use Rattle.docker_model.specs.state.State.{live_table}
 use Rattle.docker_model.specs.state.Lapse.{IsDayRefused}
 use Rattle.docker_day.specs.Dockers.{IsDockerOf}
-use Rattle.docker_excerpt.specs.Values.{Excerpt, with_entries}
-use Rattle.docker_excerpt.proofs.FinishedExcerpt.{docker_of_whole}
+use Rattle.docker_excerpt.specs.Values.{Excerpt}
 use Rattle.docker_excerpt.proofs.excerpt.Excerpt.docker.Goals as goal
 
 pub returns-clause-ok : goal.returns-clause-ok
 returns-clause-ok c =
     let it = c.self.inside in
     subst (λ (e : Excerpt). IfOk c.docker.result (IsDockerOf (live_table e.state) e.place e.day)) c.self.view_is
-    (IfOk-weaker c.docker.result _ _ (docker_of_whole it.place it.day (with_entries it.part it.given.entries) it.part c.self.invariant)
+    (IfOk-weaker c.docker.result _ _ c.self.invariant
     c.docker.ensures.ok)
 
 pub returns-clause-lapsed : goal.returns-clause-lapsed

@@ -2,7 +2,7 @@ use Rattle.std.proofs.Common.{map, ap, sym, ◌∙◌, subst}
 use Rattle.docker_model.specs.state.State.{State, IsValid, AreEntries}
 use Rattle.state_text.specs.Meaning.{row_meant}
 use Rattle.state_text.specs.Told.{horizon_meant, under}
-use Rattle.docker_excerpt.specs.Values.{Excerpting, with_entries, IsExcerptOf}
+use Rattle.docker_excerpt.specs.Values.{Excerpting, with_entries, StandsAt}
 use Rattle.docker_excerpt.proofs.FinishedExcerpt.{kept_entries, kept_valid, is_excerpt_of, stands_for}
 use Rattle.docker_excerpt.proofs.excerpting.Excerpting.finish.Goals as goal
 
@@ -32,8 +32,8 @@ of-requires c =
     let valid = subst (λ (v : Excerpting). IsValid (under (horizon_meant c.args.horizon) v.told)) (sym c.self.view_is) c.requires in
     let same = c.in_ok-state.ensures ∙ c.in_ok-whole.ensures in
     let set = c.under_horizon.ensures in
-    subst (λ place. IsExcerptOf place c.day-day.result (with_entries part given) part) (sym c.place-place.ensures)
-    (subst (λ day. IsExcerptOf c.self.inside.walk.walk.place day (with_entries part given) part) (sym c.day-day.ensures)
+    subst (λ place. StandsAt place c.day-day.result (with_entries part given) part) (sym c.place-place.ensures)
+    (subst (λ day. StandsAt c.self.inside.walk.walk.place day (with_entries part given) part) (sym c.day-day.ensures)
     (is_excerpt_of c.self.inside.walk.walk.place c.self.inside.walk.day (horizon_meant c.args.horizon) told valid part rows given (c.in_ok-rows.ensures told c.self.invariant)
     (ap (λ (s : State). s.horizon) set)
     (ap (λ (s : State). s.ledger) set ∙ ap (λ (s : State). s.ledger) same ∙ ap (λ (s : State). s.ledger) c.into_parts-parts.ensures.parts)

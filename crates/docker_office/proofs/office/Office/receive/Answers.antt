@@ -1,4 +1,4 @@
-use Rattle.std.proofs.Common.{refl, subst, Ok}
+use Rattle.std.proofs.Common.{subst}
 use Rattle.std.proofs.lemmas.Result.{err_from_is_err_and}
 use Rattle.docker_model.specs.state.State.{State}
 use Rattle.docker_model.specs.state.StateText.{dks_2}

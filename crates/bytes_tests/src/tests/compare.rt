@@ -1,0 +1,14 @@
+//! Tests compare values with these functions, which end the test if they differ. An assertion in
+//! its own function is proved once for all rows.
+use std::fmt::Debug;
+use std::process::Abort;
+
+/// Asserts that two values are equal.
+pub(super) fn same<T: PartialEq + Debug + Drop>(rt: &impl Abort, got: T, wanted: T) {
+    assert_eq!(rt; got, wanted);
+}
+
+/// Asserts that two values are equal, in a row with this name.
+pub(super) fn same_in<T: PartialEq + Debug + Drop>(rt: &impl Abort, name: &str, got: T, wanted: T) {
+    assert_eq!(rt; got, wanted, "{name}");
+}

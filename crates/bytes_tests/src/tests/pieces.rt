@@ -1,0 +1,120 @@
+//! Parts of texts, from which the examples are made.
+
+/// The beginning of a text: the mark, and the horizon 0.
+pub(super) const MARK: &[u8] = b"DKS2\0\0";
+
+/// The mark of the older format, which has no horizon.
+pub(super) const OLD_MARK: &[u8] = b"DKS1";
+
+/// The number one in eight bytes.
+pub(super) const ONE: &[u8] = b"\x00\x00\x00\x00\x00\x00\x00\x01";
+
+/// The number two in eight bytes.
+pub(super) const TWO: &[u8] = b"\x00\x00\x00\x00\x00\x00\x00\x02";
+
+/// The greatest number in eight bytes.
+pub(super) const MOST: &[u8] = b"\xff\xff\xff\xff\xff\xff\xff\xff";
+
+/// The ledger item of the file of 9 June.
+pub(super) const ITEM: &[u8] = b"\x5b\xf0\x04\xecDFROC1AUDFROC1Z";
+
+/// The ledger item of the file of 9 June, with a day after the last one.
+pub(super) const ITEM_LATE: &[u8] = b"\x8e\xad\x04\xecDFROC1AUDFROC1Z";
+
+/// The ledger item of an update of 5 June.
+pub(super) const ITEM_5A: &[u8] = b"\x5b\xec\x04\xecDFROC1AUDFROC1Z";
+
+/// The ledger item of a full extract of 7 June.
+pub(super) const ITEM_7B: &[u8] = b"\x5b\xee\x04\xecDFROC1BFDFROC1A";
+
+/// An entry of the schedule, up to its lines.
+pub(super) const HEAD: &[u8] =
+    b"\x03C10001\x5b\xf1P\x5b\xf0\x04\xecDFROC1A\x00\x00\x00\x02\x01\x00\x00\x00\x03";
+
+/// The ledger item of the update of 10 June.
+pub(super) const ITEM_10B: &[u8] = b"\x5b\xf1\x04\xecDFROC1BUDFROC1A";
+
+/// The ledger item of the third update of 9 June.
+pub(super) const ITEM_9C: &[u8] = b"\x5b\xf0\x04\xecDFROC1CUDFROC1B";
+
+/// The head of the entry for C10001's schedule, put by the update of 10 June.
+pub(super) const HEAD_10B: &[u8] =
+    b"\x03C10001\x5b\xf1P\x5b\xf1\x04\xecDFROC1B\x00\x00\x00\x02\x01\x00\x00\x00\x03";
+
+/// The head of the entry for C10001's schedule, put by the third update of 9 June.
+pub(super) const HEAD_9C: &[u8] =
+    b"\x03C10001\x5b\xf1P\x5b\xf0\x04\xecDFROC1C\x00\x00\x00\x02\x01\x00\x00\x00\x03";
+
+/// The head of the entry for C10002's schedule, put by the full extract.
+pub(super) const HEAD_C10002: &[u8] =
+    b"\x03C10002\x5b\xf1P\x5b\xee\x04\xecDFROC1B\x00\x00\x00\x02\x01\x00\x00\x00\x03";
+
+/// The tag and the key of the TIPLOC ASHFELD.
+pub(super) const ASHFELD: &[u8] = b"\x01ASHFELD";
+
+/// The tag and the key of the association between C10001 and C10002.
+pub(super) const JOINS: &[u8] = b"\x02C10001C10002\x5b\xf1ASHFELD P";
+
+/// The tag and the key of the schedule of C10001.
+pub(super) const C10001: &[u8] = b"\x03C10001\x5b\xf1P";
+
+/// The file stamp of the file of 9 June.
+pub(super) const FILE: &[u8] = b"\x5b\xf0\x04\xecDFROC1A";
+
+/// The number of the first record after a header.
+pub(super) const SECOND: &[u8] = b"\x00\x00\x00\x02";
+
+/// The op of a deletion.
+pub(super) const DELETED: &[u8] = b"\x00";
+
+/// The op of a put.
+pub(super) const PUT: &[u8] = b"\x01";
+
+/// The body of a TIPLOC: 63 printable bytes, the least and the greatest among them.
+pub(super) const CENTRAL: &[u8] =
+    b"         ASHFIELD CENTRAL                                     ~";
+
+/// The last day of the schedule, 2024-06-14.
+pub(super) const LAST: &[u8] = b"\x5b\xf5";
+
+/// The day after the last day of the schedule.
+pub(super) const AFTER: &[u8] = b"\x5b\xf6";
+
+/// The last day of the calendar, 2059-12-31.
+pub(super) const GREATEST: &[u8] = b"\x8e\xac";
+
+/// The number after the last day's.
+pub(super) const TOO_LATE: &[u8] = b"\x8e\xad";
+
+/// Two counts of 0.
+pub(super) const NOTHING: &[u8] = b"\0\0\0\0\0\0\0\0\0\0\0\0\0\0\0\0";
+
+/// The tag, the key and the stamp of the schedule of C10001.
+pub(super) const SCHEDULE_HEAD: &[u8] =
+    b"\x03C10001\x5b\xf1P\x5b\xf0\x04\xecDFROC1A\x00\x00\x00\x02";
+
+/// The tag, the key and the stamp of the association between C10001 and C10002.
+pub(super) const JOINS_HEAD: &[u8] =
+    b"\x02C10001C10002\x5b\xf1ASHFELD P\x5b\xf0\x04\xecDFROC1A\x00\x00\x00\x02";
+
+/// The tag, the key and the stamp of the TIPLOC ASHFELD.
+pub(super) const ASHFELD_HEAD: &[u8] = b"\x01ASHFELD\x5b\xf0\x04\xecDFROC1A\x00\x00\x00\x02";
+
+/// The op of a lapsed entry.
+pub(super) const LAPSED: &[u8] = b"\x02";
+
+/// The head of the schedule's entry, with a tag that isn't valid.
+pub(super) const HEAD_OF_NO_TAG: &[u8] =
+    b"\x04C10001\x5b\xf1P\x5b\xf0\x04\xecDFROC1A\x00\x00\x00\x02\x01\x00\x00\x00\x03";
+
+/// The head of the schedule's entry, with the stamp of a file that isn't in the ledger.
+pub(super) const HEAD_OF_NO_FILE: &[u8] =
+    b"\x03C10001\x5b\xf1P\x5b\xf0\x04\xecDFROC1B\x00\x00\x00\x02\x01\x00\x00\x00\x03";
+
+/// The head of the schedule's entry, with an op that isn't valid.
+pub(super) const HEAD_OF_NO_OP: &[u8] =
+    b"\x03C10001\x5b\xf1P\x5b\xf0\x04\xecDFROC1A\x00\x00\x00\x02\x03\x00\x00\x00\x03";
+
+/// The head of the schedule's entry, with the op of a lapsed entry.
+pub(super) const HEAD_LAPSED: &[u8] =
+    b"\x03C10001\x5b\xf1P\x5b\xf0\x04\xecDFROC1A\x00\x00\x00\x02\x02\x00\x00\x00\x03";

@@ -1,0 +1,61 @@
+-- What is returned for a file of which only what a place and a day need was kept.
+use Rattle.std.proofs.Common.{◌≡◌, ℕ, ◌∙◌, ◌≤◌, List, subst, sym, arith}
+use Rattle.std.specs.Prelude.{Option}
+use Rattle.docker_model.specs.file.File.{most_records}
+use Rattle.docker_model.specs.file.Change.{Change, changes}
+use Rattle.docker_laws.specs.Thinning.{IsThinning}
+use Rattle.cif_change.specs.Noted.{HasNoted, items_put}
+use Rattle.cif_file.specs.declared.ended.Ended.{Ended}
+use Rattle.cif_file.specs.declared.thin_kept.ThinSoFar.{ThinSoFar}
+use Rattle.cif_file.specs.EndedRead.{IsEnded, thin_parts_ended, thin_ended}
+use Rattle.cif_file.specs.FileRead.{IsOfRecords}
+use Rattle.cif_file.specs.SourceRead.{ReadsThin, ReadsEnded}
+use Rattle.cif_file.specs.ThinKept.{KeepsThin}
+use Rattle.cif_file.specs.ThinRead.{AreThinParts}
+
+module _ {P : Type 0} (place : List ℕ) (day : ℕ) where
+  -- the file is made of the records
+  file_of : (records : List (List ℕ)) (ended : Ended (ThinSoFar P)) → IsEnded (KeepsThin place day) records ended
+      → IsOfRecords (thin_ended ended).file records
+  file_of records ended is = record { header_is = is.header_is; count_is = is.count_is; changes_are = is.kept.told }
+
+  -- enough of its changes was kept
+  enough_of : (records : List (List ℕ)) (ended : Ended (ThinSoFar P)) → IsEnded (KeepsThin place day) records ended
+      → IsThinning ended.keeper.thinned.place ended.keeper.thinned.day ended.keeper.told.changes (thin_ended ended).kept
+  enough_of records ended is =
+      let has = is.kept.thinned in
+      subst (λ p. IsThinning p ended.keeper.thinned.day ended.keeper.told.changes (thin_ended ended).kept) (sym has.place_is)
+      (subst (λ d. IsThinning place d ended.keeper.told.changes (thin_ended ended).kept) (sym has.day_is)
+      (subst (λ (all : List Change). IsThinning place day all (thin_ended ended).kept) (sym is.kept.told)
+      (subst (IsThinning place day (changes records)) (sym has.made.changes_are) has.thinning)))
+
+  -- what was kept of the file whose text the source held
+  pub reads_thin : (there : List ℕ) (on : ℕ) (limit : ℕ) (left : Option (List ℕ)) (ended : Ended (ThinSoFar P)) → there ≡ place → on ≡ day
+      → ReadsEnded (KeepsThin place day) limit left ended → ReadsThin there on limit left (thin_ended ended)
+  reads_thin there on limit left ended same_place same_day reads =
+      let is = reads.of_text in
+      record {
+        reads = record {
+          text = reads.text;
+          held = reads.held;
+          of_text = record { records = is.records; is_text = is.is_text; of_records = file_of is.records ended is.of_records };
+        };
+        place_is = is.of_records.kept.thinned.place_is ∙ sym same_place;
+        day_is = is.of_records.kept.thinned.day_is ∙ sym same_day;
+      }
+
+  -- its parts belong to it
+  pub reads_thin_parts : (limit : ℕ) (left : Option (List ℕ)) (ended : Ended (ThinSoFar P)) → limit ≤ most_records
+      → ReadsEnded (KeepsThin place day) limit left ended
+      → AreThinParts ended.keeper.thinned.place ended.keeper.thinned.day ended.keeper.told.changes (thin_parts_ended ended)
+  reads_thin_parts limit left ended few reads =
+      let is = reads.of_text in
+      let within = is.is_text.within in
+      let made = is.of_records.kept.thinned.made in
+      record {
+        read = record {
+          read = record { records = is.records; of_records = file_of is.records ended is.of_records; is_file = is.is_text.is; few = omega arith };
+          thinning = enough_of is.records ended is.of_records;
+        };
+        noted = subst (λ (all : List Change). HasNoted (items_put all) ended.keeper.thinned.made.notes) (sym made.changes_are) made.noted;
+      }

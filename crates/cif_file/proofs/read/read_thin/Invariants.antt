@@ -1,0 +1,5 @@
+-- The place and the day are the ones that were asked for.
+use Rattle.cif_file.proofs.read.read_thin.Given as goal
+
+abbrev pub ghosts-thin_at : goal.ghosts-thin_at
+ghosts-thin_at g a = record { place = a.place; day = a.day }

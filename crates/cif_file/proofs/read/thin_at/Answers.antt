@@ -1,0 +1,22 @@
+-- The file that was read, of which the keeper kept what the place and the day need.
+use Rattle.std.proofs.Common.{sym, subst}
+use Rattle.std.specs.Prelude.{⊤}
+use Rattle.cif_file.specs.SourceRead.{ReadsThin}
+use Rattle.cif_file.proofs.ThinEnds.{reads_thin, reads_thin_parts}
+use Rattle.cif_file.proofs.ReadLemmas.{wants_any}
+use Rattle.cif_file.proofs.read.thin_at.Goals as goal
+
+pub into_thin-requires : goal.into_thin-requires
+into_thin-requires g c =
+    reads_thin_parts g.P.PlaceDay.place g.P.PlaceDay.day c.args.limit (g.S.Source.left c.args.source.now) c.in-Ok.ended c.requires.limit c.in-Ok.ensures.ok
+
+pub returns-in-Ok-clause-ok : goal.returns-in-Ok-clause-ok
+returns-in-Ok-clause-ok g c =
+    subst (ReadsThin c.args.place c.args.day c.args.limit (g.S.Source.left c.args.source.now)) (sym c.into_thin.ensures)
+    (reads_thin g.P.PlaceDay.place g.P.PlaceDay.day c.args.place c.args.day c.args.limit (g.S.Source.left c.args.source.now) c.in-Ok.ended
+    c.requires.place c.requires.day c.in-Ok.ensures.ok)
+
+pub returns-in-Err-clause-memory : goal.returns-in-Err-clause-memory
+returns-in-Err-clause-memory g c =
+    wants_any ⊤ c.args.limit (g.S.Source.left c.args.source.now) (g.S.Source.left c.read_source.new.source) c.in-Err.fault
+    c.in-Err.ensures.memory

@@ -1,0 +1,15 @@
+-- The change of the schedule was taken, and its lines are gone.
+use Rattle.std.proofs.Common.{◌∙◌, ◌++◌, ◌∷◌, []}
+use Rattle.cif_file.specs.KeeperRead.{change_renewed}
+use Rattle.cif_file.proofs.thin_kept.ThinSoFarKeeper.close.Goals as goal
+
+pub returns-clause-kept : goal.returns-clause-kept
+returns-clause-kept g c = λ lines made read whole keeps. record {
+  lines_are = c.clear.ensures.items;
+  near_is = tt;
+  thinned =
+      c.in_ok-add_opened.ensures g.P.PlaceDay.place g.P.PlaceDay.day lines (c.as_slice.ensures.value ∙ keeps.lines_are) read whole keeps.near_is made keeps.thinned;
+  told =
+      c.with_opened-self.ensures
+      ∙ (λ i. keeps.told i ++ change_renewed c.args.opened (keeps.lines_are i) ∷ []);
+}

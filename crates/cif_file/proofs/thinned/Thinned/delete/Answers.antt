@@ -1,0 +1,15 @@
+-- No change of the key was kept; or the deletion is kept.
+use Rattle.std.proofs.Common.{refl, sym, ◌∙◌}
+use Rattle.cif_file.proofs.FrontLemmas.{on_ok_one}
+use Rattle.cif_file.proofs.ThinLemmas.{deletion_dropped, deletion_kept}
+use Rattle.cif_file.proofs.thinned.Thinned.delete.Goals as goal
+
+pub returns-then-not-contains : goal.returns-then-not-contains
+returns-then-not-contains c = λ place day whole numbered named matters deletes.
+    deletion_dropped place day c.args.self.now _ whole c.args.key refl (sym c.contains.ensures ∙ c.if-not-contains.true) named deletes
+
+pub returns : goal.returns
+returns c =
+    on_ok_one c.keep.result c.keep.ensures
+    (λ kept. λ place day whole numbered named matters deletes.
+    kept place day whole matters (deletion_kept place day whole c.args.number c.args.key numbered named deletes))

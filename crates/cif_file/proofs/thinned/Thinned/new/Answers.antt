@@ -1,0 +1,7 @@
+-- Of no changes none is kept.
+use Rattle.std.proofs.Common.{refl}
+use Rattle.cif_file.proofs.ThinLemmas.{none_thinned}
+use Rattle.cif_file.proofs.thinned.Thinned.new.Goals as goal
+
+pub returns : goal.returns
+returns c = none_thinned c.args.place c.args.day _ refl refl c.new-2.ensures

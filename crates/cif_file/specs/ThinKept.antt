@@ -1,0 +1,67 @@
+-- What is kept of a file's changes for the docker of one place on one day.
+use Rattle.std.specs.Prelude.{◌≡◌, ℕ, Bool, true, false, ⊤, List, [], ◌∷◌, ◌++◌, Contains}
+use Rattle.std.specs.Ordering.{on}
+use Rattle.std.specs.BTreeSet as set
+use Rattle.std.specs.BTreeSet.{BTreeSet}
+use Rattle.docker_model.specs.records.Field.{is_deletion}
+use Rattle.docker_model.specs.file.File.{IsSchedule}
+use Rattle.docker_model.specs.file.Change.{Change}
+use Rattle.docker_model.specs.state.Op.{key_cmp}
+use Rattle.docker_laws.specs.NearDay.{runs_near}
+use Rattle.docker_laws.specs.Thinning.{IsThinning}
+use Rattle.cif_change.specs.declared.key.Key.{Key}
+use Rattle.cif_change.specs.JourneyRead.{progress_meant, HasLines}
+use Rattle.cif_change.specs.Meaning.{key_meant}
+use Rattle.cif_file.specs.declared.opened.Opened.{Opened}
+use Rattle.cif_file.specs.declared.thinned.Thinned.{Thinned}
+use Rattle.cif_file.specs.declared.thin_kept.ThinSoFar.{ThinSoFar}
+use Rattle.cif_file.specs.KeeperRead.{change_opened, with_new_first}
+use Rattle.cif_file.specs.MadeChanges.{HasMade}
+
+abbrev Lines : Type 0
+Lines = List (List ℕ)
+
+-- the set has this key
+abbrev pub has_key : BTreeSet Key → Key → Bool
+has_key keys key = set.contains (on key_meant key_cmp) keys key
+
+-- the set has the key of each of these changes
+abbrev pub HasKeysOf : BTreeSet Key → List Change → Type 0
+HasKeysOf keys kept = (change : Change) → Contains kept change → (key : Key) → key_meant key ≡ change.key → has_key keys key ≡ true
+
+-- of these changes enough was kept for the place and the day, and the keys of what was kept are
+-- known
+pub record HasThinned (place : List ℕ) (day : ℕ) (thinned : Thinned) (all : List Change) : Type 0 where
+  pub place_is : thinned.place ≡ place
+  pub day_is : thinned.day ≡ day
+  pub kept : List Change
+  pub made : HasMade thinned.made kept
+  pub thinning : IsThinning place day all kept
+  pub known : HasKeysOf thinned.keys kept
+
+-- these changes were taken after the earlier ones
+abbrev pub ThinsAll : List ℕ → ℕ → Thinned → List Change → Thinned → Type 0
+ThinsAll place day old more new = (all : List Change) → HasThinned place day old all → HasThinned place day new (all ++ more)
+
+-- this change was taken after the earlier ones
+abbrev pub Thins : List ℕ → ℕ → Thinned → Change → Thinned → Type 0
+Thins place day old change new = ThinsAll place day old (change ∷ []) new
+
+-- the flag says whether a schedule with these lines runs near the day, if it is no deletion
+abbrev pub IsNearBy : ℕ → Lines → Bool → Type 0
+IsNearBy day [] near = ⊤
+IsNearBy day (basic ∷ others) near = is_deletion basic ≡ false → near ≡ runs_near day basic
+
+-- the change of a schedule was taken after the earlier ones
+abbrev pub ThinsOpened : List ℕ → ℕ → Thinned → Opened → Bool → Lines → Thinned → Type 0
+ThinsOpened place day old opened near renewed new =
+    (lines : Lines) → renewed ≡ with_new_first lines → HasLines (progress_meant opened.progress) lines → IsSchedule lines → IsNearBy day lines near
+    → Thins place day old (change_opened opened lines) new
+
+-- the lines are kept, with the first as new, and what the place and the day need of the changes. In
+-- proofs all changes are known
+pub record KeepsThin {P : Type 0} (place : List ℕ) (day : ℕ) (keeper : ThinSoFar P) (lines : Lines) (all : List Change) : Type 0 where
+  pub lines_are : keeper.open.lines.items ≡ with_new_first lines
+  pub near_is : IsNearBy day lines keeper.near
+  pub thinned : HasThinned place day keeper.thinned all
+  pub told : keeper.told.changes ≡ all

@@ -1,0 +1,84 @@
+//! What a place needs of the lines of a schedule.
+ghost use Rattle.std.specs.Prelude.{◌≡◌, ◌&&◌, IfOk};
+ghost use Rattle.docker_model.specs.file.Journey.{calls_at};
+ghost use Rattle.docker_model.specs.records.Record.{kind_of, columns, is_location};
+ghost use Rattle.std.specs.Str.{bytes_eq};
+ghost use Rattle.docker_laws.specs.Thinning.{is_end, thin_lines, lines_for, may_matter};
+ghost use Rattle.cif_change.specs.Meaning.{key_meant};
+
+use crate::opened::body_of;
+use cif_change::{Key, Lines};
+use cif_line::{Kind, Line, Tiploc, kind};
+use std::alloc::{AllocError, Global};
+
+/// Whether a schedule with these lines calls at a place, in an LO, an LI or an LT.
+pub fn calls_at(place: &Tiploc, lines: &[Line]) -> bool
+    ensures { result ≡ calls_at place.now lines.now }
+{
+    lines.iter().any(|line| is_call_line(place, line))
+}
+
+/// Whether a line is a location record of a place.
+fn is_call_line(place: &Tiploc, line: &Line) -> bool
+    ensures { result
+        ≡ (is_location (kind_of line.now) && bytes_eq (columns 3 9 line.now) place.now) }
+{
+    // Few lines name the place, so the kind of only a few is looked at.
+    if line.bytes()[2..9] != place.bytes()[..] {
+        return false;
+    }
+    matches!(
+        kind(line),
+        Some(Kind::OriginLocation | Kind::IntermediateLocation | Kind::TerminatingLocation)
+    )
+}
+
+/// Whether a line is an origin or a terminus.
+fn is_end(line: &Line) -> bool
+    ensures { result ≡ is_end (kind_of line.now) }
+{
+    matches!(
+        kind(line),
+        Some(Kind::OriginLocation | Kind::TerminatingLocation)
+    )
+}
+
+/// Whether a key may matter at a place: it is the place's TIPLOC, an association there, or any
+/// schedule.
+pub(crate) fn may_matter(place: &Tiploc, key: &Key) -> bool
+    ensures { result ≡ may_matter place.now (key_meant key.now) }
+{
+    match key {
+        Key::Tiploc(code) => *code == *place,
+        Key::Assoc(assoc) => assoc.location == *place,
+        Key::Schedule(_) => true,
+    }
+}
+
+/// The lines of a schedule that a place needs: all if it calls there, and otherwise its basic
+/// schedule and its ends. Only these are copied.
+pub(crate) fn lines_for(alloc: Global, place: &Tiploc, lines: &[Line]) -> Result<Lines, AllocError>
+    ensures { IfOk result (λ body. body ≡ lines_for place.now lines.now) }
+{
+    if calls_at(place, lines) {
+        return body_of(alloc, lines);
+    }
+    thin_body(alloc, lines)
+}
+
+/// The basic schedule and the ends of a schedule with these lines.
+fn thin_body(alloc: Global, lines: &[Line]) -> Result<Lines, AllocError>
+    ensures { IfOk result (λ body. body ≡ thin_lines lines.now) }
+{
+    let mut body = Vec::with_capacity(alloc, 3)?;
+    let Some((basic, others)) = lines.split_first() else {
+        return Ok(Lines::of(body));
+    };
+    body.push(*basic)?;
+    for line in others {
+        if is_end(line) {
+            body.push(*line)?;
+        }
+    }
+    Ok(Lines::of(body))
+}

@@ -1,0 +1,63 @@
+//! Whether a schedule may count in the dockers of a day.
+ghost use Rattle.std.specs.Prelude.{◌≡◌, ◌&&◌, nat_le, false};
+ghost use Rattle.docker_model.specs.records.Record.{HasKind, basic_schedule};
+ghost use Rattle.docker_model.specs.records.Field.{HasGoodFields, is_deletion};
+ghost use Rattle.docker_model.specs.records.Date.{runs_on_weekday, weekday_of};
+ghost use Rattle.docker_laws.specs.NearDay.{near_starts, runs_near};
+
+use cif_line::{Basic, Day, Line};
+
+/// Whether a basic schedule runs on one of the start days near a day: from three days before it to
+/// the day after.
+#[tactic(auto, using(crate::proofs::NearFields::schedule_fields))]
+pub fn runs_near(line: &Line, day: Day) -> bool
+    requires kind { HasKind basic_schedule line.now }
+    requires good { HasGoodFields line.now }
+    requires no_deletion { is_deletion line.now ≡ false }
+    ensures { result ≡ runs_near day line.now }
+{
+    let first = line.day(10).number();
+    let last = match line.end_unless_deleted(16) {
+        Some(last) => last.number(),
+        None => unreachable!(),
+    };
+    let marks: &[u8; 7] = line.field(22);
+    let starts = near_starts(day);
+    starts
+        .iter()
+        .any(|start| runs_within(first, last, marks, *start))
+}
+
+/// The start days near a day: the day after it, the day, and the three days before it.
+fn near_starts(day: Day) -> [u16; 5]
+    ensures { result ≡ near_starts day }
+{
+    let day = day.number();
+    [
+        day + 1,
+        day,
+        day.saturating_sub(1),
+        day.saturating_sub(2),
+        day.saturating_sub(3),
+    ]
+}
+
+/// Whether a start day is not before the first day and not after the last, and its weekday is
+/// marked.
+fn runs_within(first: u16, last: u16, marks: &[u8; 7], start: u16) -> bool
+    ensures { result ≡ (nat_le first start && nat_le start last
+        && runs_on_weekday marks.now (weekday_of start)) }
+{
+    (first <= start) && (start <= last) && marks[((start as u32 + 4) % 7) as usize] == b'1'
+}
+
+/// Whether a basic schedule that is no deletion runs near a day.
+pub(crate) fn is_near(basic: &Basic<'_>, day: Day) -> bool
+    ensures { is_deletion basic.now ≡ false → result ≡ runs_near day basic.now }
+{
+    let line = basic.line();
+    if line.is_deletion() {
+        return false;
+    }
+    runs_near(line, day)
+}

@@ -1,0 +1,62 @@
+//! What was kept of a file for the docker of one place on one day.
+ghost use Rattle.std.specs.Prelude.{◌≡◌};
+ghost use Rattle.cif_file.specs.ThinRead.{AreThinParts, IsThinRead, thin_of_parts};
+
+use crate::parts::FileParts;
+use crate::told::Told;
+use cif_line::{Day, Header, Tiploc};
+use std::marker::Model;
+
+/// What was kept of a CIF file for the docker of one place on one day: its header, and of the
+/// changes that its records make enough for that docker. Its value also has the whole file. It
+/// serves for nothing else.
+#[derive(Debug, Drop)]
+pub struct ThinFile {
+    place: Tiploc,
+    day: Day,
+    parts: FileParts,
+    told: Told,
+}
+
+impl Model for ThinFile {
+    ghost use Rattle.cif_file.specs.ThinRead.{ThinRead, AreThinParts, thin_of_parts};
+
+    ghost Value = { ThinRead };
+
+    ghost view = { λ thin. thin_of_parts thin.place thin.day thin.told.changes thin.parts };
+
+    ghost invariant = { λ thin.
+        AreThinParts thin.place thin.day thin.told.changes thin.parts };
+}
+
+impl ThinFile {
+    /// What was kept for this place and day, of these parts. `told` has all changes.
+    pub(crate) fn of(place: Tiploc, day: Day, parts: FileParts, told: Told) -> ThinFile
+        requires { AreThinParts place day told.changes parts }
+        ensures { result ≡ thin_of_parts place day told.changes parts }
+    {
+        ThinFile {
+            place,
+            day,
+            parts,
+            told,
+        }
+    }
+
+    /// A view of the file's header.
+    pub fn header(&self) -> Header<'_>
+        ensures header { result ≡ self.now.file.header_line }
+        ensures read { IsThinRead self.now }
+    {
+        self.parts.header.view()
+    }
+
+    /// Takes apart what was kept. The changes of the parts are the kept ones.
+    pub fn into_parts(self) -> FileParts
+        ensures thin { thin_of_parts self.place self.day self.file.changes_made result ≡ self }
+        ensures parts { AreThinParts self.place self.day self.file.changes_made result }
+    {
+        let ThinFile { parts, .. } = self;
+        parts
+    }
+}

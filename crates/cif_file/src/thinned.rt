@@ -1,0 +1,131 @@
+//! The changes of a file's records that are kept for a place and a day.
+ghost use Rattle.std.specs.Prelude.{◌≡◌, ℕ, [], List, true, OnOk};
+ghost use Rattle.docker_model.specs.file.Change as model;
+ghost use Rattle.docker_model.specs.file.Change.{delete};
+ghost use Rattle.docker_laws.specs.Thinning.{may_matter, thin_act, thin_change};
+ghost use Rattle.cif_change.specs.Meaning.{change_meant, key_meant};
+ghost use Rattle.cif_file.specs.SingleChanges.{AreNeverThin, IsNeverThin, listed};
+ghost use Rattle.cif_file.specs.ThinKept.{HasThinned, Thins, ThinsAll, ThinsOpened};
+
+use crate::calling::{lines_for, may_matter};
+use crate::made::Made;
+use crate::opened::Opened;
+use crate::single::SingleChanges;
+use cif_change::{Act, Body, Change, Key};
+use cif_line::{Day, Line, Tiploc};
+use std::alloc::{AllocError, Global};
+use std::collections::BTreeSet;
+
+/// What is kept of a file's changes for the docker of a place on a day, and the keys that the kept
+/// changes have.
+#[derive(Debug, Drop)]
+pub(crate) struct Thinned {
+    alloc: Global,
+    pub(crate) place: Tiploc,
+    pub(crate) day: Day,
+    keys: BTreeSet<Key>,
+    pub(crate) made: Made,
+}
+
+impl Thinned {
+    /// No change.
+    pub(crate) fn new(alloc: Global, place: Tiploc, day: Day) -> Thinned
+        ensures { HasThinned place day result [] }
+    {
+        Thinned {
+            alloc,
+            place,
+            day,
+            keys: BTreeSet::new(alloc),
+            made: Made::new(alloc),
+        }
+    }
+
+    /// The day.
+    pub(crate) fn day(&self) -> Day
+        ensures { result ≡ self.now.day }
+    {
+        self.day
+    }
+
+    /// Appends what is kept of a change.
+    fn keep(&mut self, change: Change) -> Result<(), AllocError>
+        ensures { OnOk result ((place : List ℕ) (day : ℕ) (whole : model.Change)
+            → may_matter place whole.key ≡ true
+            → thin_change place day whole ≡ change_meant change
+            → Thins place day self.old whole self.new) }
+    {
+        match self.keys.insert(change.key) {
+            Ok(_) => self.made.push(change),
+            Err(_) => Err(AllocError),
+        }
+    }
+
+    /// Takes a change that is never thin. It is dropped if its key can't matter at the place.
+    fn add(&mut self, change: Change) -> Result<(), AllocError>
+        ensures { OnOk result (IsNeverThin (change_meant change)
+            → (place : List ℕ) (day : ℕ) → Thins place day self.old (change_meant change) self.new) }
+    {
+        if !may_matter(&self.place, &change.key) {
+            return Ok(());
+        }
+        self.keep(change)
+    }
+
+    /// Takes the changes of a record that is a unit by itself.
+    pub(crate) fn add_single(&mut self, changes: SingleChanges) -> Result<(), AllocError>
+        requires { AreNeverThin changes }
+        ensures { OnOk result ((place : List ℕ) (day : ℕ)
+            → ThinsAll place day self.old (listed changes) self.new) }
+    {
+        let SingleChanges { first, last } = changes;
+        match first {
+            None => self.add(last),
+            Some(change) => {
+                self.add(change)?;
+                self.add(last)
+            }
+        }
+    }
+
+    /// Takes a change that leaves nothing at a schedule's key that may count. Only if a change of
+    /// that key was kept, it is kept as a deletion.
+    fn delete(&mut self, number: u32, key: Key) -> Result<(), AllocError>
+        ensures { OnOk result ((place : List ℕ) (day : ℕ) (whole : model.Change)
+            → whole.number ≡ number → whole.key ≡ key_meant key
+            → may_matter place whole.key ≡ true → thin_act place day whole.act ≡ delete
+            → Thins place day self.old whole self.new) }
+    {
+        if !self.keys.contains(&key) {
+            return Ok(());
+        }
+        self.keep(Change {
+            number,
+            key,
+            act: Act::Delete,
+        })
+    }
+
+    /// Takes the change of a schedule with these lines. `near` says whether it runs near the day,
+    /// if it is no deletion.
+    pub(crate) fn add_opened(
+        &mut self,
+        opened: Opened,
+        near: bool,
+        lines: &[Line],
+    ) -> Result<(), AllocError>
+        ensures { OnOk result ((place : List ℕ) (day : ℕ)
+            → ThinsOpened place day self.old opened near lines.now self.new) }
+    {
+        let key = Key::Schedule(opened.key);
+        if opened.progress.is_deletion() | !near {
+            return self.delete(opened.number, key);
+        }
+        let body = lines_for(self.alloc, &self.place, lines)?;
+        self.keep(Change {
+            number: opened.number,
+            key,
+            act: Act::Put(Body::Schedule(body)),
+        })
+    }
+}

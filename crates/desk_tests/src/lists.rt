@@ -1,0 +1,88 @@
+//! The lists of what is known, as a desk answers them.
+
+use crate::answers::answers;
+use crate::desks::{day_of, desk_of};
+use crate::records::*;
+use docker_desk::Desk;
+use std::alloc::Global;
+use std::process::Abort;
+
+/// The timing points of the state with timing points. The morning train calls at Ashfeld and at
+/// Brayton, which is deleted.
+const PLACES: &str = "\
+0 2 112
+ASHFELD ASF 87701 ASHFELD JUNCTION                    1
+CORHAM            CORHAM EXCHANGE                     0
+";
+
+/// The timing points once the morning train has lapsed.
+const PLACES_LAPSED: &str = "\
+0 2 112
+ASHFELD ASF 87701 ASHFELD JUNCTION                    0
+CORHAM            CORHAM EXCHANGE                     0
+";
+
+/// What that state knows, before and after its horizon is set.
+const KNOWN: &str = "\
+0 6 124
+HORIZON      NONE
+FULL         2024-06-09 2100 DFROC1A
+LAST         2024-06-14
+SCHEDULES    1
+ASSOCIATIONS 0
+PLACES       2
+";
+
+const KNOWN_LAPSED: &str = "\
+0 5 106
+HORIZON      2024-06-15
+FULL         2024-06-09 2100 DFROC1A
+SCHEDULES    0
+ASSOCIATIONS 0
+PLACES       2
+";
+
+/// What is known of an update without timing points.
+const KNOWN_MORNING: &str = "\
+0 5 87
+HORIZON      NONE
+LAST         2024-06-14
+SCHEDULES    1
+ASSOCIATIONS 0
+PLACES       0
+";
+
+/// What is known of no file.
+const KNOWN_NOTHING: &str = "\
+0 4 63
+HORIZON      NONE
+SCHEDULES    0
+ASSOCIATIONS 0
+PLACES       0
+";
+
+/// Asserts the bytes of a desk's answers to the requests for both lists.
+fn lists(rt: &impl Abort, alloc: Global, desk: &Desk, places: &str, known: &str) {
+    answers(rt, alloc, &desk.places(), places);
+    answers(rt, alloc, &desk.known(), known);
+}
+
+#[test]
+fn timing_points_and_what_is_known(rt: HostRuntime) {
+    let alloc = rt.alloc();
+    let mut desk = desk_of(&rt, alloc, PLACES_STATE);
+    lists(&rt, alloc, &desk, PLACES, KNOWN);
+    desk.set_horizon(day_of(&rt, "2024-06-14"));
+    answers(&rt, alloc, &desk.places(), PLACES);
+    desk.set_horizon(day_of(&rt, "2024-06-15"));
+    lists(&rt, alloc, &desk, PLACES_LAPSED, KNOWN_LAPSED);
+}
+
+#[test]
+fn lists_without_timing_points(rt: HostRuntime) {
+    let alloc = rt.alloc();
+    let desk = desk_of(&rt, alloc, MORNING_STATE);
+    lists(&rt, alloc, &desk, "0 0 0\n", KNOWN_MORNING);
+    let desk = desk_of(&rt, alloc, EMPTY_STATE);
+    lists(&rt, alloc, &desk, "0 0 0\n", KNOWN_NOTHING);
+}

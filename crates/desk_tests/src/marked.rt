@@ -1,0 +1,52 @@
+//! An input that says whether it was read past its end.
+ghost use Rattle.std.specs.Prelude.{None};
+
+use cif_line::{Failed, Source};
+
+/// A source that gives at most 100 bytes per read, and marks that its end was reported, and that it
+/// was read after that. It never fails.
+#[derive(Drop)]
+pub(crate) struct Marked<'a> {
+    rest: &'a [u8],
+    ended: bool,
+    passed: bool,
+}
+
+impl<'a> Marked<'a> {
+    /// A source of this text.
+    pub(crate) fn new(text: &'a [u8]) -> Marked<'a> {
+        Marked {
+            rest: text,
+            ended: false,
+            passed: false,
+        }
+    }
+
+    /// Whether the text was read to its end, and whether it was read again after that.
+    pub(crate) fn is_read_past(&self) -> (bool, bool) {
+        (self.ended, self.passed)
+    }
+}
+
+impl Source for Marked<'_> {
+    ghost left = { λ _. None };
+
+    ghost failures = { λ _. 0 };
+
+    ghost ended = { λ marked. marked.ended };
+
+    ghost passed = { λ marked. marked.passed };
+
+    fn read(&mut self, into: &mut [u8]) -> Result<usize, Failed> {
+        let n = into.len().min(self.rest.len()).min(100);
+        into[..n].copy_from_slice(&self.rest[..n]);
+        self.rest = &self.rest[n..];
+        self.passed = self.passed || self.ended;
+        self.ended = self.ended || n == 0 && !into.is_empty();
+        Ok(n)
+    }
+
+    fn failures(&self) -> u64 {
+        0
+    }
+}

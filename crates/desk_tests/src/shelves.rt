@@ -1,0 +1,54 @@
+//! Folders in memory.
+ghost use Rattle.std.specs.Prelude.{◌≡◌};
+
+use crate::records::*;
+use docker_host::Shelf;
+use std::alloc::Global;
+use std::process::Abort;
+
+/// Puts a text in a file, as another command does.
+pub(crate) fn put(rt: &impl Abort, shelf: &mut Shelf, name: &str, text: &[u8])
+    ensures { shelf.new.failures ≡ shelf.old.failures }
+{
+    shelf.put(name, text).expect(rt, "room");
+}
+
+/// A shelf with one file.
+pub(crate) fn shelf_with(rt: &impl Abort, alloc: Global, name: &str, text: &[u8]) -> Shelf
+    ensures { result.failures ≡ 0 }
+{
+    let mut shelf = Shelf::new(alloc, 1000);
+    put(rt, &mut shelf, name, text);
+    shelf
+}
+
+/// A shelf with the file `S`, which has this state.
+pub(crate) fn shelf_of(rt: &impl Abort, alloc: Global, state: Parts) -> Shelf
+    ensures { result.failures ≡ 0 }
+{
+    let text = state_text(rt, alloc, state);
+    shelf_with(rt, alloc, "S", text.as_slice())
+}
+
+/// The shelf of the sessions: the state of the morning train, its revision, that revision without
+/// its trailer, and the state of the revision.
+pub(crate) fn shelf_of_morning(rt: &impl Abort, alloc: Global) -> Shelf
+    ensures { result.failures ≡ 0 }
+{
+    let mut shelf = shelf_of(rt, alloc, MORNING_STATE);
+    let revision = file_text(rt, alloc, REVISION);
+    put(rt, &mut shelf, "F2", revision.as_slice());
+    let open = file_text(rt, alloc, OPEN);
+    put(rt, &mut shelf, "F3", open.as_slice());
+    let other = state_text(rt, alloc, REVISION_STATE);
+    put(rt, &mut shelf, "S2", other.as_slice());
+    shelf
+}
+
+/// The text of the file `S`, without a byte if there is none.
+pub(crate) fn text_of(shelf: &Shelf) -> &[u8] {
+    match shelf.text("S") {
+        Some(text) => text,
+        None => b"",
+    }
+}

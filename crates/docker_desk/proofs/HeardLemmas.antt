@@ -1,0 +1,141 @@
+-- What is heard of the files that are merged and renewed.
+use Rattle.std.proofs.Common.{◌≡◌, ℕ, List, [], ◌∷◌, ◌++◌, refl, sym, ◌∙◌, subst, Some, None, Ok, Err}
+use Rattle.std.specs.Prelude.{Option, Result, ⊤}
+use Rattle.docker_model.specs.run.Run.{Known, nothing, united}
+use Rattle.docker_model.specs.state.StateText.{dks_2, state_text}
+use Rattle.docker_cmd.specs.OfficeFault.{OfficeFault}
+use Rattle.docker_cmd.specs.Prepared.{most_bytes}
+use Rattle.docker_cmd.specs.SourceRead.{JoinsState}
+use Rattle.docker_host.specs.History.{Bytes, Event, Text, looked, opened}
+use Rattle.docker_desk.specs.Desk.{EndsReceiving, EndsRenewing, EndsSaving, EndsTaking, opening_of}
+use Rattle.docker_desk.specs.Requests.{RequestView, print_request, train_request, files_request, places_request, known_request, renew_request, take_request, merge_request, horizon_request, save_request}
+use Rattle.docker_desk.specs.Replies.{AnswerView, done_with, no_request, refused_for}
+use Rattle.docker_desk.specs.Moments.{Moment, Setting, Step}
+use Rattle.docker_desk.specs.Doing.{AreSteps, DoesAsked, DoesRequest, Joins, Renews, Saves, answer_of}
+use Rattle.docker_desk.specs.Learning.{AllHearKnown, AreLearned, Hears, HearsFile, HearsKnown, HearsState, HoldsKnown, IsKnown, Learns, PlacesKnown, ReceivesKnown, merging, renewing}
+use Rattle.docker_desk.proofs.KnownLemmas.{known_read}
+
+-- ---- the bytes of an event
+
+-- two histories that go on from one are the same only if what was added is the same
+one_more : (old first second : List Event) → old ++ first ≡ old ++ second → first ≡ second
+one_more [] first second same = same
+one_more (event ∷ old) first second same = let rest : old ++ first ≡ old ++ second = cc in one_more old first second rest
+
+-- the bytes of the last opening
+held_once : (name : Text) (old new : List Event) (first second : Bytes) → new ≡ old ++ opened name first ∷ [] → new ≡ old ++ opened name second ∷ []
+    → first ≡ second
+held_once name old new first second one two =
+    let same = one_more old (opened name first ∷ []) (opened name second ∷ []) (sym one ∙ two) in cc
+
+held_after_look : (name : Text) (old new : List Event) (first second : Bytes) → new ≡ old ++ looked name ∷ opened name first ∷ []
+    → new ≡ old ++ looked name ∷ opened name second ∷ [] → first ≡ second
+held_after_look name old new first second one two =
+    let same = one_more old (looked name ∷ opened name first ∷ []) (looked name ∷ opened name second ∷ []) (sym one ∙ two) in cc
+
+-- ---- a state
+
+module _ (before after : Moment) (known : Known) where
+  -- what was received is what the file held
+  hears_held : (events : Bytes → List Event) (held : Bytes) (holds : HoldsKnown events before after known) → held ≡ holds.held
+      → JoinsState dks_2 most_bytes held before.desk.state after.desk.state → HearsState events before after known
+  hears_held events held holds same joins =
+      let there : JoinsState dks_2 most_bytes holds.held before.desk.state after.desk.state =
+      subst (λ (bytes : Bytes). JoinsState dks_2 most_bytes bytes before.desk.state after.desk.state) same joins in
+      record {
+        held = holds.held;
+        asked = holds.asked;
+        joins = there;
+        of = known_read most_bytes holds.held there.received holds.sent known there.read holds.holds holds.of;
+      }
+
+  -- a file that was merged
+  pub hears_merged : (other : Text) (text : List ℕ) → Joins other EndsReceiving before (done_with text) after → HoldsKnown (merging other) before after known
+      → HearsState (merging other) before after known
+  hears_merged other text does holds = by does.result does.opens.held does.told does.opens.asked does.opens.ends
+    where
+      by : (result : Result ⊤ OfficeFault) (held : Option Bytes) → done_with text ≡ answer_of result
+          → after.history ≡ before.history ++ opening_of other held ∷ []
+          → EndsReceiving before.desk.state after.desk.state result held → HearsState (merging other) before after known
+      by (Ok done) (Some held) told asked ends =
+          hears_held (merging other) held holds (held_once other before.history after.history held holds.held asked holds.asked) ends
+      by (Ok done) None told asked ends = absurd ends
+      by (Err fault) held told asked ends = let never : ⊥ = cc in absurd never
+
+  -- a file that was renewed
+  pub hears_renewed : (setting : Setting) (text : List ℕ) → Renews setting before (done_with text) after
+      → HoldsKnown (renewing setting.name) before after known → HearsState (renewing setting.name) before after known
+  hears_renewed setting text does holds = by does.result does.opens.held does.told does.opens.asked does.opens.ends
+    where
+      by : (result : Result ⊤ OfficeFault) (held : Option Bytes) → done_with text ≡ answer_of result
+          → after.history ≡ before.history ++ looked setting.name ∷ opening_of setting.name held ∷ []
+          → EndsRenewing before.desk after.desk result held → HearsState (renewing setting.name) before after known
+      by (Ok done) (Some held) told asked ends =
+          hears_held (renewing setting.name) held holds (held_after_look setting.name before.history after.history held holds.held asked holds.asked)
+          ends.0
+      by (Ok done) None told asked ends = absurd ends.0
+      by (Err fault) held told asked ends = let never : ⊥ = cc in absurd never
+
+  -- a text that was saved
+  pub places_known : (setting : Setting) (text : List ℕ) → IsKnown known before.desk.state → Saves setting before (done_with text) after
+      → PlacesKnown setting before after known
+  places_known setting text is does = by does.result does.told does.stores
+    where
+      by : (result : Result ⊤ OfficeFault) → done_with text ≡ answer_of result
+          → EndsSaving setting.names_bytes setting.name before.look (state_text dks_2 before.desk.state) before.history after.history result
+          → PlacesKnown setting before after known
+      by (Ok done) told stores = record {
+        text = state_text dks_2 before.desk.state;
+        good = is.good;
+        is = (before.desk.state, is.is, refl);
+        asked = stores;
+      }
+      by (Err fault) told stores = let never : ⊥ = cc in absurd never
+
+-- ---- steps
+
+-- a file that was taken
+takes_heard : (file : Text) (text : List ℕ) (before after : Moment) → Joins file EndsTaking before (done_with text) after
+    → (heard : Known) × HearsFile file before after heard
+takes_heard file text before after does = by does.result does.opens.held does.told does.opens.asked does.opens.ends
+  where
+    by : (result : Result ⊤ OfficeFault) (held : Option Bytes) → done_with text ≡ answer_of result
+        → after.history ≡ before.history ++ opening_of file held ∷ []
+        → EndsTaking before.desk.state after.desk.state result held → (heard : Known) × HearsFile file before after heard
+    by (Ok done) (Some held) told asked ends =
+        (record { files = ends.file ∷ []; horizon = 0 }, record { held = held; asked = asked; takes = ends; heard_is = refl })
+    by (Ok done) None told asked ends = absurd ends
+    by (Err fault) held told asked ends = let never : ⊥ = cc in absurd never
+
+module _ (setting : Setting) where
+  -- something is heard by each request that was done
+  hears_some : (request : RequestView) (text : List ℕ) (before after : Moment) → DoesRequest setting request before (done_with text) after
+      → ReceivesKnown setting request before after → (heard : Known) × Hears setting request before after heard
+  hears_some (print_request place day) text before after does received = (nothing, refl)
+  hears_some (train_request uid day) text before after does received = (nothing, refl)
+  hears_some files_request text before after does received = (nothing, refl)
+  hears_some places_request text before after does received = (nothing, refl)
+  hears_some known_request text before after does received = (nothing, refl)
+  hears_some renew_request text before after does received = (received.0, hears_renewed before after received.0 setting text does received.1)
+  hears_some (take_request file) text before after does received = takes_heard file text before after does
+  hears_some (merge_request other) text before after does received = (received.0, hears_merged before after received.0 other text does received.1)
+  hears_some (horizon_request day) text before after does received = (record { files = []; horizon = day }, refl)
+  hears_some save_request text before after does received = (nothing, refl)
+
+  -- something is learned from each step
+  learns_some : (request : Option RequestView) (answer : AnswerView) (before after : Moment) (old : Known) → DoesAsked setting request before answer after
+      → HearsKnown setting request before answer after → (new : Known) × Learns setting request before answer after old new
+  learns_some (Some request) (done_with text) before after old does hears =
+      let heard = hears_some request text before after does hears in (united old heard.0, (heard.0, (heard.1, refl)))
+  learns_some (Some request) (refused_for fault) before after old does hears = (old, refl)
+  learns_some (Some request) no_request before after old does hears = (old, refl)
+  learns_some None answer before after old does hears = (old, refl)
+
+  -- and from all of them
+  pub learned_of : (first last : Moment) (steps : List Step) (old : Known) → AreSteps setting first steps last → AllHearKnown setting steps
+      → (new : Known) × AreLearned setting old steps new
+  learned_of first last [] old are hear = (old, refl)
+  learned_of first last (step ∷ steps) old are hear =
+      let now = learns_some step.request step.answer step.before step.after old are.1.0.does hear.0 in
+      let new = learned_of step.after last steps now.0 are.1.1 hear.1 in
+      (new.0, (now.0, (now.1, new.1)))

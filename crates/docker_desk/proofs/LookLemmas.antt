@@ -1,0 +1,136 @@
+-- The look of a session, from step to step.
+use Rattle.std.proofs.Common.{◌≡◌, ℕ, ◌+◌, List, [], ◌∷◌, ◌++◌, length, sym, ◌∙◌, ap, subst, arith, append_assoc, length-append, Some, None, Ok, Err, inl, inr}
+use Rattle.std.specs.Prelude.{Option, Result, ⊤, Bool}
+use Rattle.docker_cmd.specs.OfficeFault.{OfficeFault}
+use Rattle.docker_cmd.specs.OfficeFault.TheVariants as office
+use Rattle.docker_model.specs.state.StateText.{dks_2, state_text}
+use Rattle.docker_host.specs.History.{Bytes, Event, Text, drafted, dropped, looked, named_if, opened, placed, undrafted, unplaced}
+use Rattle.docker_host.specs.Asked.{FailsToStore}
+use Rattle.docker_desk.specs.Desk.{DeskView, EndsRenewing, EndsSaving, look_by, opening_of}
+use Rattle.docker_desk.specs.Requests.{RequestView, print_request, train_request, files_request, places_request, known_request, renew_request, take_request, merge_request, horizon_request, save_request}
+use Rattle.docker_desk.specs.Replies.{AnswerView}
+use Rattle.docker_desk.specs.Moments.{Moment, Setting, Step}
+use Rattle.docker_desk.specs.Doing.{AreSteps, DoesAsked, DoesRequest}
+use Rattle.docker_desk.specs.Looking.{IsGoodLook}
+use Rattle.docker_desk.specs.Serving.{BeginsAt}
+
+module _ (name : Text) where
+  -- a good look stays good
+  pub good_more : (old new more : List Event) (look : ℕ) → new ≡ old ++ more → IsGoodLook name old look → IsGoodLook name new look
+  good_more old new more look grown (inl before) = inl (record {
+    earlier = before.earlier;
+    held = before.held;
+    later = before.later ++ more;
+    whole = grown ∙ ap (λ (events : List Event). events ++ more) before.whole
+        ∙ append_assoc before.earlier (looked name ∷ opened name before.held ∷ before.later) more;
+    number = before.number;
+  })
+  good_more old new more look grown (inr placing) = inr (record {
+    earlier = placing.earlier;
+    bytes = placing.bytes;
+    later = placing.later ++ more;
+    whole = grown ∙ ap (λ (events : List Event). events ++ more) placing.whole
+        ∙ append_assoc placing.earlier (placed name placing.bytes ∷ looked name ∷ placing.later) more;
+    number = placing.number;
+  })
+
+  -- a look, and then an opening
+  good_opened : (old new : List Event) (held : Bytes) (look : ℕ) → new ≡ old ++ looked name ∷ opened name held ∷ [] → look ≡ length old
+      → IsGoodLook name new look
+  good_opened old new held look grown number = inl (record { earlier = old; held = held; later = []; whole = grown; number = number })
+
+  -- a draft that took its place, and then a look
+  good_placed : (old new : List Event) (bytes : Bytes) (from look : ℕ) → new ≡ old ++ drafted name from ∷ placed name bytes ∷ looked name ∷ []
+      → look ≡ length old + 2 → IsGoodLook name new look
+  good_placed old new bytes from look grown number = inr (record {
+    earlier = old ++ drafted name from ∷ [];
+    bytes = bytes;
+    later = [];
+    whole = grown ∙ sym (append_assoc old (drafted name from ∷ []) (placed name bytes ∷ looked name ∷ []));
+    number = (let size = length-append old (drafted name from ∷ []) in omega (arith, size, number));
+  })
+
+  -- the same look, after any events
+  good_same : (old new more : List Event) (look look_now : ℕ) → new ≡ old ++ more → look_now ≡ look → IsGoodLook name old look
+      → IsGoodLook name new look_now
+  good_same old new more look look_now grown same good = subst (IsGoodLook name new) (sym same) (good_more old new more look grown good)
+
+  -- after a renewal
+  good_renewed : (old new : List Event) (held : Option Bytes) (result : Result ⊤ OfficeFault) (own after : DeskView) (look look_now : ℕ)
+      → new ≡ old ++ looked name ∷ opening_of name held ∷ [] → EndsRenewing own after result held → look_now ≡ look_by result (length old) look
+      → IsGoodLook name old look → IsGoodLook name new look_now
+  good_renewed old new (Some held) (Ok done) own after look look_now grown ends same good = good_opened old new held look_now grown same
+  good_renewed old new None (Ok done) own after look look_now grown ends same good = absurd ends.0
+  good_renewed old new held (Err fault) own after look look_now grown ends same good =
+      good_same old new (looked name ∷ opening_of name held ∷ []) look look_now grown same good
+
+  -- after a saving
+  good_unsaved : (names_bytes : Bool) (text : List ℕ) (old new : List Event) (from look look_now : ℕ) → FailsToStore names_bytes name from text old new
+      → look_now ≡ look → IsGoodLook name old look → IsGoodLook name new look_now
+  good_unsaved names_bytes text old new from look look_now (inl grown) same good =
+      good_same old new (undrafted name from ∷ []) look look_now grown same good
+  good_unsaved names_bytes text old new from look look_now (inr (inl grown)) same good =
+      good_same old new (drafted name from ∷ dropped name ∷ []) look look_now grown same good
+  good_unsaved names_bytes text old new from look look_now (inr (inr grown)) same good =
+      good_same old new (drafted name from ∷ unplaced name (named_if names_bytes text) ∷ []) look look_now grown same good
+
+  good_saved : (names_bytes : Bool) (text : List ℕ) (old new : List Event) (result : Result ⊤ OfficeFault) (from look look_now : ℕ)
+      → EndsSaving names_bytes name from text old new result → look_now ≡ look_by result (length old + 2) look
+      → IsGoodLook name old look → IsGoodLook name new look_now
+  good_saved names_bytes text old new (Ok done) from look look_now grown same good =
+      good_placed old new (named_if names_bytes text) from look_now grown same
+  good_saved names_bytes text old new (Err office.Sink) from look look_now failed same good =
+      good_unsaved names_bytes text old new from look look_now failed same good
+  good_saved names_bytes text old new (Err office.Memory) from look look_now grown same good =
+      good_same old new (undrafted name from ∷ []) look look_now grown same good
+  good_saved names_bytes text old new (Err office.Source) from look look_now never same good = absurd never
+  good_saved names_bytes text old new (Err office.Lapsed) from look look_now never same good = absurd never
+  good_saved names_bytes text old new (Err (office.File fault)) from look look_now never same good = absurd never
+  good_saved names_bytes text old new (Err (office.State fault)) from look look_now never same good = absurd never
+
+module _ (setting : Setting) where
+  -- the look of a moment is good
+  abbrev pub LooksWell : Moment → Type 0
+  LooksWell moment = IsGoodLook setting.name moment.history moment.look
+
+  good_kept : (before after : Moment) → after ≡ before → LooksWell before → LooksWell after
+  good_kept before after same good = subst LooksWell (sym same) good
+
+  -- after a request
+  good_request : (request : RequestView) (before after : Moment) (answer : AnswerView) → DoesRequest setting request before answer after → LooksWell before
+      → LooksWell after
+  good_request (print_request place day) before after answer does good = good_kept before after does.1 good
+  good_request (train_request uid day) before after answer does good = good_kept before after does.1 good
+  good_request files_request before after answer does good = good_kept before after does.1 good
+  good_request places_request before after answer does good = good_kept before after does.1 good
+  good_request known_request before after answer does good = good_kept before after does.1 good
+  good_request renew_request before after answer does good =
+      good_renewed setting.name before.history after.history does.opens.held does.result before.desk after.desk before.look after.look
+      does.opens.asked does.opens.ends does.look good
+  good_request (take_request file) before after answer does good =
+      good_same setting.name before.history after.history (opening_of file does.opens.held ∷ []) before.look after.look does.opens.asked does.look good
+  good_request (merge_request other) before after answer does good =
+      good_same setting.name before.history after.history (opening_of other does.opens.held ∷ []) before.look after.look does.opens.asked does.look good
+  good_request (horizon_request day) before after answer does good =
+      let look : after.look ≡ before.look = ap (λ (m : Moment). m.look) does.1 in
+      let history : after.history ≡ before.history = ap (λ (m : Moment). m.history) does.1 in
+      subst (λ l. IsGoodLook setting.name after.history l) (sym look) (subst (λ h. IsGoodLook setting.name h before.look) (sym history) good)
+  good_request save_request before after answer does good =
+      good_saved setting.name setting.names_bytes (state_text dks_2 before.desk.state) before.history after.history does.result before.look before.look
+      after.look does.stores does.look good
+
+  good_asked : (request : Option RequestView) (before after : Moment) (answer : AnswerView) → DoesAsked setting request before answer after → LooksWell before
+      → LooksWell after
+  good_asked (Some request) before after answer does good = good_request request before after answer does good
+  good_asked None before after answer does good = good_kept before after does.1 good
+
+  -- after steps
+  pub good_steps : (first last : Moment) (steps : List Step) → LooksWell first → AreSteps setting first steps last → LooksWell last
+  good_steps first last [] good are = good_kept first last are good
+  good_steps first last (step ∷ steps) good are =
+      good_steps step.after last steps
+      (good_asked step.request step.before step.after step.answer are.1.0.does (good_kept first step.before are.0 good)) are.1.1
+
+  -- at the beginning
+  pub good_first : (old : List Event) (first : Moment) → BeginsAt setting.name old first → LooksWell first
+  good_first old first begins = good_opened setting.name old first.history begins.held first.look begins.asked begins.look

@@ -1,0 +1,220 @@
+-- A session that asks a state without files for its files.
+use Rattle.std.proofs.Common.{◌≡◌, ◌≢◌, ℕ, ◌≤◌, Bool, true, false, List, [], ◌∷◌, ◌++◌, length, refl, sym, ◌∙◌, ap, subst, arith, append-nil, Some, None, ◌⊎◌, inl, inr}
+use Rattle.std.specs.Prelude.{Option, codes, decimal}
+use Rattle.std.proofs.lemmas.Fmt.{decimal_digit}
+use Rattle.std.proofs.lemmas.List.Sums.{AllPass-from_list_all}
+use Rattle.docker_model.specs.records.Record.{is_printable}
+use Rattle.cif_line.specs.Device.{Takes}
+use Rattle.docker_model.specs.state.State.{State, IsValid}
+use Rattle.docker_model.specs.state.StateText.{dks_2, state_text}
+use Rattle.docker_cmd.specs.Office.{HoldsState, no_state}
+use Rattle.docker_cmd.specs.OfficeFault.{OfficeFault}
+use Rattle.docker_cmd.specs.OfficeFault.TheVariants as office
+use Rattle.docker_cmd.specs.FaultLine.{status_of}
+use Rattle.docker_cmd.specs.Prepared.{most_bytes}
+use Rattle.docker_cmd.specs.declared.fault.Fault.TheVariants.{Office}
+use Rattle.docker_host.specs.History.{Bytes, Event, Text, looked, opened, placed}
+use Rattle.docker_host.specs.Host.{HostView}
+use Rattle.docker_host.specs.Shelf.{IsShelfHistory}
+use Rattle.docker_desk.specs.Lines.{AreLines, LineView, whole_line}
+use Rattle.docker_desk.specs.Requests.{AsksFor, IsRequestOf, RequestView, print_request, train_request, files_request, places_request, known_request, renew_request, take_request, merge_request, horizon_request, save_request}
+use Rattle.docker_desk.specs.Desk.{IsFilesAnswer}
+use Rattle.docker_desk.specs.Replies.{AnswerView, bytes_told, done_with, memory_told, no_request, refused_for}
+use Rattle.docker_desk.specs.Moments.{Moment, Setting, Step, setting}
+use Rattle.docker_desk.specs.Doing.{AreSteps, AsksOf, DoesAsked}
+use Rattle.docker_desk.specs.Answering.{EndsSession, answers_told, lines_of}
+use Rattle.docker_desk.specs.Serving.{BeginsAt, Serves, ending_status, session_words}
+use Rattle.docker_desk.specs.declared.ending.Ending.{Ending}
+use Rattle.docker_desk.specs.declared.ending.Ending.TheVariants.{Ended, InputFailed, InputEndless, OutputFailed}
+use Rattle.docker_desk.proofs.ReadingLemmas.{one_reading}
+use Rattle.docker_desk.proofs.KnownLemmas.{one_read}
+use Rattle.state_laws.proofs.texts.ToldWithHorizon.{valid_is_told}
+
+-- the line that is asked
+abbrev asked_line : List ℕ
+asked_line = codes "files"
+
+-- what the output gains
+abbrev pub IsAnswered : Bytes → Type 0
+IsAnswered output = (output ≡ Some (codes "0 0 0\n")) ⊎ (output ≡ Some memory_told)
+
+-- ---- the words and the status
+
+-- no fault has the status 0
+some_status : (fault : OfficeFault) → status_of (Office fault) ≢ 0
+some_status (office.File fault) none = let never : ⊥ = omega (arith, none) in never
+some_status (office.State fault) none = let never : ⊥ = omega (arith, none) in never
+some_status office.Lapsed none = let never : ⊥ = omega (arith, none) in never
+some_status office.Source none = let never : ⊥ = omega (arith, none) in never
+some_status office.Sink none = let never : ⊥ = omega (arith, none) in never
+some_status office.Memory none = let never : ⊥ = omega (arith, none) in never
+
+-- only the end of the input has the status 0
+ended_well : (ending : Ending) (unsaved : Bool) → ending_status ending unsaved ≡ 0 → ending ≡ Ended
+ended_well Ended unsaved none = refl
+ended_well InputFailed unsaved none = let never : ⊥ = omega (arith, none) in absurd never
+ended_well InputEndless unsaved none = let never : ⊥ = omega (arith, none) in absurd never
+ended_well OutputFailed unsaved none = let never : ⊥ = omega (arith, none) in absurd never
+
+-- the words name this file
+named_so : (word name : Text) (may_write : Bool) → word ∷ [] ≡ session_words name may_write → name ≡ word
+named_so word name false same = cc
+named_so word name true same = let never : ⊥ = cc in absurd never
+
+-- ---- the line
+
+-- the input is one line
+one_line : AreLines (codes "files\n") (whole_line asked_line ∷ [])
+one_line = ([], (record { whole = refl; line_text = record { short = omega arith; printable = AllPass-from_list_all is_printable asked_line refl } }, refl))
+
+-- it asks for the files
+asks_files : (may_write : Bool) → IsRequestOf may_write asked_line files_request
+asks_files may_write = record { name = refl; rest = refl; allowed = λ writes. let never : ⊥ = cc in absurd never }
+
+-- texts that begin with other bytes differ
+heads : (a b : ℕ) (front back : List ℕ) → a ∷ front ≡ b ∷ back → a ≡ b
+heads a b front back same = cc
+
+asked_files : (may_write : Bool) (request : Option RequestView) → AsksFor may_write asked_line request → request ≡ Some files_request
+asked_files may_write None asks = absurd (asks files_request (asks_files may_write))
+asked_files may_write (Some (print_request place day)) asks = let first = heads 102 112 _ _ asks.name in absurd (omega (arith, first))
+asked_files may_write (Some (train_request uid day)) asks = let first = heads 102 116 _ _ asks.name in absurd (omega (arith, first))
+asked_files may_write (Some files_request) asks = refl
+asked_files may_write (Some places_request) asks = let first = heads 102 112 _ _ asks.name in absurd (omega (arith, first))
+asked_files may_write (Some known_request) asks = let first = heads 102 107 _ _ asks.name in absurd (omega (arith, first))
+asked_files may_write (Some renew_request) asks = let first = heads 102 114 _ _ asks.name in absurd (omega (arith, first))
+asked_files may_write (Some (take_request file)) asks = let first = heads 102 116 _ _ asks.name in absurd (omega (arith, first))
+asked_files may_write (Some (merge_request other)) asks = let first = heads 102 109 _ _ asks.name in absurd (omega (arith, first))
+asked_files may_write (Some (horizon_request day)) asks = let first = heads 102 104 _ _ asks.name in absurd (omega (arith, first))
+asked_files may_write (Some save_request) asks = let first = heads 102 115 _ _ asks.name in absurd (omega (arith, first))
+
+-- ---- the answer
+
+-- the bytes of an answer without a text
+empty_told : bytes_told (done_with []) ≡ codes "0 0 0\n"
+empty_told = ap (λ (zero : List ℕ). zero ++ codes " " ++ zero ++ codes " " ++ zero ++ codes "\n" ++ []) zero_told
+  where
+    zero_told : decimal 0 ≡ 48 ∷ []
+    zero_told = decimal_digit 0 (omega arith)
+
+-- an answer without files, or none if memory ran out
+answered : (output : Bytes) (state : State) (answer : AnswerView) → state ≡ no_state → IsFilesAnswer state answer → Takes (Some []) (bytes_told answer ++ []) output
+    → IsAnswered output
+answered output state (done_with text) same is takes =
+    let none : text ≡ [] = subst (λ (s : State). IsFilesAnswer s (done_with text)) same is in
+    inl (takes ∙ ap (λ (t : List ℕ). Some (bytes_told (done_with t) ++ [])) none ∙ ap Some (append-nil (bytes_told (done_with [])) ∙ empty_told))
+answered output state (refused_for fault) same is takes =
+    inr (takes ∙ ap (λ (f : OfficeFault). Some (bytes_told (refused_for f) ++ [])) is ∙ ap Some (append-nil (bytes_told (refused_for office.Memory))))
+answered output state no_request same is takes = absurd is
+
+-- ---- the state
+
+-- a shelf on which this text was placed and then opened
+held_there : (text name : Text) (held : Bytes) → name ≡ codes "S"
+    → IsShelfHistory (placed (codes "S") (Some text) ∷ looked name ∷ opened name held ∷ []) → held ≡ Some text
+held_there text name held same met =
+    (subst (λ (n : Text). IsShelfHistory (placed (codes "S") (Some text) ∷ looked n ∷ opened n held ∷ [])) same met).1.1.0.0
+
+-- the state of no files, as a file holds it
+holds_none : (text : List ℕ) → text ≡ state_text dks_2 no_state → length text ≤ 100 → IsValid no_state → HoldsState dks_2 most_bytes (Some text) no_state
+holds_none text is few valid = record {
+  text = text;
+  told = refl;
+  is = record { valid = (valid_is_told no_state valid, omega arith, omega arith); is = is; within = omega (arith, few) };
+}
+
+-- ---- the session
+
+module _ (text : List ℕ) (holds : HoldsState dks_2 most_bytes (Some text) no_state) (old : List Event) (output : Bytes)
+    (before : old ≡ placed (codes "S") (Some text) ∷ []) where
+  -- one step
+  one_step : (its : Setting) (first last : Moment) (step : Step) → BeginsAt its.name old first → its.name ≡ codes "S" → step.line ≡ whole_line asked_line
+      → AreSteps its first (step ∷ []) last → IsShelfHistory last.history → Takes (Some []) (bytes_told step.answer ++ []) output → IsAnswered output
+  one_step its first last step begins named line are met takes =
+      answered output step.before.desk.state step.answer (ap (λ (m : Moment). m.desk.state) are.0 ∙ read) does.0 takes
+    where
+      asks : AsksOf its.may_write (whole_line asked_line) step.request
+      asks = subst (λ (l : LineView). AsksOf its.may_write l step.request) line are.1.0.asks
+
+      request : step.request ≡ Some files_request
+      request = asked_files its.may_write step.request asks.1
+
+      does : DoesAsked its (Some files_request) step.before step.answer step.after
+      does = subst (λ (r : Option RequestView). DoesAsked its r step.before step.answer step.after) request are.1.0.does
+
+      same : last ≡ first
+      same = are.1.1 ∙ does.1 ∙ are.0
+
+      history : last.history ≡ placed (codes "S") (Some text) ∷ looked its.name ∷ opened its.name begins.held ∷ []
+      history = ap (λ (m : Moment). m.history) same ∙ begins.asked
+          ∙ ap (λ (events : List Event). events ++ looked its.name ∷ opened its.name begins.held ∷ []) before
+
+      held : begins.held ≡ Some text
+      held = held_there text its.name begins.held named (subst IsShelfHistory history met)
+
+      read : first.desk.state ≡ no_state
+      read = one_read most_bytes begins.held first.desk.state no_state begins.state
+          (subst (λ (h : Bytes). HoldsState dks_2 most_bytes h no_state) (sym held) holds)
+
+  -- the steps of that one line
+  all_steps : (its : Setting) (first last : Moment) (steps : List Step) → BeginsAt its.name old first → its.name ≡ codes "S"
+      → lines_of steps ≡ whole_line asked_line ∷ [] → AreSteps its first steps last → IsShelfHistory last.history
+      → Takes (Some []) (answers_told steps) output → IsAnswered output
+  all_steps its first last [] begins named lines are met takes = let never : ⊥ = cc in absurd never
+  all_steps its first last (step ∷ []) begins named lines are met takes =
+      let line : step.line ≡ whole_line asked_line = cc in one_step its first last step begins named line are met takes
+  all_steps its first last (step ∷ next ∷ steps) begins named lines are met takes = let never : ⊥ = cc in absurd never
+
+-- the session of that line
+pub files_answered : (text : List ℕ) (old new : HostView) (status : ℕ) → HoldsState dks_2 most_bytes (Some text) no_state
+    → old.history ≡ placed (codes "S") (Some text) ∷ [] → old.input ≡ Some (codes "files\n") → old.output ≡ Some []
+    → IsShelfHistory new.history → status ≡ 0 → Serves (codes "S" ∷ []) true old new status → IsAnswered new.output
+files_answered text old new status holds history input output met none (inl misused) =
+    let two = misused.status_is in absurd (omega (arith, none, two))
+files_answered text old new status holds history input output met none (inr (inl refused)) =
+    absurd (some_status refused.fault (sym refused.status_is ∙ none))
+files_answered text old new status holds history input output met none (inr (inr served)) =
+    all_steps text holds old.history new.output history (setting served.name served.may_write true) served.first served.last served.answers.steps
+    served.begins (named_so (codes "S") served.name served.may_write served.words_are.words_are)
+    (one_reading (codes "files\n") (lines_of served.answers.steps) (whole_line asked_line ∷ []) ends.0 one_line)
+    served.answers.are (subst IsShelfHistory served.history met) ends.1
+  where
+    ended : served.ending ≡ Ended
+    ended = ended_well served.ending _ (sym served.ends.status_is ∙ none)
+
+    ends : EndsSession Ended (Some (codes "files\n")) served.answers.steps (Some []) new.output
+    ends =
+        subst (λ (i : Bytes). EndsSession Ended i served.answers.steps (Some []) new.output) input
+        (subst (λ (o : Bytes). EndsSession Ended old.input served.answers.steps o new.output) output
+        (subst (λ (e : Ending). EndsSession e old.input served.answers.steps old.output new.output) ended served.answers.ends))
+
+-- ---- the text of the state
+
+pub sent_text : (text before after : List ℕ) (state : State) → before ≡ [] → Takes (Some before) (state_text dks_2 state) (Some after) → state ≡ no_state
+    → text ≡ after → text ≡ state_text dks_2 no_state
+sent_text text before after state none takes is same =
+    same ∙ unsome after (before ++ state_text dks_2 state) takes ∙ (λ i. none i ++ state_text dks_2 (is i))
+  where
+    unsome : (one two : List ℕ) → Some one ≡ Some two → one ≡ two
+    unsome one two equal = cc
+
+-- what is answered, as the bytes of a sink in memory
+bytes_answered : (taken : List ℕ) → IsAnswered (Some taken) → (taken ≡ codes "0 0 0\n") ⊎ (taken ≡ memory_told)
+bytes_answered taken (inl done) = inl (unsome taken (codes "0 0 0\n") done)
+  where
+    unsome : (one two : List ℕ) → Some one ≡ Some two → one ≡ two
+    unsome one two equal = cc
+bytes_answered taken (inr refused) = inr (unsome taken memory_told refused)
+  where
+    unsome : (one two : List ℕ) → Some one ≡ Some two → one ≡ two
+    unsome one two equal = cc
+
+-- the session, with a view that is another way to write the new one
+pub files_told : (text : List ℕ) (old seen new : HostView) (status : ℕ) (taken : List ℕ) → Serves (codes "S" ∷ []) true old new status → seen ≡ new
+    → text ≡ state_text dks_2 no_state → length text ≤ 100 → IsValid no_state → old.history ≡ placed (codes "S") (Some text) ∷ []
+    → old.input ≡ Some (codes "files\n") → old.output ≡ Some [] → IsShelfHistory seen.history → status ≡ 0 → seen.output ≡ Some taken
+    → (taken ≡ codes "0 0 0\n") ⊎ (taken ≡ memory_told)
+files_told text old seen new status taken serves same is few valid history input output met none told =
+    bytes_answered taken (subst IsAnswered told
+    (files_answered text old seen status (holds_none text is few valid) history input output met none
+    (subst (λ (host : HostView). Serves (codes "S" ∷ []) true old host status) (sym same) serves)))

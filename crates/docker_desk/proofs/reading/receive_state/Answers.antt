@@ -1,0 +1,12 @@
+use Rattle.std.proofs.Common.{Some, ◌∙◌}
+use Rattle.docker_desk.proofs.ReadFiles.{receives}
+use Rattle.docker_desk.proofs.reading.receive_state.Goals as goal
+
+pub returns-clause-opens : goal.returns-clause-opens
+returns-clause-opens g c = record {
+  held = Some (g.D.File.Source.left c.in-Ok.file);
+  asked = c.close.ensures.asked ∙ c.in-Ok.ensures.asked;
+  ends =
+      receives (g.D.File.Source.left c.in-Ok.file) (g.D.File.Source.left c.receive-received.new.source) c.args.office.now c.receive-received.new.self
+      c.receive-received.result c.receive-received.ensures.reads.outcome c.receive-received.ensures.unchanged;
+}

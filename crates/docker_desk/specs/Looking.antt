@@ -1,0 +1,25 @@
+-- Which look a draft of a session is made from.
+use Rattle.std.specs.Prelude.{◌≡◌, ℕ, ◌+◌, List, ◌∷◌, ◌++◌, length, ◌⊎◌}
+use Rattle.docker_host.specs.History.{Bytes, Event, Text, looked, opened, placed}
+
+-- the look of this number is a look at the file of this name, and the file was opened next
+pub record IsBeforeOpening (name : Text) (history : List Event) (look : ℕ) : Type 0 where
+  pub earlier : List Event
+  pub held : Bytes
+  pub later : List Event
+  pub whole : history ≡ earlier ++ looked name ∷ opened name held ∷ later
+  pub number : look ≡ length earlier
+
+-- the look of this number is a look at the file of this name, and it comes right after a draft took
+-- the file's place
+pub record IsAfterPlacing (name : Text) (history : List Event) (look : ℕ) : Type 0 where
+  pub earlier : List Event
+  pub bytes : Bytes
+  pub later : List Event
+  pub whole : history ≡ earlier ++ placed name bytes ∷ looked name ∷ later
+  pub number : look ≡ length earlier + 1
+
+-- a draft from this look never takes the place of a text that the desk neither read nor placed,
+-- unless that text came after the look. For the look comes before an opening, or after a placing
+abbrev pub IsGoodLook : Text → List Event → ℕ → Type 0
+IsGoodLook name history look = IsBeforeOpening name history look ⊎ IsAfterPlacing name history look

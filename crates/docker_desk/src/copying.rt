@@ -1,0 +1,107 @@
+//! A source whose bytes are copied as they are read.
+ghost use Rattle.std.specs.Prelude.{◌≡◌, IfSome, option_map};
+ghost use Rattle.cif_line.specs.Device.{Reads};
+ghost use Rattle.docker_desk.specs.Copying.{KeepsMore};
+
+use cif_line::{Failed, Source};
+use std::alloc::Global;
+use std::marker::{Brand, Model, PhantomData};
+
+/// Names the bytes that a source had left when its copy was begun. A type bound by it holds them,
+/// whatever is called on it.
+pub(crate) trait Begun {
+    ghost use Rattle.std.specs.Prelude.{List, Option, ℕ};
+
+    ghost bytes: { Option (List ℕ) };
+}
+
+impl Begun for Brand {
+    ghost use Rattle.std.specs.Prelude.{None};
+
+    ghost bytes = { None };
+}
+
+/// A source, and a copy of what was read of it, as far as there was memory for it.
+#[derive(Drop)]
+pub(crate) struct Copying<B: Begun, S: Source> {
+    source: S,
+    copy: Option<Vec<u8>>,
+    of: PhantomData<B>,
+}
+
+impl<B: Begun, S: Source> Model for Copying<B, S> {
+    ghost use Rattle.std.specs.Prelude.{IfSome, option_map};
+    ghost use Rattle.cif_line.specs.Device.{Reads};
+    ghost use Rattle.docker_desk.specs.Copying.{CopyView};
+
+    ghost Value = { CopyView };
+
+    ghost view = { λ it. record {
+      left = S.left it.source;
+      failures = S.failures it.source;
+      ended = S.ended it.source;
+      passed = S.passed it.source;
+      copy = option_map (λ copy. copy.items) it.copy;
+    } };
+
+    ghost invariant = { λ it. IfSome it.copy (λ copy.
+        Reads B.bytes copy.items (S.left it.source)) };
+}
+
+impl<B: Begun, S: Source> Copying<B, S> {
+    /// A source of which nothing is copied yet.
+    pub(crate) fn new(alloc: Global, source: S) -> Copying<B, S>
+        requires { S.left source ≡ B.bytes }
+        ensures left { result.left ≡ S.left source }
+        ensures failures { result.failures ≡ S.failures source }
+    {
+        Copying {
+            source,
+            copy: Some(Vec::new(alloc)),
+            of: PhantomData,
+        }
+    }
+
+    /// The source, and the copy of all that was read of it, if there was memory for it.
+    pub(crate) fn into_parts(self) -> (S, Option<Vec<u8>>)
+        ensures failures { S.failures result.0 ≡ self.failures }
+        ensures copy { IfSome result.1 (λ copy. Reads B.bytes copy.items (S.left result.0)) }
+    {
+        let Copying { source, copy, .. } = self;
+        (source, copy)
+    }
+}
+
+/// Adds bytes to a copy. If there is no memory for them, the copy is dropped.
+fn keep(copy: &mut Option<Vec<u8>>, bytes: &[u8])
+    ensures { KeepsMore (option_map (λ copy. copy.items) copy.old) bytes.now
+        (option_map (λ copy. copy.items) copy.new) }
+{
+    let kept = match copy {
+        Some(copy) => copy.extend_from_slice(bytes).is_ok(),
+        None => true,
+    };
+    if !kept {
+        *copy = None;
+    }
+}
+
+impl<B: Begun, S: Source> Source for Copying<B, S> {
+    ghost left = { λ it. it.left };
+
+    ghost failures = { λ it. it.failures };
+
+    ghost ended = { λ it. it.ended };
+
+    ghost passed = { λ it. it.passed };
+
+    fn read(&mut self, into: &mut [u8]) -> Result<usize, Failed> {
+        let n = self.source.read(into)?;
+        keep(&mut self.copy, &into[..n]);
+        Ok(n)
+    }
+
+    fn failures(&self) -> u64 {
+        self.source.failures()
+    }
+}

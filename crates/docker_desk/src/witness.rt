@@ -1,0 +1,48 @@
+//! A session over devices whose bytes are known, and what the contract of `serve` says of it.
+ghost use Rattle.std.specs.Prelude.{◌≡◌, ◌⊎◌, IfOk, codes};
+ghost use Rattle.docker_desk.specs.Replies.{memory_told};
+
+use crate::program::serve;
+use cif_line::{Bytes, Kept, Memory};
+use docker_cmd::Office;
+use docker_host::{Host, Shelf};
+use std::alloc::Global;
+
+/// The most bytes that the text of a state without files may have here.
+const ROOM: usize = 100;
+
+/// Asks for the files of a state without files, in a session over a shelf. Its words are `S`, the
+/// file `S` has the text of that state, and its input is one line. Returns the answer, if the
+/// session ended with the status 0. It has no files, unless memory ran out for it.
+pub fn files_of_none(alloc: Global) -> Result<Kept, Memory>
+    ensures { IfOk result (λ output. (output.taken ≡ codes "0 0 0\n")
+        ⊎ (output.taken ≡ memory_told)) }
+{
+    let office = Office::new(alloc);
+    // Called for its contract: the state is valid.
+    let _state = office.state();
+    let mut text = Kept::new(alloc, ROOM)?;
+    let Ok(()) = office.send(&mut text) else {
+        return Err(Memory);
+    };
+    let bytes = text.bytes();
+    if bytes.len() > ROOM {
+        return Err(Memory);
+    }
+    let mut folder = Shelf::new(alloc, 0);
+    folder.put("S", bytes)?;
+    let mut host = Host {
+        input: Bytes::new(b"files\n", 1),
+        folder,
+        output: Kept::new(alloc, ROOM)?,
+        faults: Kept::new(alloc, ROOM)?,
+    };
+    let status = serve(alloc, &["S"], &mut host);
+    // Called for its contract: each file held what was last placed under its name.
+    host.folder.tell();
+    let Host { output, .. } = host;
+    if status != 0 {
+        return Err(Memory);
+    }
+    Ok(output)
+}

@@ -1,0 +1,28 @@
+-- What is kept of the file stands for the state of the whole file.
+use Rattle.std.proofs.Common.{ap, sym, ◌∙◌, subst}
+use Rattle.docker_excerpt.specs.Values.{Excerpt, with_entries, StandsAt}
+use Rattle.docker_excerpt.proofs.ThinExcerpt.{given_is_state, state_is_summary, thin_stands}
+use Rattle.docker_excerpt.proofs.excerpt.Excerpt.of_file.Goals as goal
+
+pub of-requires : goal.of-requires
+of-requires c =
+    let thin = c.header-header.ensures.read in
+    let read = thin.read in
+    let state = with_entries c.in_ok-part.part c.given_of-given.result.entries in
+    subst (λ place. StandsAt place c.args.day state c.in_ok-part.part) (sym c.requires.place)
+    (subst (λ day. StandsAt c.args.file.place day state c.in_ok-part.part) (sym c.requires.day)
+    (thin_stands c.args.file.place c.args.file.day c.args.file.file read.records read.of_records read.is_file read.few c.args.file.kept thin.thinning
+    c.in_ok-part.part (c.in_ok-part.ensures read.records read.of_records) c.given_of-given.result.entries c.given_of-given.ensures))
+
+pub returns-clause-place : goal.returns-clause-place
+returns-clause-place c = ap (λ (it : Excerpt). it.place) c.of.ensures
+
+pub returns-clause-day : goal.returns-clause-day
+returns-clause-day c = ap (λ (it : Excerpt). it.day) c.of.ensures
+
+pub returns-clause-state : goal.returns-clause-state
+returns-clause-state c = λ records of.
+    ap (λ (it : Excerpt). it.state) c.of.ensures
+    ∙ given_is_state c.args.file.file records of c.args.file.kept c.in_ok-part.part (c.in_ok-part.ensures records of) c.given_of-given.result.entries
+    c.given_of-given.ensures
+    ∙ state_is_summary c.args.file.file records of

@@ -1,0 +1,4 @@
+pub mod Making
+pub mod CopyLemmas
+pub mod PageLemmas
+pub mod ShelfLemmas

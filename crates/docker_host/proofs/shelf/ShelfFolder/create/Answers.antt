@@ -1,0 +1,13 @@
+-- The history of the new moment is kept.
+use Rattle.std.proofs.Common.{refl}
+use Rattle.docker_host.proofs.ShelfLemmas.{kept_still}
+use Rattle.docker_host.proofs.shelf.ShelfFolder.create.Goals as goal
+
+pub invariant_of-self : goal.invariant_of-self
+invariant_of-self c = rw c.then-self-inside.ensures (kept_still _ _ _ c.self.invariant (λ texts. refl) tt)
+
+pub invariant_of-self-in-Err-Memory : goal.invariant_of-self-in-Err-Memory
+invariant_of-self-in-Err-Memory c = rw c.then-self-inside-in-Err-Memory.ensures (kept_still _ _ _ c.self.invariant (λ texts. refl) tt)
+
+pub invariant_of-self-in-Err-Failed : goal.invariant_of-self-in-Err-Failed
+invariant_of-self-in-Err-Failed c = rw c.then-self-inside-in-Err-Failed.ensures (kept_still _ _ _ c.self.invariant (λ texts. refl) tt)

@@ -1,0 +1,16 @@
+-- The history of the new moment is kept.
+use Rattle.std.proofs.Common.{refl, ap, ◌∙◌}
+use Rattle.docker_host.specs.Folder.{FolderView}
+use Rattle.docker_host.specs.Shelf.{text_under}
+use Rattle.docker_host.proofs.ShelfLemmas.{kept_still, kept_opened}
+use Rattle.docker_host.proofs.shelf.ShelfFolder.open.Goals as goal
+
+pub invariant_of-self : goal.invariant_of-self
+invariant_of-self c = rw (c.then-self-inside.ensures, c.as_slice.ensures.value)
+    (kept_opened _ _ _ _ c.self.invariant (ap (λ (folder : FolderView). text_under folder.events c.args.name.now) c.self.view_is ∙ c.in-Ok.ensures))
+
+pub invariant_of-self-in-Err-Memory : goal.invariant_of-self-in-Err-Memory
+invariant_of-self-in-Err-Memory c = rw c.then-self-inside-in-Err-Memory.ensures (kept_still _ _ _ c.self.invariant (λ texts. refl) tt)
+
+pub invariant_of-self-in-Err-Failed : goal.invariant_of-self-in-Err-Failed
+invariant_of-self-in-Err-Failed c = rw c.then-self-inside-in-Err-Failed.ensures (kept_still _ _ _ c.self.invariant (λ texts. refl) tt)

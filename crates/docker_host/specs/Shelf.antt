@@ -1,0 +1,69 @@
+-- A shelf, whose history says what its files hold.
+use Rattle.std.specs.Prelude.{◌≡◌, ℕ, min, length, Bool, ⊤, if◌then◌else◌, List, [], ◌∷◌, Option, None, Some, IsSome}
+use Rattle.std.specs.Str.{bytes_eq}
+use Rattle.docker_host.specs.History.{Text, Event, looked, opened, unopened, drafted, undrafted, placed, unplaced, dropped}
+
+-- A file that was opened: what is left of it, how many bytes it gives before it fails, and how often
+-- it failed. Then whether its end was reported, and whether it was read after that.
+pub record PageView : Type 0 where
+  pub left : List ℕ
+  pub sound : ℕ
+  pub failures : ℕ
+  pub ended : Bool
+  pub passed : Bool
+
+-- how many bytes a read gives into a buffer of this length, if it doesn't fail
+abbrev pub page_count : PageView → ℕ → ℕ
+page_count page room = min room (min (min page.sound 100) (length page.left))
+
+-- what the file of each name holds, or None if there is none
+abbrev pub Texts : Type 0
+Texts = Text → Option Text
+
+abbrev pub no_texts : Texts
+no_texts name = None
+
+-- these files, with this text in the named file
+abbrev pub with_text : Text → Text → Texts → Texts
+with_text name text texts other = if bytes_eq name other then Some text else texts other
+
+-- the files after an event
+abbrev pub after_event : Texts → Event → Texts
+after_event texts (placed name (Some text)) = with_text name text texts
+after_event texts (placed name None) = texts
+after_event texts (looked name) = texts
+after_event texts (opened name bytes) = texts
+after_event texts (unopened name) = texts
+after_event texts (drafted name look) = texts
+after_event texts (undrafted name look) = texts
+after_event texts (unplaced name bytes) = texts
+after_event texts (dropped name) = texts
+
+-- the files after some events
+abbrev pub after_events : Texts → List Event → Texts
+after_events texts [] = texts
+after_events texts (event ∷ events) = after_events (after_event texts event) events
+
+-- a file that is opened holds what these files hold
+abbrev pub IsMet : Texts → Event → Type 0
+IsMet texts (opened name bytes) = (bytes ≡ texts name) × IsSome bytes
+IsMet texts (placed name bytes) = ⊤
+IsMet texts (looked name) = ⊤
+IsMet texts (unopened name) = ⊤
+IsMet texts (drafted name look) = ⊤
+IsMet texts (undrafted name look) = ⊤
+IsMet texts (unplaced name bytes) = ⊤
+IsMet texts (dropped name) = ⊤
+
+-- each file that is opened holds what was last placed under its name
+abbrev pub AreMet : Texts → List Event → Type 0
+AreMet texts [] = ⊤
+AreMet texts (event ∷ events) = IsMet texts event × AreMet (after_event texts event) events
+
+-- a shelf's history, from the empty shelf on
+abbrev pub IsShelfHistory : List Event → Type 0
+IsShelfHistory events = AreMet no_texts events
+
+-- what the named file holds after these events on an empty shelf, or None if there is none
+abbrev pub text_under : List Event → Text → Option Text
+text_under events name = after_events no_texts events name

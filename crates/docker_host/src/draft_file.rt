@@ -1,0 +1,169 @@
+//! Drafts of real files. The draft of a regular file is written beside it, and then renamed over
+//! it. So the file is always whole: it has the old text or the new one. A pipe or a device is
+//! written in its place.
+ghost use Rattle.std.specs.Prelude.{◌≡◌, None, IfOk};
+
+use crate::beside::Beside;
+use crate::folder::OpenFault;
+use crate::transfers::write_some;
+use crate::version::Version;
+use cif_device::{Failed, Sink};
+use std::fs;
+use std::fs::{File, Metadata};
+use std::io::ErrorKind;
+use std::marker::Model;
+
+/// A new text of a file, as far as it is written.
+#[derive(Drop)]
+pub struct DraftFile {
+    name: String,
+    file: File,
+    beside: Option<Beside>,
+    failures: u64,
+}
+
+/// A draft that took the place of a named file.
+#[derive(Drop)]
+pub(crate) struct Placed {
+    /// The name.
+    pub(crate) name: String,
+    /// The draft.
+    pub(crate) version: Version,
+}
+
+impl Model for DraftFile {
+    ghost use Rattle.docker_host.specs.RealDevices.{OutputView};
+
+    ghost Value = { OutputView };
+
+    ghost view = { λ draft. record { failures = draft.failures } };
+}
+
+impl DraftFile {
+    /// Makes an empty draft for a named file, if what is there is still what was seen. A file that
+    /// isn't there yet is written beside its place too, but a link that leads nowhere is followed.
+    pub(crate) fn make(
+        rt: &HostRuntime,
+        name: &str,
+        seen: Option<Version>,
+    ) -> Result<DraftFile, OpenFault>
+        ensures { IfOk result (λ draft. draft.failures ≡ 0) }
+    {
+        let own = String::from_str(rt.alloc(), name)?;
+        let (file, beside) = open_draft(rt, name, seen)?;
+        Ok(DraftFile {
+            name: own,
+            file,
+            beside,
+            failures: 0,
+        })
+    }
+
+    /// Puts the draft in the place of its file. Returns what a look then sees of it, or `None` if
+    /// that can't be known, as of a file that was written in its place. If that fails, the draft is
+    /// removed, as far as possible.
+    pub(crate) fn place(self, rt: &HostRuntime) -> Result<Option<Placed>, Failed> {
+        let DraftFile {
+            name,
+            file,
+            beside,
+            ..
+        } = self;
+        let Some(beside) = beside else {
+            return Ok(None);
+        };
+        // The draft is looked at while it is open and before it has the file's name, so that
+        // nothing but the draft is seen.
+        let version = Version::of_open(&file);
+        if beside.replace(rt, &file).is_err() {
+            beside.remove(rt);
+            return Err(Failed);
+        }
+        let Some(version) = version else {
+            return Ok(None);
+        };
+        Ok(Some(Placed { name, version }))
+    }
+
+    /// Removes the draft, as far as possible.
+    pub(crate) fn remove(&self, rt: &HostRuntime) {
+        if let Some(beside) = &self.beside {
+            beside.remove(rt);
+        }
+    }
+}
+
+/// Opens a draft for a named file, if what is there is still what was seen.
+fn open_draft(
+    rt: &HostRuntime,
+    name: &str,
+    seen: Option<Version>,
+) -> Result<(File, Option<Beside>), OpenFault> {
+    match fs::metadata(rt, name) {
+        Ok(there) if there.is_file() => {
+            let path = fs::canonicalize(rt, name)?.into_string();
+            open_beside(rt, name, path, Some(there), seen)
+        }
+        Ok(there) => {
+            if !is_still_pipe(seen, &Version::of(&there)) {
+                return Err(OpenFault::Failed);
+            }
+            Ok((File::create(rt, name)?, None))
+        }
+        Err(error) if error.kind() == ErrorKind::NotFound => {
+            if fs::symlink_metadata(rt, name).is_err() {
+                let path = String::from_str(rt.alloc(), name)?;
+                return open_beside(rt, name, path, None, seen);
+            }
+            if seen.is_some() {
+                return Err(OpenFault::Failed);
+            }
+            Ok((File::create(rt, name)?, None))
+        }
+        Err(error) => Err(OpenFault::from(error)),
+    }
+}
+
+/// Opens a draft beside the file of this path, if what is under the name is still what was seen.
+fn open_beside(
+    rt: &HostRuntime,
+    name: &str,
+    path: String,
+    old: Option<Metadata>,
+    seen: Option<Version>,
+) -> Result<(File, Option<Beside>), OpenFault> {
+    let (file, beside) = Beside::make(rt, path, old)?;
+    if Version::under(rt, name) != seen {
+        beside.remove(rt);
+        return Err(OpenFault::Failed);
+    }
+    Ok((file, Some(beside)))
+}
+
+/// Whether what was seen is a pipe or a device, and the same one is there now.
+fn is_still_pipe(seen: Option<Version>, there: &Version) -> bool {
+    match seen {
+        Some(seen) => seen.is_same_pipe(there),
+        None => false,
+    }
+}
+
+impl Sink for DraftFile {
+    ghost taken = { λ _. None };
+
+    ghost failures = { λ draft. draft.failures };
+
+    fn write(&mut self, piece: &[u8]) -> Result<usize, Failed> {
+        match write_some(&mut self.file, piece) {
+            Some(n) => Ok(n),
+            None => {
+                self.failures += 1;
+                Err(Failed)
+            }
+        }
+    }
+
+    fn failures(&self) -> u64 {
+        self.failures
+    }
+}

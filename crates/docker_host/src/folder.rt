@@ -1,0 +1,144 @@
+//! A folder: where files are looked at, opened, and written anew by drafts.
+ghost use Rattle.std.specs.Prelude.{◌≡◌, ℕ, ◌+◌, ◌-◌, ◌^◌, ◌<◌, Bool, false, List, [], ◌∷◌, ◌++◌, length, IfOk, IsErr, OnOk, OnErr, Err};
+ghost use Rattle.cif_device.specs.Device.{CountsFailure};
+ghost use Rattle.docker_host.specs.History.{Event, looked, opened, unopened, drafted, undrafted, placed, unplaced, dropped, named_if};
+
+use cif_device::{Failed, Sink, Source};
+use std::alloc::AllocError;
+use std::io;
+use std::io::ErrorKind;
+
+/// Why a file isn't opened, or no draft is made.
+#[derive(Clone, Copy, PartialEq, Eq, Debug)]
+pub enum OpenFault {
+    /// It isn't there, it may not be opened this way, or its device failed.
+    Failed,
+    /// Out of memory: an allocation was refused.
+    Memory,
+}
+
+impl From<io::Error> for OpenFault {
+    ghost use Rattle.docker_host.specs.declared.folder.OpenFault.TheVariants.{Memory};
+    ghost use Rattle.std.specs.IoError.{error_kind};
+    ghost use Rattle.std.specs.Prelude.{◌≡◌, ◌↔◌};
+    ghost use Rattle.std.specs.declared.io.ErrorKind.TheVariants.{OutOfMemory};
+
+    ghost from_gives = { λ error fault.
+        (fault ≡ Memory) ↔ (error_kind error ≡ OutOfMemory) };
+
+    fn from(error: io::Error) -> OpenFault {
+        if error.kind() == ErrorKind::OutOfMemory {
+            return OpenFault::Memory;
+        }
+        OpenFault::Failed
+    }
+}
+
+impl From<AllocError> for OpenFault {
+    ghost use Rattle.docker_host.specs.declared.folder.OpenFault.TheVariants.{Memory};
+    ghost use Rattle.std.specs.Prelude.{◌≡◌};
+
+    ghost from_gives = { λ _ fault. fault ≡ Memory };
+
+    fn from(_refused: AllocError) -> OpenFault {
+        OpenFault::Memory
+    }
+}
+
+/// A draft for a named file.
+#[derive(Drop)]
+pub struct Drafted<'a, K> {
+    /// The name.
+    pub name: &'a str,
+    /// What is written so far.
+    pub draft: K,
+}
+
+/// Where files are looked at, opened, and written anew.
+pub trait Folder {
+    /// An opened file.
+    type File: Source + Drop;
+
+    /// A new text, as far as it is written.
+    type Draft: Sink + Drop;
+
+    /// What is seen of a file.
+    type Seen: Drop;
+
+    // What was asked of it so far, in order.
+    ghost history: { Self → List Event };
+
+    // How often it has failed so far, with the failures of what was given back to it.
+    ghost failures: { Self → ℕ };
+
+    // Which event the look was that saw this, counted from 0.
+    ghost look_of: { Self.Seen → ℕ };
+
+    // Whether its drafts name the bytes that they took.
+    ghost names_bytes: { Bool };
+
+    /// Looks at the file of this name.
+    fn look(&mut self, name: &str) -> Self::Seen
+        ensures asked { history self.new ≡ history self.old ++ looked name.now ∷ [] }
+        ensures look { look_of result ≡ length (history self.old) }
+        ensures no_failure { failures self.new ≡ failures self.old };
+
+    /// Opens the file of this name, to be read from its first byte. What is left in it is what it
+    /// held then.
+    fn open(&mut self, name: &str) -> Result<Self::File, OpenFault>
+        requires { failures self.old < 2 ^ 64 - 1 }
+        ensures asked { IfOk result (λ file.
+            history self.new ≡ history self.old ++ opened name.now (Self.File.left file) ∷ []) }
+        ensures fresh { IfOk result (λ file.
+            (Self.File.ended file ≡ false) × (Self.File.passed file ≡ false)) }
+        ensures sound { IfOk result (λ file. Self.File.failures file ≡ 0) }
+        ensures unopened { OnErr result
+            (history self.new ≡ history self.old ++ unopened name.now ∷ []) }
+        ensures failures { CountsFailure (result ≡ Err OpenFault.Failed)
+            (failures self.old) (failures self.new) };
+
+    /// Takes an opened file back, and counts its failures.
+    fn close(&mut self, file: Self::File)
+        requires { failures self.old + Self.File.failures file < 2 ^ 64 }
+        ensures asked { history self.new ≡ history self.old }
+        ensures counted { failures self.new ≡ failures self.old + Self.File.failures file };
+
+    /// An empty draft for the file of this name, from a look.
+    fn create<'a>(
+        &mut self,
+        name: &'a str,
+        seen: &Self::Seen,
+    ) -> Result<Drafted<'a, Self::Draft>, OpenFault>
+        requires { failures self.old < 2 ^ 64 - 1 }
+        ensures name { IfOk result (λ made. made.name.now ≡ name.now) }
+        ensures empty { IfOk result (λ made.
+            Self.Draft.taken made.draft ≡ named_if names_bytes []) }
+        ensures sound { IfOk result (λ made. Self.Draft.failures made.draft ≡ 0) }
+        ensures asked { OnOk result
+            (history self.new ≡ history self.old ++ drafted name.now (look_of seen.now) ∷ []) }
+        ensures undrafted { OnErr result
+            (history self.new ≡ history self.old ++ undrafted name.now (look_of seen.now) ∷ []) }
+        ensures failures { CountsFailure (result ≡ Err OpenFault.Failed)
+            (failures self.old) (failures self.new) };
+
+    /// Puts a draft in the place of its file, which then holds what the draft took.
+    fn complete(&mut self, made: Drafted<'_, Self::Draft>) -> Result<(), Failed>
+        requires { failures self.old + Self.Draft.failures made.draft < 2 ^ 64 - 1 }
+        ensures asked { OnOk result (history self.new ≡ history self.old
+            ++ placed made.entry.name.now (Self.Draft.taken made.entry.draft) ∷ []) }
+        ensures unplaced { OnErr result (history self.new ≡ history self.old
+            ++ unplaced made.entry.name.now (Self.Draft.taken made.entry.draft) ∷ []) }
+        ensures failures { CountsFailure (IsErr result)
+            (failures self.old + Self.Draft.failures made.entry.draft) (failures self.new) };
+
+    /// Gives a draft up, and counts its failures.
+    fn discard(&mut self, made: Drafted<'_, Self::Draft>)
+        requires { failures self.old + Self.Draft.failures made.draft < 2 ^ 64 }
+        ensures asked { history self.new ≡ history self.old ++ dropped made.entry.name.now ∷ [] }
+        ensures counted { failures self.new
+            ≡ failures self.old + Self.Draft.failures made.entry.draft };
+
+    /// How often it has failed so far.
+    fn failures(&self) -> u64
+        ensures { result ≡ failures self.now };
+}

@@ -1,0 +1,36 @@
+//! All devices of a program, in one value.
+use crate::folder::Folder;
+use cif_device::{Sink, Source};
+use std::marker::Model;
+
+/// What a program runs on.
+#[derive(Drop)]
+pub struct Host<S: Source, D: Folder, K: Sink, L: Sink> {
+    /// Its input.
+    pub input: S,
+    /// Where it looks at files, opens them and writes them anew.
+    pub folder: D,
+    /// Its output.
+    pub output: K,
+    /// Where it writes its faults.
+    pub faults: L,
+}
+
+impl<S: Source, D: Folder, K: Sink, L: Sink> Model for Host<S, D, K, L> {
+    ghost use Rattle.docker_host.specs.Host.{HostView};
+
+    ghost Value = { HostView };
+
+    ghost view = { λ host. record {
+      input = S.left host.input;
+      ended = S.ended host.input;
+      passed = S.passed host.input;
+      history = D.history host.folder;
+      output = K.taken host.output;
+      faults = L.taken host.faults;
+      input_failures = S.failures host.input;
+      folder_failures = D.failures host.folder;
+      output_failures = K.failures host.output;
+      faults_failures = L.failures host.faults;
+    } };
+}

@@ -1,0 +1,30 @@
+//! A folder, whose one history says what was asked of it, in order, and what each request met.
+//! With it, all devices of a program in one value.
+#![tactic(auto)]
+
+mod beside;
+mod draft_file;
+mod folder;
+mod history;
+mod host;
+mod input_device;
+mod open_file;
+mod output_device;
+mod page;
+mod real_folder;
+mod shelf;
+mod standard;
+mod transfers;
+mod version;
+
+pub use draft_file::DraftFile;
+pub use folder::{Drafted, Folder, OpenFault};
+pub use history::{History, Moment, Note};
+pub use host::Host;
+pub use input_device::InputDevice;
+pub use open_file::OpenFile;
+pub use output_device::OutputDevice;
+pub use page::Page;
+pub use real_folder::{RealFolder, Seen};
+pub use shelf::{Fails, Shelf, Sight};
+pub use standard::{Standard, hold_standard};

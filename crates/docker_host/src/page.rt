@@ -1,0 +1,106 @@
+//! A file that was opened, in memory.
+ghost use Rattle.std.specs.Prelude.{◌≡◌, ◌+◌, ◌-◌, ◌^◌, ◌<◌, ◌≤◌, ◌↔◌, min, [], ◌++◌, length, take, false, Some, IfOk, IsErr, OnOk, OnErr};
+ghost use Rattle.cif_device.specs.Device.{Ends};
+ghost use Rattle.docker_host.specs.Shelf.{page_count};
+
+use cif_device::{Failed, Source};
+use std::marker::Model;
+
+/// How many bytes one read gives at most.
+const STEP: usize = 100;
+
+/// A source that owns its bytes. It gives at most 100 bytes per read, and fails once it has given a
+/// number of bytes.
+#[derive(Debug, Drop)]
+pub struct Page {
+    bytes: Vec<u8>,
+    at: usize,
+    sound: usize,
+    failures: u64,
+    ended: bool,
+    passed: bool,
+}
+
+impl Model for Page {
+    ghost use Rattle.std.specs.Prelude.{◌≤◌, drop, length};
+    ghost use Rattle.docker_host.specs.Shelf.{PageView};
+
+    ghost Value = { PageView };
+
+    ghost view = { λ page. record {
+      left = drop page.at page.bytes.items;
+      sound = page.sound;
+      failures = page.failures;
+      ended = page.ended;
+      passed = page.passed;
+    } };
+
+    ghost invariant = { λ page. page.at ≤ length page.bytes.items };
+}
+
+impl Page {
+    /// A source of these bytes. Each read fails once it has given `sound` bytes.
+    pub fn new(bytes: Vec<u8>, sound: usize) -> Page
+        ensures left { result.left ≡ bytes.items }
+        ensures sound { result.sound ≡ sound }
+        ensures no_failure { result.failures ≡ 0 }
+        ensures ended { result.ended ≡ false }
+        ensures passed { result.passed ≡ false }
+    {
+        Page {
+            bytes,
+            at: 0,
+            sound,
+            failures: 0,
+            ended: false,
+            passed: false,
+        }
+    }
+}
+
+impl Source for Page {
+    ghost left = { λ page. Some page.left };
+
+    ghost failures = { λ page. page.failures };
+
+    ghost ended = { λ page. page.ended };
+
+    ghost passed = { λ page. page.passed };
+
+    fn read(&mut self, into: &mut [u8]) -> Result<usize, Failed>
+        requires { self.old.failures < 2 ^ 64 - 1 }
+        ensures within { IfOk result (λ n. n ≤ length into.new) }
+        ensures moved { IfOk result (λ n. self.old.left ≡ take n into.new ++ self.new.left) }
+        ensures end { IfOk result (λ n. n ≡ 0 → 0 < length into.new → self.old.left ≡ []) }
+        ensures no_failure { OnOk result (self.new.failures ≡ self.old.failures) }
+        ensures counted { OnErr result (self.new.failures ≡ self.old.failures + 1) }
+        ensures unmoved { OnErr result (self.new.left ≡ self.old.left) }
+        ensures ending { IfOk result (λ n. Ends n (length into.new)
+            self.old.ended self.new.ended self.old.passed self.new.passed) }
+        ensures still { OnErr result
+            ((self.new.ended ≡ self.old.ended) × (self.new.passed ≡ self.old.passed)) }
+
+        // Any source promises the clauses above. This one also promises the clauses below.
+        ensures count { IfOk result (λ n. n ≡ page_count self.old (length into.old)) }
+        ensures sound { IfOk result (λ n. self.new.sound ≡ self.old.sound - n) }
+        ensures fails { IsErr result ↔ (self.old.sound ≡ 0) }
+    {
+        if self.sound == 0 {
+            self.failures += 1;
+            return Err(Failed);
+        }
+        let rest = &self.bytes.as_slice()[self.at..];
+        let most = self.sound.min(STEP).min(rest.len());
+        let n = into.len().min(most);
+        into[..n].copy_from_slice(&rest[..n]);
+        self.at += n;
+        self.sound -= n;
+        self.passed = self.passed || self.ended;
+        self.ended = self.ended || n == 0 && !into.is_empty();
+        Ok(n)
+    }
+
+    fn failures(&self) -> u64 {
+        self.failures
+    }
+}

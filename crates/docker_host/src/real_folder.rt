@@ -1,0 +1,178 @@
+//! The real files. Their bytes can't be named. What was asked of them, and in which order, is
+//! known.
+ghost use Rattle.std.specs.Prelude.{◌≡◌, ◌+◌, ◌-◌, ◌^◌, ◌<◌, [], ◌∷◌, ◌++◌, false, None, IsErr, OnOk, OnErr};
+ghost use Rattle.cif_device.specs.Device.{CountsFailure};
+ghost use Rattle.docker_host.specs.History.{placed, unplaced, dropped};
+
+use crate::draft_file::{DraftFile, Placed};
+use crate::folder::{Drafted, Folder, OpenFault};
+use crate::history::{History, Moment, Note};
+use crate::open_file::OpenFile;
+use crate::version::Version;
+use cif_device::{Failed, Sink, Source};
+use std::marker::Model;
+
+/// What a look at a real file saw.
+#[derive(Drop)]
+pub struct Seen {
+    file: Option<Version>,
+    moment: Moment,
+}
+
+/// The real files. Once a draft took the place of a file, the next look at its name sees the draft
+/// itself, even if another program has put another file there since. So what comes after a look
+/// never takes that file's place unseen.
+#[derive(Drop)]
+pub struct RealFolder {
+    rt: HostRuntime,
+    placed: Option<Placed>,
+    history: History,
+    failures: u64,
+}
+
+impl Model for RealFolder {
+    ghost use Rattle.docker_host.specs.Folder.{FolderView};
+
+    ghost Value = { FolderView };
+
+    ghost view = { λ folder. record {
+      events = folder.history.events;
+      failures = folder.failures;
+    } };
+}
+
+impl RealFolder {
+    /// The real files, as seen from the working directory. Nothing was asked of them yet.
+    pub fn new(rt: &HostRuntime) -> RealFolder
+        ensures events { result.events ≡ [] }
+        ensures no_failure { result.failures ≡ 0 }
+    {
+        RealFolder {
+            rt: *rt,
+            placed: None,
+            history: History::new(),
+            failures: 0,
+        }
+    }
+
+    /// What is seen of the draft that took the place of the file of this name, if no look has seen
+    /// it yet.
+    fn take_placed(&mut self, name: &str) -> Option<Version>
+        ensures { self.new ≡ self.old }
+    {
+        if self.placed.as_ref()?.name.as_str() != name {
+            return None;
+        }
+        self.placed.take().map(|placed| placed.version)
+    }
+}
+
+impl Folder for RealFolder {
+    type File = OpenFile;
+
+    type Draft = DraftFile;
+
+    type Seen = Seen;
+
+    ghost history = { λ folder. folder.events };
+
+    ghost failures = { λ folder. folder.failures };
+
+    ghost look_of = { λ seen. seen.moment.at };
+
+    ghost names_bytes = { false };
+
+    fn look(&mut self, name: &str) -> Seen {
+        let file = match self.take_placed(name) {
+            Some(placed) => Some(placed),
+            None => Version::under(&self.rt, name),
+        };
+        let moment = self.history.moment();
+        self.history = self.history.then(&Note::Looked(name));
+        Seen { file, moment }
+    }
+
+    fn open(&mut self, name: &str) -> Result<OpenFile, OpenFault> {
+        match OpenFile::open(&self.rt, name) {
+            Ok(file) => {
+                self.history = self.history.then(&Note::OpenedUnnamed(name));
+                Ok(file)
+            }
+            Err(OpenFault::Memory) => {
+                self.history = self.history.then(&Note::Unopened(name));
+                Err(OpenFault::Memory)
+            }
+            Err(OpenFault::Failed) => {
+                self.history = self.history.then(&Note::Unopened(name));
+                self.failures += 1;
+                Err(OpenFault::Failed)
+            }
+        }
+    }
+
+    fn close(&mut self, file: OpenFile) {
+        self.failures += file.failures();
+    }
+
+    fn create<'a>(
+        &mut self,
+        name: &'a str,
+        seen: &Seen,
+    ) -> Result<Drafted<'a, DraftFile>, OpenFault> {
+        self.placed = None;
+        match DraftFile::make(&self.rt, name, seen.file) {
+            Ok(draft) => {
+                self.history = self.history.then(&Note::Drafted(name, &seen.moment));
+                Ok(Drafted { name, draft })
+            }
+            Err(OpenFault::Memory) => {
+                self.history = self.history.then(&Note::Undrafted(name, &seen.moment));
+                Err(OpenFault::Memory)
+            }
+            Err(OpenFault::Failed) => {
+                self.history = self.history.then(&Note::Undrafted(name, &seen.moment));
+                self.failures += 1;
+                Err(OpenFault::Failed)
+            }
+        }
+    }
+
+    fn complete(&mut self, made: Drafted<'_, DraftFile>) -> Result<(), Failed>
+        requires { self.old.failures + made.draft.failures < 2 ^ 64 - 1 }
+        ensures asked { OnOk result (self.new.events ≡ self.old.events
+            ++ placed made.entry.name.now None ∷ []) }
+        ensures unplaced { OnErr result (self.new.events ≡ self.old.events
+            ++ unplaced made.entry.name.now None ∷ []) }
+        ensures failures { CountsFailure (IsErr result)
+            (self.old.failures + made.entry.draft.failures) self.new.failures }
+    {
+        let Drafted { name, draft } = made;
+        self.failures += draft.failures();
+        match draft.place(&self.rt) {
+            Ok(placed) => {
+                self.history = self.history.then(&Note::PlacedUnnamed(name));
+                self.placed = placed;
+                Ok(())
+            }
+            Err(Failed) => {
+                self.history = self.history.then(&Note::UnplacedUnnamed(name));
+                self.failures += 1;
+                Err(Failed)
+            }
+        }
+    }
+
+    fn discard(&mut self, made: Drafted<'_, DraftFile>)
+        requires { self.old.failures + made.draft.failures < 2 ^ 64 }
+        ensures asked { self.new.events ≡ self.old.events ++ dropped made.entry.name.now ∷ [] }
+        ensures counted { self.new.failures ≡ self.old.failures + made.entry.draft.failures }
+    {
+        self.failures += made.draft.failures();
+        made.draft.remove(&self.rt);
+        self.history = self.history.then(&Note::Dropped(made.name));
+    }
+
+    fn failures(&self) -> u64 {
+        self.failures
+    }
+}

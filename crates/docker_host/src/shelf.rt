@@ -1,0 +1,308 @@
+//! A folder in memory.
+ghost use Rattle.std.specs.Prelude.{◌≡◌, ◌+◌, ◌-◌, ◌^◌, ◌<◌, [], ◌∷◌, ◌++◌, false, true, Some, None, IfOk, IsErr, OnOk, OnErr, Err, option_map};
+ghost use Rattle.cif_device.specs.Device.{CountsFailure};
+ghost use Rattle.docker_host.specs.History.{placed, unplaced, dropped};
+ghost use Rattle.docker_host.specs.Shelf.{IsShelfHistory, text_under};
+ghost use Rattle.docker_host.specs.Places.{texts_of};
+
+use crate::folder::{Drafted, Folder, OpenFault};
+use crate::history::{History, Moment, Note};
+use crate::page::Page;
+use cif_device::{Failed, Kept, Memory, Sink, Source};
+use std::alloc::Global;
+use std::marker::Model;
+
+/// A file on a shelf.
+#[derive(Drop)]
+pub struct Place {
+    name: String,
+    text: Vec<u8>,
+}
+
+/// At which calls a shelf fails.
+#[derive(Clone, Copy, PartialEq, Eq, Debug)]
+pub enum Fails {
+    /// At none.
+    Never,
+    /// Where a file is opened.
+    AtOpen,
+    /// Where a file is opened, because memory runs out.
+    AtOpenForMemory,
+    /// Where an opened file has given this many bytes, and is read again.
+    AfterReading(usize),
+    /// Where a draft is made.
+    AtCreate,
+    /// Where a draft is made, because memory runs out.
+    AtCreateForMemory,
+    /// Where a draft has taken this many bytes, and is written again.
+    AfterWriting(usize),
+    /// Where a draft is to take its file's place.
+    AtComplete,
+}
+
+/// What a look at a file on a shelf saw: which of the texts that were placed, if any.
+#[derive(Drop)]
+pub struct Sight {
+    text: Option<usize>,
+    moment: Moment,
+}
+
+/// A folder in memory. Each text that is placed comes first, and hides the older one of its name.
+#[derive(Drop)]
+pub struct Shelf {
+    alloc: Global,
+    room: usize,
+    fails: Fails,
+    places: Vec<Place>,
+    history: History,
+    failures: u64,
+}
+
+impl Model for Shelf {
+    ghost use Rattle.docker_host.specs.Folder.{FolderView};
+    ghost use Rattle.docker_host.specs.Places.{IsKept};
+
+    ghost Value = { FolderView };
+
+    ghost view = { λ shelf. record {
+      events = shelf.history.events;
+      failures = shelf.failures;
+    } };
+
+    ghost invariant = { λ shelf. IsKept shelf.places.items shelf.history.events };
+}
+
+/// The text of this name.
+fn text_among<'a>(places: &'a [Place], name: &str) -> Option<&'a [u8]>
+    ensures { texts_of places.now name.now ≡ option_map (λ text. text.now) result }
+{
+    for place in places {
+        if place.name.as_str() == name {
+            return Some(place.text.as_slice());
+        }
+    }
+    None
+}
+
+/// The number of the text of this name, counted from the oldest place.
+fn number_among(places: &[Place], name: &str) -> Option<usize> {
+    places
+        .iter()
+        .rev()
+        .rposition(|place| place.name.as_str() == name)
+}
+
+impl Shelf {
+    /// An empty shelf, whose drafts have room for this many bytes. It never fails for another
+    /// reason than that they are full.
+    pub fn new(alloc: Global, room: usize) -> Shelf
+        ensures events { result.events ≡ [] }
+        ensures no_failure { result.failures ≡ 0 }
+    {
+        Shelf {
+            alloc,
+            room,
+            fails: Fails::Never,
+            places: Vec::new(alloc),
+            history: History::new(),
+            failures: 0,
+        }
+    }
+
+    /// From now on it fails at these calls, and only there.
+    pub fn fail(&mut self, fails: Fails)
+        ensures { self.new ≡ self.old }
+    {
+        self.fails = fails;
+    }
+
+    /// Puts a text in a named file, as another program does. If there is no memory, nothing is put.
+    pub fn put(&mut self, name: &str, text: &[u8]) -> Result<(), Memory>
+        ensures placed { OnOk result
+            (self.new.events ≡ self.old.events ++ placed name.now (Some text.now) ∷ []) }
+        ensures unplaced { OnErr result (self.new ≡ self.old) }
+        ensures no_failure { self.new.failures ≡ self.old.failures }
+    {
+        let place = Place {
+            name: String::from_str(self.alloc, name)?,
+            text: Vec::from_slice(self.alloc, text)?,
+        };
+        self.places.insert(0, place)?;
+        self.history = self.history.then(&Note::Placed(name, text));
+        Ok(())
+    }
+
+    /// What a named file holds. `None` if there is none.
+    pub fn text(&self, name: &str) -> Option<&[u8]>
+        ensures { option_map (λ text. text.now) result ≡ text_under self.now.events name.now }
+    {
+        text_among(self.places.as_slice(), name)
+    }
+
+    /// Each file that was opened held what was last placed under its name.
+    pub fn tell(&self)
+        ensures { IsShelfHistory self.now.events }
+    {
+        let _ = &self.places;
+    }
+
+    /// A copy of what a named file holds, if it can be opened.
+    fn copy_of(&self, name: &str) -> Result<Vec<u8>, OpenFault>
+        ensures { IfOk result (λ text. text_under self.now.events name.now ≡ Some text.items) }
+    {
+        if self.fails == Fails::AtOpen {
+            return Err(OpenFault::Failed);
+        }
+        if self.fails == Fails::AtOpenForMemory {
+            return Err(OpenFault::Memory);
+        }
+        match self.text(name) {
+            Some(text) => Ok(Vec::from_slice(self.alloc, text)?),
+            None => Err(OpenFault::Failed),
+        }
+    }
+
+    /// How many bytes an opened file gives before it fails.
+    fn sound(&self) -> usize {
+        match self.fails {
+            Fails::AfterReading(sound) => sound,
+            _ => usize::MAX,
+        }
+    }
+
+    /// How many bytes a draft takes before it fails.
+    fn draft_room(&self) -> usize {
+        match self.fails {
+            Fails::AfterWriting(room) => room,
+            _ => self.room,
+        }
+    }
+
+    /// An empty draft for a named file, if it still holds the text that was seen.
+    fn draft_of(&self, name: &str, seen: &Sight) -> Result<Kept, OpenFault>
+        ensures empty { IfOk result (λ draft. draft.taken ≡ []) }
+        ensures sound { IfOk result (λ draft. draft.failures ≡ 0) }
+    {
+        if self.fails == Fails::AtCreate
+            || number_among(self.places.as_slice(), name) != seen.text
+        {
+            return Err(OpenFault::Failed);
+        }
+        if self.fails == Fails::AtCreateForMemory {
+            return Err(OpenFault::Memory);
+        }
+        match Kept::new(self.alloc, self.draft_room()) {
+            Ok(draft) => Ok(draft),
+            Err(Memory) => Err(OpenFault::Memory),
+        }
+    }
+
+    /// Puts what a draft took in a named file. False if that fails.
+    fn put_draft(&mut self, name: &str, text: &[u8]) -> bool
+        ensures placed { result ≡ true
+            → self.new.events ≡ self.old.events ++ placed name.now (Some text.now) ∷ [] }
+        ensures unplaced { result ≡ false → self.new ≡ self.old }
+        ensures no_failure { self.new.failures ≡ self.old.failures }
+    {
+        if self.fails == Fails::AtComplete {
+            return false;
+        }
+        self.put(name, text).is_ok()
+    }
+}
+
+impl Folder for Shelf {
+    type File = Page;
+
+    type Draft = Kept;
+
+    type Seen = Sight;
+
+    ghost history = { λ shelf. shelf.events };
+
+    ghost failures = { λ shelf. shelf.failures };
+
+    ghost look_of = { λ seen. seen.moment.at };
+
+    ghost names_bytes = { true };
+
+    fn look(&mut self, name: &str) -> Sight {
+        let text = number_among(self.places.as_slice(), name);
+        let moment = self.history.moment();
+        self.history = self.history.then(&Note::Looked(name));
+        Sight { text, moment }
+    }
+
+    fn open(&mut self, name: &str) -> Result<Page, OpenFault> {
+        match self.copy_of(name) {
+            Ok(text) => {
+                self.history = self.history.then(&Note::Opened(name, text.as_slice()));
+                Ok(Page::new(text, self.sound()))
+            }
+            Err(OpenFault::Memory) => {
+                self.history = self.history.then(&Note::Unopened(name));
+                Err(OpenFault::Memory)
+            }
+            Err(OpenFault::Failed) => {
+                self.history = self.history.then(&Note::Unopened(name));
+                self.failures += 1;
+                Err(OpenFault::Failed)
+            }
+        }
+    }
+
+    fn close(&mut self, file: Page) {
+        self.failures += file.failures();
+    }
+
+    fn create<'a>(&mut self, name: &'a str, seen: &Sight) -> Result<Drafted<'a, Kept>, OpenFault> {
+        match self.draft_of(name, seen) {
+            Ok(draft) => {
+                self.history = self.history.then(&Note::Drafted(name, &seen.moment));
+                Ok(Drafted { name, draft })
+            }
+            Err(OpenFault::Memory) => {
+                self.history = self.history.then(&Note::Undrafted(name, &seen.moment));
+                Err(OpenFault::Memory)
+            }
+            Err(OpenFault::Failed) => {
+                self.history = self.history.then(&Note::Undrafted(name, &seen.moment));
+                self.failures += 1;
+                Err(OpenFault::Failed)
+            }
+        }
+    }
+
+    fn complete(&mut self, made: Drafted<'_, Kept>) -> Result<(), Failed>
+        requires { self.old.failures + made.draft.failures < 2 ^ 64 - 1 }
+        ensures asked { OnOk result (self.new.events ≡ self.old.events
+            ++ placed made.entry.name.now (Some made.entry.draft.taken) ∷ []) }
+        ensures unplaced { OnErr result (self.new.events ≡ self.old.events
+            ++ unplaced made.entry.name.now (Some made.entry.draft.taken) ∷ []) }
+        ensures failures { CountsFailure (IsErr result)
+            (self.old.failures + made.entry.draft.failures) self.new.failures }
+    {
+        self.failures += made.draft.failures();
+        if self.put_draft(made.name, made.draft.bytes()) {
+            return Ok(());
+        }
+        self.history = self
+            .history
+            .then(&Note::Unplaced(made.name, made.draft.bytes()));
+        self.failures += 1;
+        Err(Failed)
+    }
+
+    fn discard(&mut self, made: Drafted<'_, Kept>)
+        requires { self.old.failures + made.draft.failures < 2 ^ 64 }
+        ensures asked { self.new.events ≡ self.old.events ++ dropped made.entry.name.now ∷ [] }
+        ensures counted { self.new.failures ≡ self.old.failures + made.entry.draft.failures }
+    {
+        self.failures += made.draft.failures();
+        self.history = self.history.then(&Note::Dropped(made.name));
+    }
+
+    fn failures(&self) -> u64 {
+        self.failures
+    }
+}

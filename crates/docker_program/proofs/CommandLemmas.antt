@@ -1,0 +1,275 @@
+-- What a command knows, from what its sources held.
+use Rattle.std.proofs.Common.{◌≡◌, ◌≤◌, ◌<◌, ◌^◌, ℕ, List, [], ◌∷◌, Some, None, length, refl, sym, ◌∙◌, ap, subst, arith, append-nil}
+use Rattle.std.specs.Prelude.{max, Option}
+use Rattle.std.proofs.lemmas.List.Elements.{All-cons, All-nil}
+use Rattle.cif_laws.proofs.lists.Membership.{nil-Contains}
+use Rattle.docker_model.specs.records.Date.{IsDay}
+use Rattle.docker_model.specs.file.File.{IsFile, most_records}
+use Rattle.docker_model.specs.file.Text.{lines_of}
+use Rattle.docker_model.specs.state.Lapse.{IsDayRefused}
+use Rattle.docker_model.specs.state.State.{State, IsJoin, raise_horizon}
+use Rattle.docker_model.specs.state.StateFault.{IsStateText}
+use Rattle.docker_model.specs.state.StateText.{Format, dks_1, dks_2, state_text}
+use Rattle.docker_model.specs.state.Summary.{IsSummary}
+use Rattle.docker_model.specs.run.Run.{Known, IsStateOf, nothing, united}
+use Rattle.docker_model.specs.run.Knowledge.{IsGoodKnown}
+use Rattle.docker_laws.proofs.runs.GoodKnowledge.{horizon_good, nothing_good, united_good}
+use Rattle.docker_laws.proofs.runs.MessageTexts.{counts_fit, summary_told}
+use Rattle.state_laws.proofs.states.SummaryLaws.{join_is_summary, raised_summary}
+use Rattle.state_laws.proofs.texts.TextsApart.{one_text}
+use Rattle.docker_host.specs.History.{Bytes}
+use Rattle.docker_cmd.specs.Office.{TakesFile, no_state}
+use Rattle.docker_cmd.specs.SourceRead.{Held, ReadsState}
+use Rattle.docker_cmd.specs.Prepared.{most_bytes}
+use Rattle.docker_cmd.specs.Words.{NamesDay, NamesStored, OfTwo, Text}
+use Rattle.docker_cmd.specs.Job.{JobView}
+use Rattle.docker_cmd.specs.Prepared.{IsOutputText, IsReadOf, IsRefusedDocker, ReadView, file_read, office_read}
+use Rattle.docker_cmd.specs.Tasks.{AreWordsOf, TaskView, new_task, check_task, day_task, take_task, merge_task, print_task, files_task, horizon_task, migrate_task, output_of}
+use Rattle.docker_program.specs.SourceNames.{file_stored}
+use Rattle.docker_program.specs.Program.{AsksFor}
+use Rattle.docker_program.specs.Sources.{SourcesRead}
+use Rattle.docker_program.specs.Commands.{HoldsFile, HoldsKnown, IsKnownText, Knows, MayStore, Prints, PrintsKnown, Run, Stores, WritesKnown, of_file, of_horizon}
+
+-- the state is the summary of what is known: of files, under a horizon
+pub record IsKnown (known : Known) (state : State) : Type 0 where
+  pub good : IsGoodKnown dks_2 known
+  pub is : IsStateOf known state
+
+none_some : (name : Text) → ◌≡◌ {A = Option Text} None (Some name) → ⊥
+none_some name is = cc
+
+-- ---- what a source held
+
+-- the state of a text is the one of which the text was made
+one_sent : (format : Format) (known : Known) (sent state : State) (text : List ℕ) → IsGoodKnown format known → IsStateOf known sent
+    → text ≡ state_text format sent → IsStateText format most_bytes text state → sent ≡ state
+one_sent format known sent state text good is told reads =
+    let same : state_text format sent ≡ state_text format state = sym told ∙ reads.is in
+    let within : length text ≤ most_bytes = reads.within in
+    let short : length (state_text format sent) < 2 ^ 64 = subst (λ (t : List ℕ). length t < 2 ^ 64) told (omega arith) in
+    let counts = counts_fit format sent short in
+    one_text format sent state (summary_told format known sent good is, counts.0, counts.1) reads.valid same
+
+-- the state that a source held is the summary of what its text knows
+pub state_held : (format : Format) (known : Known) (bytes : Bytes) (state : State) → HoldsKnown format bytes known → ReadsState format most_bytes bytes state
+    → IsStateOf known state
+state_held format known bytes state holds reads =
+    subst (IsStateOf known) (one_sent format known holds.2.is.0 state holds.0 holds.2.good holds.2.is.1 holds.2.is.2
+    (subst (λ (t : List ℕ). IsStateText format most_bytes t state) (sym same) reads.is)) holds.2.is.1
+  where
+    same : holds.0 ≡ reads.text
+    same = subst (λ (b : Bytes). Held b reads.text) holds.1 reads.held
+
+-- the state that a source held is known
+pub known_held : (known : Known) (bytes : Bytes) (state : State) → HoldsKnown dks_2 bytes known → ReadsState dks_2 most_bytes bytes state
+    → IsKnown known state
+known_held known bytes state holds reads = record {
+  good = holds.2.good;
+  is = state_held dks_2 known bytes state holds reads;
+}
+
+-- a file that a source held is the one that was read of it
+pub file_held : (bytes : Bytes) (file : List (List ℕ)) (old new : State) (holds : HoldsFile bytes file) (takes : TakesFile most_records bytes old new)
+    → takes.file ≡ file
+file_held bytes file old new holds takes =
+    let same : holds.0 ≡ takes.text = subst (λ (b : Bytes). Held b takes.text) holds.1 takes.held in
+    sym takes.is_text.lines ∙ ap lines_of (sym same) ∙ holds.2.lines
+
+-- ---- what is known after a step
+
+-- what is known after a join
+pub known_joined : (old heard : Known) (own other after : State) → IsKnown old own → IsKnown heard other → IsJoin own other after
+    → IsKnown (united old heard) after
+known_joined old heard own other after first second join = record {
+  good = united_good dks_2 old heard first.good second.good;
+  is = join_is_summary old.files heard.files old.horizon heard.horizon own other after first.is second.is join;
+}
+
+-- what is known after a horizon was set
+pub known_raised : (old : Known) (day : ℕ) (state : State) → IsDay day → IsKnown old state → IsKnown (united old (of_horizon day)) (raise_horizon day state)
+known_raised old day state is_day known = record {
+  good = united_good dks_2 old (of_horizon day) known.good (horizon_good dks_2 day is_day);
+  is = subst (λ fs. IsSummary fs (max old.horizon day) (raise_horizon day state)) (sym (append-nil old.files))
+      (raised_summary old.files old.horizon day state known.is);
+}
+
+-- a file that was read is known
+pub known_file : (file : List (List ℕ)) (state : State) → IsFile file → length file ≤ most_records → IsSummary (file ∷ []) 0 state
+    → IsKnown (of_file file) state
+known_file file state is few summary = record {
+  good = ((All-cons IsFile file [] is (All-nil IsFile), All-cons (λ f. length f ≤ most_records) file [] few (All-nil (λ f. length f ≤ most_records))), omega arith);
+  is = summary;
+}
+
+-- no file is known of the state of none
+pub known_nothing : IsKnown nothing no_state
+known_nothing = record {
+  good = nothing_good dks_2;
+  is = record {
+    horizon_is = refl;
+    floor = None;
+    is_floor = λ item among. absurd (nil-Contains item among);
+    ledger_ascends = tt;
+    ledger = λ item. (λ among. absurd (nil-Contains item among), λ told. absurd (nil-Contains told.0 told.1.among));
+    entries_ascend = tt;
+    entries = λ key entry. (λ among. absurd (nil-Contains (key, entry) among), λ told. absurd (nil-Contains told.1.is.file told.1.is.kept.among));
+  };
+}
+
+-- what is known of a state is known of its text
+pub known_text : (known : Known) (state : State) (text : List ℕ) → IsKnown known state → text ≡ state_text dks_2 state → IsKnownText dks_2 known text
+known_text known state text is same = record {
+  good = is.good;
+  is = (state, is.is, same);
+}
+
+-- ---- a command
+
+-- the state of no file, after a file was taken
+taken_alone : (bytes : Bytes) (file : List (List ℕ)) (state : State) → HoldsFile bytes file → TakesFile most_records bytes no_state state
+    → IsKnown (of_file file) state
+taken_alone bytes file state holds takes =
+    subst (λ (f : List (List ℕ)). IsKnown (of_file f) state) (file_held bytes file no_state state holds takes)
+    (known_joined nothing (of_file takes.file) no_state takes.own state known_nothing
+    (known_file takes.file takes.own takes.is_text.is takes.is_text.within takes.of_file) takes.joined)
+
+-- the state of what was known, after a file was taken
+taken_behind : (own : Known) (bytes : Bytes) (file : List (List ℕ)) (old new : State) → IsKnown own old → HoldsFile bytes file
+    → TakesFile most_records bytes old new → IsKnown (united own (of_file file)) new
+taken_behind own bytes file old new is holds takes =
+    subst (λ (f : List (List ℕ)). IsKnown (united own (of_file f)) new) (file_held bytes file old new holds takes)
+    (known_joined own (of_file takes.file) old takes.own new is
+    (known_file takes.file takes.own takes.is_text.is takes.is_text.within takes.of_file) takes.joined)
+
+-- an older state is known
+known_older : (known : Known) (bytes : Bytes) (state : State) → HoldsKnown dks_1 bytes known → ReadsState dks_1 most_bytes bytes state
+    → IsKnown known state
+known_older known bytes state holds reads = record {
+  good = (holds.2.good.0, subst IsDay (sym holds.2.good.1) (omega arith));
+  is = state_held dks_1 known bytes state holds reads;
+}
+
+-- the docker of a state that is known
+known_docker : (known : Known) (state : State) (place : List ℕ) (day : ℕ) (text : List ℕ) → IsKnown known state → ¬ IsDayRefused state.horizon day
+    → IsOutputText (output_of (print_task place day)) (office_read state) text → PrintsKnown known place day text
+known_docker known state place day text is allowed text_is = record {
+  good = is.good;
+  allowed = subst (λ (h : ℕ). ¬ IsDayRefused h day) is.is.horizon_is allowed;
+  state = state;
+  is = is.is;
+  docker = text_is;
+}
+
+-- what a job that knows this writes of a state
+written_of_state : (task : TaskView) (first second : Bytes) (state : State) (text : List ℕ) (known : Known)
+    → ((day : ℕ) → task ≡ horizon_task day → IsDay day) → IsReadOf task first second (office_read state)
+    → IsOutputText (output_of task) (office_read state) text → ¬ IsRefusedDocker (output_of task) (office_read state)
+    → Knows task first second known → WritesKnown task known text
+written_of_state new_task first second state text known days reads is allowed knows =
+    known_text known state text
+    (subst (λ (k : Known). IsKnown k state) (sym knows) (subst (IsKnown nothing) (sym reads) known_nothing)) is
+written_of_state check_task first second state text known days reads is allowed knows = tt
+written_of_state (day_task place day) first second state text known days reads is allowed knows =
+    known_docker known state place day text
+    (subst (λ (k : Known). IsKnown k state) (sym knows.2) (taken_alone first knows.0 state knows.1 reads)) allowed is
+written_of_state take_task first second state text known days reads is allowed knows =
+    known_text known state text
+    (subst (λ (k : Known). IsKnown k state) (sym knows.4)
+    (taken_behind knows.0 second knows.1 reads.own state (known_held knows.0 first reads.own knows.2 reads.reads) knows.3 reads.takes)) is
+written_of_state merge_task first second state text known days reads is allowed knows =
+    known_text known state text
+    (subst (λ (k : Known). IsKnown k state) (sym knows.4)
+    (known_joined knows.0 knows.1 reads.own reads.joins.received state (known_held knows.0 first reads.own knows.2 reads.reads)
+    (known_held knows.1 second reads.joins.received knows.3 reads.joins.read) reads.joins.join)) is
+written_of_state (print_task place day) first second state text known days reads is allowed knows =
+    known_docker known state place day text (known_held known first state knows reads) allowed is
+written_of_state files_task first second state text known days reads is allowed knows =
+    (state, (known_held known first state knows reads).is, is)
+written_of_state (horizon_task day) first second state text known days reads is allowed knows =
+    known_text known state text
+    (subst (λ (k : Known). IsKnown k state) (sym knows.2)
+    (subst (IsKnown (united knows.0 (of_horizon day))) (sym reads.raised)
+    (known_raised knows.0 day reads.own (days day refl) (known_held knows.0 first reads.own knows.1 reads.reads)))) is
+written_of_state migrate_task first second state text known days reads is allowed knows =
+    known_text known state text (known_older known first state knows reads) is
+
+-- a job that counts a file is `check`
+written_of_file : (task : TaskView) (known : Known) (text : List ℕ) → task ≡ check_task → WritesKnown task known text
+written_of_file task known text is = subst (λ (t : TaskView). WritesKnown t known text) (sym is) tt
+
+-- what a job that knows this writes of what it read
+written_known : (task : TaskView) (first second : Bytes) (what : ReadView) (text : List ℕ) (known : Known)
+    → ((day : ℕ) → task ≡ horizon_task day → IsDay day) → IsReadOf task first second what
+    → IsOutputText (output_of task) what text → ¬ IsRefusedDocker (output_of task) what
+    → Knows task first second known → WritesKnown task known text
+written_known task first second (file_read file) text known days reads is allowed knows = written_of_file task known text reads.0
+written_known task first second (office_read state) text known days reads is allowed knows =
+    written_of_state task first second state text known days reads is allowed knows
+
+-- the words of a job are the words of its task
+asked_words : (words : List Text) (input rest : Bytes) (job : JobView) → AsksFor words input job rest → AreWordsOf job.task job.words
+asked_words [] input rest job asks = asks.2.required
+asked_words (word ∷ words) input rest job asks = asks.0.required
+
+-- the day of two words is a day
+one_day : (words : List Text) (day : ℕ) → OfTwo (λ state date. NamesStored state × NamesDay date day) words → IsDay day
+one_day [] day of = absurd of
+one_day (word ∷ []) day of = absurd of
+one_day (word ∷ second ∷ []) day of = of.1.within
+one_day (word ∷ second ∷ third ∷ more) day of = absurd of
+
+asked_day : (words : List Text) (input rest : Bytes) (job : JobView) → AsksFor words input job rest → (day : ℕ) → job.task ≡ horizon_task day → IsDay day
+asked_day words input rest job asks day is =
+    one_day job.words day (subst (λ (t : TaskView). AreWordsOf t job.words) is (asked_words words input rest job asks))
+
+-- a state that is stored is no docker
+stored_allowed : (task : TaskView) (words : List Text) (name : Text) (what : ReadView) → file_stored (output_of task) words ≡ Some name
+    → ¬ IsRefusedDocker (output_of task) what
+stored_allowed task words name (file_read file) stored = λ refused. refused
+stored_allowed new_task words name (office_read state) stored = λ refused. refused
+stored_allowed check_task words name (office_read state) stored = λ refused. refused
+stored_allowed (day_task place day) words name (office_read state) stored = λ refused. absurd (none_some name stored)
+stored_allowed take_task words name (office_read state) stored = λ refused. refused
+stored_allowed merge_task words name (office_read state) stored = λ refused. refused
+stored_allowed (print_task place day) words name (office_read state) stored = λ refused. absurd (none_some name stored)
+stored_allowed files_task words name (office_read state) stored = λ refused. refused
+stored_allowed (horizon_task day) words name (office_read state) stored = λ refused. refused
+stored_allowed migrate_task words name (office_read state) stored = λ refused. refused
+
+-- a job that stores what it writes stores the text of the summary of what it knows
+stored_known : (task : TaskView) (words : List Text) (name : Text) (known : Known) (text : List ℕ) → file_stored (output_of task) words ≡ Some name
+    → WritesKnown task known text → IsKnownText dks_2 known text
+stored_known new_task words name known text stored writes = writes
+stored_known check_task words name known text stored writes = absurd (none_some name stored)
+stored_known (day_task place day) words name known text stored writes = absurd (none_some name stored)
+stored_known take_task words name known text stored writes = writes
+stored_known merge_task words name known text stored writes = writes
+stored_known (print_task place day) words name known text stored writes = absurd (none_some name stored)
+stored_known files_task words name known text stored writes = absurd (none_some name stored)
+stored_known (horizon_task day) words name known text stored writes = writes
+stored_known migrate_task words name known text stored writes = writes
+
+-- ---- the laws of one command
+
+pub stores_known : (run : Run) (job : JobView) (read : SourcesRead) (text : List ℕ) (known : Known) → Stores run job read text
+    → Knows job.task read.first read.second known → IsKnownText dks_2 known text
+stores_known run job read text known stores knows =
+    let reads = stores.reads in
+    stored_known job.task job.words stores.name known text stores.stored
+    (written_known job.task read.first read.second reads.what text known (asked_day run.words run.old.input reads.rest job reads.asks)
+    reads.is_read reads.is_text (stored_allowed job.task job.words stores.name reads.what stores.stored) knows)
+
+pub may_store_known : (run : Run) (job : JobView) (read : SourcesRead) (text : List ℕ) (known : Known) → MayStore run job read text
+    → Knows job.task read.first read.second known → IsKnownText dks_2 known text
+may_store_known run job read text known stores knows =
+    let reads = stores.reads in
+    stored_known job.task job.words stores.name known text stores.stored
+    (written_known job.task read.first read.second reads.what text known (asked_day run.words run.old.input reads.rest job reads.asks)
+    reads.is_read reads.is_text (stored_allowed job.task job.words stores.name reads.what stores.stored) knows)
+
+pub prints_known : (run : Run) (job : JobView) (read : SourcesRead) (text : List ℕ) (known : Known) → Prints run job read text
+    → Knows job.task read.first read.second known → WritesKnown job.task known text
+prints_known run job read text known prints knows =
+    let reads = prints.reads in
+    written_known job.task read.first read.second reads.what text known (asked_day run.words run.old.input reads.rest job reads.asks)
+    reads.is_read reads.is_text prints.allowed knows

@@ -1,0 +1,229 @@
+-- What a command stored or printed, from how it ended.
+use Rattle.std.proofs.Common.{◌≡◌, ◌≢◌, ℕ, List, [], ◌∷◌, ◌++◌, Option, None, Some, length, refl, sym, ◌∙◌, ap, subst, arith, inl, inr, append-nil, append_assoc}
+use Rattle.docker_host.specs.Asked.{IsStored, IsUnplaced}
+use Rattle.docker_host.specs.History.{Bytes, Event, looked, opened, unopened, drafted, undrafted, dropped}
+use Rattle.docker_cmd.specs.Words.{Text}
+use Rattle.docker_cmd.specs.Job.{JobView}
+use Rattle.docker_cmd.specs.declared.job_fault.JobFault.TheVariants as job
+use Rattle.docker_cmd.specs.Prepared.{IsOutputText, IsRefusedDocker, PreparedView, output_of}
+use Rattle.docker_cmd.specs.declared.fault.Fault.{Fault}
+use Rattle.docker_cmd.specs.declared.fault.Fault.TheVariants.{Job, Office}
+use Rattle.docker_cmd.specs.OfficeFault.TheVariants as office
+use Rattle.docker_program.specs.SourceNames.{SourceNames, no_source, standard_input, one_file, file_and_input, two_files, names_of, stored_by}
+use Rattle.docker_program.specs.Sources.{FailsToOpen, IsNotOpened, IsOpened, SourcesRead, with_look_at, with_openings}
+use Rattle.docker_program.specs.Writing.{WantsToWrite, WantsToWriteTo, Writes, WritesPart, WritesPartTo, WritesTo, Written}
+use Rattle.docker_program.specs.Program.{AsksFor, EndsBy, FailsToRead, HasRead, IsAsked, WantsMemory, ending_status, from_first_look, reading, writing}
+use Rattle.docker_program.specs.Commands.{AreNoStorings, IsDone, IsRun, IsUndone, Reads, Run, StoresNothing, history_read}
+
+-- ---- no storing
+
+-- since then no event stored anything
+NoStoring : List Event → List Event → Type 0
+NoStoring old new = (events : List Event) × (new ≡ old ++ events) × AreNoStorings events
+
+none_append : (events more : List Event) → AreNoStorings events → AreNoStorings more → AreNoStorings (events ++ more)
+none_append [] more none then_none = then_none
+none_append (event ∷ events) more none then_none = (none.0, none_append events more none.1 then_none)
+
+none_here : (history : List Event) → NoStoring history history
+unfolding NoStoring
+none_here history = ([], sym (append-nil history), tt)
+
+none_more : (old middle new events : List Event) → NoStoring old middle → new ≡ middle ++ events → AreNoStorings events → NoStoring old new
+unfolding NoStoring
+none_more old middle new events before after none = (
+  before.0 ++ events,
+  after ∙ ap (λ (h : List Event). h ++ events) before.1 ∙ append_assoc old before.0 events,
+  none_append before.0 events before.2 none,
+)
+
+none_same : (old middle new : List Event) → NoStoring old middle → new ≡ middle → NoStoring old new
+none_same old middle new before same = subst (NoStoring old) (sym same) before
+
+none_looked : (stored : Option Text) (history : List Event) → NoStoring history (with_look_at stored history)
+none_looked None history = none_here history
+none_looked (Some name) history = none_more history history _ (looked name ∷ []) (none_here history) refl (tt, tt)
+
+none_opened : (names : SourceNames) (read : SourcesRead) (old history : List Event) → NoStoring old history
+    → NoStoring old (with_openings names read history)
+none_opened no_source read old history none = none
+none_opened standard_input read old history none = none
+none_opened (one_file name) read old history none = none_more old history _ (opened name read.first ∷ []) none refl (tt, tt)
+none_opened (file_and_input name) read old history none = none_more old history _ (opened name read.first ∷ []) none refl (tt, tt)
+none_opened (two_files name other) read old history none =
+    none_more old history _ (opened name read.first ∷ opened other read.second ∷ []) none refl (tt, (tt, tt))
+
+none_failed : (names : SourceNames) (old before now : List Event) → NoStoring old before → FailsToOpen names before now → NoStoring old now
+none_failed no_source old before now none fails = absurd fails
+none_failed standard_input old before now none fails = absurd fails
+none_failed (one_file name) old before now none fails = none_more old before now (unopened name ∷ []) none fails (tt, tt)
+none_failed (file_and_input name) old before now none fails = none_more old before now (unopened name ∷ []) none fails (tt, tt)
+none_failed (two_files name other) old before now none (inl fails) = none_more old before now (unopened name ∷ []) none fails (tt, tt)
+none_failed (two_files name other) old before now none (inr fails) =
+    none_more old before now (opened name fails.0 ∷ unopened other ∷ []) none fails.1 (tt, (tt, tt))
+
+nothing_stored : (run : Run) → NoStoring run.old.history run.new.history → StoresNothing run
+unfolding NoStoring
+nothing_stored run none = record { events = none.0; history = none.1; none = none.2 }
+
+-- ---- sources
+
+module _ (run : Run) (job : JobView) (rest : Bytes) where
+  none_if_opened : (now : List Event) → IsOpened (reading run.old run.new job rest now) job → NoStoring run.old.history now
+  none_if_opened now is =
+      none_same run.old.history _ now
+      (none_opened (names_of job) is.read run.old.history _ (none_looked (stored_by job) run.old.history)) is.history
+
+  none_if_unopened : (now : List Event) → IsNotOpened (reading run.old run.new job rest now) job → NoStoring run.old.history now
+  none_if_unopened now fails =
+      none_failed (names_of job) run.old.history _ now (none_looked (stored_by job) run.old.history) fails.fails
+
+  none_if_failed : (now : List Event) → FailsToRead (reading run.old run.new job rest now) job → NoStoring run.old.history now
+  none_if_failed now (inl fails) = none_if_unopened now fails
+  none_if_failed now (inr is) = none_if_opened now is
+
+  -- a job that read its sources whole, and what came of it
+  module _ {Holds : Written → PreparedView → Type 0} (has : HasRead run.old run.new Holds job rest) where
+    read_none : NoStoring run.old.history has.read
+    read_none = none_if_opened has.read has.is.opened
+
+    reads_text : AsksFor run.words run.old.input job rest → (text : List ℕ) → IsOutputText (output_of has.prepared.job.task) has.prepared.read text
+        → Reads run job has.is.opened.read text
+    reads_text asks text is = record {
+      rest = rest;
+      asks = asks;
+      others = has.is.opened.others;
+      what = has.prepared.read;
+      is_read = has.is.read;
+      is_text = subst (λ (j : JobView). IsOutputText (output_of j.task) has.prepared.read text) has.is.job_is is;
+    }
+
+    at_history : has.read ≡ history_read run.old.history job has.is.opened.read
+    at_history = has.is.opened.history
+
+-- ---- a command that was done
+
+done_to : (run : Run) (job : JobView) (rest : Bytes) (stored : Option Text)
+    (has : HasRead run.old run.new (Writes (from_first_look run.names_bytes run.old)) job rest) → AsksFor run.words run.old.input job rest
+    → stored_by job ≡ stored → WritesTo stored (from_first_look run.names_bytes run.old) (writing run.old run.new has.read) has.prepared → IsDone run
+unfolding reads_text
+done_to run job rest None has asks is writes = (
+  job,
+  has.is.opened.read,
+  writes.0.text,
+  inr (record {
+    reads = reads_text run job rest has asks writes.0.text writes.0.is;
+    unstored = is;
+    allowed = subst (λ (j : JobView). ¬ IsRefusedDocker (output_of j.task) has.prepared.read) has.is.job_is writes.1;
+    history = writes.2 ∙ at_history run job rest has;
+    printed = writes.0.gained;
+  }),
+)
+done_to run job rest (Some name) has asks is writes = (
+  job,
+  has.is.opened.read,
+  writes.0.text,
+  inl (record {
+    reads = reads_text run job rest has asks writes.0.text writes.0.is;
+    name = name;
+    stored = is;
+    history = subst (λ (h : List Event). IsStored run.names_bytes name (length run.old.history) writes.0.text h run.new.history)
+        (at_history run job rest has) writes.0.history;
+    unprinted = writes.1;
+  }),
+)
+
+done_of : (run : Run) → IsAsked run.words run.old.input (HasRead run.old run.new (Writes (from_first_look run.names_bytes run.old))) → IsDone run
+done_of run ends =
+    done_to run ends.job ends.rest (stored_by ends.job) ends.holds ends.asks refl
+    (subst (λ (j : JobView). WritesTo (stored_by j) (from_first_look run.names_bytes run.old) (writing run.old run.new ends.holds.read) ends.holds.prepared)
+    ends.holds.is.job_is ends.holds.holds)
+
+done_by : (run : Run) (ending : Option Fault) → ◌≡◌ {A = ℕ} 0 (ending_status ending) → EndsBy run.words run.names_bytes run.old run.new ending → IsDone run
+done_by run None same ends = done_of run ends
+done_by run (Some (Job job.Usage)) same ends = let never : ⊥ = omega arith in absurd never
+done_by run (Some (Job job.Memory)) same ends = let never : ⊥ = omega arith in absurd never
+done_by run (Some (Job job.Source)) same ends = let never : ⊥ = omega arith in absurd never
+done_by run (Some (Office (office.File fault))) same ends = let never : ⊥ = omega arith in absurd never
+done_by run (Some (Office (office.State fault))) same ends = let never : ⊥ = omega arith in absurd never
+done_by run (Some (Office office.Lapsed)) same ends = let never : ⊥ = omega arith in absurd never
+done_by run (Some (Office office.Source)) same ends = let never : ⊥ = omega arith in absurd never
+done_by run (Some (Office office.Sink)) same ends = let never : ⊥ = omega arith in absurd never
+done_by run (Some (Office office.Memory)) same ends = let never : ⊥ = omega arith in absurd never
+
+-- a command with status 0 stored or printed
+pub run_done : (run : Run) → IsRun run 0 → IsDone run
+run_done run performs = done_by run performs.ending performs.status_is performs.ends
+
+-- ---- a command that wasn't done
+
+part_to : (run : Run) (job : JobView) (rest : Bytes) (stored : Option Text)
+    (has : HasRead run.old run.new (WritesPart (from_first_look run.names_bytes run.old)) job rest) → AsksFor run.words run.old.input job rest
+    → stored_by job ≡ stored → WritesPartTo stored (from_first_look run.names_bytes run.old) (writing run.old run.new has.read) has.prepared → IsUndone run
+part_to run job rest None has asks is writes =
+    inl (nothing_stored run (none_same run.old.history has.read run.new.history (read_none run job rest has) writes.1))
+part_to run job rest (Some name) has asks is (inl undrafted_is, kept) =
+    inl (nothing_stored run (none_more run.old.history has.read run.new.history (undrafted name (length run.old.history) ∷ [])
+    (read_none run job rest has) undrafted_is (tt, tt)))
+part_to run job rest (Some name) has asks is (inr (inl dropped_is), kept) =
+    inl (nothing_stored run (none_more run.old.history has.read run.new.history
+    (drafted name (length run.old.history) ∷ dropped name ∷ []) (read_none run job rest has) dropped_is (tt, (tt, tt))))
+part_to run job rest (Some name) has asks is (inr (inr may), kept) =
+    inr (
+      job,
+      has.is.opened.read,
+      may.text,
+      record {
+        reads = reads_text run job rest has asks may.text may.is;
+        name = name;
+        stored = is;
+        history = subst (λ (h : List Event). IsUnplaced run.names_bytes name (length run.old.history) may.text h run.new.history)
+            (at_history run job rest has) may.history;
+        unprinted = kept;
+      },
+    )
+
+part_of : (run : Run) → IsAsked run.words run.old.input (HasRead run.old run.new (WritesPart (from_first_look run.names_bytes run.old))) → IsUndone run
+part_of run ends =
+    part_to run ends.job ends.rest (stored_by ends.job) ends.holds ends.asks refl
+    (subst (λ (j : JobView). WritesPartTo (stored_by j) (from_first_look run.names_bytes run.old) (writing run.old run.new ends.holds.read)
+    ends.holds.prepared) ends.holds.is.job_is ends.holds.holds)
+
+want_none : (run : Run) (job : JobView) (rest : Bytes) (stored : Option Text)
+    (has : HasRead run.old run.new (WantsToWrite (from_first_look run.names_bytes run.old)) job rest)
+    → WantsToWriteTo stored (from_first_look run.names_bytes run.old) (writing run.old run.new has.read) has.prepared
+    → NoStoring run.old.history run.new.history
+want_none run job rest None has wants = none_same run.old.history has.read run.new.history (read_none run job rest has) wants.1
+want_none run job rest (Some name) has wants =
+    none_more run.old.history has.read run.new.history (undrafted name (length run.old.history) ∷ []) (read_none run job rest has) wants (tt, tt)
+
+-- nothing was asked of the folder
+unasked : (run : Run) → run.new.history ≡ run.old.history → IsUndone run
+unasked run same = inl (nothing_stored run (none_same run.old.history run.old.history run.new.history (none_here run.old.history) same))
+
+undone_by : (run : Run) (status : ℕ) (ending : Option Fault) → status ≢ 0 → status ≡ ending_status ending
+    → EndsBy run.words run.names_bytes run.old run.new ending → IsUndone run
+undone_by run status None some same ends = absurd (some same)
+undone_by run status (Some (Job job.Usage)) some same ends = unasked run ends.0.unasked
+undone_by run status (Some (Job job.Memory)) some same ends = unasked run ends.0.unasked
+undone_by run status (Some (Job job.Source)) some same ends = unasked run ends.0.unasked
+undone_by run status (Some (Office (office.File fault))) some same ends =
+    inl (nothing_stored run (none_if_opened run ends.0.job ends.0.rest run.new.history ends.0.holds.0))
+undone_by run status (Some (Office (office.State fault))) some same ends =
+    inl (nothing_stored run (none_if_opened run ends.0.job ends.0.rest run.new.history ends.0.holds.0))
+undone_by run status (Some (Office office.Lapsed)) some same ends =
+    inl (nothing_stored run (none_same run.old.history ends.0.holds.read run.new.history
+    (read_none run ends.0.job ends.0.rest ends.0.holds) ends.0.holds.holds.1))
+undone_by run status (Some (Office office.Source)) some same ends =
+    inl (nothing_stored run (none_if_failed run ends.0.job ends.0.rest run.new.history ends.0.holds))
+undone_by run status (Some (Office office.Sink)) some same ends = part_of run ends
+undone_by run status (Some (Office office.Memory)) some same (asked, kept) = by asked.holds
+  where
+    by : WantsMemory run.names_bytes run.old run.new asked.job asked.rest → IsUndone run
+    by (inl (inl fails)) = inl (nothing_stored run (none_if_unopened run asked.job asked.rest run.new.history fails))
+    by (inl (inr wants)) = inl (nothing_stored run (none_if_opened run asked.job asked.rest run.new.history wants.0))
+    by (inr has) = inl (nothing_stored run (want_none run asked.job asked.rest (stored_by has.prepared.job) has has.holds))
+
+-- a command with another status stored nothing, or may have
+pub run_undone : (run : Run) (status : ℕ) → IsRun run status → status ≢ 0 → IsUndone run
+run_undone run status performs some = undone_by run status performs.ending some performs.status_is performs.ends

@@ -1,0 +1,187 @@
+-- What commands leave on a shelf, from nothing but their contract.
+use Rattle.std.proofs.Common.{◌≡◌, ℕ, true, List, [], ◌∷◌, ◌++◌, Option, None, Some, length, refl, sym, ◌∙◌, ap, subst, arith, inl, inr, codes}
+use Rattle.docker_model.specs.file.Change.{changes}
+use Rattle.docker_model.specs.file.Text.{lines_of}
+use Rattle.docker_model.specs.run.Run.{united}
+use Rattle.cif_line.specs.Device.{Takes}
+use Rattle.cif_file.specs.SourceRead.{Held}
+use Rattle.docker_host.specs.History.{Bytes, Event, drafted, looked, opened, placed}
+use Rattle.docker_host.specs.Host.{HostView}
+use Rattle.docker_host.specs.Shelf.{IsShelfHistory}
+use Rattle.docker_cmd.specs.CheckLine.{count_line}
+use Rattle.docker_cmd.specs.Job.{IsJobOf, JobView}
+use Rattle.docker_cmd.specs.Prepared.{IsOutputText, IsReadOf, ReadView, counts_written, file_read, office_read}
+use Rattle.docker_cmd.specs.Tasks.{TaskView, new_task, check_task, day_task, take_task, merge_task, print_task, files_task, horizon_task, migrate_task, name_of, subcommand_of}
+use Rattle.docker_cmd.specs.Words.{Text}
+use Rattle.docker_program.specs.SourceNames.{first_word, stored_by}
+use Rattle.docker_program.specs.Sources.{SourcesRead}
+use Rattle.docker_program.specs.Program.{Performs}
+use Rattle.docker_program.specs.Commands.{IsDone, Prints, Run, Stores, of_file}
+use Rattle.docker_program.specs.ShelfRuns.{IsTaken, both_put, file_name, state_name}
+use Rattle.docker_program.proofs.CommandLemmas.{stores_known}
+use Rattle.docker_program.proofs.EndingLemmas.{run_done}
+
+none_some : (name : Text) → ◌≡◌ {A = Option Text} None (Some name) → ⊥
+none_some name is = cc
+
+-- ---- jobs by their words
+
+-- the first byte, or 0 if there is none
+abbrev first_byte : List ℕ → ℕ
+first_byte [] = 0
+first_byte (byte ∷ bytes) = byte
+
+-- the first byte of the first word
+abbrev first_of : List Text → ℕ
+first_of words = first_byte (first_word words)
+
+-- the words after the first
+abbrev behind : List Text → List Text
+behind [] = []
+behind (word ∷ words) = words
+
+-- words that begin with `check` name a check
+check_named : (task : TaskView) (words more : List Text) → codes "check" ∷ more ≡ name_of (subcommand_of task) ∷ words → task ≡ check_task
+check_named check_task words more same = refl
+check_named new_task words more same = let other : ◌≡◌ {A = ℕ} 99 110 = ap first_of same in let never : ⊥ = omega arith in absurd never
+check_named (day_task place day) words more same = let other : ◌≡◌ {A = ℕ} 99 100 = ap first_of same in let never : ⊥ = omega arith in absurd never
+check_named take_task words more same = let other : ◌≡◌ {A = ℕ} 99 116 = ap first_of same in let never : ⊥ = omega arith in absurd never
+check_named merge_task words more same = let other : ◌≡◌ {A = ℕ} 99 109 = ap first_of same in let never : ⊥ = omega arith in absurd never
+check_named (print_task place day) words more same = let other : ◌≡◌ {A = ℕ} 99 112 = ap first_of same in let never : ⊥ = omega arith in absurd never
+check_named files_task words more same = let other : ◌≡◌ {A = ℕ} 99 102 = ap first_of same in let never : ⊥ = omega arith in absurd never
+check_named (horizon_task day) words more same = let other : ◌≡◌ {A = ℕ} 99 104 = ap first_of same in let never : ⊥ = omega arith in absurd never
+check_named migrate_task words more same = let other : ◌≡◌ {A = ℕ} 99 109 = ap first_of same in let never : ⊥ = omega arith in absurd never
+
+-- words that begin with `take` name a take
+take_named : (task : TaskView) (words more : List Text) → codes "take" ∷ more ≡ name_of (subcommand_of task) ∷ words → task ≡ take_task
+take_named take_task words more same = refl
+take_named new_task words more same = let other : ◌≡◌ {A = ℕ} 116 110 = ap first_of same in let never : ⊥ = omega arith in absurd never
+take_named check_task words more same = let other : ◌≡◌ {A = ℕ} 116 99 = ap first_of same in let never : ⊥ = omega arith in absurd never
+take_named (day_task place day) words more same = let other : ◌≡◌ {A = ℕ} 116 100 = ap first_of same in let never : ⊥ = omega arith in absurd never
+take_named merge_task words more same = let other : ◌≡◌ {A = ℕ} 116 109 = ap first_of same in let never : ⊥ = omega arith in absurd never
+take_named (print_task place day) words more same = let other : ◌≡◌ {A = ℕ} 116 112 = ap first_of same in let never : ⊥ = omega arith in absurd never
+take_named files_task words more same = let other : ◌≡◌ {A = ℕ} 116 102 = ap first_of same in let never : ⊥ = omega arith in absurd never
+take_named (horizon_task day) words more same = let other : ◌≡◌ {A = ℕ} 116 104 = ap first_of same in let never : ⊥ = omega arith in absurd never
+take_named migrate_task words more same = let other : ◌≡◌ {A = ℕ} 116 109 = ap first_of same in let never : ⊥ = omega arith in absurd never
+
+-- a job of these parts
+abbrev job_of : TaskView → List Text → JobView
+job_of task words = record { task = task; words = words }
+
+check_job : (file : Text) (job : JobView) → IsJobOf (codes "check" ∷ file ∷ []) job → job ≡ job_of check_task (file ∷ [])
+check_job file job is = λ i. job_of (check_named job.task job.words (file ∷ []) is.whole i) (sym (ap behind is.whole) i)
+
+take_job : (state file : Text) (job : JobView) → IsJobOf (codes "take" ∷ state ∷ file ∷ []) job → job ≡ job_of take_task (state ∷ file ∷ [])
+take_job state file job is = λ i. job_of (take_named job.task job.words (state ∷ file ∷ []) is.whole i) (sym (ap behind is.whole) i)
+
+-- ---- check
+
+-- the counts of the file whose text a source held
+counted : (extract : List ℕ) (first : Bytes) (what : ReadView) (text : List ℕ) → first ≡ Some extract → IsReadOf check_task first (Some []) what
+    → IsOutputText counts_written what text → text ≡ count_line (length (lines_of extract)) (length (changes (lines_of extract)))
+counted extract first (office_read state) text same reads is = absurd reads
+counted extract first (file_read file) text same reads is =
+    let held : extract ≡ reads.1.text = subst (λ (b : Bytes). Held b reads.1.text) same reads.1.held in
+    let lines : lines_of extract ≡ reads.1.of_text.records = ap lines_of held ∙ reads.1.of_text.is_text.lines in
+    is.1 ∙ (λ i. count_line ((reads.1.of_text.of_records.count_is ∙ ap length (sym lines)) i)
+    ((reads.1.of_text.of_records.changes_are ∙ ap (λ (ls : List (List ℕ)). length (changes ls)) (sym lines)) i))
+
+-- what `check` printed on a shelf
+pub check_printed : (extract : List ℕ) (old new : HostView) → old.history ≡ placed file_name (Some extract) ∷ [] → old.output ≡ Some []
+    → IsShelfHistory new.history → Performs (codes "check" ∷ file_name ∷ []) true old new 0
+    → new.output ≡ Some (count_line (length (lines_of extract)) (length (changes (lines_of extract))))
+check_printed extract old new put empty met performs = by (run_done run performs)
+  where
+    run : Run
+    run = record { words = codes "check" ∷ file_name ∷ []; names_bytes = true; old = old; new = new }
+
+    printed : (read : SourcesRead) (text : List ℕ) → Prints run (job_of check_task (file_name ∷ [])) read text
+        → new.output ≡ Some (count_line (length (lines_of extract)) (length (changes (lines_of extract))))
+    printed read text prints =
+        let events : new.history ≡ placed file_name (Some extract) ∷ opened file_name read.first ∷ [] =
+        prints.history ∙ ap (λ (h : List Event). h ++ opened file_name read.first ∷ []) put in
+        let shelf : IsShelfHistory (placed file_name (Some extract) ∷ opened file_name read.first ∷ []) = subst IsShelfHistory events met in
+        let first : read.first ≡ Some extract = shelf.1.0.0 in
+        let shown : Takes (Some []) text new.output = subst (λ (o : Bytes). Takes o text new.output) empty prints.printed in
+        shown ∙ ap Some (counted extract read.first prints.reads.what text first prints.reads.is_read prints.reads.is_text)
+
+    by : IsDone run → new.output ≡ Some (count_line (length (lines_of extract)) (length (changes (lines_of extract))))
+    by (job, read, text, inl stores) =
+        absurd (none_some stores.name (subst (λ (j : JobView). stored_by j ≡ Some stores.name) (check_job file_name job stores.reads.asks.0) stores.stored))
+    by (job, read, text, inr prints) =
+        printed read text (subst (λ (j : JobView). Prints run j read text) (check_job file_name job prints.reads.asks.0) prints)
+
+some_one : (one two : List ℕ) → ◌≡◌ {A = Bytes} (Some one) (Some two) → one ≡ two
+some_one one two same = cc
+
+-- the same from what the host shows after the command
+pub check_result : (extract text : List ℕ) (words : List Text) (old shown new : HostView) (status : ℕ)
+    → words ≡ codes "check" ∷ file_name ∷ [] → status ≡ 0 → shown ≡ new
+    → old.history ≡ placed file_name (Some extract) ∷ [] → old.output ≡ Some [] → IsShelfHistory shown.history
+    → Performs words true old new status → shown.output ≡ Some text
+    → text ≡ count_line (length (lines_of extract)) (length (changes (lines_of extract)))
+check_result extract text words old shown new status named zero same put empty met performs taken =
+    some_one text (count_line (length (lines_of extract)) (length (changes (lines_of extract)))) (sym taken
+    ∙ check_printed extract old shown put empty met
+    (subst (λ (host : HostView). Performs (codes "check" ∷ file_name ∷ []) true old host 0) (sym same)
+    (subst (λ (n : ℕ). Performs (codes "check" ∷ file_name ∷ []) true old new n) zero
+    (subst (λ (ws : List Text). Performs ws true old new status) named performs))))
+
+-- ---- take
+
+-- what `take` left on a shelf
+pub take_left : (state extract : List ℕ) (old new : HostView) → old.history ≡ both_put state extract
+    → IsShelfHistory new.history → Performs (codes "take" ∷ state_name ∷ file_name ∷ []) true old new 0
+    → IsTaken state extract new.history
+take_left state extract old new put met performs = by (run_done run performs)
+  where
+    run : Run
+    run = record { words = codes "take" ∷ state_name ∷ file_name ∷ []; names_bytes = true; old = old; new = new }
+
+    the_job : JobView
+    the_job = job_of take_task (state_name ∷ file_name ∷ [])
+
+    some_name : (one two : Text) → ◌≡◌ {A = Option Text} (Some one) (Some two) → one ≡ two
+    some_name one two same = cc
+
+    stored_after : SourcesRead → List ℕ → List Event → Text → ℕ → List Event
+    stored_after read text before name look =
+        ((before ++ looked state_name ∷ []) ++ opened state_name read.first ∷ opened file_name read.second ∷ [])
+        ++ drafted name look ∷ placed name (Some text) ∷ []
+
+    all : SourcesRead → Text → ℕ → List ℕ → List Event
+    all read name look text = placed state_name (Some state) ∷ placed file_name (Some extract) ∷ looked state_name
+        ∷ opened state_name read.first ∷ opened file_name read.second ∷ drafted name look ∷ placed name (Some text) ∷ []
+
+    left : (read : SourcesRead) (text : List ℕ) → Stores run the_job read text → IsTaken state extract new.history
+    left read text stores =
+        let name : state_name ≡ stores.name = some_name state_name stores.name stores.stored in
+        let events : new.history ≡ all read state_name 2 text =
+        stores.history ∙ (λ i. stored_after read text (put i) (sym name i) (length (put i))) in
+        let shelf : IsShelfHistory (all read state_name 2 text) = subst IsShelfHistory events met in
+        let first : read.first ≡ Some state = shelf.1.1.1.0.0 in
+        let second : read.second ≡ Some extract = shelf.1.1.1.1.0.0 in
+        record {
+          text = text;
+          history = events ∙ (λ i. placed state_name (Some state) ∷ placed file_name (Some extract) ∷ looked state_name
+              ∷ opened state_name (first i) ∷ opened file_name (second i) ∷ drafted state_name 2 ∷ placed state_name (Some text) ∷ []);
+          known = λ known file of is_file. stores_known run the_job read text (united known (of_file file)) stores
+              (known, file, (state, first, of), (extract, second, is_file), refl);
+        }
+
+    by : IsDone run → IsTaken state extract new.history
+    by (job, read, text, inl stores) =
+        left read text (subst (λ (j : JobView). Stores run j read text) (take_job state_name file_name job stores.reads.asks.0) stores)
+    by (job, read, text, inr prints) =
+        absurd (none_some state_name (sym (subst (λ (j : JobView). stored_by j ≡ None) (take_job state_name file_name job prints.reads.asks.0) prints.unstored)))
+
+-- the same from what the host shows after the command
+pub take_result : (state extract : List ℕ) (words : List Text) (old shown new : HostView) (status : ℕ)
+    → words ≡ codes "take" ∷ state_name ∷ file_name ∷ [] → status ≡ 0 → shown ≡ new
+    → old.history ≡ both_put state extract → IsShelfHistory shown.history
+    → Performs words true old new status → IsTaken state extract shown.history
+take_result state extract words old shown new status named zero same put met performs =
+    take_left state extract old shown put met
+    (subst (λ (host : HostView). Performs (codes "take" ∷ state_name ∷ file_name ∷ []) true old host 0) (sym same)
+    (subst (λ (n : ℕ). Performs (codes "take" ∷ state_name ∷ file_name ∷ []) true old new n) zero
+    (subst (λ (ws : List Text). Performs ws true old new status) named performs)))

@@ -1,0 +1,15 @@
+use Rattle.std.proofs.Common.{refl, ◌∙◌, inr}
+use Rattle.docker_program.proofs.job_sources.read_file.Goals as goal
+
+pub returns-clause-reads : goal.returns-clause-reads
+returns-clause-reads g c = inr (record {
+  read = record {
+    first = g.D.File.Source.left c.in-Ok.file;
+    first_left = g.D.File.Source.left c.prepare-prepared.new.first;
+    second = g.T.Source.left c.args.second.now;
+    second_left = g.T.Source.left c.prepare-prepared.new.second;
+  };
+  history = c.close.ensures.asked ∙ c.in-Ok.ensures.asked;
+  others = (refl, refl);
+  reads = c.prepare-prepared.ensures.reads;
+})

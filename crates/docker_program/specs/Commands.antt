@@ -1,0 +1,257 @@
+-- What commands know: of which files, and under which horizon, the texts that they store and print
+-- are the summary.
+use Rattle.std.specs.Prelude.{◌≡◌, ◌⊎◌, ◌<◌, ℕ, Bool, List, [], ◌∷◌, ◌++◌, length, map, slice_index_or, Some, None, ⊤}
+use Rattle.docker_model.specs.file.File.{most_records}
+use Rattle.docker_model.specs.file.FileFault.{IsFileText}
+use Rattle.docker_model.specs.state.Lapse.{IsDayRefused}
+use Rattle.docker_model.specs.state.State.{State, live_table}
+use Rattle.docker_model.specs.state.StateText.{Format, dks_1, dks_2}
+use Rattle.docker_model.specs.docker.DockerText.{IsDockerText, files_text}
+use Rattle.docker_model.specs.run.Run.{Known, IsMessageOf, IsStateOf, nothing, united}
+use Rattle.docker_model.specs.run.Knowledge.{IsGoodKnown}
+use Rattle.cif_line.specs.Device.{Takes}
+use Rattle.docker_host.specs.Asked.{IsStored, IsUnplaced}
+use Rattle.docker_host.specs.History.{Bytes, Event, placed, unplaced}
+use Rattle.docker_host.specs.Host.{HostView}
+use Rattle.docker_cmd.specs.Job.{JobView}
+use Rattle.docker_cmd.specs.Prepared.{IsOutputText, IsReadOf, IsRefusedDocker, ReadView}
+use Rattle.docker_cmd.specs.Tasks.{TaskView, new_task, check_task, day_task, take_task, merge_task, print_task, files_task, horizon_task, migrate_task, output_of}
+use Rattle.docker_cmd.specs.Words.{Text}
+use Rattle.docker_program.specs.SourceNames.{names_of, stored_by}
+use Rattle.docker_program.specs.Sources.{AreOthers, SourcesRead, with_look_at, with_openings}
+use Rattle.docker_program.specs.Program.{AsksFor, Performs}
+
+-- ---- one command
+
+-- the history of a command once its sources were opened. It looked at the file that its job writes,
+-- if it writes one, and then opened the files that the job reads
+abbrev pub history_read : List Event → JobView → SourcesRead → List Event
+history_read before job read =
+    with_openings (names_of job) read (with_look_at (stored_by job) before)
+
+-- the words and the devices of a command, before and after
+pub record Run : Type 0 where
+  pub words : List Text
+  pub names_bytes : Bool
+  pub old : HostView
+  pub new : HostView
+
+-- a command read the sources of its job whole, and this is what it writes of them. A source that is
+-- standard input held what was left of it after the job line
+pub record Reads (run : Run) (job : JobView) (read : SourcesRead) (text : List ℕ) : Type 0 where
+  pub rest : Bytes
+  pub asks : AsksFor run.words run.old.input job rest
+  pub others : AreOthers (names_of job) read rest run.new.input
+  pub what : ReadView
+  pub is_read : IsReadOf job.task read.first read.second what
+  pub is_text : IsOutputText (output_of job.task) what text
+
+-- a command stored this text: its draft took the place of the file that its job writes
+pub record Stores (run : Run) (job : JobView) (read : SourcesRead) (text : List ℕ) : Type 0 where
+  pub reads : Reads run job read text
+  pub name : Text
+  pub stored : stored_by job ≡ Some name
+  pub history : IsStored run.names_bytes name (length run.old.history) text
+      (history_read run.old.history job read) run.new.history
+  pub unprinted : run.new.output ≡ run.old.output
+
+-- a command may have stored this text: its draft failed to take the place of the file, which holds
+-- that text or what it held before
+pub record MayStore (run : Run) (job : JobView) (read : SourcesRead) (text : List ℕ) : Type 0 where
+  pub reads : Reads run job read text
+  pub name : Text
+  pub stored : stored_by job ≡ Some name
+  pub history : IsUnplaced run.names_bytes name (length run.old.history) text
+      (history_read run.old.history job read) run.new.history
+  pub unprinted : run.new.output ≡ run.old.output
+
+-- a command printed this text, which is no docker of a day that is refused
+pub record Prints (run : Run) (job : JobView) (read : SourcesRead) (text : List ℕ) : Type 0 where
+  pub reads : Reads run job read text
+  pub unstored : stored_by job ≡ None
+  pub allowed : ¬ IsRefusedDocker (output_of job.task) reads.what
+  pub history : run.new.history ≡ history_read run.old.history job read
+  pub printed : Takes run.old.output text run.new.output
+
+-- the event put no draft in the place of a file, and can't have
+abbrev pub IsNoStoring : Event → Type 0
+IsNoStoring (placed name bytes) = ⊥
+IsNoStoring (unplaced name bytes) = ⊥
+IsNoStoring _ = ⊤
+
+-- no event did
+abbrev pub AreNoStorings : List Event → Type 0
+AreNoStorings [] = ⊤
+AreNoStorings (event ∷ events) = IsNoStoring event × AreNoStorings events
+
+-- a command stored nothing: none of its events did
+pub record StoresNothing (run : Run) : Type 0 where
+  pub events : List Event
+  pub history : run.new.history ≡ run.old.history ++ events
+  pub none : AreNoStorings events
+
+-- a command with this status was run
+abbrev pub IsRun : Run → ℕ → Type 0
+IsRun run status = Performs run.words run.names_bytes run.old run.new status
+
+-- a command that was done stored or printed the text of its job
+abbrev pub IsDone : Run → Type 0
+IsDone run = (job : JobView) × (read : SourcesRead) × (text : List ℕ)
+    × (Stores run job read text ⊎ Prints run job read text)
+
+-- a command that wasn't done stored nothing, or may have stored the text of its job
+abbrev pub IsUndone : Run → Type 0
+IsUndone run = StoresNothing run
+    ⊎ ((job : JobView) × (read : SourcesRead) × (text : List ℕ) × MayStore run job read text)
+
+-- ---- what it knows
+
+-- knowledge of one file
+abbrev pub of_file : List (List ℕ) → Known
+of_file file = record { files = file ∷ []; horizon = 0 }
+
+-- knowledge of no file, under a horizon
+abbrev pub of_horizon : ℕ → Known
+of_horizon day = record { files = []; horizon = day }
+
+-- a text is the text of the summary of what is known: of files, under a horizon
+pub record IsKnownText (format : Format) (known : Known) (text : List ℕ) : Type 0 where
+  pub good : IsGoodKnown format known
+  pub is : IsMessageOf format known text
+
+-- a source held the text of the summary of what is known
+abbrev pub HoldsKnown : Format → Bytes → Known → Type 0
+HoldsKnown format bytes known =
+    (text : List ℕ) × (bytes ≡ Some text) × IsKnownText format known text
+
+-- a source held the text of this file
+abbrev pub HoldsFile : Bytes → List (List ℕ) → Type 0
+HoldsFile bytes file = (text : List ℕ) × (bytes ≡ Some text) × IsFileText most_records text file
+
+-- what a command knows, from what its sources held. These are the files and the horizon of the
+-- states that it read, the file that it took or printed, and the horizon that it set
+abbrev pub Knows : TaskView → Bytes → Bytes → Known → Type 0
+Knows new_task first second known = known ≡ nothing
+Knows check_task first second known = ⊥
+Knows (day_task place day) first second known =
+    (file : List (List ℕ)) × HoldsFile first file × (known ≡ of_file file)
+Knows take_task first second known = (own : Known) × (file : List (List ℕ))
+    × HoldsKnown dks_2 first own × HoldsFile second file × (known ≡ united own (of_file file))
+Knows merge_task first second known = (own : Known) × (other : Known)
+    × HoldsKnown dks_2 first own × HoldsKnown dks_2 second other × (known ≡ united own other)
+Knows (print_task place day) first second known = HoldsKnown dks_2 first known
+Knows files_task first second known = HoldsKnown dks_2 first known
+Knows (horizon_task day) first second known =
+    (own : Known) × HoldsKnown dks_2 first own × (known ≡ united own (of_horizon day))
+Knows migrate_task first second known = HoldsKnown dks_1 first known
+
+-- the text is the docker of the summary of what is known, at a timing point for a day. The day
+-- isn't refused
+pub record PrintsKnown (known : Known) (place : List ℕ) (day : ℕ) (text : List ℕ) : Type 0 where
+  pub good : IsGoodKnown dks_2 known
+  pub allowed : ¬ IsDayRefused known.horizon day
+  pub state : State
+  pub is : IsStateOf known state
+  pub docker : IsDockerText (live_table state) place day text
+
+-- a command that knows this wrote this text: the text of the summary, or its docker, or its ledger
+abbrev pub WritesKnown : TaskView → Known → List ℕ → Type 0
+WritesKnown new_task known text = IsKnownText dks_2 known text
+WritesKnown check_task known text = ⊤
+WritesKnown (day_task place day) known text = PrintsKnown known place day text
+WritesKnown take_task known text = IsKnownText dks_2 known text
+WritesKnown merge_task known text = IsKnownText dks_2 known text
+WritesKnown (print_task place day) known text = PrintsKnown known place day text
+WritesKnown files_task known text =
+    (state : State) × IsStateOf known state × (text ≡ files_text state.ledger)
+WritesKnown (horizon_task day) known text = IsKnownText dks_2 known text
+WritesKnown migrate_task known text = IsKnownText dks_2 known text
+
+-- ---- versions of STATE files
+
+-- how a version of a STATE file was made. Earlier versions, of any office, have their numbers in
+-- the list, from 0. It was made by `new`; by `take` of a file's text; by `merge` of another
+-- version; by `horizon`; by `migrate` of an older text, which knows this
+pub data Origin : Type 0 where
+  begun : Origin
+  taken : (own : ℕ) (file : List (List ℕ)) → Origin
+  merged : (own other : ℕ) → Origin
+  raised : (own day : ℕ) → Origin
+  migrated : (known : Known) → Origin
+
+-- a version of a STATE file: its text, and how it was made
+pub record Version : Type 0 where
+  pub text : List ℕ
+  pub origin : Origin
+
+-- a source held this earlier version, if there is one of this number
+pub record HoldsVersion (earlier : List (List ℕ)) (bytes : Bytes) (number : ℕ) : Type 0 where
+  pub there : number < length earlier
+  pub held : bytes ≡ Some (slice_index_or earlier number [])
+
+-- the task of the command that makes a version in this way
+abbrev pub task_of : Origin → TaskView
+task_of begun = new_task
+task_of (taken own file) = take_task
+task_of (merged own other) = merge_task
+task_of (raised own day) = horizon_task day
+task_of (migrated known) = migrate_task
+
+-- the sources of that command held this
+abbrev pub HoldsOrigin : List (List ℕ) → Origin → Bytes → Bytes → Type 0
+HoldsOrigin earlier begun first second = ⊤
+HoldsOrigin earlier (taken own file) first second =
+    HoldsVersion earlier first own × HoldsFile second file
+HoldsOrigin earlier (merged own other) first second =
+    HoldsVersion earlier first own × HoldsVersion earlier second other
+HoldsOrigin earlier (raised own day) first second = HoldsVersion earlier first own
+HoldsOrigin earlier (migrated known) first second = HoldsKnown dks_1 first known
+
+-- a version was made by a command, which stored its text or may have
+pub record IsMade (earlier : List (List ℕ)) (version : Version) : Type 0 where
+  pub run : Run
+  pub job : JobView
+  pub read : SourcesRead
+  pub stores : Stores run job read version.text ⊎ MayStore run job read version.text
+  pub task : job.task ≡ task_of version.origin
+  pub origin : HoldsOrigin earlier version.origin read.first read.second
+
+-- each version was made by a command from earlier ones, after these texts
+abbrev pub AreMade : List (List ℕ) → List Version → Type 0
+AreMade earlier [] = ⊤
+AreMade earlier (version ∷ versions) =
+    IsMade earlier version × AreMade (earlier ++ version.text ∷ []) versions
+
+-- what an earlier version knows
+abbrev pub known_at : List Known → ℕ → Known
+known_at earlier number = slice_index_or earlier number nothing
+
+-- what a version knows, from how it was made and from what earlier ones know
+abbrev pub known_by : List Known → Origin → Known
+known_by earlier begun = nothing
+known_by earlier (taken own file) = united (known_at earlier own) (of_file file)
+known_by earlier (merged own other) = united (known_at earlier own) (known_at earlier other)
+known_by earlier (raised own day) = united (known_at earlier own) (of_horizon day)
+known_by earlier (migrated known) = known
+
+-- what each version knows, after these earlier ones
+abbrev pub known_after : List Known → List Version → List Known
+known_after earlier [] = earlier
+known_after earlier (version ∷ versions) =
+    known_after (earlier ++ known_by earlier version.origin ∷ []) versions
+
+-- the list of all versions of all offices' STATE files, in the order in which they were made. Own
+-- and other versions are read by their numbers, so an older copy may be put back, or sent
+abbrev pub AreVersions : List Version → Type 0
+AreVersions versions = AreMade [] versions
+
+-- the version of this number, from 0, has this text and knows this
+pub record IsVersion (versions : List Version) (number : ℕ) (text : List ℕ)
+    (known : Known) : Type 0 where
+  pub there : number < length versions
+  pub text_is : text ≡ slice_index_or (map (λ (version : Version). version.text) versions) number []
+  pub known_is : known ≡ known_at (known_after [] versions) number
+
+-- the job of printing a docker at this timing point for this day, with the words that name it
+abbrev pub printing : (place : List ℕ) (day : ℕ) (words : List Text) → JobView
+printing place day words = record { task = print_task place day; words = words }

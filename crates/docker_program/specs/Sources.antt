@@ -1,0 +1,142 @@
+-- What a job asks of the folder before it writes, and what its sources held.
+use Rattle.std.specs.Prelude.{◌≡◌, ◌⊎◌, List, [], ◌∷◌, ◌++◌, Option, Some, None, Result, Ok, Err}
+use Rattle.docker_host.specs.History.{Bytes, Event, looked, opened, unopened}
+use Rattle.cif_file.specs.declared.fault.FileFault.{FileFault}
+use Rattle.docker_cmd.specs.Job.{JobView}
+use Rattle.docker_cmd.specs.OfficeFault.{OfficeFault}
+use Rattle.docker_cmd.specs.OfficeFault.TheVariants as office
+use Rattle.docker_cmd.specs.Prepared.{PreparedView, HasReadToEnd, IsReadOf, ReadsFewOfFirst, ReadsFewOfSecond, ReadsInOrder, RefusesFileOf, RefusesStateOf, WantsFor, sources_of}
+use Rattle.docker_cmd.specs.StateFault.{StateFault}
+use Rattle.docker_cmd.specs.Words.{Text}
+use Rattle.docker_program.specs.SourceNames.{SourceNames, no_source, standard_input, one_file, file_and_input, two_files, names_of}
+use Rattle.docker_host.specs.declared.folder.OpenFault.{OpenFault}
+use Rattle.docker_host.specs.declared.folder.OpenFault.TheVariants as opening
+
+-- the office's fault for a source that wasn't opened
+abbrev pub fault_of_opening : OpenFault → OfficeFault
+fault_of_opening opening.Failed = office.Source
+fault_of_opening opening.Memory = office.Memory
+
+-- the two sources of a job: what each held before anything was read, and what is left of it. A file
+-- held what it held when it was opened
+pub record SourcesRead : Type 0 where
+  pub first : Bytes
+  pub first_left : Bytes
+  pub second : Bytes
+  pub second_left : Bytes
+
+-- a history with a look at the file of this name, if there is a name
+abbrev pub with_look_at : Option Text → List Event → List Event
+with_look_at None history = history
+with_look_at (Some name) history = history ++ looked name ∷ []
+
+-- a history with the openings of the files of these names, each once, in the order of the words.
+-- The first held what the first source held, and the second what the second held
+abbrev pub with_openings : SourceNames → SourcesRead → List Event → List Event
+with_openings no_source read history = history
+with_openings standard_input read history = history
+with_openings (one_file name) read history = history ++ opened name read.first ∷ []
+with_openings (file_and_input name) read history = history ++ opened name read.first ∷ []
+with_openings (two_files name other) read history =
+    history ++ opened name read.first ∷ opened other read.second ∷ []
+
+-- the sources that aren't files: one is standard input, which held `rest` and has `left` now, or
+-- there is none, and it holds nothing. Standard input that is no source is as it was
+abbrev pub AreOthers : SourceNames → SourcesRead → (rest left : Bytes) → Type 0
+AreOthers no_source read rest left =
+    (read.first ≡ Some []) × (read.second ≡ Some []) × (left ≡ rest)
+AreOthers standard_input read rest left =
+    (read.first ≡ rest) × (read.first_left ≡ left) × (read.second ≡ Some [])
+AreOthers (one_file name) read rest left = (read.second ≡ Some []) × (left ≡ rest)
+AreOthers (file_and_input name) read rest left =
+    (read.second ≡ rest) × (read.second_left ≡ left)
+AreOthers (two_files name other) read rest left = left ≡ rest
+
+-- a file of these names wasn't opened: the first, or the second after the first was opened. The
+-- history is what it was before, and then this
+abbrev pub FailsToOpen : SourceNames → (before now : List Event) → Type 0
+FailsToOpen no_source before now = ⊥
+FailsToOpen standard_input before now = ⊥
+FailsToOpen (one_file name) before now = now ≡ before ++ unopened name ∷ []
+FailsToOpen (file_and_input name) before now = now ≡ before ++ unopened name ∷ []
+FailsToOpen (two_files name other) before now = (now ≡ before ++ unopened name ∷ [])
+    ⊎ ((bytes : Bytes) × (now ≡ before ++ opened name bytes ∷ unopened other ∷ []))
+
+-- what was asked of the folder and of standard input while the sources of a job were opened and
+-- read. These are the history before and now, and what standard input held and has left
+pub record Asking : Type 0 where
+  pub before : List Event
+  pub now : List Event
+  pub rest : Bytes
+  pub left : Bytes
+
+-- the same, from its parts
+abbrev pub asking : (before now : List Event) (rest left : Bytes) → Asking
+asking before now rest left = record { before = before; now = now; rest = rest; left = left }
+
+-- a file that the job reads wasn't opened, and nothing was read
+pub record IsNotOpened (asked : Asking) (job : JobView) : Type 0 where
+  pub fails : FailsToOpen (names_of job) asked.before asked.now
+  pub unread : asked.left ≡ asked.rest
+
+-- all files that a job reads were opened, and nothing else was asked of the folder. Then the
+-- sources were read, each no further than the result needs
+pub record IsOpened (asked : Asking) (job : JobView) : Type 0 where
+  pub read : SourcesRead
+  pub history : asked.now ≡ with_openings (names_of job) read asked.before
+  pub others : AreOthers (names_of job) read asked.rest asked.left
+  pub first_few : ReadsFewOfFirst (sources_of job.task) read.first read.first_left
+  pub second_few : ReadsFewOfSecond (sources_of job.task) read.first read.second read.second_left
+
+-- the fault is the fault of a source of the job that should have held a file
+abbrev pub RefusesFile : FileFault → Asking → JobView → Type 0
+RefusesFile fault asked job = (opened : IsOpened asked job)
+    × RefusesFileOf (sources_of job.task) opened.read.first opened.read.second fault
+
+-- the fault is the fault of a source of the job that should have held a state
+abbrev pub RefusesState : StateFault → Asking → JobView → Type 0
+RefusesState fault asked job = (opened : IsOpened asked job)
+    × RefusesStateOf (sources_of job.task) opened.read.first opened.read.second fault
+
+-- memory ran out for what the sources of the job held
+abbrev pub WantsForSources : Asking → JobView → Type 0
+WantsForSources asked job = (opened : IsOpened asked job)
+    × WantsFor (sources_of job.task) opened.read.first opened.read.first_left
+    opened.read.second opened.read.second_left
+
+-- the job read its sources whole, and this is what it read
+pub record IsPrepared (asked : Asking) (job : JobView) (prepared : PreparedView) : Type 0 where
+  pub opened : IsOpened asked job
+  pub job_is : prepared.job ≡ job
+  pub read : IsReadOf job.task opened.read.first opened.read.second prepared.read
+  pub to_end : HasReadToEnd (sources_of job.task) opened.read.first_left opened.read.second_left
+
+-- what each result means if the sources that a job names were to be opened and read
+abbrev pub ReadsNamed : Asking → JobView → Result PreparedView OfficeFault → Type 0
+ReadsNamed asked job (Ok prepared) = IsPrepared asked job prepared
+ReadsNamed asked job (Err (office.File fault)) = RefusesFile fault asked job
+ReadsNamed asked job (Err (office.State fault)) = RefusesState fault asked job
+ReadsNamed asked job (Err office.Source) = IsNotOpened asked job ⊎ IsOpened asked job
+ReadsNamed asked job (Err office.Memory) = IsNotOpened asked job ⊎ WantsForSources asked job
+ReadsNamed asked job (Err office.Lapsed) = ⊥
+ReadsNamed asked job (Err office.Sink) = ⊥
+
+-- a file of these names wasn't opened, as the result says, and nothing was read
+pub record AreNotOpened (names : SourceNames) (asked : Asking)
+    (result : Result PreparedView OfficeFault) : Type 0 where
+  pub cause : OpenFault
+  pub is : result ≡ Err (fault_of_opening cause)
+  pub fails : FailsToOpen names asked.before asked.now
+  pub unread : asked.left ≡ asked.rest
+
+-- the files of these names were opened, and then the sources of a job were read, with this result
+pub record AreRead (names : SourceNames) (asked : Asking) (job : JobView)
+    (result : Result PreparedView OfficeFault) : Type 0 where
+  pub read : SourcesRead
+  pub history : asked.now ≡ with_openings names read asked.before
+  pub others : AreOthers names read asked.rest asked.left
+  pub reads : ReadsInOrder job read.first read.first_left read.second read.second_left result
+
+-- what each result means if the files of these names were to be opened for a job
+abbrev pub ReadsBy : SourceNames → Asking → JobView → Result PreparedView OfficeFault → Type 0
+ReadsBy names asked job result = AreNotOpened names asked result ⊎ AreRead names asked job result

@@ -1,0 +1,32 @@
+//! The look at the file that a job writes.
+ghost use Rattle.std.specs.Prelude.{◌≡◌, IfSome, length, option_map};
+ghost use Rattle.docker_program.specs.SourceNames.{stored_by};
+ghost use Rattle.docker_program.specs.Sources.{with_look_at};
+
+use crate::job_names::stored_name;
+use docker_cmd::Job;
+use docker_host::Folder;
+
+/// A file that was looked at: its name, and what was seen under it.
+#[derive(Drop)]
+pub(crate) struct Looked<'a, T> {
+    /// The name.
+    pub(crate) name: &'a str,
+    /// What was under it.
+    pub(crate) seen: T,
+}
+
+/// Looks at the file that a job writes, if it writes one, before anything is read.
+pub(crate) fn look_at_stored<'a, D: Folder>(
+    job: &'a Job,
+    folder: &mut D,
+) -> Option<Looked<'a, D::Seen>>
+    ensures name { option_map (λ it. it.name.now) result ≡ stored_by job.now }
+    ensures look { IfSome result (λ it. D.look_of it.seen ≡ length (D.history folder.old)) }
+    ensures asked { D.history folder.new ≡ with_look_at (stored_by job.now) (D.history folder.old) }
+    ensures no_failure { D.failures folder.new ≡ D.failures folder.old }
+{
+    let name = stored_name(job)?;
+    let seen = folder.look(name);
+    Some(Looked { name, seen })
+}

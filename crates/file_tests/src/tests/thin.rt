@@ -1,0 +1,88 @@
+//! What is kept of files for the docker of a place on a day.
+
+use super::compare::same_in;
+use cif_file::{Act, Body, read_thin};
+use cif_line::{Bytes, Day, Tiploc};
+use std::alloc::Global;
+use std::process::Abort;
+use test_records::{
+    BS, BS_DELETED, BS_NIGHT, BS_WEEKEND, HD, LI_0000, LI_0010, LO, LO_2355, LT, LT_0020, TI, ZZ,
+    text,
+};
+
+/// A timing point, a night train on 10 June, a train on 15 and 16 June, and a deletion.
+const MIXED: [&[u8]; 12] = [
+    HD, TI, BS_NIGHT, LO_2355, LI_0000, LI_0010, LT_0020, BS_WEEKEND, LO, LT, BS_DELETED, ZZ,
+];
+
+/// A train that is put and then deleted.
+const PUT_AND_DELETED: [&[u8]; 6] = [HD, BS, LO, LT, BS_DELETED, ZZ];
+
+/// How many lines an act puts: none if it deletes.
+fn lines_of(act: &Act) -> usize {
+    match act {
+        Act::Delete => 0,
+        Act::Put(Body::Schedule(lines)) => lines.as_slice().len(),
+        Act::Put(_) => 1,
+    }
+}
+
+/// Asserts that for a place and a day changes with these numbers of lines are kept of a file.
+fn keeps(
+    rt: &impl Abort,
+    alloc: Global,
+    records: &[&[u8]],
+    place: &str,
+    date: &str,
+    wanted: &[usize],
+) {
+    let whole = text(alloc, records, b"\n").expect(rt, "room");
+    let point = Tiploc::from_text(place).expect(rt, "a TIPLOC");
+    let day = Day::from_iso(date).expect(rt, "a day");
+    let mut source = Bytes::new(whole.as_slice(), 100);
+    let file = read_thin(alloc, &mut source, point, day, 100).expect(rt, "a file");
+    let parts = file.into_parts();
+    let mut kept = Vec::new(alloc);
+    for change in parts.changes.as_slice() {
+        kept.push(lines_of(&change.act)).expect(rt, "room");
+    }
+    same_in(rt, place, kept.as_slice(), wanted);
+}
+
+#[test]
+fn all_lines_where_a_train_calls(rt: HostRuntime) {
+    keeps(&rt, rt.alloc(), &MIXED, "COLWELL", "2024-06-10", &[5]);
+    keeps(&rt, rt.alloc(), &MIXED, "DUNMERE", "2024-06-10", &[5]);
+    keeps(&rt, rt.alloc(), &MIXED, "ASHFELD", "2024-06-10", &[1, 5]);
+}
+
+#[test]
+fn ends_elsewhere(rt: HostRuntime) {
+    keeps(&rt, rt.alloc(), &MIXED, "EASTRIG", "2024-06-10", &[3]);
+}
+
+#[test]
+fn what_runs_near_the_day(rt: HostRuntime) {
+    keeps(&rt, rt.alloc(), &MIXED, "ASHFELD", "2024-06-16", &[1, 3]);
+    keeps(&rt, rt.alloc(), &MIXED, "EASTRIG", "2024-07-16", &[]);
+}
+
+#[test]
+fn a_deletion_of_a_kept_key(rt: HostRuntime) {
+    keeps(
+        &rt,
+        rt.alloc(),
+        &PUT_AND_DELETED,
+        "ASHFELD",
+        "2024-06-10",
+        &[3, 0],
+    );
+    keeps(
+        &rt,
+        rt.alloc(),
+        &PUT_AND_DELETED,
+        "ASHFELD",
+        "2024-07-10",
+        &[],
+    );
+}

@@ -1,0 +1,102 @@
+//! What the rows do with any folder.
+ghost use Rattle.std.specs.Prelude.{◌<◌};
+
+use crate::compare::same;
+use cif_device::{Sink, Source, write_all};
+use docker_host::{Drafted, Folder, OpenFault};
+use std::alloc::Global;
+use std::process::Abort;
+
+/// Asserts that a folder failed less often than 100 times.
+pub(crate) fn has_few_failures<F: Folder>(rt: &impl Abort, folder: &F)
+    ensures { F.failures folder.now < 100 }
+{
+    assert!(rt; folder.failures() < 100);
+}
+
+/// What is left of a source of at most 10,000 bytes. `None` if it fails.
+fn left_of<S: Source>(rt: &impl Abort, alloc: Global, source: &mut S) -> Option<Vec<u8>> {
+    let mut text = Vec::new(alloc);
+    let mut piece = [0u8; 64];
+    for _ in 0..10_000 {
+        assert!(rt; source.failures() < 100);
+        let n = source.read(&mut piece).ok()?;
+        if n == 0 {
+            return Some(text);
+        }
+        text.extend_from_slice(&piece[..n]).expect(rt, "memory");
+    }
+    None
+}
+
+/// What a named file holds when it is opened. `None` if it isn't read to its end.
+pub(crate) fn read<F: Folder>(
+    rt: &impl Abort,
+    alloc: Global,
+    folder: &mut F,
+    name: &str,
+) -> Option<Vec<u8>> {
+    has_few_failures(rt, folder);
+    let mut file = folder.open(name).ok()?;
+    let text = left_of(rt, alloc, &mut file);
+    has_few_failures(rt, folder);
+    assert!(rt; file.failures() < 100);
+    folder.close(file);
+    text
+}
+
+/// Asserts what a named file holds.
+pub(crate) fn holds<F: Folder>(
+    rt: &impl Abort,
+    alloc: Global,
+    folder: &mut F,
+    name: &str,
+    text: &str,
+) {
+    let held = read(rt, alloc, folder, name).expect(rt, "a file that is read");
+    same(rt, held.as_slice(), text.as_bytes());
+}
+
+/// Writes a text to a draft, and puts it in the place of its file.
+fn finish<F: Folder>(
+    rt: &impl Abort,
+    folder: &mut F,
+    made: Drafted<'_, F::Draft>,
+    text: &str,
+) -> Result<(), OpenFault> {
+    let mut made = made;
+    has_few_failures(rt, folder);
+    assert!(rt; made.draft.failures() < 100);
+    let written = write_all(&mut made.draft, text.as_bytes());
+    assert!(rt; made.draft.failures() < 100);
+    if written.is_err() {
+        folder.discard(made);
+        return Err(OpenFault::Failed);
+    }
+    folder.complete(made).map_err(|_| OpenFault::Failed)
+}
+
+/// Stores a text in a named file, by a draft from a look.
+pub(crate) fn store<F: Folder>(
+    rt: &impl Abort,
+    folder: &mut F,
+    name: &str,
+    seen: &F::Seen,
+    text: &str,
+) -> Result<(), OpenFault> {
+    has_few_failures(rt, folder);
+    let made = folder.create(name, seen)?;
+    finish(rt, folder, made, text)
+}
+
+/// Asserts how the storing of a text from a new look ends.
+pub(crate) fn stores<F: Folder>(
+    rt: &impl Abort,
+    folder: &mut F,
+    name: &str,
+    text: &str,
+    answer: Result<(), OpenFault>,
+) {
+    let seen = folder.look(name);
+    same(rt, store(rt, folder, name, &seen, text), answer);
+}

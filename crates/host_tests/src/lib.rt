@@ -1,0 +1,13 @@
+//! Worked rows of folders: the real files, and files in memory. This crate holds only tests.
+#![tactic(auto)]
+
+#[cfg(test)]
+mod compare;
+#[cfg(test)]
+mod folders;
+#[cfg(test)]
+mod pipes;
+#[cfg(test)]
+mod real_files;
+#[cfg(test)]
+mod shelves;

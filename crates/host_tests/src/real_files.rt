@@ -1,0 +1,205 @@
+//! Real files: how they are read and written anew, and when a draft is refused. Each row has file
+//! names of its own, because rows run side by side.
+
+use crate::compare::same;
+use crate::folders::{has_few_failures, holds, store, stores};
+use docker_host::{Folder, OpenFault, RealFolder};
+use std::fs;
+use std::fs::{Files, Permissions};
+use std::os::unix::fs::{PermissionsExt, symlink};
+use std::process::Abort;
+
+/// A draft that is refused, or that failed.
+const FAILED: Result<(), OpenFault> = Err(OpenFault::Failed);
+
+/// Writes a file, as another program does.
+fn put(rt: &(impl Abort + Files), name: &str, text: &str) {
+    assert!(rt; fs::write(rt, name, text).is_ok());
+}
+
+/// Removes what is under a name, if there is something.
+fn clear(rt: &(impl Abort + Files), name: &str) {
+    let _ = fs::remove_file(rt, name);
+}
+
+/// Makes a link that leads to a name.
+fn link(rt: &(impl Abort + Files), to: &str, name: &str) {
+    clear(rt, name);
+    assert!(rt; symlink(rt, to, name).is_ok());
+}
+
+/// Asserts whether there is something under a name, links not followed.
+fn stands(rt: &(impl Abort + Files), name: &str, there: bool) {
+    same(rt, fs::symlink_metadata(rt, name).is_ok(), there);
+}
+
+/// Asserts whether a link is under a name.
+fn is_link(rt: &(impl Abort + Files), name: &str) {
+    let Ok(there) = fs::symlink_metadata(rt, name) else {
+        panic!(rt; "nothing is there");
+    };
+    assert!(rt; there.is_symlink());
+}
+
+#[test]
+fn a_file_is_written_and_read(rt: HostRuntime) {
+    clear(&rt, "written");
+    let mut folder = RealFolder::new(&rt);
+    stores(&rt, &mut folder, "written", "one", Ok(()));
+    holds(&rt, rt.alloc(), &mut folder, "written", "one");
+    stores(&rt, &mut folder, "written", "another", Ok(()));
+    holds(&rt, rt.alloc(), &mut folder, "written", "another");
+    stands(&rt, "written.new", false);
+    same(&rt, folder.failures(), 0);
+}
+
+#[test]
+fn a_file_that_is_missing(rt: HostRuntime) {
+    clear(&rt, "missing");
+    let mut folder = RealFolder::new(&rt);
+    same(&rt, folder.open("missing").err(), Some(OpenFault::Failed));
+    same(&rt, folder.failures(), 1);
+}
+
+#[test]
+fn another_text_that_came_since(rt: HostRuntime) {
+    put(&rt, "overtaken", "one");
+    let mut folder = RealFolder::new(&rt);
+    let seen = folder.look("overtaken");
+    put(&rt, "overtaken", "two, by another program");
+    same(
+        &rt,
+        store(&rt, &mut folder, "overtaken", &seen, "three"),
+        FAILED,
+    );
+    holds(
+        &rt,
+        rt.alloc(),
+        &mut folder,
+        "overtaken",
+        "two, by another program",
+    );
+    stands(&rt, "overtaken.new", false);
+    same(&rt, folder.failures(), 1);
+    stores(&rt, &mut folder, "overtaken", "three", Ok(()));
+    holds(&rt, rt.alloc(), &mut folder, "overtaken", "three");
+}
+
+#[test]
+fn a_file_that_came_since(rt: HostRuntime) {
+    clear(&rt, "come");
+    let mut folder = RealFolder::new(&rt);
+    let seen = folder.look("come");
+    put(&rt, "come", "one");
+    same(&rt, store(&rt, &mut folder, "come", &seen, "two"), FAILED);
+    holds(&rt, rt.alloc(), &mut folder, "come", "one");
+}
+
+#[test]
+fn a_file_that_went_away(rt: HostRuntime) {
+    put(&rt, "gone", "one");
+    let mut folder = RealFolder::new(&rt);
+    let seen = folder.look("gone");
+    clear(&rt, "gone");
+    same(&rt, store(&rt, &mut folder, "gone", &seen, "two"), FAILED);
+    stands(&rt, "gone", false);
+    stands(&rt, "gone.new", false);
+}
+
+#[test]
+fn a_link_whose_file_went_away(rt: HostRuntime) {
+    put(&rt, "led", "one");
+    link(&rt, "led", "leads");
+    let mut folder = RealFolder::new(&rt);
+    let seen = folder.look("leads");
+    clear(&rt, "led");
+    same(&rt, store(&rt, &mut folder, "leads", &seen, "two"), FAILED);
+    stands(&rt, "led", false);
+    is_link(&rt, "leads");
+}
+
+#[test]
+fn a_link_that_leads_to_a_device_since(rt: HostRuntime) {
+    put(&rt, "file_led", "one");
+    link(&rt, "file_led", "leads_on");
+    let mut folder = RealFolder::new(&rt);
+    let seen = folder.look("leads_on");
+    link(&rt, "/dev/null", "file_led");
+    same(
+        &rt,
+        store(&rt, &mut folder, "leads_on", &seen, "two"),
+        FAILED,
+    );
+    same(&rt, folder.failures(), 1);
+}
+
+#[test]
+fn a_link_to_a_file_stays(rt: HostRuntime) {
+    put(&rt, "kept", "one");
+    link(&rt, "kept", "keeps");
+    let mut folder = RealFolder::new(&rt);
+    stores(&rt, &mut folder, "keeps", "two", Ok(()));
+    is_link(&rt, "keeps");
+    holds(&rt, rt.alloc(), &mut folder, "kept", "two");
+    stands(&rt, "kept.new", false);
+}
+
+#[test]
+fn a_link_that_leads_nowhere_is_followed(rt: HostRuntime) {
+    clear(&rt, "nowhere");
+    link(&rt, "nowhere", "leads_nowhere");
+    let mut folder = RealFolder::new(&rt);
+    stores(&rt, &mut folder, "leads_nowhere", "one", Ok(()));
+    is_link(&rt, "leads_nowhere");
+    holds(&rt, rt.alloc(), &mut folder, "nowhere", "one");
+}
+
+#[test]
+fn permissions_are_kept(rt: HostRuntime) {
+    put(&rt, "private", "one");
+    assert!(&rt; fs::set_permissions(&rt, "private", Permissions::from_mode(0o640)).is_ok());
+    let mut folder = RealFolder::new(&rt);
+    stores(&rt, &mut folder, "private", "two", Ok(()));
+    let Ok(file) = fs::metadata(&rt, "private") else {
+        panic!(rt; "no file");
+    };
+    same(&rt, file.permissions().mode() & 0o7777, 0o640);
+}
+
+#[test]
+fn a_draft_that_is_given_up(rt: HostRuntime) {
+    put(&rt, "given_up", "one");
+    let mut folder = RealFolder::new(&rt);
+    let seen = folder.look("given_up");
+    let Ok(made) = folder.create("given_up", &seen) else {
+        panic!(rt; "no draft");
+    };
+    stands(&rt, "given_up.new", true);
+    folder.discard(made);
+    stands(&rt, "given_up.new", false);
+    holds(&rt, rt.alloc(), &mut folder, "given_up", "one");
+}
+
+#[test]
+fn a_look_sees_what_was_placed(rt: HostRuntime) {
+    put(&rt, "placed", "one");
+    let mut folder = RealFolder::new(&rt);
+    stores(&rt, &mut folder, "placed", "two", Ok(()));
+    put(&rt, "placed", "three, by another program");
+    let seen = folder.look("placed");
+    same(
+        &rt,
+        store(&rt, &mut folder, "placed", &seen, "four"),
+        FAILED,
+    );
+    holds(
+        &rt,
+        rt.alloc(),
+        &mut folder,
+        "placed",
+        "three, by another program",
+    );
+    has_few_failures(&rt, &folder);
+    stores(&rt, &mut folder, "placed", "four", Ok(()));
+    holds(&rt, rt.alloc(), &mut folder, "placed", "four");
+}

@@ -1,0 +1,78 @@
+-- A place has as many marks as live schedules call there.
+use Rattle.std.proofs.Common.{◌≡◌, ℕ, suc, List, [], ◌∷◌, ◌++◌, length, refl, ap, sym, ◌∙◌, subst, Some, None, Contains}
+use Rattle.std.specs.Prelude.{Option, slice_get, option_map, option_and_then}
+use Rattle.std.specs.List.{cons_option}
+use Rattle.std.proofs.lemmas.List.Elements.{Contains-append_left, Contains-append_right}
+use Rattle.docker_model.specs.file.Change.{schedule_body}
+use Rattle.docker_model.specs.state.Op.{body_of}
+use Rattle.docker_model.specs.file.Change as model
+use Rattle.docker_model.specs.state.State.{State, AreAscending, live_table}
+use Rattle.state_laws.specs.Row.{Row}
+use Rattle.cif_laws.proofs.lists.Membership.{cons-Contains, cons-Contains-first}
+use Rattle.state_index.specs.Counts.{IsCallingCount}
+use Rattle.state_index.specs.SpotOrder.{Spot}
+use Rattle.state_index.specs.Spots.{call_places, spot_at, mark_spot, spots_in, AreSpotsOf}
+use Rattle.state_index.specs.StandingRows.{live_row, live_at, standing_rows, IsPieceAt}
+use Rattle.state_index.specs.declared.mark.Mark.{Mark}
+use Rattle.state_index.proofs.LiveIndexes.{calling_there}
+use Rattle.state_index.proofs.Positions.{Keyed, spots_stand}
+use Rattle.state_index.proofs.RowPlaces.{call_back}
+
+none_some : {A : Type 0} (a : A) → None ≡ Some a → ⊥
+none_some a h = cc
+
+-- marks of one named place stand for as many spots
+pub as_many_spots : (names : List (List ℕ)) (rank : ℕ) (place : List ℕ) → slice_get names rank ≡ Some place → (piece : List Mark)
+    → ((mark : Mark) → Contains piece mark → mark.place ≡ rank) → length (spots_in names piece) ≡ length piece
+as_many_spots names rank place at [] here = refl
+as_many_spots names rank place at (mark ∷ piece) here =
+    by (mark_spot names mark) (ap (option_map (spot_at mark.at)) (ap (slice_get names) (here mark (cons-Contains-first mark piece)) ∙ at))
+    (as_many_spots names rank place at piece (λ m among. here m (cons-Contains mark piece m among)))
+  where
+    by : (o : Option Spot) → o ≡ Some (spot_at mark.at place) → length (spots_in names piece) ≡ length piece
+        → length (cons_option o (spots_in names piece)) ≡ length (mark ∷ piece)
+    by None told rest = absurd (none_some (spot_at mark.at place) told)
+    by (Some spot) told rest = ap suc rest
+
+-- the spot names a live row
+abbrev IsSeen : List Keyed → Spot → Type 0
+IsSeen rows spot = (row : Row) × (live_at rows spot ≡ Some row)
+
+-- spots that name live rows name as many
+as_many_rows : (rows : List Keyed) (piece : List Spot) → ((spot : Spot) → Contains piece spot → IsSeen rows spot)
+    → length (standing_rows rows piece) ≡ length piece
+as_many_rows rows [] seen = refl
+as_many_rows rows (spot ∷ piece) seen =
+    by (live_at rows spot) (seen spot (cons-Contains-first spot piece)) (as_many_rows rows piece (λ s among. seen s (cons-Contains spot piece s among)))
+  where
+    by : (o : Option Row) → ((row : Row) × (o ≡ Some row)) → length (standing_rows rows piece) ≡ length piece
+        → length (cons_option o (standing_rows rows piece)) ≡ length (spot ∷ piece)
+    by None told rest = absurd (none_some told.0 told.1)
+    by (Some row) told rest = ap suc rest
+
+-- a place's piece of spots names as many live schedules as call there
+counted_there : (state : State) → AreAscending state.entries → (spots : List Spot) → AreSpotsOf call_places state.entries spots
+    → (place : List ℕ) (piece : List Spot) → IsPieceAt place spots piece → IsCallingCount (live_table state) place (length piece)
+counted_there state up spots of place piece is =
+    (standing_rows state.entries piece, calling_there state up spots of place piece is, as_many_rows state.entries piece seen)
+  where
+    seen : (spot : Spot) → Contains piece spot → IsSeen state.entries spot
+    seen spot among =
+        let inside = subst (λ zs. Contains zs spot) (sym is.whole) (Contains-append_left (is.before ++ piece) is.behind spot
+        (Contains-append_right is.before piece spot among)) in
+        let stands = spots_stand call_places state.entries spot ((of.members spot).0 inside) in
+        let calls = call_back stands.0.0 stands.0.1.op spot.place stands.2 in (
+          (stands.0.0, schedule_body calls.1),
+          ap (option_and_then live_row) stands.1
+              ∙ ap (λ op. option_and_then {U = Row} (λ (b : model.Body). Some (stands.0.0, b)) (body_of op)) calls.3,
+        )
+
+-- like `counted_there`, for the marks of the piece, and for equal spots and places
+pub calling_counted : (state : State) → AreAscending state.entries → (spots slice : List Spot) → slice ≡ spots
+    → AreSpotsOf call_places state.entries spots → (place field : List ℕ) → field ≡ place → (names : List (List ℕ)) (piece : List Mark)
+    → IsPieceAt field slice (spots_in names piece) → length (spots_in names piece) ≡ length piece → (count : ℕ) → count ≡ length piece
+    → IsCallingCount (live_table state) place count
+calling_counted state up spots slice slice_is of place field field_is names piece is many count count_is =
+    let found = counted_there state up spots of place (spots_in names piece)
+    (subst (λ p. IsPieceAt p spots (spots_in names piece)) field_is (subst (λ zs. IsPieceAt field zs (spots_in names piece)) slice_is is)) in
+    (found.0, found.1, found.2 ∙ many ∙ sym count_is)

@@ -1,0 +1,111 @@
+-- The schedules that call at a place are the live rows that pass a test, so they are as many.
+use Rattle.std.proofs.Common.{◌≡◌, ℕ, List, [], ◌∷◌, length, refl, ap, sym, ◌∙◌, subst, inl, inr, ◌⊎◌, Bool, true, false, Contains, Some}
+use Rattle.std.specs.Prelude.{filter, ◌||◌}
+use Rattle.std.specs.List.{list_any}
+use Rattle.std.specs.Str.{bytes_eq}
+use Rattle.std.specs.Ordering.{on}
+use Rattle.std.specs.Cmp.{IsTotalOrder, on_total}
+use Rattle.std.proofs.lemmas.Map.Views.{Contains-from_any}
+use Rattle.std.proofs.lemmas.Slice.Eq.{bytes_eq-Decides}
+use Rattle.docker_model.specs.file.Change.{Key, Body, schedule_body}
+use Rattle.docker_model.specs.state.Op.{key_cmp, put_with}
+use Rattle.docker_model.specs.state.Order.{IsBelow}
+use Rattle.docker_model.specs.state.State.{State, IsValid, live_table}
+use Rattle.docker_model.specs.state.Table.{Table}
+use Rattle.cif_laws.proofs.lists.FilteredMembers.{filter_back, filter_forth}
+use Rattle.cif_laws.proofs.lists.Later.{later_filter}
+use Rattle.cif_laws.proofs.lists.Membership.{Contains-cons, nil-Contains}
+use Rattle.cif_laws.proofs.orders.Ascending.{same_list, ascending_of, later_of}
+use Rattle.cif_laws.proofs.orders.Orders.{key_total}
+use Rattle.cif_change.specs.NamedPlaces.{call_places}
+use Rattle.state_laws.specs.Index.{AreCalling}
+use Rattle.state_laws.specs.Row.{Row, AreInKeyOrder, AreRowsOf}
+use Rattle.state_index.specs.Counts.{IsCallingCount}
+use Rattle.state_index.proofs.RowPlaces.{Calls, call_back, call_forth}
+use Rattle.docker_state.specs.Live.{live_rows}
+use Rattle.docker_state.proofs.LiveTable.{live_walks, live_ascends}
+use Rattle.state_lists.specs.Places.{calls_at, count_at}
+
+rows_total : IsTotalOrder (on (λ (row : Row). row.0) key_cmp)
+rows_total = on_total (λ (row : Row). row.0) key_total
+
+-- a table has only one list of rows
+pub one_rows : (live : Table) (rows others : List Row) → AreRowsOf live rows → AreRowsOf live others → rows ≡ others
+one_rows live rows others one two =
+    same_list rows_total rows others one.ascending two.ascending
+    (λ row. (
+      λ among. (two.members row.0 row.1).1 ((one.members row.0 row.1).0 among),
+      λ among. (one.members row.0 row.1).1 ((two.members row.0 row.1).0 among),
+    ))
+
+-- a list that has a place passes the test for it
+has_place : (place : List ℕ) (places : List (List ℕ)) → Contains places place → list_any (bytes_eq place) places ≡ true
+has_place place [] among = absurd (nil-Contains place among)
+has_place place (other ∷ places) among = by (has_place place places) (Contains-cons other places place among)
+  where
+    either : (b : Bool) → b || true ≡ true
+    either true = refl
+    either false = refl
+
+    by : (Contains places place → list_any (bytes_eq place) places ≡ true) → (other ≡ place) ⊎ Contains places place
+        → bytes_eq place other || list_any (bytes_eq place) places ≡ true
+    by rest (inl same) = ap (λ b. b || list_any (bytes_eq place) places) ((bytes_eq-Decides place other).1 (sym same))
+    by rest (inr inside) = ap (λ b. bytes_eq place other || b) (rest inside) ∙ either (bytes_eq place other)
+
+-- a live row passes the test if and only if it is a schedule that calls at the place
+passes_back : (place : List ℕ) (key : Key) (body : Body) → calls_at place (key, body) ≡ true → Calls key (put_with body) place
+passes_back place key body passes =
+    call_back key (put_with body) place
+    (Contains-from_any {eq = bytes_eq} (λ x y same. (bytes_eq-Decides x y).0 same) place (call_places key (put_with body)) passes)
+
+put_is : (body other : Body) → put_with body ≡ put_with other → body ≡ other
+put_is body other same = cc
+
+module _ (live : Table) (rows : List Row) (are : AreRowsOf live rows) (place : List ℕ) where
+  passing_ascend : AreInKeyOrder (filter (calls_at place) rows)
+  passing_ascend =
+      ascending_of (on (λ (row : Row). row.0) key_cmp) (filter (calls_at place) rows)
+      (later_filter (IsBelow (on (λ (row : Row). row.0) key_cmp)) (calls_at place) rows
+      (later_of (on (λ (row : Row). row.0) key_cmp) rows are.ascending))
+
+  -- the schedules that call at the place are the rows that pass
+  calling_are : (calling : List Row) → AreCalling live place calling → calling ≡ filter (calls_at place) rows
+  calling_are calling is = same_list rows_total calling (filter (calls_at place) rows) is.ascending passing_ascend (λ row. (forth row, back row))
+    where
+      forth : (row : Row) → Contains calling row → Contains (filter (calls_at place) rows) row
+      forth row among =
+          let told = (is.members row.0 row.1).0 among in
+          filter_forth (calls_at place) rows row
+          ((are.members row.0 row.1).1 (ap live told.2 ∙ told.4.is_live ∙ sym (ap Some told.3)))
+          (has_place place (call_places row.0 (put_with row.1))
+          (subst (λ (it : Row). Contains (call_places it.0 (put_with it.1)) place) (λ i. (sym told.2 i, sym told.3 i))
+          (call_forth told.0 told.1 place told.4.calls)))
+
+      back : (row : Row) → Contains (filter (calls_at place) rows) row → Contains calling row
+      back row among =
+          let passed = filter_back (calls_at place) rows row among in
+          let calls = passes_back place row.0 row.1 passed.1 in
+          let body_is = put_is row.1 (schedule_body calls.1) calls.3 in
+          (is.members row.0 row.1).1 (
+            calls.0,
+            calls.1,
+            calls.2,
+            body_is,
+            record {
+              is_live = sym (ap live calls.2) ∙ (are.members row.0 row.1).0 passed.0 ∙ ap Some body_is;
+              calls = calls.4;
+            },
+          )
+
+-- the walk over a state's live keys has the rows of its live table
+pub rows_are : (state : State) → IsValid state → AreRowsOf (live_table state) (live_rows state.entries)
+rows_are state valid = record {
+  ascending = live_ascends state valid (live_rows state.entries) refl;
+  members = live_walks state valid (live_rows state.entries) refl;
+}
+
+-- the count of the schedules that call at a place is the count of the live rows that pass
+pub count_is : (state : State) → IsValid state → (place : List ℕ) (count : ℕ) → IsCallingCount (live_table state) place count
+    → count ≡ count_at place (live_rows state.entries)
+count_is state valid place count counted =
+    sym counted.2 ∙ ap length (calling_are (live_table state) (live_rows state.entries) (rows_are state valid) place counted.0 counted.1)

@@ -1,0 +1,51 @@
+-- The text that is written is the text of what a state knows.
+use Rattle.std.proofs.Common.{◌≡◌, ℕ, ◌<◌, List, ◌++◌, ap, ◌∙◌, subst, Some, None}
+use Rattle.std.specs.Prelude.{Option, IfSome, codes, option_map}
+use Rattle.std.proofs.lemmas.List.Elements.{All-contains}
+use Rattle.cif_line.specs.Device.{Takes, TakesPart}
+use Rattle.docker_model.specs.file.Change as model
+use Rattle.docker_model.specs.state.Op as ops
+use Rattle.docker_model.specs.state.Stamp.{FileStamp, IsFloor}
+use Rattle.docker_model.specs.state.State.{State, IsGoodItem, IsValid}
+use Rattle.docker_join.specs.declared.stamp.FileStamp as stamps
+use Rattle.docker_join.specs.Meaning.{file_stamp_meant}
+use Rattle.docker_state.specs.Live.{live_rows}
+use Rattle.state_lists.specs.Gained.{Gains, GainsPart}
+use Rattle.state_lists.specs.Known.{IsKnownText, count_line, full_line, horizon_line, last_line}
+use Rattle.state_lists.specs.Tallies.{IsTallyOf, known_lines}
+use Rattle.state_lists.specs.declared.tally.Tally.{Tally}
+use Rattle.state_lists.proofs.Counts.{rows_are}
+
+-- the newest full extract of a valid state has a minute of the day
+pub minute_of_full : (state : State) → IsValid state → (full : Option stamps.FileStamp) → IsFloor state.ledger (option_map file_stamp_meant full)
+    → IfSome full (λ stamp. stamp.minute < 1440)
+minute_of_full state valid None is = tt
+minute_of_full state valid (Some stamp) is =
+    let good = All-contains IsGoodItem state.ledger is.full valid.ledger.each is.among in
+    subst (λ minute. minute < 1440) (ap (λ (it : FileStamp). it.moment.minute) is.stamped) good.minute
+
+module _ (state : State) (valid : IsValid state) (entries : List (model.Key × ops.Entry)) (are : entries ≡ state.entries) (horizon : ℕ)
+    (horizon_is : horizon ≡ state.horizon) (full : Option FileStamp) (is_full : IsFloor state.ledger full) (tally : Tally)
+    (counted : IsTallyOf (live_rows entries) tally) (bytes : List ℕ) (is : bytes ≡ known_lines horizon full tally) where
+  of_all : IsTallyOf (live_rows state.entries) tally
+  of_all = subst (λ (all : List (model.Key × ops.Entry)). IsTallyOf (live_rows all) tally) are counted
+
+  is_known : IsKnownText state bytes
+  is_known = record {
+    full = full;
+    is_full = is_full;
+    rows = live_rows state.entries;
+    are = rows_are state valid;
+    last = tally.last;
+    is_last = of_all.last;
+    text_is = is ∙ (λ i. horizon_line (horizon_is i) ++ full_line full ++ last_line tally.last ++ count_line (codes "SCHEDULES   ") (of_all.schedules i)
+        ++ count_line (codes "ASSOCIATIONS") (of_all.associations i) ++ count_line (codes "PLACES      ") (of_all.places i));
+  }
+
+  -- if it is taken, the sink gains the text of what is known
+  pub known_taken : (old new : Option (List ℕ)) → Takes old bytes new → Gains (IsKnownText state) old new
+  known_taken old new taken = record { text = bytes; is = is_known; gained = taken }
+
+  -- the same for a part
+  pub known_begun : (old new : Option (List ℕ)) → TakesPart old bytes new → GainsPart (IsKnownText state) old new
+  known_begun old new taken = record { text = bytes; is = is_known; gained = taken }

@@ -1,0 +1,5 @@
+mod Counts
+mod Lines
+mod TallyLemmas
+mod KnownLemmas
+mod ListLaws

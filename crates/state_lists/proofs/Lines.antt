@@ -1,0 +1,64 @@
+-- The lines of a state's entries are the list of its timing points.
+use Rattle.std.proofs.Common.{◌≡◌, List, ℕ, [], ◌∷◌, ◌++◌, map, refl, ap, sym, ◌∙◌}
+use Rattle.std.specs.Prelude.{Option}
+use Rattle.std.specs.List.{flat_map}
+use Rattle.std.proofs.lemmas.List.Folds.{flat_map-map}
+use Rattle.cif_line.specs.Device.{Takes, TakesPart}
+use Rattle.docker_model.specs.file.Change.{Key, tiploc_key, Body, tiploc_body}
+use Rattle.docker_model.specs.state.Op.{Op, deleted, lapsed, put_with, Entry}
+use Rattle.docker_model.specs.state.State.{State, IsValid, live_table}
+use Rattle.cif_change.specs.declared.key.Key.{Key as Kept}
+use Rattle.docker_join.specs.declared.entry.Entry.{Entry as Held}
+use Rattle.docker_join.specs.Meaning.{row_meant}
+use Rattle.docker_model.specs.docker.DockerText.{ended}
+use Rattle.state_index.specs.Counts.{IsCallingCount}
+use Rattle.state_laws.specs.Row.{Row}
+use Rattle.docker_state.specs.Live.{put_before, live_rows}
+use Rattle.state_lists.specs.Gained.{Gains, GainsPart}
+use Rattle.state_lists.specs.Places.{IsPlacesText, place_line, place_text, places_text}
+use Rattle.state_lists.specs.RowLines.{line_by, row_line}
+use Rattle.state_lists.proofs.Counts.{count_is, rows_are}
+
+-- a row of the code, with its line among these live rows
+abbrev pub kept_line : List Row → Kept × Held → List ℕ
+kept_line rows row = row_line rows (row_meant row)
+
+-- the lines of entries are the lines of those that are live
+lines_are : (rows : List Row) (entries : List (Key × Entry))
+    → flat_map (row_line rows) entries ≡ flat_map (λ (row : Row). place_line rows row.0 row.1) (live_rows entries)
+lines_are rows [] = refl
+lines_are rows (entry ∷ entries) = by entry.1.op (lines_are rows entries)
+  where
+    by : (op : Op) → flat_map (row_line rows) entries ≡ flat_map (λ (row : Row). place_line rows row.0 row.1) (live_rows entries)
+        → line_by rows entry.0 op ++ flat_map (row_line rows) entries
+        ≡ flat_map (λ (row : Row). place_line rows row.0 row.1) (put_before entry.0 op (live_rows entries))
+    by deleted rest = rest
+    by lapsed rest = rest
+    by (put_with body) rest = ap (λ bytes. place_line rows entry.0 body ++ bytes) rest
+
+module _ (state : State) (valid : IsValid state) (rows : List (Kept × Held)) (are : map row_meant rows ≡ state.entries) where
+  text_is : flat_map (kept_line (live_rows state.entries)) rows ≡ places_text (live_rows state.entries)
+  text_is =
+      sym (flat_map-map (row_line (live_rows state.entries)) row_meant rows)
+      ∙ ap (flat_map (row_line (live_rows state.entries))) are ∙ lines_are (live_rows state.entries) state.entries
+
+  is_text : IsPlacesText (live_table state) (flat_map (kept_line (live_rows state.entries)) rows)
+  is_text = record { rows = live_rows state.entries; are = rows_are state valid; text_is = text_is }
+
+  -- if the lines of all entries are taken, the list is
+  pub list_taken : (old new : Option (List ℕ)) → Takes old (flat_map (kept_line (live_rows state.entries)) rows) new
+      → Gains (IsPlacesText (live_table state)) old new
+  list_taken old new taken = record { text = flat_map (kept_line (live_rows state.entries)) rows; is = is_text; gained = taken }
+
+  -- the same for a part
+  pub list_begun : (old new : Option (List ℕ)) → TakesPart old (flat_map (kept_line (live_rows state.entries)) rows) new
+      → GainsPart (IsPlacesText (live_table state)) old new
+  list_begun old new taken = record { text = flat_map (kept_line (live_rows state.entries)) rows; is = is_text; gained = taken }
+
+-- a written line is the line of its key
+pub line_is : (state : State) → IsValid state → (key : Key) (body : Body) (code details : List ℕ) (count : ℕ) (bytes : List ℕ)
+    → key ≡ tiploc_key code → body ≡ tiploc_body details → IsCallingCount (live_table state) code count
+    → bytes ≡ ended (place_text code details count) → bytes ≡ place_line (live_rows state.entries) key body
+line_is state valid key body code details count bytes key_is body_is counted is =
+    is ∙ ap (λ n. ended (place_text code details n)) (count_is state valid code count counted)
+    ∙ sym (λ i. place_line (live_rows state.entries) (key_is i) (body_is i))

@@ -1,0 +1,5 @@
+pub mod Places
+pub mod RowLines
+pub mod Known
+pub mod Tallies
+pub mod Gained

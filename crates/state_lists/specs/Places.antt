@@ -1,0 +1,47 @@
+-- The list of timing points: each live one, with how many live schedules call there.
+use Rattle.std.specs.Prelude.{◌≡◌, ℕ, ◌-◌, Bool, List, [], ◌++◌, length, filter, decimal}
+use Rattle.std.specs.List.{flat_map, list_any}
+use Rattle.std.specs.Str.{bytes_eq}
+use Rattle.docker_model.specs.records.Record.{columns}
+use Rattle.docker_model.specs.records.PrintedTime.{spaces}
+use Rattle.docker_model.specs.file.Change.{Key, tiploc_key, Body, tiploc_body}
+use Rattle.docker_model.specs.state.Op.{put_with}
+use Rattle.docker_model.specs.state.Table.{Table}
+use Rattle.docker_model.specs.docker.DockerText.{ended}
+use Rattle.cif_change.specs.NamedPlaces.{call_places}
+use Rattle.state_laws.specs.Row.{Row, AreRowsOf}
+
+-- whether a live row is a schedule with a location record at the place
+abbrev pub calls_at : List ℕ → Row → Bool
+calls_at place row = list_any (bytes_eq place) (call_places row.0 (put_with row.1))
+
+-- how many of these live rows are schedules with a location record at the place
+abbrev pub count_at : List ℕ → List Row → ℕ
+count_at place rows = length (filter (calls_at place) rows)
+
+-- a number in ten columns, padded with spaces on the left. A number of more digits has more columns
+abbrev pub number_text : ℕ → List ℕ
+number_text number = spaces (10 - length (decimal number)) ++ decimal number
+
+-- the 55 columns of a timing point's line: TIPLOC, CRS, STANOX, TPS description and count. CRS is
+-- in columns 54 to 56 of the record, STANOX in 45 to 49, and the description in 19 to 44. The body
+-- holds columns 10 to 72
+unfoldable pub place_text : List ℕ → List ℕ → ℕ → List ℕ
+place_text code bytes count =
+    code ++ spaces 1 ++ columns 45 47 bytes ++ spaces 1 ++ columns 36 40 bytes ++ spaces 1 ++ columns 10 35 bytes ++ spaces 1
+    ++ number_text count
+
+-- the line of a live key and its body among all live rows, if it is a timing point's
+abbrev pub place_line : List Row → Key → Body → List ℕ
+place_line rows (tiploc_key code) (tiploc_body bytes) = ended (place_text code bytes (count_at code rows))
+place_line _ _ _ = []
+
+-- the list of the timing points among these live rows, in their order
+abbrev pub places_text : List Row → List ℕ
+places_text rows = flat_map (λ (row : Row). place_line rows row.0 row.1) rows
+
+-- this is the list of the timing points of a live table, in the order of keys
+pub record IsPlacesText (live : Table) (text : List ℕ) : Type 0 where
+  pub rows : List Row
+  pub are : AreRowsOf live rows
+  pub text_is : text ≡ places_text rows

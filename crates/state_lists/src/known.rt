@@ -1,0 +1,160 @@
+//! What a state knows, in a few lines: a name in columns 1 to 12, and a value from column 14 on.
+ghost use Rattle.std.specs.Prelude.{◌≡◌, ◌-◌, ◌^◌, ◌<◌, IfSome, IsErr, OnOk, OnErr, option_map};
+ghost use Rattle.cif_line.specs.Device.{CountsFailure};
+ghost use Rattle.docker_model.specs.records.Date.{IsDay};
+ghost use Rattle.docker_model.specs.records.PrintedTime.{minute_text};
+ghost use Rattle.docker_join.specs.Meaning.{file_stamp_meant};
+ghost use Rattle.state_lists.specs.Gained.{Gains, GainsPart};
+ghost use Rattle.state_lists.specs.Known.{IsKnownText, count_line, full_line, horizon_line, horizon_text, last_line};
+ghost use Rattle.state_lists.specs.Tallies.{known_lines};
+
+use crate::tally::{Tally, tally_of};
+use arrayvec::ArrayVec;
+use cif_line::{Day, Failed, Sink, write_all};
+use docker_join::FileStamp;
+use docker_state::State;
+use fixed_text::put;
+use itoa::Buffer;
+
+/// The text. It has room for all lines, whatever the counts.
+type KnownText = ArrayVec<u8, 187>;
+
+/// Prints what a state knows. There is a line for its horizon, and lines for how many schedules,
+/// associations and timing points are live. The newest full extract and the greatest last day of a
+/// live schedule have a line if there is one. It allocates nothing. If the write fails, the sink has
+/// only a first part of the text.
+pub fn print_known<K: Sink>(state: &State, sink: &mut K) -> Result<(), Failed>
+    requires { K.failures sink.old < 2 ^ 64 - 1 }
+    ensures whole { OnOk result (Gains (IsKnownText state.now)
+        (K.taken sink.old) (K.taken sink.new)) }
+    ensures part { OnErr result (GainsPart (IsKnownText state.now)
+        (K.taken sink.old) (K.taken sink.new)) }
+    ensures failures { CountsFailure (IsErr result) (K.failures sink.old) (K.failures sink.new) }
+{
+    let tally = tally_of(state.entries());
+    let text = lines_of(state.horizon(), state.floor(), &tally);
+    write_all(sink, text.as_slice())
+}
+
+/// All lines. `full` is the newest full extract.
+fn lines_of(horizon: u16, full: Option<FileStamp>, tally: &Tally) -> KnownText
+    requires day { IsDay horizon }
+    requires minute { IfSome full (λ stamp. stamp.minute < 1440) }
+    ensures { result.items ≡ known_lines horizon (option_map file_stamp_meant full) tally.now }
+{
+    let mut text = ArrayVec::new();
+    put(&mut text, horizon_line(horizon).as_slice());
+    put(&mut text, full_line(full).as_slice());
+    put(&mut text, last_line(tally.last).as_slice());
+    put(
+        &mut text,
+        count_line(b"SCHEDULES   ", tally.schedules).as_slice(),
+    );
+    put(
+        &mut text,
+        count_line(b"ASSOCIATIONS", tally.associations).as_slice(),
+    );
+    put(
+        &mut text,
+        count_line(b"PLACES      ", tally.places).as_slice(),
+    );
+    text
+}
+
+/// The line of the horizon.
+#[tactic(auto, unfolding(crate::specs::Known::horizon_line))]
+fn horizon_line(horizon: u16) -> ArrayVec<u8, 24>
+    requires { IsDay horizon }
+    ensures { result.items ≡ horizon_line horizon }
+{
+    let mut text = ArrayVec::new();
+    put(&mut text, b"HORIZON      ");
+    put(&mut text, horizon_text(horizon).as_slice());
+    put(&mut text, b"\n");
+    text
+}
+
+/// A horizon: a day number as a date, or 0 for none.
+fn horizon_text(horizon: u16) -> ArrayVec<u8, 10>
+    requires { IsDay horizon }
+    ensures { result.items ≡ horizon_text horizon }
+{
+    let mut text = ArrayVec::new();
+    if horizon == 0 {
+        put(&mut text, b"NONE");
+        return text;
+    }
+    put(&mut text, &day_of(horizon).iso());
+    text
+}
+
+/// The day of a day number.
+fn day_of(number: u16) -> Day
+    requires { IsDay number }
+    ensures { result ≡ number }
+{
+    match Day::from_number(number) {
+        Some(day) => day,
+        None => unreachable!(),
+    }
+}
+
+/// The line of the newest full extract: date, time and reference. No byte if there is none.
+#[tactic(auto, unfolding(crate::specs::Known::full_line))]
+fn full_line(full: Option<FileStamp>) -> ArrayVec<u8, 37>
+    requires { IfSome full (λ stamp. stamp.minute < 1440) }
+    ensures { result.items ≡ full_line (option_map file_stamp_meant full) }
+{
+    let mut text = ArrayVec::new();
+    if let Some(stamp) = full {
+        put(&mut text, b"FULL         ");
+        put(&mut text, &stamp.day.iso());
+        put(&mut text, b" ");
+        put(&mut text, &clock_text(stamp.minute));
+        put(&mut text, b" ");
+        put(&mut text, &stamp.reference);
+        put(&mut text, b"\n");
+    }
+    text
+}
+
+/// The line of the greatest last day of a schedule. No byte if there is none.
+#[tactic(auto, unfolding(crate::specs::Known::last_line))]
+fn last_line(last: Option<Day>) -> ArrayVec<u8, 24>
+    ensures { result.items ≡ last_line last }
+{
+    let mut text = ArrayVec::new();
+    if let Some(day) = last {
+        put(&mut text, b"LAST         ");
+        put(&mut text, &day.iso());
+        put(&mut text, b"\n");
+    }
+    text
+}
+
+/// The line of a count.
+#[tactic(auto, unfolding(crate::specs::Known::count_line))]
+fn count_line(name: &[u8; 12], count: usize) -> ArrayVec<u8, 34>
+    ensures { result.items ≡ count_line name.now count }
+{
+    let mut text = ArrayVec::new();
+    put(&mut text, name);
+    put(&mut text, b" ");
+    put(&mut text, Buffer::new().format(count).as_bytes());
+    put(&mut text, b"\n");
+    text
+}
+
+/// A minute of the day as hours and minutes, HHMM.
+fn clock_text(minute: u16) -> [u8; 4]
+    requires { minute < 1440 }
+    ensures { result ≡ minute_text minute }
+{
+    let (hour, minute) = ((minute / 60) as u8, (minute % 60) as u8);
+    [
+        b'0' + hour / 10,
+        b'0' + hour % 10,
+        b'0' + minute / 10,
+        b'0' + minute % 10,
+    ]
+}

@@ -1,0 +1,11 @@
+//! The lists of what a state knows: its timing points, with how many schedules call at each, and a
+//! few lines on all of it.
+#![tactic(auto)]
+
+mod known;
+pub mod laws;
+mod places;
+mod tally;
+
+pub use known::print_known;
+pub use places::print_places;

@@ -1,0 +1,53 @@
+//! Associations, column by column as in a file.
+
+/// C10002 joins C10001 at Ashfeld.
+pub const AA_JOIN: &[u8] =
+    b"AANC10001C100022406102406141111100JJSASHFELD  TP                               P";
+
+/// C20001 divides from C10001 at Colwell, to 1 January 1960.
+pub const AA_ENDS_1960: &[u8] =
+    b"AANC10001C200012406106001011111100VVSCOLWELL  TP                               P";
+
+/// C20001 divides from C10001 at Colwell, to 31 December 2059.
+pub const AA_ENDS_2059: &[u8] =
+    b"AANC10001C200012406105912311111100VVSCOLWELL  TP                               P";
+
+/// C20001 joins C10001 at Colwell, without an end.
+pub const AA_NO_END: &[u8] =
+    b"AANC10001C200012406109999991111100JJSCOLWELL  TP                               P";
+
+/// C20001 divides from C10001 at Colwell, without an end.
+pub const AA_NO_END_DIVIDE: &[u8] =
+    b"AANC10001C200012406109999991111100VVSCOLWELL  TP                               P";
+
+/// C30001 divides at its second call at Colwell, and C30002 goes on.
+pub const AA_DIVIDE: &[u8] =
+    b"AANC30001C300022406102406101000000VVSCOLWELL2 TP                               P";
+
+/// C40001 becomes C40002, on the next day.
+pub const AA_N: &[u8] =
+    b"AANC40001C400022406102406101000000NPNCOLWELL  TP                               P";
+
+/// C40001 becomes C40002, on the same day.
+pub const AA_S: &[u8] =
+    b"AANC40001C400022406102406101000000NPSCOLWELL  TP                               P";
+
+/// C40001 becomes C40002, on the day before.
+pub const AA_P: &[u8] =
+    b"AANC40001C400022406102406101000000NPPCOLWELL  TP                               P";
+
+/// C40001 becomes C40002, without a date indicator.
+pub const AA_BLANK: &[u8] =
+    b"AANC40001C400022406102406101000000NP COLWELL  TP                               P";
+
+/// C40001 becomes C40002, with an unknown date indicator.
+pub const AA_X: &[u8] =
+    b"AANC40001C400022406102406101000000NPXCOLWELL  TP                               P";
+
+/// C40001 and C40002, associated with an unknown category.
+pub const AA_OTHER: &[u8] =
+    b"AANC40001C400022406102406101000000XXNCOLWELL  TP                               P";
+
+/// C40001 becomes C40002, on 31 December 2059.
+pub const AA_LAST: &[u8] =
+    b"AANC40001C400025912315912310010000NPNCOLWELL  TP                               P";

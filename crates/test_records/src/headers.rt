@@ -1,0 +1,49 @@
+//! Headers, the trailer, and a note, column by column as in a file.
+
+/// The header of an update of 9 June 2024, 21:00.
+pub const HD: &[u8] =
+    b"HDTPS.UDFROC1.PD2406090906242100DFROC1ADFROC1ZUA                                ";
+
+/// The header of a full extract of 9 June 2024, 21:00.
+pub const HD_FULL: &[u8] =
+    b"HDTPS.UDFROC1.PD2406090906242100DFROC1ADFROC1ZFA                                ";
+
+/// The header of an update of 10 June, which follows that file.
+pub const HD_10B: &[u8] =
+    b"HDTPS.UDFROC1.PD2406091006242100DFROC1BDFROC1AUA                                ";
+
+/// The header of an update of 10 June, 06:05, which follows it too.
+pub const HD_10B_0605: &[u8] =
+    b"HDTPS.UDFROC1.PD2406101006240605DFROC1BDFROC1AUA                                ";
+
+/// The header of an update of 9 June that follows another file.
+pub const HD_9B: &[u8] =
+    b"HDTPS.UDFROC1.PD2406090906242100DFROC1BDFROC1AUA                                ";
+
+/// The header of an update of 9 June that follows the full extract of 7 June.
+pub const HD_9C: &[u8] =
+    b"HDTPS.UDFROC1.PD2406090906242100DFROC1CDFROC1BUA                                ";
+
+/// The header of an update of 8 June.
+pub const HD_8A: &[u8] =
+    b"HDTPS.UDFROC1.PD2406090806242100DFROC1ADFROC1ZUA                                ";
+
+/// The header of an update of 5 June.
+pub const HD_5A: &[u8] =
+    b"HDTPS.UDFROC1.PD2406090506242100DFROC1ADFROC1ZUA                                ";
+
+/// The header of a full extract of 7 June.
+pub const HD_7B: &[u8] =
+    b"HDTPS.UDFROC1.PD2406090706242100DFROC1BDFROC1AFA                                ";
+
+/// A header with an unknown update indicator.
+pub const HD_X: &[u8] =
+    b"HDTPS.UDFROC1.PD2406090906242100DFROC1ADFROC1ZXA                                ";
+
+/// A note, which is a kind of record that isn't read.
+pub const LN: &[u8] =
+    b"LN                                                                              ";
+
+/// The trailer.
+pub const ZZ: &[u8] =
+    b"ZZ                                                                              ";

@@ -1,0 +1,21 @@
+//! Timing points, column by column as in a file, and the bodies that they give.
+
+/// The insertion of Ashfeld: Ashfield Central.
+pub const TI: &[u8] =
+    b"TIASHFELD         ASHFIELD CENTRAL                                              ";
+
+/// The body that this insertion gives Ashfeld.
+pub const BODY_OF_TI: [u8; 63] =
+    *b"         ASHFIELD CENTRAL                                      ";
+
+/// The amendment of Ashfeld: another code and description.
+pub const TA: &[u8] =
+    b"TAASHFELD         ASHFIELD NEW                                          ASHFLDN ";
+
+/// The body that this amendment gives the new code.
+pub const BODY_OF_TA: [u8; 63] =
+    *b"         ASHFIELD NEW                                          ";
+
+/// An amendment of Ashfeld that keeps its code.
+pub const TA_SAME: &[u8] =
+    b"TAASHFELD         ASHFIELD CENTRAL                                      ASHFELD ";

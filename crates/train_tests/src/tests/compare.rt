@@ -1,0 +1,9 @@
+//! Tests compare values with this function, which ends the test if they differ. An assertion in its
+//! own function is proved once for all rows.
+use std::fmt::Debug;
+use std::process::Abort;
+
+/// Asserts that two values are equal.
+pub(super) fn same<T: PartialEq + Debug + Drop>(rt: &impl Abort, got: T, wanted: T) {
+    assert_eq!(rt; got, wanted);
+}

@@ -1,0 +1,67 @@
+"""What a page says of its day: how old what is known is, and what is missing of the day."""
+import datetime
+from typing import NamedTuple, Optional
+
+import dockers
+
+
+class Days(NamedTuple):
+    """What is known of days: the list of files, and what `known` says, if there is a desk that knows it."""
+    extracts: list
+    coverage: Optional[dockers.Coverage]
+
+    @property
+    def newest(self):
+        return self.extracts[-1] if self.extracts else None
+
+    @property
+    def full(self):
+        """The newest full extract that counts, if there is one."""
+        return next((extract for extract in reversed(self.extracts) if extract.indicator == "F"), None)
+
+    @property
+    def last(self):
+        """The last day of the schedules, if it is known."""
+        return self.coverage and self.coverage.last
+
+    def age(self, now):
+        """How old what is known is, if it is older than a day and a half."""
+        if self.newest is None:
+            return ""
+        made = datetime.datetime.fromisoformat(f"{self.newest.date}T{self.newest.time[:2]}:{self.newest.time[2:]}")
+        days = (now.replace(tzinfo=None) - made) / datetime.timedelta(1)
+        return f": {int(days)} {'day' if days < 2 else 'days'} old" if days > 1.5 else ""
+
+    def missing(self):
+        """The updates that are missing, in words."""
+        return [f"Missing: {reference}, which comes before the {extract.name}. Trains may be wrong until it is taken." for reference, extract in dockers.missing(self.extracts)]
+
+    def is_early(self, date):
+        """Whether a day lies before the newest full extract, or there is none."""
+        return self.newest is not None and (self.full is None or date < self.full.date)
+
+    def is_late(self, date):
+        """Whether a day lies after the last day of the schedules, or there is no schedule."""
+        if self.coverage is None or self.newest is None:
+            return False
+        return self.coverage.schedules == 0 or self.last is not None and date > self.last
+
+    def early(self, date):
+        """What is missing of a day that lies before the newest full extract; nothing of another."""
+        if not self.is_early(date):
+            return ""
+        if self.full is None:
+            return "No full extract was taken: most trains are missing here."
+        return f"This day lies before the {self.full.name}. Trains that ran for the last time before it are missing here."
+
+    def late(self, date):
+        """What is missing of a day that lies after the last one of the schedules; nothing of another."""
+        if not self.is_late(date):
+            return ""
+        if self.last is None:
+            return "No schedule is known, so no train is: those that were taken ended before the horizon, or there were none."
+        return f"This day lies after {self.last}, the last day of the schedules that were taken. Most of its trains aren’t known yet."
+
+    def warnings(self, date):
+        """All that is missing of a day, in words."""
+        return [told for told in (self.early(date), self.late(date), *self.missing()) if told]

@@ -1,0 +1,40 @@
+"""What stands in the folder of each case of `desk`: the given files and states."""
+import shutil
+
+import extracts
+import mirror
+import pytest
+from programs import build_library, give
+
+
+@pytest.fixture(scope="session")
+def given_files(work):
+    """A folder with the good files, the bad ones, and the states that desks read."""
+    mirror.GIVEN, mirror.CHANGED = work / "given", work / "changed"
+    mirror.GIVEN.mkdir()
+    mirror.CHANGED.mkdir()
+    bad = {name: text for name, (text, _) in extracts.BAD.items()}
+    for name, text in (extracts.GOOD | bad).items():
+        give(text.encode(), mirror.given(name))
+    for name, (names, horizon) in mirror.STATES.items():
+        give(mirror.state_of(*names, horizon=horizon), mirror.given(name))
+    return mirror.GIVEN
+
+
+@pytest.fixture(autouse=True)
+def given(folder, given_files):
+    shutil.copytree(given_files, folder, dirs_exist_ok=True)
+    # The folder has the permissions of the one that was copied.
+    folder.chmod(0o755)
+
+
+@pytest.fixture(scope="session")
+def overtaking(work):
+    """The library under which another file comes just after a save."""
+    return build_library("programs/desk/overtake.c", work / "overtake.so")
+
+
+@pytest.fixture(scope="session")
+def refusing(work):
+    """The library under which one growth of memory is refused."""
+    return build_library("growth/refuse.c", work / "refuse.so")

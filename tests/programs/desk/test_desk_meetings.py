@@ -1,0 +1,191 @@
+"""A desk that may write, and what meets it just before each of its calls of the file system:
+another command, another text of STATE, and drafts of others. Nothing is lost unseen, and it goes
+on."""
+import os
+import typing
+
+import pytest
+from desks import DEVICE, DONE, NOT_SAVED, answers_in, written
+from meetings import (
+    BECOMES_PIPE, DRAFTS, GOES, Draft, Losing, Names, at_each_call, calls_of, met,
+)
+from mirror import by_docker, given, state_of
+from programs import DESK, DOCKER, Ended, give, held, untried
+from tables import each
+
+COMMAND = [DESK, "--write", "STATE"]
+LOOK = "statx STATE"
+# How a meeting with another command may end.
+ENDS = ("both done", "refused", "other refused")
+
+
+def test_each_call_of_the_system_that_the_desk_makes_may_be_met(meeting):
+    assert untried(DESK, meeting) == []
+
+
+def parts_of(calls):
+    """The calls up to each save that is done, and those after the last."""
+    parts = [[]]
+    for call in calls:
+        if call == "rename STATE.new STATE":
+            parts.append([])
+        else:
+            parts[-1].append(call)
+    return parts
+
+
+class Session(typing.NamedTuple):
+    """What a desk is asked, and what is known of the parts up to each save, but the last. A save
+    goes on from a look, which is this one of its part; without any, it goes on from the last save.
+    The requests of these numbers are refused if STATE has changed since."""
+
+    requests: tuple
+    looks: tuple
+    refused: tuple
+
+    def lines(self):
+        return "".join(f"{request}\n" for request in self.requests).encode()
+
+
+CHANGES = ("take tuesday", "merge monday.state")
+# The looks of a start and of a renewal are followed by those of a save.
+SESSIONS = {
+    "that saves what it read": Session(
+        (*CHANGES, "save", "renew", "save", "renew", "save"), (1, 1), ((2,), (4,)),
+    ),
+    "that renews before it saves, and saves twice": Session(
+        (*CHANGES, "renew", "save", "save", "renew", "save", "renew", "save"), (2, 0, 1),
+        ((3, 4), (4,), (6,)),
+    ),
+}
+
+
+class Part(typing.NamedTuple):
+    """Where something meets a session: after how many saves that were done, the calls since then,
+    and how often the desk looks at STATE until it has done the next."""
+
+    session: Session
+    saves: int
+    calls: list
+    all_looks: int
+
+    def is_late(self):
+        """Whether the next save has looked at STATE for the last time, with its draft locked."""
+        return "flock" in self.calls and self.calls.count(LOOK) == self.all_looks
+
+    def refused(self):
+        """The numbers of the requests that are refused if STATE changes now."""
+        if self.is_late() or self.calls.count(LOOK) < self.session.looks[self.saves]:
+            return ()
+        return self.session.refused[self.saves]
+
+
+class Beside:
+    """A session, and what is there at its end: with what came beside it, and without."""
+
+    def __init__(self, meeting, session):
+        self.meeting, self.session = meeting, session
+        give(state_of("full"))
+        parts = parts_of(calls_of(meeting, COMMAND, session.lines()))
+        self.all_looks = [part.count(LOOK) for part in parts]
+        self.own = held("STATE")
+        assert self.own == state_of("full", "tuesday", "monday", "night")
+        self.both = by_docker(self.own, "take", given("last"))[1]
+
+    def at(self, number, line):
+        """The session that this line of the shell meets at this call, and in which part. Returns
+        None if that is the last part."""
+        give(state_of("full"))
+        found = met(self.meeting, number, line, COMMAND, self.session.lines())
+        assert found is not None, "there is no such call"
+        parts = parts_of(found.before)
+        saves = len(parts) - 1
+        if saves == len(self.session.looks):
+            return None
+        return found, Part(self.session, saves, parts[-1], self.all_looks[saves])
+
+    def goes_on(self, found, refused, wanted):
+        """Only the requests of these numbers are refused, and STATE is as it has to be."""
+        answers = [DONE] * len(self.session.requests)
+        for number in refused:
+            answers[number] = DEVICE
+        assert answers_in(found.ended.output) == answers
+        assert found.ended == Ended(0, found.ended.output, b"")
+        assert held("STATE") == wanted
+        assert not os.path.lexists("STATE.new"), "a draft is left"
+
+
+@pytest.mark.timeout(120)
+@each("session", SESSIONS)
+def test_another_command_meets_a_session(meeting, session):
+    """It may be refused only while a draft of the desk is there. Otherwise the end has both."""
+    beside = Beside(meeting, session)
+
+    def trial(number):
+        meets = beside.at(number, f"{DOCKER} take STATE last </dev/null 2>/dev/null")
+        if meets is None:
+            return None
+        found, part = meets
+        if found.status:
+            assert found.status == 4
+            assert "create STATE.new" in part.calls, "it was refused, and no draft is there"
+            beside.goes_on(found, (), beside.own)
+            return part.saves, "other refused"
+        assert not part.is_late(), "both were done at once"
+        beside.goes_on(found, part.refused(), beside.both)
+        return part.saves, "refused" if part.refused() else "both done"
+
+    wanted = {(saves, end) for saves in range(len(session.looks)) for end in ENDS}
+    # A save that goes on from the last is refused at each of its calls.
+    wanted -= {(saves, "both done") for saves, looks in enumerate(session.looks) if looks == 0}
+    assert set(at_each_call(trial)) == wanted
+
+
+@pytest.mark.timeout(120)
+@each("session", SESSIONS)
+def test_a_text_meets_a_session(meeting, session):
+    """A program that heeds no drafts puts it in place. It is seen until a save's last look, and
+    then the end has both. What comes after that look isn't seen."""
+    beside = Beside(meeting, session)
+
+    def trial(number):
+        give(state_of("full", "last"), "came")
+        meets = beside.at(number, "mv -f came STATE")
+        if meets is None:
+            return None
+        found, part = meets
+        beside.goes_on(found, part.refused(), beside.own if part.is_late() else beside.both)
+        return part.saves, part.refused() != ()
+
+    parts = range(len(session.looks))
+    assert set(at_each_call(trial)) == {(part, end) for part in parts for end in (False, True)}
+
+
+@pytest.mark.timeout(120)
+@each("name, line", GOES | BECOMES_PIPE)
+def test_a_state_that_is_read_and(meeting, name, line):
+    """A save is refused from the reading on up to its last look at STATE, and writes nothing."""
+    names = Names(state_of("full"), state_of("tuesday"))
+    wanted = Ended(1, written([DONE, DEVICE]), NOT_SAVED)
+    command = [DESK, "--write", name]
+    losing = Losing(meeting, names, command, b"take monday\nsave\n", wanted)
+    losing.at_each(name, line, "open monday")
+
+
+@each("is_locked, mode", DRAFTS)
+def test_what_takes_the_place_of_a_draft_that_is_just_made(meeting, is_locked, mode):
+    """Another command took the desk's draft for a left-over before it was locked, and removed it.
+    The save is refused."""
+    lines = b"take monday\nsave\n"
+    give(state_of("full"))
+    calls = calls_of(meeting, COMMAND, lines)
+    made = calls.index("create STATE.new")
+    last = max(at for at, call in enumerate(calls) if call in ("flock", "statx STATE.new"))
+    for number in range(made + 2, last + 2):
+        before = give(state_of("full"))
+        with Draft(is_locked, mode) as draft:
+            found = met(meeting, number, "mv -f draft STATE.new", COMMAND, lines)
+            assert found.ended == Ended(1, written([DONE, DEVICE]), NOT_SAVED)
+            draft.is_under("STATE.new")
+            assert held("STATE") == before
+        os.remove("STATE.new")

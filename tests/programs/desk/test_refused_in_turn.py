@@ -1,0 +1,301 @@
+"""Each growth of memory refused in turn, and each call of the system failing or the last."""
+import contextlib
+import os
+import pathlib
+import shutil
+import signal
+import stat
+
+import pytest
+from desks import DEVICE, MEMORY, NOT_SAVED, answers_in, desk
+from mirror import Mirror, give_large, given
+from programs import DESK, DEVICE_LINE, MEMORY_LINE, Ended, give, held, run, untried
+from tables import each
+
+# A session of every request. What is changed is saved before it ends. Its days aren't refused under
+# the horizon that it sets, so it can be asked again.
+REQUESTS = [
+    ("files",), ("print", "ASHFELD", "2024-06-14"), ("train", "A00001", "2024-06-12"),
+    ("places",), ("known",), ("take", "monday"), ("print", "ASHFELD", "2024-06-14"),
+    ("merge", "second.state"),
+    ("train", "A00001", "2024-06-16"), ("horizon", "2024-06-11"), ("save",), ("renew",),
+    ("take", "short"), ("nothing",), ("take", "last"), ("files",),
+    ("print", "BRAYTON", "2024-06-17"), ("save",),
+]
+
+
+def lines_of(requests):
+    return "".join(f"{' '.join(words)}\n" for words in requests).encode()
+
+
+LINES = lines_of(REQUESTS)
+# A session over a large file, in little memory.
+LARGE_REQUESTS = [
+    ("files",), ("print", "ASHFELD", "2024-06-14"), ("take", "large"), ("save",), ("files",),
+    ("print", "ASHFELD", "2024-06-14"), ("renew",), ("save",), ("print", "BRAYTON", "2024-06-14"),
+]
+
+
+def desk_on(library, **settings):
+    """Runs the session, from a file, with this library preloaded."""
+    environment = os.environ | {"LD_PRELOAD": library} | settings
+    with open("lines", "rb") as lines:
+        return run([DESK, "--write", "STATE"], stdin=lines, env=environment)
+
+
+class Followed:
+    """What a session comes to, if the requests that were refused weren't asked."""
+
+    def __init__(self, requests, answers, refusals):
+        self.mirror, self.refused = Mirror("full"), []
+        self.stored = [self.mirror.stored]
+        assert len(answers) == len(requests)
+        for number, (request, got) in enumerate(zip(requests, answers)):
+            if got in refusals and got != self.tried(request):
+                self.refused.append(number)
+                continue
+            assert got == self.mirror.answer(*request), f"the answer to {' '.join(request)}"
+            self.stored.append(self.mirror.stored)
+
+    def tried(self, request):
+        """The answer that the request has, without doing it."""
+        other = Mirror("full")
+        other.__dict__.update(self.mirror.__dict__)
+        return other.answer(*request)
+
+
+def start():
+    pathlib.Path("lines").write_bytes(LINES)
+    for name in ("refused", "met", "wrong", "STATE.new"):
+        pathlib.Path(name).unlink(missing_ok=True)
+    return give(Mirror("full").stored)
+
+
+def here(name):
+    return f"{os.getcwd()}/{name}"
+
+
+def follow(ended, refusals, requests=REQUESTS, most=1):
+    """Follows a session to its end. At most this many requests were refused so. Returns it."""
+    followed = Followed(requests, answers_in(ended.output), refusals)
+    assert len(followed.refused) <= most, f"requests {followed.refused} were refused"
+    assert (ended.status, ended.errors) == followed.mirror.end()
+    assert held() == followed.mirror.stored
+    return followed
+
+
+def is_refused_start(ended, before):
+    """Whether memory ran out before the first request was read."""
+    assert not os.path.lexists("STATE.new"), "a draft is left"
+    if ended.output:
+        return False
+    assert ended == Ended(3, b"", MEMORY_LINE)
+    assert held() == before
+    return True
+
+
+def refused_growth(ended, before):
+    """In what a growth was refused. None of them if the library managed with less memory."""
+    if is_refused_start(ended, before):
+        return "start"
+    followed = follow(ended, (MEMORY,))
+    return REQUESTS[followed.refused[0]][0] if followed.refused else "none"
+
+
+@pytest.mark.timeout(600)
+def test_each_growth_of_a_session_is_refused_in_turn(refusing):
+    met, growth = set(), 1
+    while True:
+        before = start()
+        ended = desk_on(refusing, GROWTH=str(growth), REFUSED=here("refused"))
+        if not os.path.exists("refused"):
+            break
+        with named(f"growth {growth}"):
+            met.add(refused_growth(ended, before))
+        growth += 1
+    assert follow(ended, ()).refused == []
+    for verb in ("start", "print", "train", "files", "take", "merge", "renew", "save"):
+        assert verb in met, f"no growth of {verb} was refused"
+
+
+@contextlib.contextmanager
+def large_given(count):
+    """A file of this many schedules, where commands find the given files."""
+    give_large(count)
+    shutil.copy("large", given("large"))
+    try:
+        yield
+    finally:
+        os.remove(given("large"))
+
+
+def ran_out(room):
+    """How often memory ran out in a session with an address space of this many KB."""
+    before = start()
+    command = ["prlimit", f"--as={room * 1024}", DESK, "--write", "STATE"]
+    ended = run(command, lines_of(LARGE_REQUESTS))
+    with named(f"{room} KB"):
+        if is_refused_start(ended, before):
+            return 1
+        return len(follow(ended, (MEMORY,), LARGE_REQUESTS, len(LARGE_REQUESTS)).refused)
+
+
+@pytest.mark.timeout(600)
+def test_small_address_spaces_an_eighth_of_a_megabyte_apart():
+    counts, room = [], 4096
+    with large_given(8000):
+        # Until eight in a row were enough.
+        while len(counts) < 8 or any(counts[-8:]):
+            counts.append(ran_out(room))
+            room += 128
+    assert any(counts), "memory never ran out"
+
+
+@contextlib.contextmanager
+def named(what):
+    """Names what is tried, if it isn't as it has to be."""
+    try:
+        yield
+    except AssertionError as found:
+        raise AssertionError(f"{what}: {found}") from found
+
+
+def test_each_call_of_the_system_that_the_desk_makes_is_tried(device):
+    assert untried(DESK, device) == []
+
+
+def whole_session():
+    """The session without a fault: its output, and what STATE holds in turn."""
+    start()
+    ended = desk("--write", "STATE", given=LINES)
+    followed = follow(ended, ())
+    assert followed.refused == []
+    return ended.output, followed.stored
+
+
+def fault_of(line, error, call):
+    """Whether a call that fails with this error may have this line. Only looking at a file or
+    opening it can say that memory ran out."""
+    can_want = error == "ENOMEM" and call in ("open", "statx", "realpath", "fchmod")
+    return line == DEVICE_LINE or (line == MEMORY_LINE and can_want)
+
+
+def unsaved_at(output, whole):
+    """Whether changes were unsaved when the output failed, which had gained this much of the whole
+    session's. The request whose answer couldn't be written was done too."""
+    mirror, length = Mirror("full"), 0
+    for request, answer in zip(REQUESTS, answers_in(whole)):
+        mirror.answer(*request)
+        header = b"%d %d %d\n" % (answer.status, answer.text.count(b"\n"), len(answer.text))
+        length += len(header) + len(answer.text)
+        if length > len(output):
+            break
+    return mirror.is_unsaved
+
+
+def failed_call(ended, error, call, whole):
+    """A session of which this call failed: refused at the start, ended by a stream that failed, or
+    with one request refused."""
+    output, stored = whole
+    if ended.status in (3, 4):
+        line = ended.errors.removesuffix(NOT_SAVED)
+        assert fault_of(line, error, call), f"the line {ended.errors}"
+        if call == "write" and ended.output:
+            assert (line != ended.errors) == unsaved_at(ended.output, output), "what is unsaved"
+        assert ended.status == (3 if line == MEMORY_LINE else 4)
+        assert ended.status == 4 or not ended.output, "answers of a start that is refused"
+        assert output.startswith(ended.output), "the output isn't a beginning"
+        assert held() in stored, "STATE is another"
+        return
+    followed = follow(ended, (DEVICE, MEMORY))
+    for number in followed.refused:
+        line = answers_in(ended.output)[number].text
+        assert fault_of(line, error, call), f"the line {line}"
+
+
+def draft_of(call):
+    """A draft stays only if the program was ended, or looking at it failed. It has its mark."""
+    if os.path.lexists("STATE.new"):
+        assert call in ("end", "statx"), "a draft is left"
+        mode = os.lstat("STATE.new").st_mode
+        assert stat.S_ISREG(mode) and mode & stat.S_ISVTX, "a draft without its mark"
+
+
+def afterwards(stored):
+    """The same session over what is left comes to the same, and leaves no draft."""
+    ended = desk("--write", "STATE", given=LINES)
+    statuses = [answer.status for answer in answers_in(ended.output)]
+    assert statuses == [0] * 12 + [1, 2] + [0] * 4
+    assert (ended.status, ended.errors) == (0, b"")
+    assert held() == stored[-1]
+    assert not os.path.lexists("STATE.new"), "a draft is left afterwards"
+
+
+def at_each_call(device, look, **settings):
+    """Runs the session with each call in turn as the settings say, and looks at how it ended."""
+    whole, number = whole_session(), 1
+    while True:
+        start()
+        at = {name: value or str(number) for name, value in settings.items()}
+        ended = desk_on(device, TOLD=here("met"), WRONG=here("wrong"), **at)
+        assert not os.path.exists("wrong"), f"at call {number}, what may not be"
+        if not os.path.exists("met"):
+            break
+        call = held("met").decode()
+        with named(f"call {number}, {call}"):
+            look(ended, call, whole)
+            afterwards(whole[1])
+        number += 1
+    assert number > 40, "no call was met"
+    assert ended == Ended(0, whole[0], b"")
+
+
+@pytest.mark.timeout(600)
+@each("error", ["EIO", "ENOSPC", "ENOMEM"])
+def test_each_call_of_the_system_fails_in_turn(device, error):
+    def look(ended, call, whole):
+        draft_of(call)
+        failed_call(ended, error, call, whole)
+
+    at_each_call(device, look, FAIL_AT="", ERROR=error)
+
+
+@pytest.mark.timeout(600)
+def test_a_desk_is_ended_at_each_call_of_the_system_in_turn(device):
+    def look(ended, _call, whole):
+        output, stored = whole
+        assert ended.status == -signal.SIGKILL
+        assert output.startswith(ended.output), "the output isn't a beginning"
+        assert held() in stored, "STATE is another"
+        draft_of("end")
+
+    at_each_call(device, look, END_AT="")
+
+
+@each("text", {
+    "no line": b"",
+    "a line": b"files\n",
+    "a line that is cut": b"files\nfil",
+    "a long line that is cut": b"x" * 300,
+    "a line of 4,096 bytes that is cut": b"x" * 4096,
+    "4,096 lines": b"\n" * 4096,
+    "a cut line after as many bytes": b"\n" * 4096 + b"files",
+})
+def test_nothing_is_read_after_the_end_of_the_input(device, text):
+    start()
+    pathlib.Path("lines").write_bytes(text)
+    ended = desk_on(device, WRONG=here("wrong"))
+    assert not os.path.exists("wrong"), "what may not be"
+    assert (ended.status, ended.errors) == (0, b"")
+    lines = text.count(b"\n") + (not text.endswith(b"\n") and text != b"")
+    assert len(answers_in(ended.output)) == lines
+
+
+def test_each_read_and_each_write_is_interrupted_once(device):
+    whole = whole_session()
+    start()
+    ended = desk_on(device, INTERRUPT="1", TOLD=here("met"), WRONG=here("wrong"))
+    assert os.path.exists("met"), "nothing was interrupted"
+    assert not os.path.exists("wrong"), "what may not be"
+    assert ended == Ended(0, whole[0], b"")
+    assert held() == whole[1][-1]

@@ -1,0 +1,144 @@
+"""Random sessions, whose answers have to be those of `docker` commands on a state file."""
+import itertools
+import os
+import random
+
+import extracts
+import pytest
+from desks import DONE, Desk, desk, docker, written
+from mirror import STATES, Mirror
+from programs import Ended, give, held
+
+SESSIONS = 1000
+DATES = [f"2024-06-{day:02}" for day in range(1, 22)] + ["2024-05-20", "1960-01-01", "2059-12-31"]
+PLACES = ["ASHFELD", "BRAYTON", "CORHAM", "NOWHERE"]
+NO_REQUESTS = [
+    "", "no", "print ASHFELD", "take stdin", "files " + "x" * 250, "save\t", "horizon 2024",
+    "places ASHFELD", "known 2024-06-12",
+]
+# Refusals that have to be among the answers: a request, and its status.
+REFUSALS = [
+    ("print", 1), ("train", 1), ("take", 1), ("take", 2), ("take", 4), ("merge", 1), ("merge", 4),
+    ("horizon", 2), ("save", 2), ("save", 4), ("nothing", 2),
+]
+# How often each request is asked, of a hundred.
+WEIGHTS = {
+    "print": 18, "train": 18, "files": 7, "places": 5, "known": 5, "renew": 9, "take": 14,
+    "merge": 7, "horizon": 4, "save": 8, "nothing": 5,
+}
+
+
+class Numbers(random.Random):
+    """What a session of this seed consists of."""
+
+    def request(self):
+        """A verb and its words."""
+        verb = self.choices(list(WEIGHTS), WEIGHTS.values())[0]
+        match verb:
+            case "print":
+                return verb, self.choice(PLACES), self.choice(DATES)
+            case "train":
+                return verb, self.choice(extracts.UIDS), self.choice(DATES)
+            case "take":
+                return verb, self.choice([*extracts.GOOD, *extracts.BAD, "missing"])
+            case "merge":
+                return verb, self.choice([*STATES, "full", "missing"])
+            case "horizon":
+                return verb, self.choice(DATES[:15])
+        return (verb,)
+
+    def line_of(self, verb, *words):
+        """A line that asks for this."""
+        if verb == "nothing":
+            return self.choice(NO_REQUESTS)
+        line = verb + "".join(" " * self.choice((1, 1, 1, 2, 5)) + word for word in words)
+        end = 0 if verb in ("take", "merge") else self.choice((0, 0, 2))
+        return " " * self.choice((0, 0, 3)) + line + " " * end
+
+    def mirror(self):
+        names = self.sample(sorted(extracts.GOOD), self.randrange(4))
+        horizon = self.choice(["", "", "", "2024-06-05"])
+        return Mirror(*names, horizon=horizon, may_write=self.random() < 0.8)
+
+
+def put_beside(asked, mirror, name):
+    """Another `docker take` meanwhile. The answer before it has come, so the desk waits for the
+    next line."""
+    assert asked.held == b""
+    assert docker("take", "STATE", name) == DONE
+    mirror.take_beside(name)
+
+
+# The times of copies, in seconds. No two have the same, so none is mistaken for another.
+COPY_TIMES = itertools.count(1)
+
+
+def put_back(asked, mirror, number):
+    """A text that STATE held is put in place of it meanwhile, as a copy that was kept."""
+    assert asked.held == b""
+    mirror.put_back(number)
+    give(mirror.stored, "copy")
+    time = next(COPY_TIMES)
+    os.utime("copy", (time, time))
+    os.replace("copy", "STATE")
+
+
+def session(seed, counts, older=0):
+    """A session of this seed, in which older texts come back with this probability."""
+    numbers = Numbers(seed)
+    mirror = numbers.mirror()
+    give(mirror.stored)
+    words = ["--write", "STATE"] if mirror.may_write else ["STATE"]
+    with Desk(*words) as asked:
+        # With the first answer STATE was read.
+        assert asked.ask("files") == mirror.answer("files")
+        for _ in range(numbers.randrange(1, 15)):
+            if numbers.random() < 0.06:
+                put_beside(asked, mirror, numbers.choice(sorted(extracts.GOOD)))
+            if older and numbers.random() < older:
+                put_back(asked, mirror, numbers.randrange(len(mirror.past)))
+            request = numbers.request()
+            line = numbers.line_of(*request)
+            wanted = mirror.answer(*request)
+            assert asked.ask(line) == wanted, f"the answer to {line!r}"
+            counts[request[0], wanted.status] = counts.get((request[0], wanted.status), 0) + 1
+        status, errors = mirror.end()
+        assert asked.closed() == Ended(status, b"", errors)
+    assert held() == mirror.stored
+
+
+@pytest.mark.timeout(600)
+def test_1000_random_sessions():
+    counts = {}
+    for seed in range(SESSIONS):
+        try:
+            session(seed, counts)
+        except AssertionError as found:
+            raise AssertionError(f"session {seed}: {found}") from found
+    for verb in WEIGHTS:
+        assert (verb, 0) in counts or verb == "nothing", f"no {verb} was done"
+    for verb, status in REFUSALS:
+        assert (verb, status) in counts, f"no {verb} was refused with {status}"
+
+
+def test_200_random_sessions_in_which_older_states_come_back():
+    for seed in range(200):
+        try:
+            session(f"older {seed}", {}, 0.2)
+        except AssertionError as found:
+            raise AssertionError(f"session {seed}: {found}") from found
+
+
+def test_100_random_sessions_each_asked_at_once():
+    for seed in range(100):
+        numbers = Numbers(f"at once {seed}")
+        mirror = numbers.mirror()
+        give(mirror.stored)
+        requests = [numbers.request() for _ in range(40)]
+        lines = "".join(f"{numbers.line_of(*request)}\n" for request in requests)
+        wanted = written([mirror.answer(*request) for request in requests])
+        words = ["--write", "STATE"] if mirror.may_write else ["STATE"]
+        status, errors = mirror.end()
+        ended = desk(*words, given=lines.encode())
+        assert ended == Ended(status, wanted, errors), f"session {seed}"
+        assert held() == mirror.stored, f"STATE of session {seed}"

@@ -1,0 +1,74 @@
+"""`print` keeps of a state only what one timing point needs, and `day` keeps of a file only what may
+count there, change by change. Both give the same docker, of every timing point."""
+import middling
+import pytest
+from outcomes import DONE, accepted, takes, takes_more
+from programs import docker, give, held
+
+DAYS = [f"2024-06-{day:02}" for day in (9, 10, 11, 12, 13)]
+LATER_DAYS = ["2024-06-15", "2024-06-16"]
+HORIZON = "2024-06-12"
+
+
+@pytest.fixture(autouse=True)
+def extracts(given):
+    for name in ("before", "update", "after"):
+        give(getattr(middling, name)().encode(), f"middling_{name}")
+
+
+def print_as_day(state, file, days):
+    """Both give the same dockers. Returns their lines."""
+    lines = []
+    for day in days:
+        for place in (*middling.PLACES, "NOWHERE"):
+            printed = docker("print", state, place, day)
+            assert printed.status == 0
+            assert printed == docker("day", file, place, day), f"{place} on {day}"
+            lines += printed.output.decode().splitlines()[1:-1]
+    return lines
+
+
+def test_a_middling_extract():
+    assert docker("check", "middling_before") == accepted(1271, 319)
+
+
+def test_print_of_every_timing_point():
+    takes("office", "middling_before")
+    print_as_day("office", "middling_before", DAYS)
+
+
+def test_print_of_every_timing_point_after_the_update():
+    takes("office", "middling_before", "middling_update")
+    print_as_day("office", "middling_after", DAYS + LATER_DAYS)
+
+
+def test_print_of_every_timing_point_after_a_horizon():
+    takes("office", "middling_before", "middling_update")
+    before = held("office")
+    assert docker("horizon", "office", HORIZON) == DONE
+    assert held("office") != before
+    print_as_day("office", "middling_after", LATER_DAYS)
+
+
+def test_day_of_an_extract_in_reverse():
+    give(middling.in_reverse().encode(), "in_reverse")
+    takes("office", "in_reverse")
+    print_as_day("office", "in_reverse", DAYS)
+
+
+@pytest.mark.parametrize("apart", (False, True))
+def test_day_of_an_extract_that_changes_each_key_twice(apart):
+    give(middling.changed_twice(apart).encode(), "twice")
+    takes("office", "twice")
+    lines = print_as_day("office", "twice", DAYS)
+    assert {line[6] for line in lines} >= set("NPV")
+
+
+def test_each_kind_of_line_is_among_these_dockers():
+    takes("office", "middling_before")
+    lines = print_as_day("office", "middling_before", DAYS)
+    takes_more("office", "middling_update")
+    lines += print_as_day("office", "middling_after", DAYS + LATER_DAYS)
+    assert {line[6] for line in lines} == set("ADJNPV")
+    assert any(line[20] == "O" for line in lines), "no overlay"
+    assert any("????" in line for line in lines), "no train that is unknown"

@@ -1,0 +1,216 @@
+"""The program under a device that wraps each system call which it makes (tests/device). Each
+call in turn fails, or is the last one. A state is never lost."""
+import os
+import pathlib
+import signal
+import stat
+
+import pytest
+from dockers import LINES
+from given import ONE, STATE_OF_BOTH, STATE_OF_ONE, STATE_OF_REVISED, STATES
+from outcomes import DEVICE, DONE, MEMORY, accepted, done, prints, stores
+from programs import DOCKER, docker, give, held, preloading, untried
+from tables import each
+
+ACCEPTED = accepted(5, 1)
+ASHFELD = prints("ASHFELD", "2024-06-10", LINES["LEAVES_0900"])
+REVISED = prints("ASHFELD", "2024-06-10", LINES["LEAVES_0905"])
+FILES_OF_BOTH = done(b"2024-06-09 2100 DFROC1A U DFROC1Z\n2024-06-10 2100 DFROC1B U DFROC1A\n")
+TO_JUNE = STATES["state_of_both_to_june"]
+# Only these calls, as they look at a file or open it, may say that memory ran out.
+MAY_WANT_MEMORY = {"open", "statx", "realpath", "fchmod"}
+
+
+def test_each_call_of_the_system_that_the_program_makes_is_tried(device):
+    assert untried(DOCKER, device) == []
+
+
+def put_back(before):
+    """The state as a command finds it: of this text, or none."""
+    for name in ("office", "office.new", "met"):
+        pathlib.Path(name).unlink(missing_ok=True)
+    if before is not None:
+        give(before, "office")
+        os.chmod("office", 0o640)
+
+
+def is_as(text):
+    return held("office") == text if os.path.lexists("office") else text is None
+
+
+class Tried:
+    """A command, of which each call in turn fails or is the last: what STATE is before and after
+    it, and how it ends if no call fails."""
+
+    def __init__(self, words, before, after, wanted):
+        self.words, self.before, self.after, self.wanted = words.split(), before, after, wanted
+        # How many drafts were left after a look at them had failed.
+        self.drafts = 0
+
+    def look_at_failure(self, ended, error, call):
+        """One of its calls failed with an error."""
+        if ended == self.wanted:
+            assert is_as(self.after)
+            assert not os.path.lexists("office.new")
+            return
+        wanted = [DEVICE]
+        if error == "ENOMEM" and call in MAY_WANT_MEMORY:
+            wanted.append(MEMORY)
+        assert ended._replace(output=b"") in wanted
+        assert self.wanted.output.startswith(ended.output), "other output"
+        assert is_as(self.before), "another state"
+        self.look_at_draft(call)
+
+    def look_at_draft(self, call):
+        """A command looks twice to make sure that the draft is its own. If one of these looks
+        fails, the draft stays, and the next command removes it."""
+        if os.path.lexists("office.new"):
+            assert call == "statx", "a draft is left"
+            self.drafts += 1
+            assert self.drafts <= 2
+
+    def look_at_end(self, ended):
+        """It was ended at one of its calls."""
+        assert ended.status == -signal.SIGKILL
+        assert is_as(self.before) or is_as(self.after)
+
+    def look_afterwards(self):
+        """The same command run again succeeds. But what is migrated isn't migrated again."""
+        if self.words[0] == "migrate" and is_as(self.after):
+            return
+        assert docker(*self.words) == self.wanted
+        assert is_as(self.after)
+        assert not os.path.lexists("office.new")
+        if self.before is not None:
+            assert stat.S_IMODE(os.stat("office").st_mode) == 0o640
+
+    def at_each_call(self, device, how, error="EIO"):
+        """Tries the command at each of its calls, and returns how many there are."""
+        number = 0
+        while True:
+            number += 1
+            put_back(self.before)
+            settings = {how: number, "ERROR": error, "TOLD": "met", "WRONG": "wrong"}
+            ended = docker(*self.words, before=preloading(device, **settings))
+            assert not os.path.exists("wrong"), f"at call {number}, what may not be"
+            if not os.path.exists("met"):
+                return number - 1
+            call = held("met").decode()
+            try:
+                if how == "END_AT":
+                    self.look_at_end(ended)
+                else:
+                    self.look_at_failure(ended, error, call)
+                self.look_afterwards()
+            except AssertionError as found:
+                raise AssertionError(f"call {number}, {call}: {found}") from found
+
+
+ENDED = {
+    "take": ("take office large", STATE_OF_BOTH, "wanted_large"),
+    "merge": ("merge office large_state", STATE_OF_BOTH, "wanted_large"),
+    "new": ("new office", None, "no_files"),
+    "horizon": ("horizon office 2024-06-14", STATE_OF_BOTH, "state_of_both_to_june"),
+    "migrate": ("migrate office", STATES["old_state_of_both"], "state_of_both"),
+}
+
+
+@pytest.mark.timeout(600)
+@each("words, before, after", ENDED)
+def test_ended_at_each_of_its_calls(device, large, words, before, after):
+    assert Tried(words, before, held(after), DONE).at_each_call(device, "END_AT") > 9
+
+
+@pytest.mark.timeout(600)
+@each("words, before, after", {name: ENDED[name] for name in ("take", "merge")})
+def test_of_which_each_call_fails(device, large, words, before, after):
+    assert Tried(words, before, held(after), DONE).at_each_call(device, "FAIL_AT") > 9
+
+
+@each("words, before, after, wanted", {
+    "a small take": ("take office revised", STATE_OF_ONE, STATE_OF_BOTH, DONE),
+    "a small merge": ("merge office state_of_revised", STATE_OF_ONE, STATE_OF_BOTH, DONE),
+    "a new": ("new office", None, STATES["no_files"], DONE),
+    "a horizon": ("horizon office 2024-06-14", STATE_OF_BOTH, TO_JUNE, DONE),
+    "a migrate": ("migrate office", STATES["old_state_of_both"], STATE_OF_BOTH, DONE),
+    "a print": ("print office ASHFELD 2024-06-10", STATE_OF_BOTH, STATE_OF_BOTH, REVISED),
+    "a files": ("files office", STATE_OF_BOTH, STATE_OF_BOTH, FILES_OF_BOTH),
+    "a check": ("check one", None, None, ACCEPTED),
+    "a day": ("day one ASHFELD 2024-06-10", None, None, ASHFELD),
+})
+@each("error", ["EIO", "ENOSPC", "ENOMEM"])
+def test_each_call_fails(device, words, before, after, wanted, error):
+    assert Tried(words, before, after, wanted).at_each_call(device, "FAIL_AT", error) > 9
+
+
+def statuses(device, call, error, before, words):
+    """How a command ends if the first call of this name fails, if the second does, and so on."""
+    found, number = [], 1
+    while True:
+        put_back(before)
+        settings = {"CALL": call, "FAIL_AT": number, "ERROR": error, "TOLD": "met"}
+        ended = docker(*words.split(), before=preloading(device, **settings))
+        if not os.path.exists("met"):
+            return found
+        found.append(ended.status)
+        number += 1
+
+
+# Each standard stream is looked for first; then STATE, the file and the draft are opened. The draft
+# gets its permissions before it is put in place. Its mark is removed last: if that fails, the state
+# is stored all the same.
+@each("call, error, before, words, wanted", {
+    "take, if a file that it opens wants memory": (
+        "open", "ENOMEM", STATE_OF_ONE, "take office revised", [0, 0, 0, 3, 3, 3],
+    ),
+    "take, if a file that it opens fails": (
+        "open", "EIO", STATE_OF_ONE, "take office revised", [0, 0, 0, 4, 4, 4],
+    ),
+    "new, if its draft wants memory": ("open", "ENOMEM", None, "new office", [0, 0, 0, 3]),
+    "check, if its file wants memory": ("open", "ENOMEM", None, "check one", [0, 0, 0, 3]),
+    "take, if its draft is not flushed": ("fsync", "EIO", STATE_OF_ONE, "take office revised", [4]),
+    "merge, if its draft is not flushed": (
+        "fsync", "EIO", STATE_OF_ONE, "merge office state_of_revised", [4],
+    ),
+    "new, if its draft is not flushed": ("fsync", "ENOSPC", None, "new office", [4]),
+    "take, if its draft is not put in place": (
+        "rename", "EIO", STATE_OF_ONE, "take office revised", [4],
+    ),
+    "take, if permissions are not given": (
+        "fchmod", "EIO", STATE_OF_ONE, "take office revised", [4, 0],
+    ),
+})
+def test_statuses_as_one_call_fails(device, call, error, before, words, wanted):
+    assert statuses(device, call, error, before, words) == wanted
+
+
+# What a signal interrupts is read or written again.
+
+
+@pytest.fixture
+def interrupting(device):
+    """Each read and each write is interrupted once. Some have to be."""
+    yield preloading(device, INTERRUPT=1, TOLD="met")
+    assert os.path.exists("met"), "nothing was interrupted"
+
+
+@each("words, text, wanted", {
+    "a file whose reads are interrupted": ("check one", "", ACCEPTED),
+    "standard input whose reads are interrupted": (
+        "", "day stdin ASHFELD 2024-06-10\n" + ONE, ASHFELD,
+    ),
+    "a docker whose writes are interrupted": ("print state_of_one ASHFELD 2024-06-10", "", ASHFELD),
+})
+def test_interrupted(interrupting, words, text, wanted):
+    assert docker(*words.split(), before=interrupting, given=text.encode()) == wanted
+
+
+def test_a_take_whose_reads_and_writes_are_interrupted(interrupting, large):
+    give(STATE_OF_BOTH, "office")
+    stores(large.wanted_large, "take", "office", "large", before=interrupting)
+
+
+def test_a_merge_whose_reads_and_writes_are_interrupted(interrupting):
+    give(STATE_OF_ONE, "office")
+    words = ("merge", "office", "stdin")
+    stores(STATE_OF_BOTH, *words, before=interrupting, given=STATE_OF_REVISED)

@@ -1,0 +1,60 @@
+"""`check` and `day` of files that are accepted, and of files that are refused."""
+from dockers import LINES
+from given import BAD
+from outcomes import accepted, file_refused, prints
+from programs import ROOT, docker
+from tables import each
+
+ONE_ACCEPTED = accepted(5, 1)
+ACCEPTED = {
+    "check of one schedule": ("check one", ONE_ACCEPTED),
+    "day at the origin": (
+        "day one ASHFELD 2024-06-10", prints("ASHFELD", "2024-06-10", LINES["LEAVES_0900"])
+    ),
+    "day at the terminus": (
+        "day one BRAYTON 2024-06-10", prints("BRAYTON", "2024-06-10", LINES["COMES_0930"])
+    ),
+    "day on which no train runs": ("day one ASHFELD 2024-06-15", prints("ASHFELD", "2024-06-15")),
+    "day at a timing point in lower case, which has no train": (
+        "day one ashfeld 2024-06-10", prints("ashfeld", "2024-06-10"),
+    ),
+    "lines that end in carriage return and line feed": ("check returns", ONE_ACCEPTED),
+    "a last line without its line feed": ("check unended", ONE_ACCEPTED),
+    "a deletion, whose journey is not read": ("check deletion", ONE_ACCEPTED),
+    "a file of several pieces": ("check many", accepted(2502, 2500)),
+    "check of a renaming": ("check renamed", accepted(3, 2)),
+}
+
+
+@each("words, wanted", ACCEPTED)
+def test_accepts(words, wanted):
+    assert docker(*words.split()) == wanted
+
+
+@each("name, _text, fault", BAD)
+def test_check_refuses(name, _text, fault):
+    assert docker("check", name) == file_refused(fault)
+
+
+@each("name, _text, fault", BAD)
+def test_day_refuses(name, _text, fault):
+    assert docker("day", name, "ASHFELD", "2024-06-10") == file_refused(fault)
+
+
+def test_the_example_with_associations():
+    """An evening's train that calls past midnight, one that another joins, and one that divides."""
+    example = str(ROOT / "examples/association.cif")
+    assert docker("day", example, "COLWELL", "2024-06-11") == prints(
+        "COLWELL", "2024-06-11",
+        "0004H A 1C65 C60005 P   2           0005 ASHFELD DUNMERE",
+        "0006  D 1C65 C60005 P   2           0006 ASHFELD DUNMERE",
+        "0725  A 1C60 C60001 P   2   SL      0725 ASHFELD DUNMERE",
+        "0725  J 1C60 C60001 P   2                C60002  2C62   ",
+        "0728  A 2C62 C60002 P   3           0728 BRAYTON COLWELL",
+        "0735  D 1C60 C60001 P   2   SL      0735 ASHFELD DUNMERE",
+        "1835  A 1C63 C60003 P   1   FL      1835 DUNMERE ASHFELD",
+        "1835  V 1C63 C60003 P   1                C60004  2C64   ",
+        "1841  D 1C63 C60003 P   1   FL      1841 DUNMERE ASHFELD",
+        "1845  D 2C64 C60004 P   1           1845 COLWELL BRAYTON",
+        name="COLWELL JUNCTION",
+    )

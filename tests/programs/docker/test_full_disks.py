@@ -1,0 +1,132 @@
+"""Disks that are full, at each place of a write, and what stands where a draft would."""
+import os
+import signal
+import subprocess
+
+import pytest
+from given import STATE_OF_BOTH, STATE_OF_ONE
+from outcomes import DEVICE, DONE, holds_only, keeps, stores, takes, takes_more
+from programs import DOCKER, Ended, docker, ended_on_disk, give, held, on_disk, redirected, run
+from tables import alone, each
+
+KILOBYTES = {f"{size} KiB": size for size in (1, 7, 16)}
+
+
+@each("kilobytes", KILOBYTES)
+def test_take_on_a_disk_that_is_full_at(kilobytes):
+    give(STATE_OF_BOTH, "office")
+    keeps(DEVICE, "take", "office", "places", before=on_disk(kilobytes))
+
+
+@each("kilobytes", KILOBYTES)
+def test_merge_on_a_disk_that_is_full_at(kilobytes):
+    give(STATE_OF_BOTH, "office")
+    takes("of_places", "places")
+    keeps(DEVICE, "merge", "office", "of_places", before=on_disk(kilobytes))
+
+
+def full_disk(*words):
+    """How a command ends on a disk that takes nothing, with its faults in a file there."""
+    with open("faults", "wb") as faults:
+        ended = docker(*words, before=on_disk(0), stderr=faults)
+    return ended, held("faults")
+
+
+def test_take_on_a_full_disk():
+    """The fault's line, which goes to a file here, isn't taken either."""
+    give(STATE_OF_BOTH, "office")
+    assert full_disk("take", "office", "places") == (Ended(4, b"", None), b"")
+    holds_only("office", STATE_OF_BOTH)
+
+
+def test_new_on_a_full_disk():
+    assert full_disk("new", "not_made") == (Ended(4, b"", None), b"")
+    assert not os.path.lexists("not_made")
+    assert not os.path.lexists("not_made.new")
+
+
+def test_a_full_disk_with_standard_error_closed():
+    give(STATE_OF_ONE, "office")
+    before = (*redirected("2>&-"), *on_disk(1))
+    keeps(Ended(4, b"", b""), "take", "office", "places", before=before)
+
+
+@alone
+def test_a_take_that_is_ended_at_each_kib_that_it_writes_leaves_the_state_and_hinders_no_other():
+    give(STATE_OF_BOTH, "office")
+    for kilobytes in range(18):
+        ended = docker("take", "office", "places", before=ended_on_disk(kilobytes))
+        assert ended == Ended(-signal.SIGXFSZ, b"", b""), f"at {kilobytes} KiB"
+        assert held("office") == STATE_OF_BOTH
+        assert os.path.exists("office.new")
+    assert docker("take", "office", "places") == DONE
+    assert not os.path.lexists("office.new")
+    assert docker("files", "office").output.count(b"\n") == 2
+
+
+# What has the name of a draft, but wasn't left there by a command, stays.
+
+
+def test_a_file_of_the_name_of_a_draft():
+    give(STATE_OF_ONE, "office")
+    give(b"mine\n", "office.new")
+    assert docker("take", "office", "revised") == DEVICE
+    assert (held("office"), held("office.new")) == (STATE_OF_ONE, b"mine\n")
+
+
+def test_a_state_of_the_name_of_a_draft():
+    give(STATE_OF_ONE, "office.new")
+    stores(STATE_OF_BOTH, "take", "office.new", "revised", state="office.new")
+
+
+@alone
+def test_a_draft_beside_a_state_of_the_name_of_a_draft():
+    """No command takes that state for a draft of its own."""
+    give(STATE_OF_ONE, "office")
+    give(STATE_OF_BOTH, "office.new")
+    assert docker("take", "office.new", "one", before=ended_on_disk(0)).status == -signal.SIGXFSZ
+    assert os.path.exists("office.new.new")
+    assert docker("take", "office.new", "one") == DEVICE
+    os.remove("office.new.new")
+    assert docker("take", "office", "revised") == DEVICE
+    assert (held("office"), held("office.new")) == (STATE_OF_ONE, STATE_OF_BOTH)
+
+
+def test_a_link_of_the_name_of_a_draft():
+    give(STATE_OF_ONE, "office")
+    os.symlink("state_of_one", "office.new")
+    assert docker("take", "office", "revised") == DEVICE
+    assert os.readlink("office.new") == "state_of_one"
+    assert held("office") == STATE_OF_ONE
+
+
+# A file system of 64 KiB, mounted just for this command: full, with a little room, read only, and
+# with all its room.
+ROOMS = """
+    mount -t tmpfs -o size=64k none small && cp state_of_both small/office || exit 1
+    takes() {
+        "$0" take small/office places 2>small.err
+        printf '%s %s' $? "$(cat small.err)"
+        ls small | grep new
+        cmp small/office "$1" && echo
+    }
+    head -c 1M /dev/zero >small/filler 2>/dev/null
+    for room in 0 4 8 12 16; do
+        truncate -s $((15 * 4096 - room * 1024)) small/filler
+        takes state_of_both
+    done
+    mount -o remount,ro small && takes state_of_both
+    mount -o remount,rw small && rm small/filler && takes wanted_places"""
+
+
+@alone
+def test_a_small_file_system_that_is_full():
+    apart = ["unshare", "-rm" if os.getuid() else "-m"]
+    os.mkdir("small")
+    mount = [*apart, "mount", "-t", "tmpfs", "-o", "size=64k", "none", "small"]
+    if subprocess.run(mount, check=False, stderr=subprocess.DEVNULL).returncode:
+        pytest.skip("this machine allows no mount")
+    give(STATE_OF_BOTH, "wanted_places")
+    takes_more("wanted_places", "places")
+    ended = run([*apart, "bash", "-uc", ROOMS, DOCKER])
+    assert ended == Ended(0, 6 * b"4 docker: device failed\n" + b"0 \n", b"")

@@ -1,0 +1,101 @@
+"""States under a horizon, and states in the older format."""
+from given import FILES_LINE, STATE_OF_BOTH, STATE_OF_ONE, STATES
+from outcomes import DAY_REFUSED, DONE, done, keeps, prints, state_refused, stores
+from programs import docker, give, held
+from states import older, under
+from tables import each
+
+LAPSED = STATES["state_of_lapsed"]
+TO_JUNE = under("2024-06-14", STATE_OF_ONE)
+OLD = older(STATE_OF_ONE)
+
+
+@each("before, words, wanted", {
+    "horizon on the last day": (STATE_OF_ONE, "horizon office 2024-06-14", TO_JUNE),
+    "horizon after the last day": (TO_JUNE, "horizon office 2024-06-15", LAPSED),
+    "a horizon that is not greater": (LAPSED, "horizon office 2024-06-10", LAPSED),
+    "the first day as a horizon": (LAPSED, "horizon office 1960-01-01", LAPSED),
+    "merge of a state under a greater horizon": (
+        STATE_OF_ONE, "merge office state_of_lapsed", LAPSED,
+    ),
+    "merge under a horizon": (LAPSED, "merge office state_of_one", LAPSED),
+    "take under a horizon": (LAPSED, "take office one", LAPSED),
+})
+def test_stores(before, words, wanted):
+    give(before, "office")
+    stores(wanted, *words.split())
+
+
+def test_merge_of_a_state_under_a_horizon():
+    give(STATES["state_of_revised"], "office")
+    give(TO_JUNE, "other")
+    stores(under("2024-06-14", STATE_OF_BOTH), "merge", "office", "other")
+
+
+def test_the_text_of_a_state_that_lapsed():
+    """The texts of states are written here part by part, so their size is looked at."""
+    assert len(LAPSED) == 67
+
+
+@each("text, date, wanted", {
+    "print before the horizon plus three days": (TO_JUNE, "2024-06-16", DAY_REFUSED),
+    "print on the horizon plus three days": (
+        TO_JUNE, "2024-06-17", prints("ASHFELD", "2024-06-17"),
+    ),
+    "print before the later horizon plus three days": (LAPSED, "2024-06-17", DAY_REFUSED),
+    "print on the later horizon plus three days": (
+        LAPSED, "2024-06-18", prints("ASHFELD", "2024-06-18"),
+    ),
+})
+def test_prints(text, date, wanted):
+    give(text, "office")
+    assert docker("print", "office", "ASHFELD", date) == wanted
+
+
+def test_files_of_what_lapsed():
+    give(LAPSED, "office")
+    assert docker("files", "office") == done(FILES_LINE)
+
+
+def does(*lines):
+    """The text of a new state, after these commands."""
+    assert docker("new", "office") == DONE
+    for line in lines:
+        assert docker(*line.split()) == DONE
+    return held("office")
+
+
+def test_an_older_schedule_that_ends_later_stays_below_what_lapsed():
+    older_one, newer_one = "take office to_july", "take office revised"
+    wanted = does(older_one, newer_one, "horizon office 2024-06-15")
+    assert does(newer_one, "horizon office 2024-06-15", older_one) == wanted
+    printed = docker("print", "office", "ASHFELD", "2024-06-24")
+    assert printed == prints("ASHFELD", "2024-06-24")
+
+
+def test_the_text_of_a_state_in_the_older_format():
+    assert len(OLD) == 309
+
+
+def test_migrate():
+    give(OLD, "office")
+    stores(STATE_OF_ONE, "migrate", "office")
+
+
+def test_migrate_of_the_newer_format():
+    give(STATE_OF_ONE, "office")
+    keeps(state_refused(0, "Mark"), "migrate", "office")
+
+
+@each("text, offset, cause", {
+    "a text cut to 3 bytes": (OLD[:3], 0, "Short"),
+    "a text cut to 11 bytes": (OLD[:11], 4, "Short"),
+    "a text cut to 30 bytes": (OLD[:30], 12, "Short"),
+    "a text cut to 38 bytes": (OLD[:38], 31, "Short"),
+    "a text cut to 308 bytes": (OLD[:308], 39, "Short"),
+    "a text and a byte": (OLD + b"x", 309, "Tail"),
+    "an op 2": (OLD[:64] + b"\2" + OLD[65:], 39, "Body"),
+})
+def test_migrate_of(text, offset, cause):
+    give(text, "bad")
+    keeps(state_refused(offset, cause), "migrate", "bad", state="bad")

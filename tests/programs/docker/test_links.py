@@ -1,0 +1,154 @@
+"""STATE by a link, the permissions of its file, and what can't be made or replaced."""
+import os
+import pathlib
+import shutil
+import stat
+import subprocess
+
+import pytest
+from dockers import LINES
+from given import STATE_OF_BOTH, STATE_OF_ONE, STATES
+from outcomes import DEVICE, DONE, holds_only, prints, stores
+from programs import DOCKER, as_nobody, docker, give, held, redirected, run
+from tables import each
+
+NO_FILES = STATES["no_files"]
+
+
+def mode_of(name):
+    return stat.S_IMODE(os.stat(name).st_mode)
+
+
+def test_take_by_a_link():
+    """The link stays one, and the file keeps its permissions."""
+    give(STATE_OF_ONE, "office")
+    os.chmod("office", 0o640)
+    os.symlink("office", "linked")
+    stores(STATE_OF_BOTH, "take", "linked", "revised")
+    assert os.readlink("linked") == "office"
+    assert mode_of("office") == 0o640
+
+
+MASKS = {"022": 0o644, "077": 0o600, "000": 0o666}
+
+
+def masked(mask):
+    """The program under a mask of permissions."""
+    return ("sh", "-c", f'umask {mask}; exec "$@"', "sh")
+
+
+@each("mask, mode", {mask: (mask, mode) for mask, mode in MASKS.items()})
+def test_new_under_the_mask(mask, mode):
+    stores(NO_FILES, "new", "office", before=masked(mask))
+    assert mode_of("office") == mode
+
+
+@each("mask", list(MASKS))
+def test_take_under_the_mask(mask):
+    give(NO_FILES, "office")
+    os.chmod("office", 0o604)
+    stores(STATE_OF_ONE, "take", "office", "one", before=masked(mask))
+    assert mode_of("office") == 0o604
+
+
+def test_take_by_a_link_that_leads_nowhere():
+    os.symlink("not_there", "link")
+    assert docker("take", "link", "one") == DEVICE
+    assert not os.path.lexists("not_there")
+
+
+def test_new_by_a_link_that_leads_nowhere():
+    os.symlink("not_there", "link")
+    stores(NO_FILES, "new", "link", state="not_there")
+
+
+def test_new_into_a_pipe():
+    ended = docker("new", "/dev/stdout")
+    assert ended == DONE._replace(output=NO_FILES)
+    assert NO_FILES == b"DKS2" + bytes(18)
+
+
+def test_new_into_a_named_pipe():
+    os.mkfifo("queue")
+    with subprocess.Popen([DOCKER, "new", "queue"]) as maker:
+        text = held("queue")
+    assert (maker.returncode, text) == (0, NO_FILES)
+
+
+@each("state", {
+    "on a full device": "/dev/full",
+    "in place of a folder": "folder",
+    "if nothing can be made": "/proc/state",
+    "in a folder that is not there": "nowhere/state",
+})
+def test_new(state):
+    assert docker("new", state) == DEVICE
+
+
+def test_new_at_standard_output_which_is_a_file():
+    stores(NO_FILES, "new", "/dev/stdout", state="at_output", before=redirected(">at_output"))
+
+
+# As a user other than root, because root may write anywhere.
+
+
+@pytest.fixture
+def stranger(folder):
+    """What stands before the words of a command, for this user. The folder has the program."""
+    shutil.copy(DOCKER, folder / "program")
+    command = [*as_nobody(), str(folder / "program")]
+    if run([*command, "check", "one"]).status:
+        pytest.skip("this machine lets nobody but root run the program")
+    return command
+
+
+@pytest.fixture
+def locked(given):
+    """A folder that is read only. Its state isn't."""
+    os.mkdir("locked")
+    give(STATE_OF_ONE, "locked/office")
+    os.chmod("locked/office", 0o666)
+    os.chmod("locked", 0o555)
+    yield
+    os.chmod("locked", 0o755)
+
+
+@pytest.fixture
+def unlocked(given):
+    """A folder that is not, of the user of these cases."""
+    os.mkdir("open")
+    give(STATE_OF_ONE, "open/office")
+    if os.getuid() == 0:
+        os.chown("open", 65534, 65534)
+        os.chown("open/office", 65534, 65534)
+
+
+def test_new_in_a_folder_that_is_read_only(stranger, locked):
+    assert run([*stranger, "new", "locked/state"]) == DEVICE
+    assert os.listdir("locked") == ["office"]
+
+
+def test_take_in_a_folder_that_is_read_only(stranger, locked):
+    """A docker of it is printed all the same."""
+    assert run([*stranger, "take", "locked/office", "revised"]) == DEVICE
+    holds_only("locked/office", STATE_OF_ONE)
+    printed = run([*stranger, "print", "locked/office", "ASHFELD", "2024-06-10"])
+    assert printed == prints("ASHFELD", "2024-06-10", LINES["LEAVES_0900"])
+
+
+def test_take_of_a_state_that_is_read_only_in_a_folder_that_is_not(stranger, unlocked):
+    """It stays read only."""
+    os.chmod("open/office", 0o444)
+    assert run([*stranger, "take", "open/office", "revised"]) == DONE
+    holds_only("open/office", STATE_OF_BOTH)
+    assert mode_of("open/office") == 0o444
+
+
+def test_take_of_a_state_that_may_not_be_read(stranger, unlocked):
+    os.chmod("open/office", 0o200)
+    before = pathlib.Path("open/office").stat()
+    assert run([*stranger, "take", "open/office", "one"]) == DEVICE
+    after = pathlib.Path("open/office").stat()
+    assert (after.st_ino, after.st_mtime_ns) == (before.st_ino, before.st_mtime_ns)
+    os.chmod("open/office", 0o600)
+    holds_only("open/office", STATE_OF_ONE)

@@ -1,0 +1,311 @@
+"""A command that writes STATE, and what meets it just before each of its calls of the file system:
+another command, another text of STATE, and drafts of others. Nothing is lost unseen."""
+import os
+import stat
+
+import pytest
+from given import FIRST, STATE_OF_BOTH, STATE_OF_ONE, STATE_OF_REVISED, STATES, trip
+from meetings import (
+    BECOMES_PIPE, DRAFTS, GOES, Draft, Losing, Names, at_each_call, calls_of, met,
+)
+from outcomes import DEVICE, DONE, holds_only
+from programs import DOCKER, docker, give, held, untried
+from states import lines, older, schedule, state
+from tables import each
+
+LOOK = "statx office"
+
+
+def test_each_call_of_the_system_that_the_program_makes_may_be_met(meeting):
+    assert untried(DOCKER, meeting) == []
+
+
+def command_of(words):
+    return [DOCKER, *words.split()]
+
+
+def one_by_one(before, *commands):
+    """How the last of these commands ends if they run one after another, and the state then."""
+    give(before, "office")
+    for words in commands:
+        ended = docker(*words.split())
+    return ended, held("office")
+
+
+def looks_of(meeting, before, words):
+    """How often a command looks at STATE before it puts its draft in place."""
+    give(before, "office")
+    calls = calls_of(meeting, command_of(words))
+    return calls[:calls.index("rename office.new office")].count(LOOK)
+
+
+# Before its first look at STATE a command has read nothing. So it is as if the other came first.
+
+
+class Beside:
+    """A command, and another command on the same STATE that runs meanwhile."""
+
+    def __init__(self, before, words, other):
+        self.before, self.words, self.other = before, words, other
+        self.alone = one_by_one(before, words)
+        self.other_alone = one_by_one(before, other)
+        self.other_first = one_by_one(before, other, words)
+        self.other_last = one_by_one(before, words, other)
+
+    def at(self, meeting, number):
+        """The other meets the command at this call. Returns which of them was refused, if one was,
+        and otherwise which was first."""
+        give(self.before, "office")
+        other = f"{DOCKER} {self.other} </dev/null 2>/dev/null"
+        found = met(meeting, number, other, command_of(self.words))
+        if found is None:
+            return None
+        assert not os.path.lexists("office.new"), "a draft is left"
+        return self.outcome(found, (found.ended, held("office")))
+
+    def outcome(self, found, now):
+        if not found.looks("office"):
+            assert (found.status, now) == (0, self.other_first)
+            return "other first"
+        if found.has_placed("office.new"):
+            assert (found.ended, found.status, now[1]) == (DONE, 0, self.other_last[1])
+            return "other last"
+        if found.status:
+            assert (found.status, now) == (4, self.alone)
+            return "other refused"
+        # What the other wrote may be nothing that this command reads.
+        refusals = [DEVICE] + [end for end in [self.other_first[0]] if end != DONE]
+        assert found.ended in refusals
+        assert now[1] == self.other_alone[1]
+        return "refused"
+
+
+COMMANDS = {
+    "take": (STATE_OF_ONE, "take office revised", "take office places"),
+    "merge": (STATE_OF_ONE, "merge office state_of_revised", "take office places"),
+    "horizon": (STATE_OF_ONE, "horizon office 2024-06-12", "take office places"),
+    "new": (STATE_OF_ONE, "new office", "take office revised"),
+    "migrate": (STATES["old_state"], "migrate office", "new office"),
+}
+
+
+@pytest.mark.timeout(120)
+@each("before, words, other", COMMANDS)
+def test_another_command_meets(meeting, before, words, other):
+    """One of both is refused, or it is as if they ran one after the other."""
+    beside = Beside(before, words, other)
+    found = at_each_call(lambda number: beside.at(meeting, number))
+    assert set(found) == {"other first", "refused", "other refused", "other last"}
+
+
+# A time of STATE, in nanoseconds.
+THEN = 1718010000_500000000
+WAYS = {"renamed into its place": "mv -f came office", "written in place": "cat came >office"}
+
+
+def state_of_many(hour):
+    """The text of a state of 1,000 trains at this hour. It is read and written piece by piece."""
+    uids = [f"C{number}" for number in range(20000, 21000)]
+    trips = [lines(trip(hour).replace("C10001", uid)) for uid in uids]
+    return state([FIRST], [FIRST.put(schedule(uid), text) for uid, text in zip(uids, trips)])
+
+
+class Coming:
+    """A command, and a text of STATE that comes meanwhile from a program that heeds no drafts."""
+
+    def __init__(self, meeting, before, words, came):
+        self.before, self.words, self.came = before, words, came
+        self.alone = one_by_one(before, words)
+        self.came_first = one_by_one(came, words)
+        self.looks = looks_of(meeting, before, words)
+
+    def at(self, meeting, number, way):
+        """The text comes at this call. Returns whether the command was refused. What was there is
+        as long, and was written long before."""
+        give(self.before, "office")
+        os.utime("office", ns=(THEN, THEN))
+        give(self.came, "came")
+        found = met(meeting, number, way, command_of(self.words))
+        if found is None:
+            return None
+        assert found.status == 0
+        assert not os.path.lexists("office.new"), "a draft is left"
+        assert (found.ended, held("office")) == self.wanted(found)
+        return found.ended == DEVICE
+
+    def wanted(self, found):
+        if not found.looks("office"):
+            return self.came_first
+        if found.has_placed("office.new"):
+            return DONE, self.came
+        if "flock" in found.before and found.looks("office") == self.looks:
+            # What comes after the last look and heeds no drafts isn't seen.
+            return self.alone
+        return DEVICE, self.came
+
+
+@pytest.mark.timeout(120)
+@each("way", WAYS)
+@each("before, words, came", {
+    "take": (STATE_OF_ONE, "take office places", STATE_OF_REVISED),
+    "merge": (STATE_OF_ONE, "merge office state_of_renamed", STATE_OF_REVISED),
+    "horizon": (STATE_OF_ONE, "horizon office 2024-06-12", STATE_OF_REVISED),
+    "new": (STATE_OF_ONE, "new office", STATE_OF_REVISED),
+    "migrate": (STATES["old_state"], "migrate office", older(STATE_OF_REVISED)),
+    "take into a large state": (state_of_many("09"), "take office revised", state_of_many("10")),
+})
+def test_a_text_that_comes_is_seen_until_the_last_look(meeting, before, words, came, way):
+    """The last look is after the draft is locked."""
+    coming = Coming(meeting, before, words, came)
+    found = at_each_call(lambda number: coming.at(meeting, number, way))
+    assert {True, False} == set(found)
+
+
+# A STATE that is no longer where it was, between the first look at it and the last.
+
+NAMES = Names(STATE_OF_ONE, STATE_OF_REVISED)
+
+
+def losing(meeting, words):
+    return Losing(meeting, NAMES, command_of(words), b"", DEVICE)
+
+
+@pytest.mark.timeout(120)
+@each("name, line", GOES | BECOMES_PIPE)
+def test_new_over_a_state_that(meeting, name, line):
+    losing(meeting, f"new {name}").at_each(name, line, f"statx {name}")
+
+
+@pytest.mark.timeout(120)
+@each("name, line", GOES)
+def test_take_into_a_state_that(meeting, name, line):
+    losing(meeting, f"take {name} revised").at_each(name, line, f"statx {name}")
+
+
+@pytest.mark.timeout(120)
+@each("name, line", BECOMES_PIPE)
+def test_take_into_a_state_that_is_read_and(meeting, name, line):
+    losing(meeting, f"take {name} revised").at_each(name, line, f"open {name}")
+
+
+# Writes a state to a pipe, as soon as somebody reads it.
+GIVES = "timeout 5 sh -c 'cat elsewhere >{}' >/dev/null 2>&1 &"
+
+
+@each("name, line", BECOMES_PIPE)
+def test_take_of_what_a_pipe_gives_into_a_state_that(meeting, name, line):
+    """The pipe comes before STATE is read. It gives a state, and gets nothing."""
+    taking = command_of(f"take {name} revised")
+    NAMES.make()
+    calls = calls_of(meeting, taking)
+    for number in range(calls.index(f"statx {name}") + 2, calls.index(f"open {name}") + 2):
+        NAMES.make()
+        found = met(meeting, number, f"{line}; {GIVES.format(name)}", taking)
+        assert found.ended == DEVICE
+        assert not os.path.isfile(name)
+        assert not os.path.lexists("office.new"), "a draft is left"
+
+
+# The drafts of others. The first look at the draft's name is for what a killed command left there.
+#
+# These cases, and those above, were tried with a program that makes the calls of `docker` in its
+# order, and leaves one out: the look at the name of a draft that is locked, the look at the name of
+# what is left over once it is locked, the one at its mark, either lock, or the last look at STATE.
+# They were tried with that last look before the draft is made, and with the first one after STATE
+# is read. Each time some cases failed.
+
+DRAFT_LOOK = "statx office.new"
+TAKE = command_of("take office revised")
+
+
+def stays(draft):
+    """The draft stands beside STATE, as it was, and so is STATE."""
+    draft.is_under("office.new")
+    assert held("office") == STATE_OF_ONE
+
+
+def left_over():
+    """A draft that a killed command left beside STATE."""
+    give(STATE_OF_ONE, "office")
+    give(b"DKS2 left", "office.new")
+    os.chmod("office.new", 0o1640)
+
+
+def test_a_draft_of_a_command_at_work():
+    give(STATE_OF_ONE, "office")
+    with Draft(*DRAFTS["a draft of a command at work"]) as draft:
+        os.rename("draft", "office.new")
+        assert docker("take", "office", "revised") == DEVICE
+        stays(draft)
+
+
+def last_of(calls, *wanted):
+    """Where the last of these calls stands."""
+    return max(at for at, call in enumerate(calls) if call in wanted)
+
+
+@each("is_locked, mode", DRAFTS)
+def test_what_takes_the_place_of_a_draft_that_is_just_made(meeting, is_locked, mode):
+    """Another command took this draft for a left-over before it was locked, and removed it."""
+    give(STATE_OF_ONE, "office")
+    calls = calls_of(meeting, TAKE)
+    made = calls.index("create office.new")
+    for number in range(made + 2, last_of(calls, "flock", DRAFT_LOOK) + 2):
+        give(STATE_OF_ONE, "office")
+        with Draft(is_locked, mode) as draft:
+            found = met(meeting, number, "mv -f draft office.new", TAKE)
+            assert (found.ended, found.status) == (DEVICE, 0)
+            stays(draft)
+        os.remove("office.new")
+
+
+def calls_with_left_over(meeting):
+    """The calls of a command that finds a left-over, up to the one that removes it."""
+    left_over()
+    calls = calls_of(meeting, TAKE)
+    return calls[:calls.index("unlink office.new") + 1]
+
+
+@each("is_locked, mode", DRAFTS)
+def test_what_takes_the_place_of_a_draft_that_is_left_over(meeting, is_locked, mode):
+    """It is removed only if it is left over too, and the command opens it and not the other."""
+    calls = calls_with_left_over(meeting)
+    opened = calls.index("open office.new")
+    for number in range(1, last_of(calls, "flock", DRAFT_LOOK) + 2):
+        left_over()
+        with Draft(is_locked, mode) as draft:
+            found = met(meeting, number, "mv -f draft office.new", TAKE)
+            assert found.status == 0
+            if number <= opened + 1 and (is_locked, mode) == DRAFTS["a draft that is left over"]:
+                assert found.ended == DONE
+                holds_only("office", STATE_OF_BOTH)
+                continue
+            assert found.ended == DEVICE
+            stays(draft)
+
+
+def test_a_link_to_a_draft_that_takes_the_place_of_what_is_left_over(meeting):
+    """It stays, and so does that draft."""
+    calls = calls_with_left_over(meeting)
+    for number in range(1, last_of(calls, "flock", DRAFT_LOOK) + 2):
+        left_over()
+        with Draft(*DRAFTS["a draft that is left over"]) as draft:
+            found = met(meeting, number, "ln -fs draft office.new", TAKE)
+            assert (found.ended, found.status) == (DEVICE, 0)
+            draft.is_under("draft")
+        assert os.readlink("office.new") == "draft"
+        assert held("office") == STATE_OF_ONE
+        os.remove("office.new")
+
+
+def test_a_draft_that_is_put_in_place_while_it_is_taken_for_a_left_over(meeting):
+    """The command that made it ends just then. What it stored stays."""
+    calls = calls_with_left_over(meeting)
+    first = calls.index(LOOK)
+    for number in range(first + 2, len(calls)):
+        left_over()
+        give(STATE_OF_REVISED, "office.new")
+        found = met(meeting, number, "mv -f office.new office && chmod 0640 office", TAKE)
+        assert (found.ended, found.status) == (DEVICE, 0)
+        holds_only("office", STATE_OF_REVISED)
+        assert stat.S_IMODE(os.stat("office").st_mode) == 0o640

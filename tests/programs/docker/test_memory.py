@@ -1,0 +1,128 @@
+"""Sources of any size, in little memory."""
+import os
+import subprocess
+
+from given import HEADER, STATE_OF_BOTH
+from outcomes import DONE, MEMORY, USAGE, file_refused, holds_only, keeps, state_refused
+from programs import docker, give, held, in_memory
+from records import place
+from tables import each
+
+# In 64 MB of memory.
+LITTLE = in_memory(65536)
+LENGTH = file_refused("1: Length")
+PLACE = place("TI", "ASHFELD", "PLACE")
+# Lines of the shell that write without end.
+ZEROS = "exec cat /dev/zero"
+LINES = "exec yes"
+ONE_LINE = "tr '\\0' a </dev/zero"
+RECORDS = f"printf '%s' '{HEADER}{PLACE}'; exec yes '{PLACE[:-1]}'"
+BLANK = place("TI", "ASHFELD")[:-1]
+BLANK_PLACES = f"printf '%s' '{HEADER}'; exec yes '{BLANK}'"
+BLANK_PLACES_ALONE = f"exec yes '{BLANK}'"
+HEADERS = f"exec yes '{HEADER[:-1]}'"
+MARKED_ZEROS = "printf DKS2; exec cat /dev/zero"
+MARKED_ONES = "printf DKS2; tr '\\0' '\\377' </dev/zero"
+
+
+def huge(name, text=b""):
+    """A file of 100 GB that begins with a text."""
+    give(text, name)
+    os.truncate(name, 100 * 2**30)
+
+
+def endless(line, *words):
+    """How a command ends in little memory, on a pipe without end."""
+    with subprocess.Popen(["setsid", "sh", "-c", line], stdout=subprocess.PIPE) as source:
+        try:
+            return docker(*words, before=LITTLE, stdin=source.stdout)
+        finally:
+            source.stdout.close()
+            source.terminate()
+
+
+@each("text, fault", {
+    "of zeros": (b"", "1: Length"),
+    "without a header": (b"headless", "1: Place"),
+})
+def test_a_file_of_100_gb(text, fault):
+    huge("huge", held("headless") if text else b"")
+    assert docker("check", "huge", before=LITTLE) == file_refused(fault)
+
+
+def test_zeros_without_end():
+    assert docker("check", "/dev/zero", before=LITTLE) == LENGTH
+
+
+@each("words, wanted", {
+    "zeros without end on standard input": (["check", "stdin"], LENGTH),
+    "zeros without end in place of the job line": ([], USAGE),
+})
+def test_endless_zeros(words, wanted):
+    with open("/dev/zero", "rb") as zeros:
+        assert docker(*words, before=LITTLE, stdin=zeros) == wanted
+
+
+@each("line, words, wanted", {
+    "lines without end": (LINES, "check stdin", LENGTH),
+    "lines without end in place of the job line": (LINES, "", USAGE),
+    "a line without end in place of the job line": (ONE_LINE, "", USAGE),
+    "good records without end": (RECORDS, "day stdin ASHFELD 2024-06-10", MEMORY),
+})
+def test_an_endless_pipe(line, words, wanted):
+    assert endless(line, *words.split()) == wanted
+
+
+def test_zeros_without_end_as_a_state():
+    give(STATE_OF_BOTH, "office")
+    keeps(state_refused(0, "Mark"), "merge", "office", "/dev/zero", before=LITTLE)
+
+
+@each("line, words, wanted", {
+    "a mark and zeros without end": (MARKED_ZEROS, "merge office stdin", state_refused(22, "Tail")),
+    "a mark and bytes 0xFF without end": (
+        MARKED_ONES, "merge office stdin", state_refused(4, "Horizon"),
+    ),
+    "take of good records without end": (RECORDS, "take office stdin", MEMORY),
+    "take of blank places without end": (BLANK_PLACES, "take office stdin", MEMORY),
+    "take of blank places without end or header": (
+        BLANK_PLACES_ALONE, "take office stdin", file_refused("1: Place"),
+    ),
+    "take of headers without end": (HEADERS, "take office stdin", file_refused("2: Place")),
+})
+def test_an_endless_pipe_keeps_the_state(line, words, wanted):
+    give(STATE_OF_BOTH, "office")
+    assert endless(line, *words.split()) == wanted
+    holds_only("office", STATE_OF_BOTH)
+
+
+def sizes():
+    """4 MiB, and a quarter more each time."""
+    size = 4096
+    while size < 262144:
+        yield size
+        size += size // 4
+
+
+@each("words, is_changed", {
+    "take in little memory": ("take office large", True),
+    "merge in little memory": ("merge office large_state", True),
+    "print in little memory": ("print large_state ASHFELD 2024-06-10", False),
+    "check in little memory": ("check large", False),
+})
+def test_until_it_is_enough(large, words, is_changed):
+    """Each time, either the status is 3 and nothing is written, or everything is done. `check` keeps
+    nothing of a file, so it may be done at once."""
+    wanted = docker(*words.split()) if not is_changed else DONE
+    refused = 0
+    for size in sizes():
+        give(STATE_OF_BOTH, "office")
+        ended = docker(*words.split(), before=in_memory(size))
+        if ended.status == 0:
+            break
+        assert ended == MEMORY, f"in {size} KiB"
+        holds_only("office", STATE_OF_BOTH)
+        refused += 1
+    assert ended == wanted
+    assert refused or words == "check large", "memory never ran out"
+    holds_only("office", large.wanted_large if is_changed else STATE_OF_BOTH)

@@ -1,0 +1,267 @@
+"""The job line, standard input, pipes, names of files, and outputs that fail."""
+import os
+import subprocess
+
+import pytest
+from dockers import LINES
+from given import FILES_LINE, ONE, STATE_OF_BOTH, STATE_OF_ONE, STATES
+from outcomes import (
+    DEVICE, DONE, USAGE, accepted, done, file_refused, keeps, prints, state_refused, stores,
+)
+from programs import Ended, docker, give, held, on_disk, redirected
+from states import under
+from tables import alone, each
+
+ACCEPTED = accepted(5, 1)
+ASHFELD = prints("ASHFELD", "2024-06-10", LINES["LEAVES_0900"])
+FILE = ONE.encode()
+DAY_OF_STDIN = b"day stdin ASHFELD 2024-06-10"
+NO_END = file_refused("1: NoEnd")
+BAD_JOB_LINES = {
+    "a job line of 256 bytes": DAY_OF_STDIN.ljust(256) + b"\n" + FILE,
+    "no job line": b"",
+    "a job line without its line feed": b"check one",
+    "a job line with a carriage return": b"check one\r\n",
+    "a job line with a byte above 0x7E": b"check on\xe9\n",
+    "a file where the job line should be": FILE,
+}
+
+
+@each("text, wanted", {
+    "a job line before its file": (DAY_OF_STDIN + b"\n" + FILE, ASHFELD),
+    "a job line with more spaces": (b"  check   stdin \n" + FILE, ACCEPTED),
+    "a job line that names a file": (b"check one\n", ACCEPTED),
+    "a job line of 255 bytes": (DAY_OF_STDIN.ljust(255) + b"\n" + FILE, ASHFELD),
+    "a job line of print": (b"print stdin ASHFELD 2024-06-10\n" + STATE_OF_ONE, ASHFELD),
+    "a job line of files": (b"files stdin\n" + STATE_OF_ONE, done(FILES_LINE)),
+} | {name: (text, USAGE) for name, text in BAD_JOB_LINES.items()})
+def test_job_line(text, wanted):
+    assert docker(given=text) == wanted
+
+
+@each("before, text, wanted", {
+    "a job line of new": (b"", b"new office\n" + FILE, STATES["no_files"]),
+    "a job line of take": (STATES["no_files"], b"take office stdin\n" + FILE, STATE_OF_ONE),
+    "a job line of merge": (
+        STATE_OF_ONE, b"merge office stdin\n" + STATES["state_of_revised"], STATE_OF_BOTH,
+    ),
+    "a job line of horizon": (
+        STATE_OF_ONE, b"horizon office 2024-06-14\n", under("2024-06-14", STATE_OF_ONE),
+    ),
+    "a job line of migrate": (STATES["old_state"], b"migrate office\n", STATE_OF_ONE),
+})
+def test_job_line_that_stores(before, text, wanted):
+    give(before, "office")
+    stores(wanted, given=text)
+
+
+def test_a_job_line_that_stores_to_standard_input():
+    give(STATE_OF_ONE, "office")
+    keeps(USAGE, given=b"take stdin office\n" + FILE)
+
+
+@each("words, text, wanted", {
+    "nothing on standard input": ("check stdin", b"", NO_END),
+    "print of standard input": ("print stdin ASHFELD 2024-06-10", STATE_OF_ONE, ASHFELD),
+    "files of standard input": ("files stdin", STATE_OF_ONE, done(FILES_LINE)),
+    "a file through a pipe": ("day stdin ASHFELD 2024-06-10", FILE, ASHFELD),
+})
+def test_standard_input(words, text, wanted):
+    assert docker(*words.split(), given=text) == wanted
+
+
+def test_a_file_from_standard_input():
+    with open("one", "rb") as source:
+        assert docker("check", "stdin", stdin=source) == ACCEPTED
+
+
+@each("before, words, text, wanted", {
+    "take of standard input": (STATES["no_files"], "take office stdin", FILE, STATE_OF_ONE),
+    "merge of standard input": (
+        STATE_OF_ONE, "merge office stdin", STATES["state_of_revised"], STATE_OF_BOTH,
+    ),
+})
+def test_stores_from_standard_input(before, words, text, wanted):
+    give(before, "office")
+    stores(wanted, *words.split(), given=text)
+
+
+def piped(line, *words, before=()):
+    """Runs a command of docker on what a line of the shell writes into a pipe."""
+    with subprocess.Popen(["sh", "-c", line], stdout=subprocess.PIPE) as source:
+        try:
+            return docker(*words, before=before, stdin=source.stdout)
+        finally:
+            source.stdout.close()
+            source.kill()
+
+
+BY_BYTES = "exec dd if=one bs=1 status=none"
+
+
+def test_a_file_through_a_pipe_byte_by_byte():
+    assert piped(BY_BYTES, "check", "stdin") == ACCEPTED
+
+
+def test_take_of_a_file_through_a_pipe_byte_by_byte():
+    give(STATES["no_files"], "office")
+    assert piped(BY_BYTES, "take", "office", "stdin") == DONE
+    assert held("office") == STATE_OF_ONE
+
+
+def test_a_compressed_file():
+    give(STATES["no_files"], "office")
+    assert piped("gzip -c one | gzip -dc", "take", "office", "stdin") == DONE
+    assert held("office") == STATE_OF_ONE
+
+
+@alone
+def test_a_file_through_a_pipe_that_pauses():
+    line = "head -c 100 one; sleep 0.2; tail -c +101 one"
+    assert piped(line, "check", "stdin") == ACCEPTED
+
+
+def test_a_named_pipe():
+    os.mkfifo("queue")
+    with subprocess.Popen("cat one >queue", shell=True):
+        assert docker("check", "queue") == ACCEPTED
+
+
+@pytest.fixture
+def named_stdin(given):
+    """A file with the name stdin."""
+    give(FILE, "stdin")
+
+
+@pytest.mark.usefixtures("named_stdin")
+def test_stdin_is_standard_input_though_a_file_has_that_name():
+    assert docker("check", "stdin", given=b"") == NO_END
+
+
+@pytest.mark.usefixtures("named_stdin")
+def test_stdin_in_a_folder_is_the_file_of_that_name():
+    assert docker("check", "./stdin", given=b"") == ACCEPTED
+
+
+def test_stdin_in_a_folder_is_a_state_of_that_name():
+    give(STATE_OF_ONE, "stdin")
+    stores(STATE_OF_BOTH, "take", "./stdin", "revised", state="stdin")
+
+
+def test_a_path_with_spaces():
+    give(FILE, "folder/a name with spaces")
+    assert docker("check", "folder/a name with spaces") == ACCEPTED
+
+
+@each("words", {
+    "a file that is not there": ["check", "missing"],
+    "day of a file that is not there": ["day", "missing", "ASHFELD", "2024-06-10"],
+    "a folder": ["check", "folder"],
+    "day of a folder": ["day", "folder", "ASHFELD", "2024-06-10"],
+    "a name that is too long": ["check", "0" * 5000],
+})
+def test_unreadable(words):
+    assert docker(*words) == DEVICE
+
+
+@each("words", {"as standard input": ["check", "stdin"], "in place of the job line": []})
+def test_a_folder(words):
+    source = os.open("folder", os.O_RDONLY)
+    try:
+        assert docker(*words, stdin=source) == DEVICE
+    finally:
+        os.close(source)
+
+
+@each("words", {
+    "standard input that is closed": ["check", "stdin"],
+    "no job line, for standard input is closed": [],
+})
+def test_without_input(words):
+    assert docker(*words, before=redirected("<&-")) == DEVICE
+
+
+@each("words, wanted", {
+    "a full device under check": ("check one", DEVICE),
+    "a full device under day": ("day one ASHFELD 2024-06-10", DEVICE),
+    "a full device, and a file that is refused": ("check short", file_refused("2: Length")),
+    "a full device under print": ("print state_of_both ASHFELD 2024-06-10", DEVICE),
+    "a full device under files": ("files state_of_both", DEVICE),
+    "nor does files of no file": ("files no_files", DONE),
+})
+def test_full_output(words, wanted):
+    """What writes to standard output fails, and nothing else does."""
+    assert docker(*words.split(), before=redirected(">/dev/full")) == wanted
+
+
+def test_take_writes_nothing_to_standard_output():
+    give(STATE_OF_ONE, "office")
+    stores(STATE_OF_BOTH, "take", "office", "revised", before=redirected(">/dev/full"))
+
+
+@each("words", {
+    "standard output that is closed": "check one",
+    "print with standard output closed": "print state_of_one ASHFELD 2024-06-10",
+})
+def test_without_output(words):
+    assert docker(*words.split(), before=redirected(">&-")) == DEVICE
+
+
+@each("words", {
+    "a reader that went away": "check one",
+    "a reader that went away, under day": "day one ASHFELD 2024-06-10",
+})
+def test_no_reader(words):
+    """The only reader of the pipe is gone before the program starts."""
+    reader, writer = os.pipe()
+    os.close(reader)
+    try:
+        ended = docker(*words.split(), stdout=writer)
+    finally:
+        os.close(writer)
+    assert ended == DEVICE._replace(output=None)
+
+
+def test_a_full_standard_error():
+    assert docker("check", "short", before=redirected("2>/dev/full")) == Ended(1, b"", b"")
+
+
+def test_an_output_that_is_taken_in_part():
+    """A file may grow to 1,024 bytes: the first 24 of the docker fit, and the write of the rest
+    fails."""
+    give(bytes(1000), "grown")
+    with open("grown", "ab") as output:
+        words = ("day", "one", "ASHFELD", "2024-06-10")
+        ended = docker(*words, before=on_disk(1), stdout=output)
+    assert ended == DEVICE._replace(output=None)
+    assert held("grown") == bytes(1000) + ASHFELD.output[:24]
+
+
+# What the program leaves of standard input.
+
+
+def left_of(source, *words):
+    """How a command ended, and what it left of a file on its standard input."""
+    with open(source, "rb") as file:
+        return docker(*words, stdin=file), file.read()
+
+
+@pytest.fixture
+def two_files(given):
+    give(STATE_OF_ONE[:100], "bad")
+    return give(held("one") + held("revised"), "two_files")
+
+
+@each("words, wanted", {
+    "standard input is not read for a file": ("check one", ACCEPTED),
+    "standard input is not read if the state is missing": ("merge missing stdin", DEVICE),
+    "nor if the state is bad": ("take bad stdin", state_refused(41, "Short")),
+    "nor if the words are a usage error": ("take stdin stdin", USAGE),
+})
+def test_input_stays(two_files, words, wanted):
+    assert left_of("two_files", *words.split()) == (wanted, two_files)
+
+
+def test_only_the_job_line_is_read_from_standard_input():
+    give(b"check one\n" + FILE, "job_and_more")
+    assert left_of("job_and_more") == (ACCEPTED, FILE)

@@ -1,0 +1,39 @@
+"""What a helper expects, and how its failure is shown."""
+import os
+import time
+
+# How many seconds anything may take before it counts as a hang.
+PATIENCE = 20
+
+
+class Unlike(AssertionError):
+    """Something isn't as it has to be."""
+
+
+def shown(value):
+    text = repr(value)
+    return text if len(text) <= 300 else f"{text[:200]} .. {text[-80:]}"
+
+
+def same(what, got, wanted):
+    """Fails if two values differ. Texts are shown from where they differ."""
+    if got == wanted:
+        return
+    if isinstance(got, bytes) and isinstance(wanted, bytes):
+        first = max(0, len(os.path.commonprefix([got, wanted])) - 60)
+        texts = f"{shown(got[first:])}, and not {shown(wanted[first:])}"
+        raise Unlike(f"{what}: from byte {first} on {texts}")
+    raise Unlike(f"{what}: {shown(got)}, and not {shown(wanted)}")
+
+
+def holds(what, is_so):
+    if not is_so:
+        raise Unlike(what)
+
+
+def soon(what, is_so):
+    """Waits until something holds."""
+    last = time.monotonic() + PATIENCE
+    while not is_so():
+        holds(f"{what}, even after {PATIENCE} seconds", time.monotonic() < last)
+        time.sleep(0.002)

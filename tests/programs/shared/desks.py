@@ -1,0 +1,139 @@
+"""What a desk answers, and a desk that is asked line by line."""
+import os
+import re
+import select
+import subprocess
+import typing
+
+import checks
+from checks import Unlike, holds, same
+from programs import DAY_LINE, DESK, DEVICE_LINE, DOCKER, MEMORY_LINE, Ended, run
+
+# The lines that docs/FORMATS.md gives.
+USAGE = (
+    b"desk: usage: [--write] STATE, and then a line for each request: print TIPLOC DATE"
+    b" | train UID DATE | files | places | known | renew | with --write take FILE"
+    b" | merge OTHER | horizon DATE | save\n"
+)
+NOT_SAVED = b"desk: changes not saved\n"
+# The header of an answer, and the most bytes that are read for one.
+HEADER = re.compile(rb"(0|[1-9][0-9]*) (0|[1-9][0-9]*) (0|[1-9][0-9]*)\n")
+LONGEST_HEADER = 64
+
+
+class Answer(typing.NamedTuple):
+    """The status and the text of an answer."""
+
+    status: int
+    text: bytes
+
+    def written(self):
+        return b"%d %d %d\n" % (self.status, self.text.count(b"\n"), len(self.text)) + self.text
+
+
+DONE = Answer(0, b"")
+NOTHING = Answer(2, USAGE)
+DEVICE = Answer(4, DEVICE_LINE)
+MEMORY = Answer(3, MEMORY_LINE)
+DAY_REFUSED = Answer(1, DAY_LINE)
+
+
+def written(answers):
+    return b"".join(answer.written() for answer in answers)
+
+
+def answers_in(output):
+    """The answers that an output consists of."""
+    answers = []
+    while output:
+        header = HEADER.match(output)
+        holds(f"no header: {output[:80]!r}", header)
+        status, lines, size = map(int, header.groups())
+        text = output[header.end():header.end() + size]
+        same("bytes of an answer", len(text), size)
+        same("lines of an answer", text.count(b"\n"), lines)
+        answers.append(Answer(status, text))
+        output = output[header.end() + size:]
+    return answers
+
+
+def docker(*words):
+    """What a command of `docker` answers: its output or, if it fails, its line."""
+    ended = run([DOCKER, *words], stdin=subprocess.DEVNULL)
+    return Answer(ended.status, ended.errors if ended.status else ended.output)
+
+
+def desk(*words, given=b"", **options):
+    """Runs a desk on all these lines at once."""
+    return run([DESK, *words], given, **options)
+
+
+class Desk:
+    """A desk that is asked line by line."""
+
+    def __init__(self, *words, program=(), **options):
+        pipes = {"stdin": subprocess.PIPE, "stdout": subprocess.PIPE, "stderr": subprocess.PIPE}
+        command = [*program, DESK, *words]
+        self.process = subprocess.Popen(command, bufsize=0, **(pipes | options))
+        self.held = b""
+
+    def __enter__(self):
+        return self
+
+    def __exit__(self, *_):
+        self.process.kill()
+        self.process.wait()
+        for pipe in (self.process.stdin, self.process.stdout, self.process.stderr):
+            if pipe and not pipe.closed:
+                pipe.close()
+
+    def say(self, text):
+        while text:
+            text = text[self.process.stdin.write(text):]
+
+    def more(self, limit=65536):
+        """Reads once from standard output. Returns whether anything came."""
+        ready, _, _ = select.select([self.process.stdout], [], [], checks.PATIENCE)
+        holds("no answer", ready)
+        piece = os.read(self.process.stdout.fileno(), limit)
+        self.held += piece
+        return bool(piece)
+
+    def answer(self):
+        """The next answer."""
+        while not (header := HEADER.match(self.held)):
+            holds(f"no header: {self.held[:80]!r}", len(self.held) < LONGEST_HEADER)
+            holds(f"it ended after {self.held!r}", self.more())
+        status, lines, size = map(int, header.groups())
+        end = header.end() + size
+        while len(self.held) < end:
+            holds("it ended within an answer", self.more())
+        text, self.held = self.held[header.end():end], self.held[end:]
+        same("lines of an answer", text.count(b"\n"), lines)
+        return Answer(status, text)
+
+    def ask(self, line):
+        self.say(line.encode() + b"\n")
+        return self.answer()
+
+    def ended(self):
+        """How it ends by itself, and what it wrote that no answer had. Its input stays open."""
+        source, self.process.stdin = self.process.stdin, None
+        try:
+            output, errors = self.process.communicate(timeout=checks.PATIENCE)
+        except subprocess.TimeoutExpired as late:
+            raise Unlike("it hangs") from late
+        finally:
+            self.process.stdin = source
+        return Ended(self.process.returncode, self.held + (output or b""), errors or b"")
+
+    def closed(self):
+        """How it ends when its input does."""
+        self.process.stdin.close()
+        self.process.stdin = None
+        return self.ended()
+
+
+def ends_well(asked, status=0, errors=b""):
+    """The input ends, and so does the desk."""
+    same("the end", asked.closed(), Ended(status, b"", errors))

@@ -1,0 +1,148 @@
+"""The lists of what is known, by an independent reading of extracts: the timing points with how
+many schedules call at each, and the counts of all that is live.
+
+It follows docs/FORMATS.md and shares nothing with the program. Files are a tuple of their texts,
+and a horizon is a date."""
+import datetime
+import functools
+import typing
+
+NO_END = "999999"
+LOCATIONS = ("LO", "LI", "LT")
+# A horizon of the first day is the same as none.
+FIRST_DAY = datetime.date(1960, 1, 1)
+
+
+class Stamp(typing.NamedTuple):
+    """What orders files: date and time of extract, and current file reference."""
+
+    day: datetime.date
+    minute: str
+    reference: str
+
+
+class Put(typing.NamedTuple):
+    """What a file puts at a key. A deletion puts no lines."""
+
+    stamp: Stamp
+    number: int
+    lines: tuple
+
+
+def day_of(text):
+    """The day of YYMMDD."""
+    year = int(text[0:2])
+    return datetime.date(year + (1900 if year >= 60 else 2000), int(text[2:4]), int(text[4:6]))
+
+
+def records_of(text):
+    return [line.removesuffix("\r") for line in text.split("\n") if line]
+
+
+def stamp_of(lines):
+    date = lines[0][22:28]
+    return Stamp(day_of(date[4:6] + date[2:4] + date[0:2]), lines[0][28:32], lines[0][32:39])
+
+
+def is_full(lines):
+    return lines[0][46] == "F"
+
+
+def acts_of(line, following):
+    """The keys that a record changes, each with the lines that it puts there."""
+    match line[:2]:
+        case "TI":
+            return [(("1", line[2:9]), (line,))]
+        case "TD":
+            return [(("1", line[2:9]), ())]
+        case "TA":
+            new = line[72:79] if line[72:79].strip() else line[2:9]
+            gone = [(("1", line[2:9]), ())] if new != line[2:9] else []
+            return [*gone, (("1", new), (line,))]
+        case "AA":
+            key = "2", line[3:9], line[9:15], day_of(line[15:21]), line[37:44], line[44], line[79]
+            return [(key, () if line[2] == "D" else (line,))]
+        case "BS":
+            key = "3", line[3:9], day_of(line[9:15]), line[79]
+            return [(key, () if line[2] == "D" else (line, *following))]
+    return []
+
+
+@functools.cache
+def puts_of(text):
+    """The changes of a file, each a key and a put."""
+    lines = records_of(text)
+    stamp, found = stamp_of(lines), []
+    for number, line in enumerate(lines, 1):
+        end = number
+        while line[:2] == "BS" and lines[end][:2] in ("BX", "CR", *LOCATIONS):
+            end += 1
+        for key, kept in acts_of(line, lines[number:end]):
+            found.append((key, Put(stamp, number, kept)))
+    return found
+
+
+def newest_full(files):
+    """The stamp of the newest full extract, or None."""
+    split = [records_of(text) for text in files]
+    return max((stamp_of(lines) for lines in split if is_full(lines)), default=None)
+
+
+def end_of(key, lines):
+    """The last day of an association or a schedule, or None if it has no end."""
+    field = {"2": lines[0][21:27], "3": lines[0][15:21]}.get(key[0], NO_END)
+    return None if field == NO_END else day_of(field)
+
+
+def live_of(files, horizon=FIRST_DAY):
+    """Each live key with its lines, of files under a horizon."""
+    floor, latest = newest_full(files), {}
+    for text in files:
+        for key, put in puts_of(text):
+            if floor is not None and put.stamp < floor:
+                break
+            if key not in latest or latest[key][:2] < put[:2]:
+                latest[key] = put
+    live = {}
+    for key, put in latest.items():
+        end = end_of(key, put.lines) if put.lines else None
+        if put.lines and not (end and end < horizon):
+            live[key] = put.lines
+    return live
+
+
+def counts_of(live):
+    """For each TIPLOC, how many live schedules have a location record there."""
+    counts = {}
+    for key, lines in live.items():
+        if key[0] == "3":
+            for code in {line[2:9] for line in lines if line[:2] in LOCATIONS}:
+                counts[code] = counts.get(code, 0) + 1
+    return counts
+
+
+@functools.cache
+def places_text(files, horizon=FIRST_DAY):
+    """What `places` answers about the state of files under a horizon."""
+    live = live_of(files, horizon)
+    counts = counts_of(live)
+    text = ""
+    for key in sorted(key for key in live if key[0] == "1"):
+        code, line = key[1], live[key][0]
+        text += f"{code} {line[53:56]} {line[44:49]} {line[18:44]} {counts.get(code, 0):10}\n"
+    return text.encode()
+
+
+@functools.cache
+def known_text(files, horizon=FIRST_DAY):
+    """What `known` answers about it."""
+    live, full = live_of(files, horizon), newest_full(files)
+    ends = [end_of(key, lines) for key, lines in live.items() if key[0] == "3"]
+    rows = [("HORIZON", "NONE" if horizon == FIRST_DAY else horizon.isoformat())]
+    if full:
+        rows.append(("FULL", f"{full.day.isoformat()} {full.minute} {full.reference}"))
+    if any(ends):
+        rows.append(("LAST", max(end for end in ends if end).isoformat()))
+    for name, kind in (("SCHEDULES", "3"), ("ASSOCIATIONS", "2"), ("PLACES", "1")):
+        rows.append((name, str(sum(key[0] == kind for key in live))))
+    return "".join(f"{name:12} {value}\n" for name, value in rows).encode()

@@ -1,0 +1,201 @@
+"""A program that something else meets at one of its calls of the file system (meet.c).
+
+So what another program may do meanwhile is tried between any two calls, and never by luck."""
+import fcntl
+import itertools
+import os
+import typing
+
+from programs import Ended, give, held, preloading, run
+
+
+class Met(typing.NamedTuple):
+    """How a program ended, its calls before a meeting and after it, and how what met it ended."""
+
+    ended: Ended
+    before: list
+    after: list
+    status: int
+
+    def looks(self, name):
+        """How often a file was looked at before the meeting."""
+        return self.before.count(f"statx {name}")
+
+    def has_placed(self, draft):
+        """Whether a draft was put in its place before the meeting."""
+        return any(call.startswith(f"rename {draft} ") for call in self.before)
+
+
+def met(library, number, line, command, given=b""):
+    """Runs a program that this line of the shell meets just before its call of this number. Returns
+    None if there are fewer calls."""
+    settings = {"CALLS": "calls", "MEET_AT": number, "MEET": line}
+    ended = run(["timeout", "10", *preloading(library, **settings), *command], given)
+    # The program names some files by their whole paths.
+    noted = held("calls").decode().replace(f"{os.path.realpath('.')}/", "")
+    os.remove("calls")
+    calls = [call.strip() for call in noted.splitlines()]
+    for place, call in enumerate(calls):
+        if call.startswith("met "):
+            return Met(ended, calls[:place], calls[place + 1:], int(call.split()[1]))
+    return None
+
+
+def calls_of(library, command, given=b""):
+    """The calls of a program that nothing meets."""
+    return met(library, 1, "true", command, given).after
+
+
+def at_each_call(trial):
+    """Lets a trial happen at the first call, at the second, and so on, until it returns None.
+    Returns what it returned."""
+    found = []
+    for number in itertools.count(1):
+        try:
+            outcome = trial(number)
+        except AssertionError as wrong:
+            raise AssertionError(f"at call {number}: {wrong}") from wrong
+        if outcome is None:
+            return found
+        found.append(outcome)
+
+
+# How a STATE may come to be no longer where it was: its name, and a line of the shell.
+GOES = {
+    "goes away": ("office", "rm office"),
+    "becomes a folder": ("office", "rm office && mkdir office"),
+    "becomes a link that leads elsewhere": ("office", "ln -fs elsewhere office"),
+    "is a link whose file goes away": ("leading", "rm office"),
+    "is a link that goes away": ("leading", "rm leading"),
+    "is a link that leads elsewhere meanwhile": ("leading", "ln -fns elsewhere leading"),
+    "is a link that leads nowhere meanwhile": ("leading", "ln -fns nowhere leading"),
+}
+# How it may come to be a pipe.
+BECOMES_PIPE = {
+    "becomes a pipe": ("office", "mv -f pipe office"),
+    "becomes a link to a pipe": ("office", "ln -fs pipe office"),
+    "is a link whose file becomes a pipe": ("leading", "mv -f pipe office"),
+    "is a link that leads to a pipe meanwhile": ("leading", "ln -fns pipe leading"),
+}
+
+
+class Names(typing.NamedTuple):
+    """The texts of the state `office`, to which the link `leading` leads, and of the state
+    `elsewhere`. There is also a pipe."""
+
+    office: bytes
+    elsewhere: bytes
+
+    def make(self):
+        for name in ("office", "leading", "elsewhere", "pipe", "nowhere"):
+            if os.path.isdir(name):
+                os.rmdir(name)
+            elif os.path.lexists(name):
+                os.remove(name)
+        give(self.office, "office")
+        give(self.elsewhere, "elsewhere")
+        os.symlink("office", "leading")
+        os.mkfifo("pipe")
+
+    def left_by(self, line):
+        """What is there after a line of the shell, if no program writes anything."""
+        self.make()
+        assert os.system(line) == 0
+        return all_that_is_there()
+
+
+def what_is(name):
+    """Where a link leads, the text of a file, or the mode of anything else."""
+    if os.path.islink(name):
+        return os.readlink(name)
+    return held(name) if os.path.isfile(name) else os.stat(name).st_mode
+
+
+def all_that_is_there():
+    """What is in the folder, by its names."""
+    return {name: what_is(name) for name in os.listdir()}
+
+
+class Losing(typing.NamedTuple):
+    """A program that is to end so if its STATE is no longer where it was, and writes nothing."""
+
+    library: str
+    names: Names
+    command: list
+    given: bytes
+    wanted: Ended
+
+    def numbers(self, name, first):
+        """Its calls from the one after this first one up to its last look at STATE."""
+        self.names.make()
+        calls = calls_of(self.library, self.command, self.given)
+        placed = next(at for at, call in enumerate(calls) if call.startswith("rename "))
+        last = max(at for at, call in enumerate(calls[:placed]) if call == f"statx {name}")
+        return range(calls.index(first) + 2, last + 2)
+
+    def at(self, number, line):
+        """STATE goes at this call. A pipe that is there gets no byte: its ends are held here, so
+        that nothing waits."""
+        wanted = self.names.left_by(line)
+        self.names.make()
+        pipe = os.open("pipe", os.O_RDWR | os.O_NONBLOCK)
+        try:
+            found = met(self.library, number, line, self.command, self.given)
+            assert (found.ended, found.status) == (self.wanted, 0), f"before {found.after[:3]}"
+            assert all_that_is_there() == wanted
+            assert is_empty(pipe), "the pipe got something"
+        finally:
+            os.close(pipe)
+
+    def at_each(self, name, line, first):
+        numbers = self.numbers(name, first)
+        assert len(numbers) > 3
+        for number in numbers:
+            try:
+                self.at(number, line)
+            except AssertionError as wrong:
+                raise AssertionError(f"at call {number}: {wrong}") from wrong
+
+
+def is_empty(pipe):
+    """Whether a pipe that doesn't wait has nothing to be read."""
+    try:
+        os.read(pipe, 1)
+    except BlockingIOError:
+        return True
+    return False
+
+
+# Files that may have the name of a draft: whether a command at work has locked them, and their
+# modes. A draft has a mark until it is in its place.
+DRAFTS = {
+    "a draft of a command at work": (True, 0o1640),
+    "a draft that is left over": (False, 0o1640),
+    "a state of that name": (False, 0o640),
+}
+
+
+class Draft:
+    """The file `draft`, which is to have the name of a draft."""
+
+    TEXT = b"DKS2 a draft"
+
+    def __init__(self, is_locked, mode):
+        give(self.TEXT, "draft")
+        os.chmod("draft", mode)
+        self.file = os.open("draft", os.O_RDONLY)
+        if is_locked:
+            fcntl.flock(self.file, fcntl.LOCK_EX)
+        self.seen = os.fstat(self.file)
+
+    def __enter__(self):
+        return self
+
+    def __exit__(self, *_):
+        os.close(self.file)
+
+    def is_under(self, name):
+        """It has this name, and is as it was."""
+        now = os.lstat(name)
+        assert (now.st_ino, now.st_mode) == (self.seen.st_ino, self.seen.st_mode)
+        assert held(name) == self.TEXT

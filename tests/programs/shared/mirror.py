@@ -1,0 +1,198 @@
+"""What a desk has to answer, by the commands of `docker` on state files."""
+import datetime
+import functools
+import pathlib
+
+import extracts
+import lists
+from checks import same
+from desks import DAY_REFUSED, DEVICE, DONE, NOT_SAVED, NOTHING, Answer, docker
+from programs import give
+from records import extract, header
+
+# The states beside the good files: the files that each knows, and its horizon.
+STATES = {
+    "monday.state": (("monday", "night"), ""),
+    "second.state": (("second",), "2024-06-03"),
+    "empty.state": ((), ""),
+    "all.state": (tuple(extracts.GOOD), ""),
+}
+# The requests of a desk that may write.
+WRITING = ("take", "merge", "horizon", "save")
+# A line for each of them.
+WRITING_LINES = ("take monday", "merge monday.state", "horizon 2024-06-12", "save")
+# The folder of the files and states that are given, and one for states that commands change.
+GIVEN = pathlib.Path("/nonexistent")
+CHANGED = pathlib.Path("/nonexistent")
+
+
+def given(name):
+    return str(GIVEN / name)
+
+
+def ran(text, command, *words):
+    """What a command of `docker` answers for a state of this text, and the state's text then."""
+    state = CHANGED / "held"
+    state.write_bytes(text)
+    answer = docker(command, str(state), *words)
+    return answer, state.read_bytes()
+
+
+@functools.cache
+def by_docker(text, command, *words):
+    """What `ran` returns. The words name files that stay as they are."""
+    return ran(text, command, *words)
+
+
+@functools.cache
+def joined(text, other):
+    """The same for a merge with a state of another text."""
+    path = CHANGED / "other"
+    path.write_bytes(other)
+    return ran(text, "merge", str(path))
+
+
+@functools.cache
+def empty():
+    path = CHANGED / "new"
+    same("docker new", docker("new", str(path)), DONE)
+    return path.read_bytes()
+
+
+@functools.cache
+def state_of(*names, horizon=""):
+    """The text of the state of these good files, under a horizon."""
+    text = empty()
+    commands = [("take", given(name)) for name in names]
+    for words in commands + ([("horizon", horizon)] if horizon else []):
+        answer, text = by_docker(text, *words)
+        same(f"docker {words}", answer, DONE)
+    return text
+
+
+def bad_states():
+    """Texts that are no state's."""
+    good = state_of("full")
+    return {
+        "an extract": extracts.GOOD["full"].encode(),
+        "nothing": b"",
+        "a cut state": good[:-1],
+        "half a state": good[:len(good) // 2],
+        "a byte more": good + b"\0",
+        "the older format": b"DKS1" + good[6:],
+        "a horizon too high": good[:4] + b"\xff\xff" + good[6:],
+        "a tag that isn't one": good[:14 + 19 + 8] + b"\x09" + good[14 + 19 + 9:],
+    }
+
+
+BAD_STATES = (
+    "an extract", "nothing", "a cut state", "half a state", "a byte more", "the older format",
+    "a horizon too high", "a tag that isn't one",
+)
+
+
+def give_large(count):
+    """Makes a file of this many schedules, and a STATE that knows it."""
+    trips = "".join(extracts.trip(f"L{n:05}", "1L00") for n in range(count))
+    text = extract(header("240612"), trips)
+    pathlib.Path("large").write_text(text, encoding="ascii")
+    give(state_of())
+    assert docker("take", "STATE", "large") == DONE
+
+
+class Mirror:
+    """A desk's memory and its STATE, as commands on state files have them.
+
+    The STATE that it is started on is of these good files, under this horizon."""
+
+    def __init__(self, *names, horizon="", may_write=True):
+        self.text = self.stored = state_of(*names, horizon=horizon)
+        self.known = self.stored_known = set(names), horizon
+        self.may_write, self.is_seen, self.is_unsaved = may_write, True, False
+        # What STATE held, and what was known by it, from the first on.
+        self.past = [(self.stored, self.stored_known)]
+
+    def answer(self, verb, *words):
+        """Does a request, and returns its answer. A line that asks for nothing has the verb
+        `nothing`."""
+        if verb == "nothing" or (verb in WRITING and not self.may_write):
+            return NOTHING
+        match verb:
+            case "print" | "files":
+                return by_docker(self.text, verb, *words)[0]
+            case "train":
+                return self.train(*words)
+            case "places" | "known":
+                return self.listed(verb)
+            case "take" | "merge" | "horizon":
+                return self.change(verb, words[0])
+            case "renew":
+                return self.renew()
+            case "save":
+                return self.save()
+
+    def train(self, uid, date):
+        names, horizon = self.known
+        if date < horizon:
+            return DAY_REFUSED
+        files = tuple(sorted(extracts.GOOD[name] for name in names))
+        return Answer(0, extracts.train_text(files, uid, date))
+
+    def listed(self, verb):
+        names, horizon = self.known
+        files = tuple(sorted(extracts.GOOD[name] for name in names))
+        day = datetime.date.fromisoformat(horizon) if horizon else lists.FIRST_DAY
+        text = lists.places_text if verb == "places" else lists.known_text
+        return Answer(0, text(files, day))
+
+    def learn(self, names, horizon):
+        self.known = self.known[0] | set(names), max(self.known[1], horizon)
+
+    def change(self, verb, word):
+        path = word if verb == "horizon" else given(word)
+        answer, text = by_docker(self.text, verb, path)
+        if answer == DONE:
+            self.text, self.is_unsaved = text, True
+            self.learn(*learned(verb, word))
+        return answer
+
+    def renew(self):
+        answer, self.text = joined(self.text, self.stored)
+        if answer == DONE:
+            self.is_seen = True
+            self.is_unsaved |= self.may_write and self.text != self.stored
+            self.learn(*self.stored_known)
+        return answer
+
+    def save(self):
+        if not self.is_seen:
+            return DEVICE
+        self.stored, self.stored_known, self.is_unsaved = self.text, self.known, False
+        self.past.append((self.stored, self.stored_known))
+        return DONE
+
+    def take_beside(self, name):
+        """Another `docker take` puts a file into STATE."""
+        _, self.stored = by_docker(self.stored, "take", given(name))
+        self.stored_known = self.stored_known[0] | {name}, self.stored_known[1]
+        self.past.append((self.stored, self.stored_known))
+        self.is_seen = False
+
+    def put_back(self, number):
+        """Another program puts a text back that STATE held."""
+        self.stored, self.stored_known = self.past[number]
+        self.is_seen = False
+
+    def end(self):
+        """The status at the end of input, and what standard error gets."""
+        return (1, NOT_SAVED) if self.is_unsaved else (0, b"")
+
+
+def learned(verb, word):
+    """The files and the horizon that are known by a change that was done."""
+    match verb:
+        case "take":
+            return [word], ""
+        case "merge":
+            return STATES[word]
+    return [], word

@@ -1,0 +1,76 @@
+"""How a command of `docker` may end, and what it prints."""
+import os
+
+from programs import DAY_LINE, DEVICE_LINE, MEMORY_LINE, Ended, docker, held
+
+USAGE_LINE = (
+    b"docker: usage: new STATE | check FILE | day FILE TIPLOC DATE | take STATE FILE"
+    b" | merge STATE OTHER | print STATE TIPLOC DATE | files STATE | horizon STATE DATE"
+    b" | migrate STATE\n"
+)
+DONE = Ended(0, b"", b"")
+USAGE = Ended(2, b"", USAGE_LINE)
+MEMORY = Ended(3, b"", MEMORY_LINE)
+DEVICE = Ended(4, b"", DEVICE_LINE)
+DAY_REFUSED = Ended(1, b"", DAY_LINE)
+
+
+def done(output):
+    return Ended(0, output, b"")
+
+
+def file_refused(fault):
+    """The end of a command that refuses a file: RECORD: CAUSE."""
+    return Ended(1, b"", f"docker: file refused: record {fault}\n".encode())
+
+
+def state_refused(offset, cause):
+    return Ended(1, b"", f"docker: state refused: offset {offset}: {cause}\n".encode())
+
+
+def accepted(records, changes):
+    return done(f"accepted: {records} records, {changes} changes\n".encode())
+
+
+def docker_text(place, date, *lines, name=""):
+    """A printed docker. Each line has 56 characters and a line feed."""
+    texts = [f"DOCKER {place:7} {date} {name:26}", *lines, "END"]
+    return "".join(f"{text:56}\n" for text in texts).encode()
+
+
+def prints(place, date, *lines, name=""):
+    return done(docker_text(place, date, *lines, name=name))
+
+
+def holds_only(name, text):
+    """A file has this text, and no draft stands beside it."""
+    # Pytest would print a comparison of both texts. For states of a megabyte that takes minutes.
+    is_held = held(name) == text
+    assert is_held, f"{name} has another text"
+    assert not os.path.lexists(f"{name}.new"), "a draft is left"
+
+
+def stores(wanted, *words, state="office", **options):
+    """The command writes to no stream, and leaves this text as the state."""
+    assert docker(*words, **options) == DONE
+    holds_only(state, wanted)
+
+
+def keeps(outcome, *words, state="office", **options):
+    """The command ends so, and leaves the state as it was."""
+    before = held(state)
+    assert docker(*words, **options) == outcome
+    holds_only(state, before)
+
+
+def takes_more(state, *files):
+    """Takes these files into a state, one by one. Returns its text."""
+    for file in files:
+        assert docker("take", state, file) == DONE
+    return held(state)
+
+
+def takes(state, *files):
+    """Makes a state, and takes these files."""
+    assert docker("new", state) == DONE
+    return takes_more(state, *files)

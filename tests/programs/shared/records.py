@@ -1,0 +1,72 @@
+"""Builders of records, as docs/FORMATS.md has them: each has 80 characters and a line feed.
+Dates are YYMMDD and times HHMM, with an H for half a minute."""
+
+
+def record(text, last=""):
+    """A record of this text, with this character in its last column."""
+    line = f"{text:79}{last}" if last else text
+    assert len(line) <= 80, line
+    return f"{line:80}\n"
+
+
+def header(date, reference="DFROC1A", indicator="U", minute="2100", last="DFROC1Z"):
+    day_first = date[4:6] + date[2:4] + date[0:2]
+    return record(f"HDTPS.UDFROC1.PD240609{day_first}{minute}{reference}{last}{indicator}A")
+
+
+def basic(transaction, uid, first, last="", days="", train="", stp="P"):
+    return record(f"BS{transaction}{uid}{first}{last:6}{days:7} POO{train:4}", stp)
+
+
+def origin(place, at, platform="", track="", public=None):
+    """Where a train begins. Its public time is the working one, unless another is given."""
+    public = at[:4] if public is None else public
+    return record(f"LO{place:7} {at:5}{public:4}{platform:3}{track:3}")
+
+
+def intermediate(place, arrives="", departs="", passes="", public=("", ""), tracks=(), suffix=""):
+    """Where a train calls or passes, with its public times, and its platform, line and path."""
+    platform, line, path = (*tracks, "", "", "")[:3]
+    times = f"{arrives:5}{departs:5}{passes:5}{public[0]:4}{public[1]:4}"
+    return record(f"LI{place:7}{suffix:1}{times}{platform:3}{line:3}{path:3}")
+
+
+def passes(place, at):
+    return intermediate(place, passes=at, public=("0000", "0000"))
+
+
+def calls(place, arrives, departs):
+    return intermediate(place, arrives, departs, public=(arrives[:4], departs[:4]), tracks=("1",))
+
+
+def terminus(place, at, platform="", path="", public=None):
+    """Where a train ends. Its public time is the working one, unless another is given."""
+    public = at[:4] if public is None else public
+    return record(f"LT{place:7} {at:5}{public:4}{platform:3}{path:3}")
+
+
+def change(place, train):
+    """A change en route: the train has another identity from here on."""
+    return record(f"CR{place:7} OO{train:4}")
+
+
+def place(identity, code, description="", new=""):
+    text = f"{identity}{code:7}{'':9}{description:26}"
+    return record(f"{text:72}{new:7}")
+
+
+def association(
+    base, other, first, last, at, category="NP", date="S", suffix="", days="1111111"
+):
+    """An association of two trains, with its date indicator, and the suffix of the base's call."""
+    return record(f"AAN{base}{other}{first}{last}{days}{category:2}{date}{at:7}{suffix:1} TP", "P")
+
+
+TRAILER = record("ZZ")
+ALWAYS = "1111111"
+NO_END = "999999"
+
+
+def extract(*parts):
+    """The text of a file of these records."""
+    return "".join(parts) + TRAILER
