@@ -40,7 +40,7 @@ none_some name is = cc
 
 -- ---- what a source held
 
--- the state of a text is the one of which the text was made
+-- the state that is read from a text is the one that the text was made from
 one_sent : (format : Format) (known : Known) (sent state : State) (text : List ℕ) → IsGoodKnown format known → IsStateOf known sent
     → text ≡ state_text format sent → IsStateText format most_bytes text state → sent ≡ state
 one_sent format known sent state text good is told reads =
