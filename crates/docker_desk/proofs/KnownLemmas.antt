@@ -39,7 +39,7 @@ nothing_heard old heard before after none same is =
     subst (λ h. IsKnown (united old h) after) (sym none)
     (subst (λ k. IsKnown k after) (sym (known_with_nothing old)) (subst (IsKnown old) (sym same) is))
 
--- what is known after a join with a state of which this is known
+-- what is known after a join, by what was known of both states
 known_joined : (old heard : Known) (own other after : State) → IsKnown old own → IsKnown heard other
     → IsJoin own other after → IsKnown (united old heard) after
 known_joined old heard own other after first second join = record {

@@ -49,7 +49,7 @@ pub fn known_files_fix_sessions()
 /// At each moment of a session there is a look from which a draft is made. It comes right before an
 /// opening of the state's file, whose text was read then, or right after the desk put its own text
 /// there. So a text that came between a look and a reading is never overwritten unread: it was
-/// read, or the file is another than the one that was seen.
+/// read, or the file is no longer the one that the look saw.
 pub fn looks_come_before_readings()
     ensures { (setting : Setting) (old : List Event) (first last : Moment) (steps : List Step)
         → BeginsAt setting.name old first → AreSteps setting first steps last

@@ -68,7 +68,7 @@ known_held known bytes state holds reads = record {
   is = state_held dks_2 known bytes state holds reads;
 }
 
--- a file that a source held is the one that was read of it
+-- the file that was read from a source is the one that it held
 pub file_held : (bytes : Bytes) (file : List (List ℕ)) (old new : State) (holds : HoldsFile bytes file) (takes : TakesFile most_records bytes old new)
     → takes.file ≡ file
 file_held bytes file old new holds takes =
