@@ -114,7 +114,8 @@ impl Desk {
         answer_on(page, printed)
     }
 
-    /// Takes the named file, which is opened once. A refusal leaves the desk as it was.
+    /// Takes the named file, which is opened once. A refusal, `File`, `Source` or `Memory`, leaves
+    /// the desk as it was.
     pub fn take<D: Folder>(&mut self, name: &str, folder: &mut D) -> Result<(), OfficeFault>
         requires { D.failures folder.old < 2 ^ 64 - 1 }
         ensures opens { OpensOnce name.now (EndsTaking self.old.state self.new.state result)
@@ -132,8 +133,8 @@ impl Desk {
         }
     }
 
-    /// Joins what the desk knows with the state in the named file, which is opened once. A refusal
-    /// leaves the desk as it was.
+    /// Joins what the desk knows with the state in the named file, which is opened once. A refusal,
+    /// `State`, `Source` or `Memory`, leaves the desk as it was.
     pub fn receive<D: Folder>(&mut self, name: &str, folder: &mut D) -> Result<(), OfficeFault>
         requires { D.failures folder.old < 2 ^ 64 - 1 }
         ensures opens { OpensOnce name.now (EndsReceiving self.old.state self.new.state result)
@@ -172,7 +173,8 @@ impl Desk {
     /// that it holds. If that is done, `seen` is what this look saw. Then nothing is unsaved only
     /// if the file held the text of the state that the desk has now. The texts are compared only if
     /// `compares` and if nothing was unsaved before. For this a copy of the file's text is kept
-    /// until then. A refusal leaves the desk and `seen` as they were.
+    /// until then. A refusal, `State`, `Source` or `Memory`, leaves the desk and `seen` as they
+    /// were.
     pub fn renew<D: Folder>(
         &mut self,
         name: &str,
