@@ -343,8 +343,8 @@ def knowledge(path):
 
 
 def grew(before, after):
-    """Whether a state has all that another had, so that their join is that state: no lower horizon, and each file that still counts. Of a
-    state that can't be read it is left to `desk` to say what is wrong."""
+    """Whether a state has all that another had, so that their join is that state: no lower horizon, and each file that still counts. If
+    either can't be read, the answer is yes, and `desk` says what is wrong."""
     if before is None or after is None:
         return True
     floor = next((item[:11] for item in after.items if item[11:12] == b"F"), b"")
