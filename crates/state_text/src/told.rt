@@ -105,8 +105,7 @@ impl<K: Keeper> Told<K> {
 }
 
 impl<K: Maker> Told<K> {
-    /// What the keeper makes of the parts, with the horizon that was read. If memory runs out, the
-    /// parts are dropped.
+    /// What the keeper makes of the parts, with the horizon that was read.
     pub fn finish(self) -> Result<K::Made, Memory>
         requires { IsValid self }
         ensures { IfOk result (λ made. K.makes made self) }
