@@ -23,7 +23,7 @@ abbrev pub items_of : List LedgerItem → Option Staging → List stamps.LedgerI
 items_of items None = map item_meant items
 items_of items (Some staging) = staging.items
 
--- the ledger items and entries that were given, as a state
+-- what was given
 abbrev pub told_of : {R : Type 0} → Receiving R → State
 told_of it = told_state (items_of it.items.items it.staging) it.given.entries
 
