@@ -64,4 +64,4 @@ pub record KeepsThin {P : Type 0} (place : List ℕ) (day : ℕ) (keeper : ThinS
   pub lines_are : keeper.open.lines.items ≡ with_new_first lines
   pub near_is : IsNearBy day lines keeper.near
   pub thinned : HasThinned place day keeper.thinned all
-  pub told : keeper.told.changes ≡ all
+  pub so_far : keeper.so_far.changes ≡ all
