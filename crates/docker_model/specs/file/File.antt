@@ -34,7 +34,7 @@ pub record IsJourney (lines : List (List ℕ)) : Type 0 where
   pub calls : All IsWithinJourney between
   pub terminus : HasKind terminating_location last
 
--- no record, or one of extra details
+-- no record, or one record of extra details
 abbrev pub AreExtraDetails : List (List ℕ) → Type 0
 AreExtraDetails lines = (lines ≡ []) ⊎ ((line : List ℕ) × (lines ≡ line ∷ []) × HasKind extra_details line)
 

@@ -47,7 +47,7 @@ IsStpLetter letter = IsTrue (is_stp_letter letter)
 abbrev pub is_stp_indicator : List ℕ → Bool
 is_stp_indicator field = is_stp_letter (slice_index field 0)
 
--- the transaction of a record, an association or a basic schedule, is D
+-- the record, an association or a basic schedule, is a deletion: its transaction is D
 abbrev pub is_deletion : List ℕ → Bool
 is_deletion line = column 3 line == 68
 

@@ -55,7 +55,7 @@ pub record IsAssociationOf (key : AssociationKey) (line : List ℕ) : Type 0 whe
   pub new : HasNewTransaction line
   pub key_is : association_named line ≡ association_key key
 
--- the lines are a good schedule with this key, and at most 4,294,967,294
+-- the lines are a good schedule with this key. There are at most 4,294,967,294 of them
 pub record IsScheduleOf (key : ScheduleKey) (lines : List (List ℕ)) : Type 0 where
   pub schedule : IsSchedule lines
   pub few : length lines < 2 ^ 32 - 1
@@ -130,7 +130,7 @@ HasGoodBodies live = (key : Key) (body : Body) → live key ≡ Some body → Is
 abbrev pub lapse_state : ℕ → State → State
 lapse_state horizon state = record { horizon = horizon; ledger = state.ledger; entries = lapse_entries horizon state.entries }
 
--- the state after a horizon was set: the greater of the old one and this one holds
+-- the state after this horizon was set: the greater of the old horizon and this one holds
 abbrev pub raise_horizon : ℕ → State → State
 raise_horizon horizon state = lapse_state (max state.horizon horizon) state
 
