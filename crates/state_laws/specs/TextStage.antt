@@ -29,7 +29,8 @@ after_lines count state key stamp n lines =
     if nat_le n (length lines) then after_entries count (with_entry state (schedule_key key) stamp (put_with (schedule_body lines)))
     else in_entry count state (before_line key stamp n lines)
 
--- what comes after an op
+-- what comes after an op's byte. After 1 comes a body; 0, for deleted, and 2, for lapsed, end the
+-- entry
 abbrev pub after_op : ℕ → State → Key → Stamp → ℕ → Before
 after_op count state key stamp zero = after_entries count (with_entry state key stamp deleted)
 after_op count state key stamp (suc zero) = in_entry count state (before_body key stamp)
