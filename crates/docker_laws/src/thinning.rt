@@ -210,9 +210,9 @@ pub fn state_of_thinning_has_one_docker()
         ↔ IsDockerText (live_table part) place day text }
 {}
 
-/// The summary of one file, as a value: it is the summary, and is valid. The join of an empty state
-/// with a valid state is that state. The live table of a file's summary is the table that the
-/// file's changes make.
+/// The value `summary_of` is the file's summary, and is valid. The join of an empty state with a
+/// valid state is that state. The live table of a file's summary is the table that the file's
+/// changes make.
 pub fn summary_of_one_file()
     ensures is { (file : List (List ℕ)) → IsSummary (file ∷ []) 0 (summary_of file) }
     ensures valid { (file : List (List ℕ)) → IsFile file → length file ≤ most_records
