@@ -7,9 +7,9 @@ use crate::parts::FileParts;
 use cif_line::{Day, Header, Tiploc};
 use std::marker::Model;
 
-/// What was kept of a CIF file for the docker of one place on one day: its header, and of the
-/// changes that its records make enough for that docker. Its value also has the whole file. It
-/// serves for nothing else.
+/// What was kept of a CIF file for the docker of one place on one day: its header, and enough of
+/// its changes for that docker. It serves for nothing else. In proofs its value also has the whole
+/// file.
 #[derive(Debug, Drop)]
 pub struct ThinFile {
     place: Tiploc,
