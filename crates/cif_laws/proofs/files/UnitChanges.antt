@@ -1,4 +1,4 @@
--- The units of a file, in order, make its changes. A schedule goes on up to the first record that
+-- The units of a file, in order, make its changes. A schedule ends before the first record that
 -- can't follow a basic schedule.
 use Rattle.std.proofs.Common.{◌≡◌, ℕ, ◌+◌, inl, inr, List, [], ◌∷◌, ◌++◌, length, map, subst, refl, ap, sym, ◌∙◌, true, Some, arith, append_assoc, append-nil}
 use Rattle.std.specs.Prelude.{Option}
