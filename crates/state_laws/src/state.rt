@@ -82,8 +82,8 @@ pub fn summary_is_valid()
 {}
 
 /// The lapse keeps the order of ops, so the greatest op lapses to the greatest of the lapsed ops. A
-/// second lapse under the same horizon changes nothing. A lapse under two horizons is one under the
-/// greater. Without a horizon nothing lapses.
+/// second lapse under the same horizon changes nothing. A lapse under two horizons is a lapse under
+/// the greater one. Without a horizon nothing lapses.
 pub fn laws_of_lapse()
     ensures order { (horizon : ℕ) (first second : Op) → IsAtMost op_cmp first second
         → IsAtMost op_cmp (lapse horizon first) (lapse horizon second) }
