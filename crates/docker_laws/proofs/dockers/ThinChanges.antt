@@ -154,7 +154,7 @@ without_here key (change ∷ changes) table = by (is_of key change) refl (withou
         ∙ rest (after_change table change)
         ∙ after_there table change key h
 
--- without them, other keys are as they are with them
+-- whether the changes of one key are left out doesn't matter to any other key
 without_there : (key other : Key) → is_eq (key_cmp key other) ≡ false → (changes : List Change) (one two : Table) → one other ≡ two other
     → fold after_change one (without key changes) other ≡ fold after_change two changes other
 without_there key other apart [] one two same = same
@@ -275,7 +275,7 @@ module _ (place : List ℕ) (day : ℕ) where
     enough = thin_enough place day changes;
   }
 
-  -- of no changes none is kept
+  -- without changes nothing is kept
   pub thinning_at_first : IsThinning place day [] []
   thinning_at_first = record { some = tt; enough = enough_at_first place day }
 
@@ -290,7 +290,7 @@ module _ (place : List ℕ) (day : ℕ) where
         (sublist_onward others kept (before ++ thin_change place day change ∷ []) inside
         (sublist_onward kept before (before ++ thin_change place day change ∷ []) is.some (sublist_front before (thin_change place day change ∷ []))))
 
-    -- also if that one is kept
+    -- some of the changes, with the new one after them, are some of them with one more
     some_more : (others : List Change) → IsSublist others kept
         → IsSublist (others ++ thin_change place day change ∷ []) (map (thin_change place day) (changes ++ change ∷ []))
     some_more others inside =
