@@ -2,7 +2,8 @@
 -- lines are a schedule.
 use Rattle.std.specs.Prelude.{Some, None, ℕ, List, Bool, true, false, [], ◌∷◌, ◌++◌, Option, ◌==◌, ◌||◌, ◌&&◌, nat_le, option_and_then}
 use Rattle.std.proofs.Common.{cond}
-use Rattle.docker_model.specs.records.Record.{Kind, extra_details, origin_location, intermediate_location, terminating_location, change_en_route, column, Lines, kind_of, basic_schedule}
+use Rattle.docker_model.specs.records.Record.{Kind, extra_details, origin_location, intermediate_location}
+use Rattle.docker_model.specs.records.Record.{terminating_location, change_en_route, column, Lines, kind_of, basic_schedule}
 use Rattle.docker_model.specs.records.Field.{is_deletion}
 use Rattle.docker_model.specs.file.Journey.{midnights}
 use Rattle.docker_model.specs.file.File.{first_record}

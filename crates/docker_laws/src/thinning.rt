@@ -19,7 +19,8 @@ ghost use Rattle.docker_model.specs.docker.DockerText.{IsDockerText};
 ghost use Rattle.docker_laws.specs.NearDay.{runs_near};
 ghost use Rattle.docker_laws.specs.Excerpt.{IsExcerpt};
 ghost use Rattle.docker_laws.specs.StandIn.{IsStandIn, StandsFor};
-ghost use Rattle.docker_laws.specs.Thinning.{is_end, thin_lines, lines_for, body_for, may_matter, thinned, thin_act, thin_change, thin_changes, table_of, IsThinning, HasNoChangeOf, AreAtMost, without, IsStateOfChanges};
+ghost use Rattle.docker_laws.specs.Thinning.{is_end, thin_lines, lines_for, body_for, may_matter, thinned, thin_act, thin_change};
+ghost use Rattle.docker_laws.specs.Thinning.{thin_changes, table_of, IsThinning, HasNoChangeOf, AreAtMost, without, IsStateOfChanges};
 ghost use Rattle.docker_laws.specs.FileSummary.{summary_of};
 
 /// A table with good bodies and its thinned table for a place and a day have the same docker there

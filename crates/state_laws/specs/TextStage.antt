@@ -7,7 +7,8 @@ use Rattle.docker_model.specs.state.Stamp.{LedgerItem, Stamp}
 use Rattle.docker_model.specs.state.Op.{Op, put_with, deleted, lapsed}
 use Rattle.docker_model.specs.state.State.{State}
 use Rattle.docker_model.specs.state.StateText.{key_in, stamp_in, Format, dks_1, dks_2, item_in}
-use Rattle.docker_model.specs.state.StatePart.{Before, before_item, before_entry_count, before_tag, in_entry, at_end, before_line, before_body, EntryPart, before_key, before_stamp, before_op, before_horizon, before_ledger_count, before_mark}
+use Rattle.docker_model.specs.state.StatePart.{Before, before_item, before_entry_count, before_tag, in_entry, at_end, before_line, before_body}
+use Rattle.docker_model.specs.state.StatePart.{EntryPart, before_key, before_stamp, before_op, before_horizon, before_ledger_count, before_mark}
 
 -- what comes after these items, if there are `count` in all: the next item, or the count of entries
 abbrev pub after_items : (horizon : ℕ) → ℕ → List LedgerItem → Before

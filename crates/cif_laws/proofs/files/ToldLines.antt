@@ -1,6 +1,7 @@
 -- A text as it comes in: the complete lines, whose line feed has come, and the unfinished line
 -- after them.
-use Rattle.std.proofs.Common.{ℕ, ◌<◌, List, length, Bool, arith, ◌≡◌, ◌+◌, [], ◌∷◌, ◌++◌, refl, ap, sym, ◌∙◌, true, false, map, append-nil, ◌≤◌, subst, cond, length-append}
+use Rattle.std.proofs.Common.{ℕ, ◌<◌, List, length, Bool, arith, ◌≡◌, ◌+◌, [], ◌∷◌, ◌++◌, refl, ap, sym}
+use Rattle.std.proofs.Common.{◌∙◌, true, false, map, append-nil, ◌≤◌, subst, cond, length-append}
 use Rattle.std.specs.Prelude.{◌==◌, nat_le, if◌then◌else◌}
 use Rattle.std.specs.List.{slice_split, onto_first}
 use Rattle.std.specs.Str.Lines.{strip_carriage_return}

@@ -1,5 +1,6 @@
 -- The changes kept for a place and a day make the thinned table of what all changes make.
-use Rattle.std.proofs.Common.{arith, append-nil, append_assoc, ◌≡◌, ℕ, List, [], ◌∷◌, ◌++◌, subst, inl, inr, ◌⊎◌, refl, ap, sym, ◌∙◌, Bool, true, false, cond, Some, None, Contains, map}
+use Rattle.std.proofs.Common.{arith, append-nil, append_assoc, ◌≡◌, ℕ, List, [], ◌∷◌, ◌++◌, subst, inl, inr}
+use Rattle.std.proofs.Common.{◌⊎◌, refl, ap, sym, ◌∙◌, Bool, true, false, cond, Some, None, Contains, map}
 use Rattle.std.specs.Prelude.{Option, option_and_then, filter, fold, not}
 use Rattle.std.specs.declared.cmp.Ordering.TheVariants.{Greater}
 use Rattle.std.specs.Ordering.{is_eq, ordering_reverse}
@@ -16,7 +17,8 @@ use Rattle.docker_model.specs.docker.Choice.{runs_within}
 use Rattle.docker_model.specs.records.Field.{as_new}
 use Rattle.cif_laws.proofs.records.Columns.{new_columns}
 use Rattle.std.specs.List.{list_any}
-use Rattle.docker_laws.specs.Thinning.{IsThinning, thin_lines, lines_for, body_for, may_matter, thin_body, thinned, thin_act, thin_change, thin_changes, table_of, AreEnough, HasNoChangeOf, AreAtMost, without}
+use Rattle.docker_laws.specs.Thinning.{IsThinning, thin_lines, lines_for, body_for, may_matter, thin_body, thinned, thin_act}
+use Rattle.docker_laws.specs.Thinning.{thin_change, thin_changes, table_of, AreEnough, HasNoChangeOf, AreAtMost, without}
 use Rattle.std.proofs.lemmas.List.{map-append}
 use Rattle.docker_laws.specs.Excerpt.{IsSublist}
 use Rattle.docker_laws.proofs.dockers.Sublists.{sublist_itself, sublist_filter, sublist_onward, sublist_append, sublist_front}

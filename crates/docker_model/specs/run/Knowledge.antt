@@ -5,7 +5,8 @@ use Rattle.std.specs.List.{AllZip, zip}
 use Rattle.docker_model.specs.file.File.{IsFile, most_records}
 use Rattle.docker_model.specs.state.State.{State}
 use Rattle.docker_model.specs.state.StateText.{Format, IsHorizonOf}
-use Rattle.docker_model.specs.run.Run.{Files, Known, KnownSets, Exchange, IsStateOf, IsMessageOf, known_sets, RunEvent, take_file, send_state, deliver, reload, horizon_event, Reply, done, refused}
+use Rattle.docker_model.specs.run.Run.{Files, Known, KnownSets, Exchange, IsStateOf, IsMessageOf, known_sets, RunEvent}
+use Rattle.docker_model.specs.run.Run.{take_file, send_state, deliver, reload, horizon_event, Reply, done, refused}
 
 -- two lists have the same files
 abbrev pub HaveSameFiles : Files → Files → Type 0

@@ -5,7 +5,8 @@ use Rattle.docker_model.specs.records.Record.{IsTextOfLength, is_printable, asso
 use Rattle.docker_model.specs.records.Date.{IsDay}
 use Rattle.docker_model.specs.records.Field.{IsTiploc, IsStpLetter, HasGoodFields, HasNewTransaction}
 use Rattle.docker_model.specs.file.File.{IsSchedule, first_record}
-use Rattle.docker_model.specs.file.Change.{Key, AssociationKey, ScheduleKey, tiploc_key, association_key, schedule_key, association_named, schedule_named, Body, tiploc_body, association_body, schedule_body}
+use Rattle.docker_model.specs.file.Change.{Key, AssociationKey, ScheduleKey, tiploc_key, association_key, schedule_key}
+use Rattle.docker_model.specs.file.Change.{association_named, schedule_named, Body, tiploc_body, association_body, schedule_body}
 use Rattle.docker_model.specs.state.Order.{IsStrictlyAscending, IsAtMost}
 use Rattle.docker_model.specs.state.Stamp.{LedgerItem, FileStamp, ledger_item_cmp, IsFloor, IsKept, Stamp}
 use Rattle.docker_model.specs.state.Op.{Entry, Op, deleted, lapsed, put_with, key_cmp, body_of, entry_cmp}
