@@ -1,8 +1,10 @@
 -- The lines that the reader of a schedule has taken, according to what it keeps.
-use Rattle.std.proofs.Common.{◌≡◌, ℕ, ◌+◌, ◌≤◌, ◌<◌, Bool, true, false, cond, List, [], ◌∷◌, ◌++◌, map, subst, refl, ap, sym, ◌∙◌, Some, None, arith, append-nil, append_assoc}
+use Rattle.std.proofs.Common.{◌≡◌, ℕ, ◌+◌, ◌≤◌, ◌<◌, Bool, true, false, cond, List, [], ◌∷◌, ◌++◌, map}
+use Rattle.std.proofs.Common.{subst, refl, ap, sym, ◌∙◌, Some, None, arith, append-nil, append_assoc}
 use Rattle.std.specs.Prelude.{Option, IsTrue, ◌↔◌, ◌||◌, ◌&&◌, nat_le, is_some, is_none, IsOk, OnOk, IfErr, Result, Ok, Err}
 use Rattle.std.proofs.lemmas.Bool.{false≢true, le-leb, leb-true}
-use Rattle.docker_model.specs.records.Record.{Kind, kind_of, IsRecord, HasKind, basic_schedule, origin_location, intermediate_location, terminating_location, columns}
+use Rattle.docker_model.specs.records.Record.{Kind, kind_of, IsRecord, HasKind, basic_schedule, origin_location}
+use Rattle.docker_model.specs.records.Record.{intermediate_location, terminating_location, columns}
 use Rattle.docker_model.specs.records.Clock.{half_minutes, scheduled_time}
 use Rattle.docker_model.specs.file.File.{first_record, IsSchedule, BeginsSchedule}
 use Rattle.docker_model.specs.records.Field.{is_deletion, HasGoodFields, leftmost_bad_field}
@@ -17,8 +19,10 @@ use Rattle.cif_laws.specs.RecordTest.{is_record, has_good_fields}
 use Rattle.cif_laws.proofs.lists.BoolsAndOptions.{test_by_none, and_true}
 use Rattle.cif_laws.proofs.records.RecordTests.{record_iff_test, midnights_step, last_time_step, no_times, no_times_before}
 use Rattle.cif_laws.specs.TimesSoFar.{last_of, falls_after, later_or}
-use Rattle.cif_laws.specs.ScheduleStage.{Stage, after_basic, after_details, in_journey, after_journey, stage_after, is_basic_kind, stage_of, may_lack, may_end, is_first_line, is_sound_next, next_stage}
-use Rattle.cif_laws.proofs.schedules.ScheduleStages.{no_stage_of_none, stage_of_more, first_line_iff_test, schedule_iff_stage, begins_iff_stage, sound_next_by_count}
+use Rattle.cif_laws.specs.ScheduleStage.{Stage, after_basic, after_details, in_journey, after_journey, stage_after}
+use Rattle.cif_laws.specs.ScheduleStage.{is_basic_kind, stage_of, may_lack, may_end, is_first_line, is_sound_next, next_stage}
+use Rattle.cif_laws.proofs.schedules.ScheduleStages.{no_stage_of_none, stage_of_more, first_line_iff_test}
+use Rattle.cif_laws.proofs.schedules.ScheduleStages.{schedule_iff_stage, begins_iff_stage, sound_next_by_count}
 use Rattle.cif_laws.proofs.schedules.ScheduleCauses.{first_line_fault, begins_next_stage, schedule_fault}
 use Rattle.cif_change.specs.declared.cause.FileCause.{FileCause}
 use Rattle.cif_change.specs.Cause.{cause_meant}

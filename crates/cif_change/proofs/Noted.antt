@@ -1,5 +1,6 @@
 -- What is noted stays noted when more comes, and each row notes its places.
-use Rattle.std.proofs.Common.{◌≡◌, ℕ, zero, suc, ◌+◌, ◌-◌, ◌≤◌, ◌<◌, List, [], ◌∷◌, ◌++◌, map, take, drop, length, get_or, refl, ap, sym, ◌∙◌, subst, Bool, true, false, cond, Some, None, inl, inr, ◌⊎◌, arith, append-nil}
+use Rattle.std.proofs.Common.{◌≡◌, ℕ, zero, suc, ◌+◌, ◌-◌, ◌≤◌, ◌<◌, List, [], ◌∷◌, ◌++◌, map, take, drop, length, get_or, refl}
+use Rattle.std.proofs.Common.{ap, sym, ◌∙◌, subst, Bool, true, false, cond, Some, None, inl, inr, ◌⊎◌, arith, append-nil}
 use Rattle.std.specs.Prelude.{slice_get, min}
 use Rattle.std.proofs.lemmas.Bool.{cases_lt}
 use Rattle.std.proofs.lemmas.List.{length-append, length-drop, map-append, append_assoc, drop-append-le, drop_all}

@@ -1,5 +1,6 @@
 -- Feeding a taker from a source: the taker has taken what the source gave.
-use Rattle.std.proofs.Common.{◌≡◌, ℕ, ◌+◌, ◌<◌, ◌≤◌, List, [], ◌∷◌, ◌++◌, length, take, drop, Some, None, refl, sym, ◌∙◌, ap, subst, arith, append_assoc, append-nil, length-append, ◌^◌, Err, Result, Fits, w64, Ok}
+use Rattle.std.proofs.Common.{◌≡◌, ℕ, ◌+◌, ◌<◌, ◌≤◌, List, [], ◌∷◌, ◌++◌, length, take, drop, Some, None, refl, sym, ◌∙◌}
+use Rattle.std.proofs.Common.{ap, subst, arith, append_assoc, append-nil, length-append, ◌^◌, Err, Result, Fits, w64, Ok}
 use Rattle.std.specs.Prelude.{Option, option_map, Bool, true, false}
 use Rattle.std.proofs.lemmas.List.{length-take-le, take-append-le, take-take}
 use Rattle.cif_device.specs.Device.{Reads, IsEnd, Ends}

@@ -1,5 +1,6 @@
 -- The records that the reader of a file has taken, by what it keeps of them.
-use Rattle.std.proofs.Common.{◌≡◌, ℕ, ◌+◌, ◌<◌, inl, inr, Bool, true, false, cond, List, [], ◌∷◌, ◌++◌, length, map, subst, refl, ap, sym, ◌∙◌, Some, None, arith, append-nil, append_assoc, length-append, take}
+use Rattle.std.proofs.Common.{◌≡◌, ℕ, ◌+◌, ◌<◌, inl, inr, Bool, true, false, cond, List, [], ◌∷◌, ◌++◌, length, map, subst}
+use Rattle.std.proofs.Common.{refl, ap, sym, ◌∙◌, Some, None, arith, append-nil, append_assoc, length-append, take}
 use Rattle.std.specs.Prelude.{Option, IsTrue, ◌↔◌, ◌&&◌, is_some, is_none, option_map, slice_index_or, OnOk, Result, Ok, Err}
 use Rattle.std.specs.List.{prefix_len}
 use Rattle.std.proofs.lemmas.List.{take-append-le}
@@ -7,18 +8,22 @@ use Rattle.std.proofs.lemmas.List.Sums.{prefix_len-le-length}
 use Rattle.docker_model.specs.records.Record.{Kind, header, basic_schedule, trailer, kind_of, IsRecord, HasKind}
 use Rattle.docker_model.specs.file.File.{first_record, follows_basic, IsFile, IsSchedule, BeginsSchedule}
 use Rattle.docker_model.specs.records.Field.{HasGoodFields, leftmost_bad_field, is_deletion, as_new}
-use Rattle.docker_model.specs.file.Change.{Change, Key, Act, Body, schedule_rest, acts_by_kind, changes_of_record, changes_from, changes, schedule_named, schedule_body, delete, put}
+use Rattle.docker_model.specs.file.Change.{Change, Key, Act, Body, schedule_rest, acts_by_kind, changes_of_record}
+use Rattle.docker_model.specs.file.Change.{changes_from, changes, schedule_named, schedule_body, delete, put}
 use Rattle.docker_model.specs.file.FileFault as fault
 use Rattle.docker_model.specs.file.FileFault.{bad_place, bad_kind, bad_field}
 use Rattle.cif_laws.proofs.files.UnitChanges.{unit_then, schedule_change}
 use Rattle.cif_laws.specs.RecordTest.{is_record, has_good_fields}
 use Rattle.cif_laws.proofs.lists.BoolsAndOptions.{test_by_none, none_by_test}
-use Rattle.cif_laws.specs.ScheduleStage.{Stage, after_basic, after_details, in_journey, after_journey, stage_after, stage_of, may_end, is_sound_next, next_stage}
+use Rattle.cif_laws.specs.ScheduleStage.{Stage, after_basic, after_details, in_journey, after_journey}
+use Rattle.cif_laws.specs.ScheduleStage.{stage_after, stage_of, may_end, is_sound_next, next_stage}
 use Rattle.cif_laws.proofs.schedules.ScheduleStages.{stage_of_more, stage_of_first, first_line_iff_test, schedule_iff_stage, begins_iff_stage, no_stage_of_none}
-use Rattle.cif_laws.specs.FileStage.{Place, before_header, between_units, in_schedule, after_end, unit_by_kind, place_in, in_stage_or, is_header_kind, place_by_kind, is_sound_at, next_place, IsPlaceOf}
+use Rattle.cif_laws.specs.FileStage.{Place, before_header, between_units, in_schedule, after_end, unit_by_kind, place_in}
+use Rattle.cif_laws.specs.FileStage.{in_stage_or, is_header_kind, place_by_kind, is_sound_at, next_place, IsPlaceOf}
 use Rattle.cif_laws.proofs.files.FileStages.{test_by_next, next_by_test, next_behind, stage_stops, file_iff_place, one_place, place_of_more, at_of_place}
 use Rattle.cif_laws.specs.RecordCause.{cause_of, kind_cause, place_cause, field_cause, with_column, is_after_end}
-use Rattle.cif_laws.proofs.schedules.ScheduleCauses.{no_unit_by_kind, next_place_of_stage, cause_of_record, cause_in_schedule, cause_behind_schedule, fault_of_schedule}
+use Rattle.cif_laws.proofs.schedules.ScheduleCauses.{no_unit_by_kind, next_place_of_stage, cause_of_record}
+use Rattle.cif_laws.proofs.schedules.ScheduleCauses.{cause_in_schedule, cause_behind_schedule, fault_of_schedule}
 use Rattle.cif_line.specs.declared.kind_of_record.Kind as code
 use Rattle.cif_line.specs.declared.kind_of_record.Kind.TheVariants.{Header}
 use Rattle.cif_line.specs.Kind.{meaning}

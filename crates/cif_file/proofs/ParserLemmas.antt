@@ -1,5 +1,6 @@
 -- The lines that a parser has taken, and the faults that it returns.
-use Rattle.std.proofs.Common.{◌≡◌, ℕ, ◌+◌, ◌-◌, ◌≤◌, ◌<◌, inl, inr, Bool, true, false, cond, List, [], ◌∷◌, ◌++◌, length, subst, refl, ap, sym, ◌∙◌, Some, None, arith, append_assoc, append-nil, length-append, eqb-true, take, drop, get_or, suc, drop-cons}
+use Rattle.std.proofs.Common.{◌≡◌, ℕ, ◌+◌, ◌-◌, ◌≤◌, ◌<◌, inl, inr, Bool, true, false, cond, List, [], ◌∷◌, ◌++◌, length, subst, refl, ap, sym}
+use Rattle.std.proofs.Common.{◌∙◌, Some, None, arith, append_assoc, append-nil, length-append, eqb-true, take, drop, get_or, suc, drop-cons}
 use Rattle.std.specs.Prelude.{⊤, Option, ◌↔◌, ◌==◌, ◌&&◌, nat_le, position, nat_lt}
 use Rattle.std.specs.Str.Lines.{strip_carriage_return}
 use Rattle.std.proofs.Math.Seq.{take-append_seam}
@@ -19,8 +20,10 @@ use Rattle.cif_laws.specs.FileStage.{Place, after_end, place_at, next_place}
 use Rattle.cif_laws.proofs.files.FileStages.{next_by_test, file_iff_place, begins_iff_place}
 use Rattle.cif_laws.specs.RecordCause.{end_cause, length_cause, is_after_end, cause_of_long}
 use Rattle.cif_laws.specs.LinesTold.{HasNoFeed, told_lines, open_line, line_left}
-use Rattle.cif_laws.proofs.files.ToldLines.{lines_of_told, lines_of_ended, lines_of_open, told_lines_plain, open_line_plain, told_lines_ended, open_line_ended, told_lines_stay, lines_told_grow}
-use Rattle.cif_laws.proofs.files.ToldFaults.{cause_of_length, not_80, no_next_place, lines_told_short, length_at_end, fault_at_feed, fault_at_long, fault_at_end, fault_stays, no_fault_told}
+use Rattle.cif_laws.proofs.files.ToldLines.{lines_of_told, lines_of_ended, lines_of_open, told_lines_plain, open_line_plain}
+use Rattle.cif_laws.proofs.files.ToldLines.{told_lines_ended, open_line_ended, told_lines_stay, lines_told_grow}
+use Rattle.cif_laws.proofs.files.ToldFaults.{cause_of_length, not_80, no_next_place, lines_told_short, length_at_end}
+use Rattle.cif_laws.proofs.files.ToldFaults.{fault_at_feed, fault_at_long, fault_at_end, fault_stays, no_fault_told}
 use Rattle.cif_change.specs.declared.cause.FileCause.{FileCause}
 use Rattle.cif_change.specs.declared.cause.FileCause.TheVariants.{Memory}
 use Rattle.cif_file.specs.declared.fault.FileFault.{FileFault}
@@ -34,7 +37,10 @@ use Rattle.cif_file.proofs.TextLemmas.{record_cut}
 use Rattle.cif_change.specs.Cause.{cause_meant}
 use Rattle.cif_file.specs.KeeperRead.{Keeps, KeepsAll}
 use Rattle.cif_file.specs.RecordsRead.{HasRecords, GoesOnWith, IsNoNextCause}
-use Rattle.cif_file.specs.ParserRead.{IsEndedText, ParserState, HasRead, IsReadingOrFault, HasCounted, IsCauseNext, IsCauseBehind, IsFaultNext, IsNoEndOf, FaultsNext, EndsCounted, EndsUnended, IsLongNext, IsReading, WantsMemoryAt, IsToldSoFar, IsFaultTold, IsCauseOf, IsRefused, HasNotFailed, IsLater, NamesLater, IsLast, NamesLast, GoesOn, TakesUpTo, TellsFault, refusal, IsRefusedNext, CountsNext}
+use Rattle.cif_file.specs.ParserRead.{IsEndedText, ParserState, HasRead, IsReadingOrFault, HasCounted, IsCauseNext, IsCauseBehind}
+use Rattle.cif_file.specs.ParserRead.{IsFaultNext, IsNoEndOf, FaultsNext, EndsCounted, EndsUnended, IsLongNext, IsReading, WantsMemoryAt}
+use Rattle.cif_file.specs.ParserRead.{IsToldSoFar, IsFaultTold, IsCauseOf, IsRefused, HasNotFailed, IsLater, NamesLater, IsLast}
+use Rattle.cif_file.specs.ParserRead.{NamesLast, GoesOn, TakesUpTo, TellsFault, refusal, IsRefusedNext, CountsNext}
 
 abbrev Lines : Type 0
 Lines = List (List ℕ)
@@ -363,7 +369,8 @@ pub taken_is : {K : Type 0} (keeps : Keeps K) (old : FileReading K) (limit : ℕ
 taken_is keeps old limit text front raw line reading whole strip = strip ∙ ap strip_carriage_return (whole ∙ ap (λ l. l ++ front) reading.partial_is)
 
 -- the line that was taken is the one that ends here
-pub ended_ok : {K : Type 0} (keeps : Keeps K) (old new : FileReading K) (limit : ℕ) (text front line : List ℕ) → IsReading keeps old limit text → HasNoFeed front
+pub ended_ok : {K : Type 0} (keeps : Keeps K) (old new : FileReading K) (limit : ℕ) (text front line : List ℕ)
+    → IsReading keeps old limit text → HasNoFeed front
     → line ≡ strip_carriage_return (open_line text ++ front)
     → HasCounted keeps new.records limit (told_lines text ++ line ∷ []) → new.partial.items ≡ [] → IsReading keeps new limit (text ++ (front ++ 10 ∷ []))
 ended_ok keeps old new limit text front line reading plain same counted none =
@@ -396,7 +403,8 @@ some_is_open keeps old limit text reading some =
     above 0 (length (open_line text)) (λ none. not_none (omega (arith, size)))
 
 -- the last line was taken, although no line feed ends it
-pub counted_last : {K : Type 0} (keeps : Keeps K) (old : FileReading K) (records : Records K) (limit : ℕ) (text raw line : List ℕ) → IsReading keeps old limit text
+pub counted_last : {K : Type 0} (keeps : Keeps K) (old : FileReading K) (records : Records K) (limit : ℕ) (text raw line : List ℕ)
+    → IsReading keeps old limit text
     → false ≡ (length old.partial.items == 0) → raw ≡ old.partial.items
     → line ≡ strip_carriage_return raw → HasCounted keeps records limit (told_lines text ++ line ∷ []) → HasCounted keeps records limit (lines_of text)
 counted_last keeps old records limit text raw line reading some same strip counted =

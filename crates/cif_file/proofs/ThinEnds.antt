@@ -17,16 +17,16 @@ module _ {P : Type 0} (place : List ℕ) (day : ℕ) where
   -- the file is made of the records
   file_of : (records : List (List ℕ)) (ended : Ended (ThinSoFar P)) → IsEnded (KeepsThin place day) records ended
       → IsOfRecords (thin_ended ended).file records
-  file_of records ended is = record { header_is = is.header_is; count_is = is.count_is; changes_are = is.kept.told }
+  file_of records ended is = record { header_is = is.header_is; count_is = is.count_is; changes_are = is.kept.so_far }
 
   -- enough of its changes was kept
   enough_of : (records : List (List ℕ)) (ended : Ended (ThinSoFar P)) → IsEnded (KeepsThin place day) records ended
-      → IsThinning ended.keeper.thinned.place ended.keeper.thinned.day ended.keeper.told.changes (thin_ended ended).kept
+      → IsThinning ended.keeper.thinned.place ended.keeper.thinned.day ended.keeper.so_far.changes (thin_ended ended).kept
   enough_of records ended is =
       let has = is.kept.thinned in
-      subst (λ p. IsThinning p ended.keeper.thinned.day ended.keeper.told.changes (thin_ended ended).kept) (sym has.place_is)
-      (subst (λ d. IsThinning place d ended.keeper.told.changes (thin_ended ended).kept) (sym has.day_is)
-      (subst (λ (all : List Change). IsThinning place day all (thin_ended ended).kept) (sym is.kept.told)
+      subst (λ p. IsThinning p ended.keeper.thinned.day ended.keeper.so_far.changes (thin_ended ended).kept) (sym has.place_is)
+      (subst (λ d. IsThinning place d ended.keeper.so_far.changes (thin_ended ended).kept) (sym has.day_is)
+      (subst (λ (all : List Change). IsThinning place day all (thin_ended ended).kept) (sym is.kept.so_far)
       (subst (IsThinning place day (changes records)) (sym has.made.changes_are) has.thinning)))
 
   -- what was kept of the file whose text the source held
@@ -47,7 +47,7 @@ module _ {P : Type 0} (place : List ℕ) (day : ℕ) where
   -- its parts belong to it
   pub reads_thin_parts : (limit : ℕ) (left : Option (List ℕ)) (ended : Ended (ThinSoFar P)) → limit ≤ most_records
       → ReadsEnded (KeepsThin place day) limit left ended
-      → AreThinParts ended.keeper.thinned.place ended.keeper.thinned.day ended.keeper.told.changes (thin_parts_ended ended)
+      → AreThinParts ended.keeper.thinned.place ended.keeper.thinned.day ended.keeper.so_far.changes (thin_parts_ended ended)
   reads_thin_parts limit left ended few reads =
       let is = reads.of_text in
       let within = is.is_text.within in

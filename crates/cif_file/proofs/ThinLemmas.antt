@@ -1,5 +1,6 @@
 -- What is kept of a file's changes for the docker of one place on one day.
-use Rattle.std.proofs.Common.{◌≡◌, ℕ, ◌∙◌, inl, inr, Bool, true, false, cond, List, [], ◌∷◌, ◌++◌, length, subst, refl, ap, sym, Some, None, arith, append_assoc}
+use Rattle.std.proofs.Common.{◌≡◌, ℕ, ◌∙◌, inl, inr, Bool, true, false, cond, List, [], ◌∷◌, ◌++◌}
+use Rattle.std.proofs.Common.{length, subst, refl, ap, sym, Some, None, arith, append_assoc}
 use Rattle.std.specs.Prelude.{Option, Contains, ◌⊎◌, ◌||◌, not}
 use Rattle.std.specs.Ordering.{on, is_eq}
 use Rattle.std.specs.BTreeSet as set

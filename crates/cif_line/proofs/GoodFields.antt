@@ -1,10 +1,13 @@
 -- The checked fields of each kind of record, one by one.
 use Rattle.std.proofs.Common.{◌≡◌, ℕ, List, true, false, cond, [], ◌∷◌, ◌++◌, Bool, Option, Some, None, refl, sym, subst, ◌∙◌, inl, inr, arith}
 use Rattle.std.specs.List.{AllByRecursion}
-use Rattle.docker_model.specs.records.Record.{Kind, header, tiploc_insert, tiploc_amend, tiploc_delete, association, basic_schedule, extra_details, origin_location, intermediate_location, terminating_location, change_en_route, trailer, HasKind, kind_of, columns, column}
+use Rattle.docker_model.specs.records.Record.{Kind, header, tiploc_insert, tiploc_amend, tiploc_delete, association}
+use Rattle.docker_model.specs.records.Record.{basic_schedule, extra_details, origin_location, intermediate_location}
+use Rattle.docker_model.specs.records.Record.{terminating_location, change_en_route, trailer, HasKind, kind_of, columns, column}
 use Rattle.docker_model.specs.records.Date.{is_date, is_date_day_first, is_end_date, is_days}
 use Rattle.docker_model.specs.records.Clock.{is_clock, is_public_time}
-use Rattle.docker_model.specs.records.Field.{CheckedField, checked, checked_fields, HasGoodFields, is_tiploc, is_new_tiploc, is_update_indicator, is_transaction, is_stp_indicator, is_stp_letter, is_deletion}
+use Rattle.docker_model.specs.records.Field.{CheckedField, checked, checked_fields, HasGoodFields, is_tiploc, is_new_tiploc}
+use Rattle.docker_model.specs.records.Field.{is_update_indicator, is_transaction, is_stp_indicator, is_stp_letter, is_deletion}
 use Rattle.cif_laws.proofs.records.Columns.{good_fields, IsGoodIn, one_column}
 use Rattle.cif_line.specs.View.{IsGood, IsGoodTiploc, IsTiplocRecord, new_code_of}
 

@@ -6,7 +6,8 @@ use Rattle.std.specs.List.{AllByRecursion}
 use Rattle.docker_model.specs.records.Record.{Kind, HasKind, header, tiploc_insert, tiploc_amend, tiploc_delete, association, basic_schedule, columns}
 use Rattle.docker_model.specs.records.Date.{is_date, is_date_day_first, is_end_date, is_days}
 use Rattle.docker_model.specs.records.Clock.{is_clock}
-use Rattle.docker_model.specs.records.Field.{CheckedField, checked, checked_fields, fields_of, leftmost_bad_field, is_tiploc, is_new_tiploc, is_update_indicator, is_transaction, is_stp_indicator, is_deletion}
+use Rattle.docker_model.specs.records.Field.{CheckedField, checked, checked_fields, fields_of, leftmost_bad_field, is_tiploc}
+use Rattle.docker_model.specs.records.Field.{is_new_tiploc, is_update_indicator, is_transaction, is_stp_indicator, is_deletion}
 use Rattle.cif_laws.proofs.records.Columns.{IsGoodIn, fields_good}
 use Rattle.cif_line.specs.View.{IsTiplocRecord}
 

@@ -1,5 +1,6 @@
 -- Times of day, read from their fields.
-use Rattle.std.proofs.Common.{◌≡◌, ℕ, ◌+◌, ◌*◌, List, [], ◌∷◌, true, false, cond, Bool, ◌&&◌, Some, None, Option, ap, refl, sym, ◌∙◌, subst, take, length, ◌<◌, arith}
+use Rattle.std.proofs.Common.{◌≡◌, ℕ, ◌+◌, ◌*◌, List, [], ◌∷◌, true, false, cond, Bool, ◌&&◌, Some}
+use Rattle.std.proofs.Common.{None, Option, ap, refl, sym, ◌∙◌, subst, take, length, ◌<◌, arith}
 use Rattle.std.specs.Prelude.{codes, ◌==◌, ◌||◌, nat_lt, slice_index, IfSome}
 use Rattle.std.specs.List.{list_all}
 use Rattle.std.specs.Str.{bytes_eq}

@@ -4,9 +4,11 @@ use Rattle.std.specs.List.{find, fold}
 use Rattle.std.specs.Option.{option_map_or}
 use Rattle.std.proofs.Math.Bool.{and-false}
 use Rattle.std.specs.Str.{bytes_eq}
-use Rattle.clap.specs.Walk.{Held, Names, Step, Text, Walk, after_step, answers_to, finished, idle, nothing_held, settled, subcommand, subcommand_met, subcommand_or_other, walk, walk_from, walked, word_met}
+use Rattle.clap.specs.Walk.{Held, Names, Step, Text, Walk, after_step, answers_to, finished, idle, nothing_held, settled}
+use Rattle.clap.specs.Walk.{subcommand, subcommand_met, subcommand_or_other, walk, walk_from, walked, word_met}
 use Rattle.clap.specs.Simple.{App, Shape, entered, label_of, names_of, rows_at}
-use Rattle.clap.specs.Faults.{built_fault, check_fault, defaults_fault, entered_fault, level_fault, other_fault, settle_fault, step_fault, turn_fault, walk_fault}
+use Rattle.clap.specs.Faults.{built_fault, check_fault, defaults_fault, entered_fault, level_fault}
+use Rattle.clap.specs.Faults.{other_fault, settle_fault, step_fault, turn_fault, walk_fault}
 use Rattle.clap.specs.Kinds.{Kinds, or_else}
 use Rattle.clap.proofs.WalkLemmas.{walk_stopped}
 use Rattle.clap.specs.declared.error.ErrorKind.TheVariants as kind

@@ -1,5 +1,6 @@
 -- Which words name a job.
-use Rattle.std.proofs.Common.{◌≡◌, ◌∙◌, ◌↔◌, ◌≤◌, ◌-◌, List, [], ◌∷◌, length, take, drop, slice_index_or, Bool, true, false, true≢false, Some, None, subst, sym, ap, arith}
+use Rattle.std.proofs.Common.{◌≡◌, ◌∙◌, ◌↔◌, ◌≤◌, ◌-◌, List, [], ◌∷◌, length, take, drop, slice_index_or}
+use Rattle.std.proofs.Common.{Bool, true, false, true≢false, Some, None, subst, sym, ap, arith}
 use Rattle.std.specs.Borrow.{Bor}
 use Rattle.std.proofs.lemmas.List.{length-map, take_all}
 use Rattle.std.specs.List.{list_all}

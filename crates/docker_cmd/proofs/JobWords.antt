@@ -1,6 +1,7 @@
 -- `clap` accepts just the words that name a subcommand, and finds the subcommand and the words
 -- after it.
-use Rattle.std.proofs.Common.{◌≡◌, ◌∙◌, ◌⊎◌, ◌||◌, inl, inr, Bool, cond, true, false, refl, sym, ap, subst, List, [], ◌∷◌, length, map, Some, None, option_map, true≢false, arith}
+use Rattle.std.proofs.Common.{◌≡◌, ◌∙◌, ◌⊎◌, ◌||◌, inl, inr, Bool, cond, true, false, refl, sym, ap, subst}
+use Rattle.std.proofs.Common.{List, [], ◌∷◌, length, map, Some, None, option_map, true≢false, arith}
 use Rattle.std.specs.Prelude.{option_and_then}
 use Rattle.std.specs.List.{find, list_all}
 use Rattle.std.specs.Str.{bytes_eq}

@@ -1,5 +1,6 @@
 -- Reading the job line byte by byte, and what the bytes that were read say about the text.
-use Rattle.std.proofs.Common.{◌≡◌, ℕ, ◌<◌, ◌≤◌, ◌≢◌, List, [], ◌∷◌, ◌++◌, length, Bool, true, false, refl, sym, ◌∙◌, ap, subst, arith, append_assoc, length-append, append-nil, Some, None, inl, inr, get_or}
+use Rattle.std.proofs.Common.{◌≡◌, ℕ, ◌<◌, ◌≤◌, ◌≢◌, List, [], ◌∷◌, ◌++◌, length, Bool, true, false, refl, sym, ◌∙◌, ap}
+use Rattle.std.proofs.Common.{subst, arith, append_assoc, length-append, append-nil, Some, None, inl, inr, get_or}
 use Rattle.std.specs.Prelude.{Option, option_map, ◌&&◌, ◌⊎◌, nat_le}
 use Rattle.std.specs.Str.{IsAscii}
 use Rattle.std.proofs.lemmas.Str.Ascii.{IsAscii-from_all}

@@ -9,7 +9,8 @@ use Rattle.docker_office.specs.declared.fault.OfficeFault.{OfficeFault}
 use Rattle.docker_office.specs.declared.fault.OfficeFault.TheVariants as office
 use Rattle.docker_cmd.specs.Reads.{sources_meant}
 use Rattle.docker_cmd.specs.declared.reads.Sources.{Sources}
-use Rattle.docker_cmd.specs.Prepared.{DeviceBytes, FailsBy, HasNoSource, HasReadToEnd, HoldsSomeState, IsContentOf, IsWhyRefused, ReadView, ReadsFew, ReadsFewOfFile, ReadsFewOfState, most_bytes, one_state, state_and_file, taken_file, two_states}
+use Rattle.docker_cmd.specs.Prepared.{DeviceBytes, FailsBy, HasNoSource, HasReadToEnd, HoldsSomeState, IsContentOf, IsWhyRefused, ReadView}
+use Rattle.docker_cmd.specs.Prepared.{ReadsFew, ReadsFewOfFile, ReadsFewOfState, most_bytes, one_state, state_and_file, taken_file, two_states}
 
 -- ---- one source
 

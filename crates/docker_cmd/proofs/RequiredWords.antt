@@ -1,5 +1,6 @@
 -- How `clap` reads the words after a subcommand that requires some.
-use Rattle.std.proofs.Common.{◌≡◌, ◌∙◌, ◌+◌, ◌&&◌, ◌||◌, ℕ, Bool, cond, true, false, not, min, map, refl, sym, ap, subst, true≢false, List, [], ◌∷◌, ◌++◌, Some, None, append_assoc, append-nil}
+use Rattle.std.proofs.Common.{◌≡◌, ◌∙◌, ◌+◌, ◌&&◌, ◌||◌, ℕ, Bool, cond, true, false, not, min, map, refl, sym, ap}
+use Rattle.std.proofs.Common.{subst, true≢false, List, [], ◌∷◌, ◌++◌, Some, None, append_assoc, append-nil}
 use Rattle.std.specs.List.{find, fold, list_all, list_any}
 use Rattle.std.specs.Str.{bytes_eq}
 use Rattle.std.proofs.lemmas.Slice.Eq.{bytes_eq-Decides}
@@ -7,7 +8,8 @@ use Rattle.clap.specs.Facts.{explicit_source}
 use Rattle.std.specs.Option.{option_map_or}
 use Rattle.std.proofs.Math.Bool.{and-false, or-true}
 use Rattle.clap.specs.Lexer.{usize_max}
-use Rattle.clap.specs.Walk.{Held, Row, Rule, Text, arg_by_id, arg_by_index, at_row, has_row, is_pending, more_values, nothing_held, pushed, reading_by, rows_after, settled, settled_rows, to_positional, used, used_by_id, walk, walked, with_default, with_values}
+use Rattle.clap.specs.Walk.{Held, Row, Rule, Text, arg_by_id, arg_by_index, at_row, has_row, is_pending, more_values, nothing_held, pushed, reading_by}
+use Rattle.clap.specs.Walk.{rows_after, settled, settled_rows, to_positional, used, used_by_id, walk, walked, with_default, with_values}
 use Rattle.clap.specs.Simple.{Shape, built_leaf, filled, filled_from, inherited, new_rule, with_index}
 use Rattle.clap.specs.Takes.{is_given}
 use Rattle.clap.specs.Faults.{check_fault, defaults_fault, level_fault, positional_fault, settle_fault, stray_fault, use_fault, walk_fault}

@@ -6,7 +6,8 @@ use Rattle.clap.specs.Walk.{Text, answers_to, idle, subcommand_met}
 use Rattle.clap.specs.Simple.{Shape, label_of, names_of}
 use Rattle.docker_cmd.specs.declared.tasks.Subcommand.{Subcommand}
 use Rattle.docker_cmd.specs.declared.tasks.Subcommand.TheVariants.{New, Check, Day, Take, Merge, Print, Files, Horizon, Migrate}
-use Rattle.docker_cmd.specs.Tasks.{AreWordsOf, TaskView, ids_of, name_of, subcommand_named, subcommands, subcommand_of, new_task, check_task, day_task, take_task, merge_task, print_task, files_task, horizon_task, migrate_task}
+use Rattle.docker_cmd.specs.Tasks.{AreWordsOf, TaskView, ids_of, name_of, subcommand_named, subcommands, subcommand_of, new_task}
+use Rattle.docker_cmd.specs.Tasks.{check_task, day_task, take_task, merge_task, print_task, files_task, horizon_task, migrate_task}
 use Rattle.docker_cmd.specs.Words.{NamesDay, NamesPlace, NamesStored, OfOne, OfThree, OfTwo}
 use Rattle.docker_cmd.specs.Grammar.{found_words}
 use Rattle.docker_cmd.proofs.FirstWord.{built_with}

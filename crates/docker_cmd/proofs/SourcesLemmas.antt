@@ -9,10 +9,12 @@ use Rattle.state_laws.proofs.states.SummaryLaws.{join_is_summary}
 use Rattle.docker_office.specs.Office.{TakesFile, no_state}
 use Rattle.docker_office.specs.declared.fault.OfficeFault.{OfficeFault}
 use Rattle.docker_cmd.specs.Job.{JobView}
-use Rattle.docker_cmd.specs.Tasks.{TaskView, check_task, day_task, files_task, horizon_of, horizon_task, merge_task, migrate_task, new_task, output_of, print_task, sources_of, take_task}
+use Rattle.docker_cmd.specs.Tasks.{TaskView, check_task, day_task, files_task, horizon_of, horizon_task, merge_task}
+use Rattle.docker_cmd.specs.Tasks.{migrate_task, new_task, output_of, print_task, sources_of, take_task}
 use Rattle.docker_cmd.specs.Reads.{Sources, checked_file, taken_file}
 use Rattle.docker_cmd.specs.Writes.{Output}
-use Rattle.docker_cmd.specs.Prepared.{DeviceBytes, HasNoSource, HasReadToEnd, HasSecondSource, IsContentOf, IsOfOneFile, IsPreparedFor, IsReadOf, IsStateOf, IsWhyRefused, IsWrittenOf, ReadView, ReadsFew, file_read, office_read, under}
+use Rattle.docker_cmd.specs.Prepared.{DeviceBytes, HasNoSource, HasReadToEnd, HasSecondSource, IsContentOf, IsOfOneFile, IsPreparedFor}
+use Rattle.docker_cmd.specs.Prepared.{IsReadOf, IsStateOf, IsWhyRefused, IsWrittenOf, ReadView, ReadsFew, file_read, office_read, under}
 
 -- no file, and no horizon
 no_files : IsSummary [] 0 no_state
@@ -162,7 +164,8 @@ pub read_of_task : (asked task : TaskView) (first left second second_left : Devi
     → ReadsFew (sources_of task) first left second second_left (IsReadOf task first second read × HasReadToEnd (sources_of task) left second_left)
     → ReadsFew (sources_of asked) first left second second_left (IsReadOf asked first second read × HasReadToEnd (sources_of asked) left second_left)
 read_of_task asked task first left second second_left read is reads =
-    subst (λ t. ReadsFew (sources_of t) first left second second_left (IsReadOf t first second read × HasReadToEnd (sources_of t) left second_left)) (sym is) reads
+    subst (λ t. ReadsFew (sources_of t) first left second second_left (IsReadOf t first second read × HasReadToEnd (sources_of t) left second_left))
+    (sym is) reads
 
 -- it has some source
 pub some_of_task : (P : Type 0) (asked task : TaskView) → asked ≡ task → ¬ HasNoSource (sources_of task) → HasNoSource (sources_of asked) → P

@@ -1,5 +1,6 @@
 -- From the result of `clap` to the result of `read_words`.
-use Rattle.std.proofs.Common.{◌≡◌, ◌≢◌, ◌∙◌, ◌⊎◌, inl, inr, Bool, true, sym, ap, subst, List, [], Option, Some, None, Result, Err, IfOk, option_map, false, true≢false}
+use Rattle.std.proofs.Common.{◌≡◌, ◌≢◌, ◌∙◌, ◌⊎◌, inl, inr, Bool, true, sym, ap, subst, List, []}
+use Rattle.std.proofs.Common.{Option, Some, None, Result, Err, IfOk, option_map, false, true≢false}
 use Rattle.std.specs.List.{list_all}
 use Rattle.std.specs.Option.{ok_or}
 use Rattle.std.specs.Borrow.{Bor}

@@ -47,7 +47,8 @@ last_with entries after key entry pushed =
     ap last_key pushed ∙ ap (option_map (λ (one : model.Key × Entry). one.0)) (last_of entries (key, entry))
 
 -- when rows are given to parts one by one, the next row may follow the entries that are there
-pub row_behind : (parts : State) (ledger : List LedgerItem) (rows rest after : List (Key × Row)) (key : Key) (row : Row) → AreEntries ledger (map row_meant rows)
+pub row_behind : (parts : State) (ledger : List LedgerItem) (rows rest after : List (Key × Row)) (key : Key) (row : Row)
+    → AreEntries ledger (map row_meant rows)
     → parts.ledger ≡ ledger → parts.entries ++ map row_meant rest ≡ map row_meant rows → rest ≡ (key, row) ∷ after
     → IsStampHere parts (key_meant key) (entry_meant row).stamp × IsOpOf (key_meant key) (entry_meant row).op
 row_behind parts ledger rows rest after key row are same whole step =

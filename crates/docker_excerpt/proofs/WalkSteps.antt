@@ -28,7 +28,8 @@ names_with_none names found told is same =
     sym (append-nil names) ∙ ap (λ (one : Option (List ℕ)). names ++ option_to_list one) (sym is ∙ same)
 
 -- walks with equal parts are the same walk
-pub walk_by : (place : List ℕ) (entries kept run other_kept other_run : List (model.Key × ops.Entry)) (needed other_needed : Bool) (names other_names : List (List ℕ))
+pub walk_by : (place : List ℕ) (entries kept run other_kept other_run : List (model.Key × ops.Entry)) (needed other_needed : Bool)
+    (names other_names : List (List ℕ))
     → other_kept ≡ kept → other_run ≡ run → other_needed ≡ needed → other_names ≡ names → IsWalk place entries kept run needed names
     → IsWalk place entries other_kept other_run other_needed other_names
 walk_by place entries kept run other_kept other_run needed other_needed names other_names kept_is run_is needed_is names_is is =

@@ -1,5 +1,6 @@
 -- The rows of a join, placed from the greatest on.
-use Rattle.std.proofs.Common.{◌≡◌, ℕ, zero, suc, ◌+◌, ◌-◌, ◌<◌, ◌≤◌, List, [], ◌∷◌, ◌++◌, length, get_or, take, drop, refl, ap, sym, ◌∙◌, subst, append_assoc, length-append, length-drop, arith, true, false, Some, None, MatchOption}
+use Rattle.std.proofs.Common.{◌≡◌, ℕ, zero, suc, ◌+◌, ◌-◌, ◌<◌, ◌≤◌, List, [], ◌∷◌, ◌++◌, length, get_or, take, drop, refl, ap, sym}
+use Rattle.std.proofs.Common.{◌∙◌, subst, append_assoc, length-append, length-drop, arith, true, false, Some, None, MatchOption}
 use Rattle.std.specs.Prelude.{Option}
 use Rattle.std.proofs.lemmas.List.{append-nil, get_or-append_right, get_or-drop, get_or-take, length-take-le, take-append-drop, take_all, take_more}
 use Rattle.std.proofs.Math.Seq.{drop-append_seam, take-append_seam}
@@ -54,7 +55,8 @@ module _ {E : Type 0} (picked : E → E → E) where
   lower_first x [] y below = refl
   lower_first [] (b ∷ others) y below = refl
   lower_first (x ∷ xs) (b ∷ others) y below =
-      (λ i. row_out picked (above_turned x b below.0.0 i) x b (walk picked xs (b ∷ others ++ y)) (walk picked xs (others ++ y)) (walk_from picked x (walk picked xs) (others ++ y)))
+      (λ i. row_out picked (above_turned x b below.0.0 i) x b
+      (walk picked xs (b ∷ others ++ y)) (walk picked xs (others ++ y)) (walk_from picked x (walk picked xs) (others ++ y)))
       ∙ ap (λ rest. b ∷ rest) (lower_first (x ∷ xs) others y below.1)
 
   -- two tables in two parts, where each first part is below the other table's second part: the walk
@@ -153,12 +155,14 @@ module _ {E : Type 0} (picked : E → E → E) where
 
       row_below : (xs : List (Key × E)) → AllBelow xs (own ∷ []) → AllBelow xs (row ∷ [])
       row_below [] low = tt
-      row_below (x ∷ xs) low = ((subst (λ k. key_cmp (key_meant x.0) k ≡ Less) (exact_key (key_meant own.0) (key_meant row.0) level) low.0.0, tt), row_below xs low.1)
+      row_below (x ∷ xs) low =
+          ((subst (λ k. key_cmp (key_meant x.0) k ≡ Less) (exact_key (key_meant own.0) (key_meant row.0) level) low.0.0, tt), row_below xs low.1)
 
       rest_under : (xs : List (Key × E)) → AllBelow xs (row ∷ []) → AllBelow xs (own ∷ r)
       rest_under [] low = tt
       rest_under (x ∷ xs) low =
-          let under : row_cmp x own ≡ Less = subst (λ k. key_cmp (key_meant x.0) k ≡ Less) (sym (exact_key (key_meant own.0) (key_meant row.0) level)) low.0.0 in
+          let under : row_cmp x own ≡ Less =
+          subst (λ k. key_cmp (key_meant x.0) k ≡ Less) (sym (exact_key (key_meant own.0) (key_meant row.0) level)) low.0.0 in
           ((under, above_lower x own r under above), rest_under xs low.1)
 
   -- the rows that are left, if it is known where they begin
@@ -341,7 +345,8 @@ module _ {E : Type 0} (picked : E → E → E) (old : List (Key × E)) (n left r
       let b = take (later - 1) a in
       let end = get_or a (later - 1) top in
       let split : a ≡ b ++ end ∷ [] =
-      sym (take_all later a (omega arith)) ∙ ap (λ k. take k a) (let one : later ≡ later - 1 + 1 = omega arith in one) ∙ take_more a (later - 1) top (omega arith) in
+      sym (take_all later a (omega arith)) ∙ ap (λ k. take k a) (let one : later ≡ later - 1 + 1 = omega arith in one)
+      ∙ take_more a (later - 1) top (omega arith) in
       let shape : turned_rows ≡ (r ++ (p ++ b)) ++ end ∷ [] =
       turned_parts ∙ ap (λ xs. r ++ (p ++ xs)) split ∙ ap (λ xs. r ++ xs) (sym (append_assoc p b (end ∷ []))) ∙ sym (append_assoc r (p ++ b) (end ∷ [])) in
       let both = same_last taken (r ++ (p ++ b)) top end (sym taken_is ∙ shape) in

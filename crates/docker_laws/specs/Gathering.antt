@@ -1,6 +1,7 @@
 -- The lines of a docker, gathered by a walk over rows of the live table. Each schedule and each
 -- association gives its lines, for each start day whose trains can be somewhere on the day.
-use Rattle.std.specs.Prelude.{ℕ, List, ◌⊎◌, ◌-◌, nat_le, [], ◌∷◌, map, filter, ◌&&◌, ◌==◌, Bool, false, Option, Some, None, if◌then◌else◌, codes, not, ◌≡◌, Contains}
+use Rattle.std.specs.Prelude.{ℕ, List, ◌⊎◌, ◌-◌, nat_le, [], ◌∷◌, map, filter, ◌&&◌, ◌==◌, Bool}
+use Rattle.std.specs.Prelude.{false, Option, Some, None, if◌then◌else◌, codes, not, ◌≡◌, Contains}
 use Rattle.std.specs.List.{flat_map}
 use Rattle.std.specs.Str.{bytes_eq}
 use Rattle.std.specs.Ordering.{is_eq}

@@ -1,5 +1,6 @@
 -- Each event of a run meets its definition, whatever the office returns.
-use Rattle.std.proofs.Common.{◌≡◌, ℕ, ◌^◌, ◌<◌, ◌≤◌, List, [], ◌∷◌, ◌++◌, length, set, get_or, refl, sym, ◌∙◌, ap, subst, arith, Option, Some, None, Result, Ok, Err, IsOk, IsErr, IfErr}
+use Rattle.std.proofs.Common.{◌≡◌, ℕ, ◌^◌, ◌<◌, ◌≤◌, List, [], ◌∷◌, ◌++◌, length, set, get_or, refl, sym, ◌∙◌}
+use Rattle.std.proofs.Common.{ap, subst, arith, Option, Some, None, Result, Ok, Err, IsOk, IsErr, IfErr}
 use Rattle.std.proofs.lemmas.List.{length-map, set-get_or, map-append}
 use Rattle.cif_line.specs.Device.{Store}
 use Rattle.cif_file.specs.declared.fault.FileFault.{FileFault}
@@ -17,7 +18,8 @@ use Rattle.docker_model.specs.state.StateFault.{IsStateText}
 use Rattle.docker_model.specs.state.StateText.{dks_2, state_text}
 use Rattle.docker_model.specs.state.Summary.{IsSummary}
 use Rattle.docker_model.specs.run.Run as model
-use Rattle.docker_model.specs.run.Run.{RunEvent, take_file, send_state, deliver, reload, horizon_event, refused, no_office, no_message, KnownSets, IsOffice, IsMessage, IsOfficeReply, IsMessageReply, IsFileReply, IsDoneOrNoMemory, after_done}
+use Rattle.docker_model.specs.run.Run.{RunEvent, take_file, send_state, deliver, reload, horizon_event, refused, no_office, no_message, KnownSets}
+use Rattle.docker_model.specs.run.Run.{IsOffice, IsMessage, IsOfficeReply, IsMessageReply, IsFileReply, IsDoneOrNoMemory, after_done}
 use Rattle.docker_model.specs.run.Knowledge.{Holds, message_text}
 use Rattle.docker_laws.proofs.runs.RunSteps.{sizes, message_reads, after_take, after_send, after_delivery, after_reload, after_horizon}
 use Rattle.state_laws.proofs.texts.OneStateFault.{no_fault_of_state}

@@ -92,7 +92,8 @@ taken_whole limit IsMade left left_now failures failures_now read (Ok made) few 
     record { no_further = few; outcome = (is made refl, end); failures = same }
 taken_whole {A} limit IsMade left left_now failures failures_now read (Err fault) few reads end same is only =
     subst
-    (λ (told : OfficeFault). StopsTaking limit left left_now (IsTakingOutcome limit IsMade left left_now (Err told)) (CountsTaking {A = A} failures failures_now (Err told)))
+    (λ (told : OfficeFault). StopsTaking limit left left_now (IsTakingOutcome limit IsMade left left_now (Err told))
+    (CountsTaking {A = A} failures failures_now (Err told)))
     (sym only)
     (record { no_further = few; outcome = inr (holds_file limit left read reads); failures = same })
 
@@ -189,14 +190,16 @@ read_ok wants format limit IsMade left left_now (Ok made) outcome is = outcome
 read_ok wants format limit IsMade left left_now (Err fault) outcome is = let never : ⊥ = cc in absurd never
 
 -- why a state's text is refused
-pub read_refused : {A : Type 0} (wants : Wanting) (format : Format) (limit : ℕ) (IsMade : A → Type 0) (left left_now : BytesLeft) (result : Result A OfficeFault)
+pub read_refused : {A : Type 0} (wants : Wanting) (format : Format) (limit : ℕ) (IsMade : A → Type 0) (left left_now : BytesLeft)
+    (result : Result A OfficeFault)
     → IsOutcome wants why_unread format limit IsMade left left_now result → (fault : StateFault) → result ≡ Err (office.State fault)
     → RefusesState format limit left fault
 read_refused wants format limit IsMade left left_now result outcome fault is = subst (IsOutcome wants why_unread format limit IsMade left left_now) is outcome
 
 -- a source in memory doesn't fail
 pub read_unfailed : {A : Type 0} (failures : ℕ) (result : Result A OfficeFault) → CountsOutcome why_unread failures failures result → result ≢ Err office.Source
-read_unfailed failures result counted is = let more : failures ≡ failures + 1 = subst (CountsOutcome why_unread failures failures) is counted in absurd (omega arith)
+read_unfailed failures result counted is =
+    let more : failures ≡ failures + 1 = subst (CountsOutcome why_unread failures failures) is counted in absurd (omega arith)
 
 -- reading a state gives no other fault
 pub read_only : {A : Type 0} (wants : Wanting) (format : Format) (limit : ℕ) (IsMade : A → Type 0) (left left_now : BytesLeft) (result : Result A OfficeFault)

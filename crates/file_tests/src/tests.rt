@@ -127,8 +127,8 @@ fn read_fault(fault: Option<FileFault>) -> Option<ReadFault> {
     }
 }
 
-/// Asserts that the text has this fault, or none, in one piece and in pieces of any length; that
-/// each later call returns it again; and that a reader which keeps nothing finds the same fault.
+/// Asserts that the text has this fault, or none, in one piece and in pieces of several lengths.
+/// Each later call has to return the fault again, and `judge_file` has to find the same fault.
 fn check_fault(rt: &impl Abort, alloc: Global, text: &[u8], wanted: Option<FileFault>, name: &str) {
     let whole = read_pieces(alloc, &[text], 1000).err();
     same_in(rt, name, whole, wanted);
@@ -237,7 +237,7 @@ fn deletion(key: &Key) -> Change {
     }
 }
 
-/// What the second record puts for a timing point.
+/// The change by which the second record puts a timing point.
 fn put(key: &Key, body: [u8; 63]) -> Change {
     Change {
         number: 2,
@@ -359,7 +359,7 @@ fn cut_fault(length: u32, width: u32) -> Option<FileFault>
     Some(at(records.saturating_add(1), FileCause::NoEnd))
 }
 
-/// Asserts that each proper beginning of the file of one schedule has its fault. A line has `width`
+/// Asserts that each proper prefix of the file of one schedule has its fault. A line has `width`
 /// bytes with its end.
 fn check_cuts(rt: &impl Abort, alloc: Global, end: &[u8], width: u32)
     requires { 80 < width }

@@ -29,9 +29,9 @@ impl Ending {
     }
 }
 
-/// A fault that may say out of memory.
+/// A fault that may be out of memory.
 pub(crate) trait MayWant {
-    /// Whether the fault says out of memory.
+    /// Whether the fault is out of memory.
     fn is_memory(&self) -> bool;
 }
 

@@ -1,5 +1,6 @@
 -- What a binary search in an ascending list finds.
-use Rattle.std.proofs.Common.{◌≡◌, ℕ, zero, suc, ◌<◌, ◌≤◌, List, [], ◌∷◌, map, refl, Bool, true, false, length, get_or, ap, sym, ◌∙◌, subst, inl, inr, ◌⊎◌, Contains, Ok, Err, arith}
+use Rattle.std.proofs.Common.{◌≡◌, ℕ, zero, suc, ◌<◌, ◌≤◌, List, [], ◌∷◌, map, refl, Bool, true, false}
+use Rattle.std.proofs.Common.{length, get_or, ap, sym, ◌∙◌, subst, inl, inr, ◌⊎◌, Contains, Ok, Err, arith}
 use Rattle.std.proofs.lemmas.Bool.{cases_lt}
 use Rattle.std.specs.Prelude.{Result, ◌↔◌, IsTrue, is_ok}
 use Rattle.std.specs.List.{AllPairs}

@@ -15,7 +15,8 @@ use Rattle.docker_join.specs.declared.entry.Entry.{Entry}
 use Rattle.docker_join.specs.Meaning.{entry_meant}
 use Rattle.docker_join.specs.Rows.{row_cmp}
 use Rattle.docker_join.proofs.MergedRows.{row_out, walk_from, walk}
-use Rattle.state_index.specs.Turns.{AtKey, in_first, in_second, in_both, firsts, seconds, placed_turn, turns_from, turns_of, wins, goes, after, first_moves, second_moves}
+use Rattle.state_index.specs.Turns.{AtKey, in_first, in_second, in_both, firsts, seconds, placed_turn}
+use Rattle.state_index.specs.Turns.{turns_from, turns_of, wins, goes, after, first_moves, second_moves}
 
 -- a row of a table
 abbrev pub Row : Type 0

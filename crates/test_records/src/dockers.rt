@@ -76,10 +76,10 @@ pub const OTHER_LEAVES: &[u8] = b"1045  D 3C32 C30002 P   5                COLWE
 /// C40001 arrives at Colwell at 23:50.
 pub const COMES_2350: &[u8] = b"2350  A 4D40 C40001 P   1                ASHFELD COLWELL";
 
-/// C40001 becomes C40002 there.
+/// C40002 is its next working there.
 pub const WORKS_ON: &[u8] = b"2350  N 4D40 C40001 P   1                C40002  4D42   ";
 
-/// C40001 becomes C40002 there, whose identity isn't known.
+/// C40002 is its next working there, with an identity that isn't known.
 pub const WORKS_ON_UNKNOWN: &[u8] = b"2350  N 4D40 C40001 P   1                C40002  ????   ";
 
 /// C50001 leaves Ashfeld at 12:00.

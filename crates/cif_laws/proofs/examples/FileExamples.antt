@@ -4,7 +4,8 @@ use Rattle.std.proofs.lemmas.List.Elements.{All-from_recursion}
 use Rattle.docker_model.specs.records.Record.{HasKind, header, kind_of}
 use Rattle.docker_model.specs.file.File.{IsFile, IsUnit, BeginsFile}
 use Rattle.docker_model.specs.file.Text.{lines_of}
-use Rattle.docker_model.specs.file.FileFault.{IsFileText, IsFileFault, IsOutOfPlace, HoldsOf, FileCause, cause_rank, too_many, after_trailer, bad_length, bad_byte, bad_kind, bad_place, bad_field, third_midnight, no_end}
+use Rattle.docker_model.specs.file.FileFault.{IsFileText, IsFileFault, IsOutOfPlace, HoldsOf, FileCause, cause_rank, too_many, after_trailer}
+use Rattle.docker_model.specs.file.FileFault.{bad_length, bad_byte, bad_kind, bad_place, bad_field, third_midnight, no_end}
 use Rattle.cif_laws.proofs.records.Builders.{f2, f2_header, f2_basic, f2_origin, f2_terminus, f2_schedule, zz}
 use Rattle.cif_laws.proofs.schedules.WorkedSchedule.{record_by_test, f2_is_schedule}
 

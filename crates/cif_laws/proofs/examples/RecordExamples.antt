@@ -2,7 +2,8 @@
 use Rattle.std.proofs.Common.{◌≡◌, ℕ, List, [], ◌∷◌, ◌++◌, length, refl, map, Some, None, true, false}
 use Rattle.std.specs.Prelude.{codes}
 use Rattle.jiff_core.specs.Calendar.{days_from_civil, day_count, days_of_years, days_of_months}
-use Rattle.docker_model.specs.records.Record.{kind_of, header, basic_schedule, origin_location, terminating_location, trailer, columns, column, leftmost_bad_byte}
+use Rattle.docker_model.specs.records.Record.{kind_of, header, basic_schedule, origin_location}
+use Rattle.docker_model.specs.records.Record.{terminating_location, trailer, columns, column, leftmost_bad_byte}
 use Rattle.docker_model.specs.records.Date.{day_number, date_number, is_date, weekday_of, end_number}
 use Rattle.docker_model.specs.records.Clock.{scheduled_time, public_time}
 use Rattle.docker_model.specs.records.Field.{leftmost_bad_field}
@@ -10,7 +11,8 @@ use Rattle.docker_model.specs.file.Journey.{times_along, midnights}
 use Rattle.docker_model.specs.file.Text.{lines_of}
 use Rattle.docker_model.specs.file.Change.{tiploc_key, schedule_named, tiploc_body, schedule_body, delete, put, Change, changes}
 use Rattle.cif_laws.specs.UnitChange.{changes_of_unit, changes_of_units}
-use Rattle.cif_laws.proofs.records.Builders.{wide, no_text, hd, bs, lo, li, lt, ta, zz, f2, f2_header, f2_basic, f2_origin, f2_terminus, f2_schedule, rename, rename_amend, night_schedule}
+use Rattle.cif_laws.proofs.records.Builders.{wide, no_text, hd, bs, lo, li, lt, ta, zz, f2, f2_header, f2_basic}
+use Rattle.cif_laws.proofs.records.Builders.{f2_origin, f2_terminus, f2_schedule, rename, rename_amend, night_schedule}
 
 kinds : map kind_of f2 ≡ Some header ∷ Some basic_schedule ∷ Some origin_location ∷ Some terminating_location ∷ Some trailer ∷ []
 kinds = refl

@@ -1,19 +1,24 @@
 -- The cause of a record at fault, by the place of the earlier records. A text that isn't a file's
 -- has a fault.
-use Rattle.std.proofs.Common.{◌≡◌, refl, true, [], ◌∷◌, Some, None, ℕ, ◌+◌, List, ◌++◌, sym, ◌∙◌, Bool, false, cond, ◌⊎◌, inl, inr, Contains, ap, subst, ◌<◌, ◌≤◌, length, arith, eqb-true, append_assoc, append-nil, length-append}
+use Rattle.std.proofs.Common.{◌≡◌, refl, true, [], ◌∷◌, Some, None, ℕ, ◌+◌, List, ◌++◌, sym, ◌∙◌, Bool, false, cond, ◌⊎◌, inl, inr}
+use Rattle.std.proofs.Common.{Contains, ap, subst, ◌<◌, ◌≤◌, length, arith, eqb-true, append_assoc, append-nil, length-append}
 use Rattle.std.specs.Prelude.{Any, Option, is_some, ◌&&◌, ◌||◌, nat_le, is_none, ◌==◌}
 use Rattle.std.specs.List.{flat_map, AllByRecursion}
 use Rattle.std.proofs.lemmas.Bool.{leb-false, leb-true, eqb-false}
 use Rattle.std.proofs.lemmas.List.Elements.{Contains-append_right, All-from_recursion}
-use Rattle.docker_model.specs.records.Record.{Lines, trailer, HasKind, kind_of, Kind, basic_schedule, intermediate_location, change_en_route, origin_location, extra_details, IsRecord, leftmost_bad_byte}
+use Rattle.docker_model.specs.records.Record.{Lines, trailer, HasKind, kind_of, Kind, basic_schedule, intermediate_location}
+use Rattle.docker_model.specs.records.Record.{change_en_route, origin_location, extra_details, IsRecord, leftmost_bad_byte}
 use Rattle.docker_model.specs.records.Field.{HasGoodFields, leftmost_bad_field, is_deletion}
 use Rattle.docker_model.specs.file.Journey.{midnights}
 use Rattle.docker_model.specs.file.File.{IsFile, follows_basic, IsWithinJourney, AreExtraDetails, first_record, BeginsFile}
 use Rattle.docker_model.specs.file.Text.{lines_of}
-use Rattle.docker_model.specs.file.FileFault.{EndsInSchedule, HasThirdFall, FileCause, too_many, after_trailer, bad_length, bad_byte, bad_kind, bad_place, bad_field, third_midnight, no_end, cause_rank, IsOutOfPlace, HoldsOf, IsCause, IsRecordFault, IsUnended, FileFault, IsFileFault, IsFileText}
+use Rattle.docker_model.specs.file.FileFault.{EndsInSchedule, HasThirdFall, FileCause, too_many, after_trailer, bad_length, bad_byte}
+use Rattle.docker_model.specs.file.FileFault.{bad_kind, bad_place, bad_field, third_midnight, no_end, cause_rank, IsOutOfPlace}
+use Rattle.docker_model.specs.file.FileFault.{HoldsOf, IsCause, IsRecordFault, IsUnended, FileFault, IsFileFault, IsFileText}
 use Rattle.cif_laws.specs.RecordTest.{has_good_fields, is_record}
 use Rattle.cif_laws.specs.ScheduleStage.{may_end, Stage, stage_after, after_basic, after_details, in_journey, after_journey, is_sound_next}
-use Rattle.cif_laws.specs.FileStage.{Place, after_end, next_place, place_from, before_header, between_units, in_schedule, in_stage_or, place_by_kind, unit_by_kind, is_sound_at, IsPlaceOf, place_at}
+use Rattle.cif_laws.specs.FileStage.{Place, after_end, next_place, place_from, before_header, between_units, in_schedule}
+use Rattle.cif_laws.specs.FileStage.{in_stage_or, place_by_kind, unit_by_kind, is_sound_at, IsPlaceOf, place_at}
 use Rattle.cif_laws.specs.RecordCause.{is_after_end, with_column, cause_of, place_cause, length_cause, field_cause, end_cause, byte_cause, kind_cause}
 use Rattle.cif_laws.proofs.lists.Membership.{Contains-cons, nil-Contains, cons-Contains-first}
 use Rattle.cif_laws.proofs.lists.AllOf.{all_weaker, all_append}
@@ -21,7 +26,8 @@ use Rattle.cif_laws.proofs.files.GoodChanges.{Follows, follows_by, journey_follo
 use Rattle.cif_laws.proofs.lists.BoolsAndOptions.{then_some, test_by_none, and_true, some_by_test}
 use Rattle.cif_laws.proofs.records.RecordTests.{record_iff_test, printable_by_none}
 use Rattle.cif_laws.proofs.schedules.ScheduleStages.{HasShape, details_of, IsSound, IsFront, midnights_of_journey, witness, witness_kind}
-use Rattle.cif_laws.proofs.files.FileStages.{next_by_test, stage_stops, IsWithin, IsAt, next_at, at_of_place, witness_next, at_begins, begins_iff_place, file_iff_place, place_of_more, begins_next_iff, one_place}
+use Rattle.cif_laws.proofs.files.FileStages.{next_by_test, stage_stops, IsWithin, IsAt, next_at, at_of_place, witness_next, at_begins}
+use Rattle.cif_laws.proofs.files.FileStages.{begins_iff_place, file_iff_place, place_of_more, begins_next_iff, one_place}
 
 -- ---- trailers
 

@@ -1,23 +1,30 @@
 -- Where a reader of a file is after the records so far: which record may come next, and whether the
 -- records are a file.
-use Rattle.std.proofs.Common.{◌≡◌, ℕ, List, ◌∷◌, ◌++◌, [], true, Some, refl, Bool, false, cond, None, ◌∙◌, ap, sym, append-nil, inl, inr, subst, append_assoc, ◌<◌, length, arith, length-append, ◌⊎◌}
+use Rattle.std.proofs.Common.{◌≡◌, ℕ, List, ◌∷◌, ◌++◌, [], true, Some, refl, Bool, false, cond, None, ◌∙◌, ap, sym}
+use Rattle.std.proofs.Common.{append-nil, inl, inr, subst, append_assoc, ◌<◌, length, arith, length-append, ◌⊎◌}
 use Rattle.std.specs.Prelude.{◌&&◌, Option, is_some, option_and_then, ◌↔◌, ⊤}
 use Rattle.std.specs.List.{AllByRecursion, flat_map}
 use Rattle.std.proofs.lemmas.Grind.{flat_map-append}
 use Rattle.std.proofs.lemmas.List.Elements.{All-from_recursion, recursion_from_All}
-use Rattle.docker_model.specs.records.Record.{header, IsRecord, HasKind, Lines, kind_of, Kind, tiploc_insert, tiploc_amend, tiploc_delete, association, basic_schedule, trailer, terminating_location, origin_location, extra_details, intermediate_location, change_en_route}
+use Rattle.docker_model.specs.records.Record.{header, IsRecord, HasKind, Lines, kind_of, Kind, tiploc_insert, tiploc_amend}
+use Rattle.docker_model.specs.records.Record.{tiploc_delete, association, basic_schedule, trailer, terminating_location}
+use Rattle.docker_model.specs.records.Record.{origin_location, extra_details, intermediate_location, change_en_route}
 use Rattle.docker_model.specs.records.Field.{HasGoodFields, leftmost_bad_field}
 use Rattle.docker_model.specs.file.File.{IsUnit, IsFile, BeginsFile, follows_basic, IsSingleKind}
 use Rattle.cif_laws.specs.RecordTest.{is_record, has_good_fields}
-use Rattle.cif_laws.specs.ScheduleStage.{Stage, after_basic, may_end, after_details, in_journey, after_journey, next_stage, stage_after, is_sound_next, stage_from, is_first_line, stage_of}
-use Rattle.cif_laws.specs.FileStage.{in_schedule, Place, after_end, between_units, before_header, place_by_kind, is_sound_at, next_place, unit_by_kind, place_in, in_stage_or, is_header_kind, place_from, IsPlaceOf, place_at}
+use Rattle.cif_laws.specs.ScheduleStage.{Stage, after_basic, may_end, after_details, in_journey, after_journey}
+use Rattle.cif_laws.specs.ScheduleStage.{next_stage, stage_after, is_sound_next, stage_from, is_first_line, stage_of}
+use Rattle.cif_laws.specs.FileStage.{in_schedule, Place, after_end, between_units, before_header, place_by_kind, is_sound_at, next_place}
+use Rattle.cif_laws.specs.FileStage.{unit_by_kind, place_in, in_stage_or, is_header_kind, place_from, IsPlaceOf, place_at}
 use Rattle.cif_laws.proofs.files.OneFileFault.{begins_front}
 use Rattle.cif_laws.proofs.lists.AllOf.{all_append}
 use Rattle.cif_laws.proofs.records.Columns.{fields_good}
 use Rattle.cif_laws.proofs.lists.BoolsAndOptions.{both, and_true, none_by_test, test_by_none, then_some, some_then}
 use Rattle.cif_laws.proofs.files.GoodChanges.{StopsHere, units_stop}
 use Rattle.cif_laws.proofs.records.RecordTests.{record_iff_test}
-use Rattle.cif_laws.proofs.schedules.ScheduleStages.{IsFront, front_of_basic, schedule_of_front, next_front, test_by_next_line, witness, witness_kind, witness_record, witness_fields, witness_sound, next_line_by_test, IsNextLine, first_line_iff_test, stage_of_schedule, stage_of_more}
+use Rattle.cif_laws.proofs.schedules.ScheduleStages.{IsFront, front_of_basic, schedule_of_front, next_front, test_by_next_line}
+use Rattle.cif_laws.proofs.schedules.ScheduleStages.{witness, witness_kind, witness_record, witness_fields, witness_sound}
+use Rattle.cif_laws.proofs.schedules.ScheduleStages.{next_line_by_test, IsNextLine, first_line_iff_test, stage_of_schedule, stage_of_more}
 
 -- ---- what a place means for the records
 

@@ -1,20 +1,27 @@
 -- The changes of a file within the limit have well formed keys and bodies. The lines of a
 -- schedule's body are a schedule.
-use Rattle.std.proofs.Common.{◌≡◌, ℕ, ◌+◌, ◌-◌, ◌^◌, ◌<◌, ◌⊎◌, inl, inr, List, [], ◌∷◌, ◌++◌, length, take, All, subst, refl, ap, sym, ◌∙◌, Bool, true, false, cond, Some, arith, append_assoc, length-append}
+use Rattle.std.proofs.Common.{◌≡◌, ℕ, ◌+◌, ◌-◌, ◌^◌, ◌<◌, ◌⊎◌, inl, inr, List, [], ◌∷◌, ◌++◌, length, take, All, subst}
+use Rattle.std.proofs.Common.{refl, ap, sym, ◌∙◌, Bool, true, false, cond, Some, arith, append_assoc, length-append}
 use Rattle.std.specs.Prelude.{Option, ⊤, ◌||◌, ◌==◌}
 use Rattle.std.specs.List.{AllByRecursion, flat_map, prefix_len}
 use Rattle.std.proofs.Math.Seq.{take-append_seam}
 use Rattle.std.proofs.lemmas.List.Elements.{All-from_recursion, recursion_from_All}
-use Rattle.docker_model.specs.records.Record.{Kind, tiploc_insert, tiploc_amend, tiploc_delete, association, basic_schedule, extra_details, origin_location, intermediate_location, terminating_location, change_en_route, trailer, IsRecord, HasKind, kind_of, columns, column}
+use Rattle.docker_model.specs.records.Record.{Kind, tiploc_insert, tiploc_amend, tiploc_delete, association, basic_schedule}
+use Rattle.docker_model.specs.records.Record.{extra_details, origin_location, intermediate_location, terminating_location}
+use Rattle.docker_model.specs.records.Record.{change_en_route, trailer, IsRecord, HasKind, kind_of, columns, column}
 use Rattle.docker_model.specs.records.Date.{is_date, date_number, is_end_date, is_days}
 use Rattle.docker_model.specs.records.Clock.{is_blank}
-use Rattle.docker_model.specs.records.Field.{HasGoodFields, is_deletion, is_stp_letter, is_stp_indicator, is_tiploc, is_transaction, checked, checked_fields, as_new, IsTiploc}
-use Rattle.docker_model.specs.file.File.{IsSchedule, IsJourney, IsSoundJourney, IsWithinJourney, AreExtraDetails, MayLackJourney, IsSingleKind, IsUnit, follows_basic}
-use Rattle.docker_model.specs.file.Change.{Key, association_key, schedule_key, Act, Change, association_named, schedule_named, keeps_code, schedule_rest, acts_by_kind, changes_of_record, changes_from}
+use Rattle.docker_model.specs.records.Field.{HasGoodFields, is_deletion, is_stp_letter, is_stp_indicator, is_tiploc}
+use Rattle.docker_model.specs.records.Field.{is_transaction, checked, checked_fields, as_new, IsTiploc}
+use Rattle.docker_model.specs.file.File.{IsSchedule, IsJourney, IsSoundJourney, IsWithinJourney, AreExtraDetails}
+use Rattle.docker_model.specs.file.File.{MayLackJourney, IsSingleKind, IsUnit, follows_basic}
+use Rattle.docker_model.specs.file.Change.{Key, association_key, schedule_key, Act, Change, association_named, schedule_named}
+use Rattle.docker_model.specs.file.Change.{keeps_code, schedule_rest, acts_by_kind, changes_of_record, changes_from}
 use Rattle.docker_model.specs.state.Op.{op_of}
 use Rattle.docker_model.specs.state.State.{IsGoodKey, IsOpOf}
 use Rattle.cif_laws.proofs.lists.AllOf.{all_append, all_weaker, all_map}
-use Rattle.cif_laws.proofs.records.Columns.{IsGoodIn, good_fields, fields_good, text_in, one_column, printable_column, new_columns, new_column, new_kind, new_record, is_new}
+use Rattle.cif_laws.proofs.records.Columns.{IsGoodIn, good_fields, fields_good, text_in, one_column, printable_column}
+use Rattle.cif_laws.proofs.records.Columns.{new_columns, new_column, new_kind, new_record, is_new}
 use Rattle.cif_laws.proofs.records.GoodFields.{date_is_day, tiploc_starts, new_tiploc_starts}
 
 -- the key and the op of a change are well formed and fit

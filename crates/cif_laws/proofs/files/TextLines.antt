@@ -1,5 +1,6 @@
 -- Records are the lines of a text exactly if the text consists of them and their line ends.
-use Rattle.std.proofs.Common.{◌≡◌, ℕ, suc, ◌-◌, ◌<◌, ◌≤◌, ◌⊎◌, List, [], ◌∷◌, ◌++◌, length, map, take, refl, ap, sym, ◌∙◌, subst, inl, inr, Bool, true, false, cond, arith, All, eqb-true, append_assoc, append-nil, length-append}
+use Rattle.std.proofs.Common.{◌≡◌, ℕ, suc, ◌-◌, ◌<◌, ◌≤◌, ◌⊎◌, List, [], ◌∷◌, ◌++◌, length, map, take, refl, ap, sym, ◌∙◌, subst}
+use Rattle.std.proofs.Common.{inl, inr, Bool, true, false, cond, arith, All, eqb-true, append_assoc, append-nil, length-append}
 use Rattle.std.specs.Prelude.{◌↔◌, ◌==◌, slice_index, ◌≢◌, nat_le, ◌&&◌}
 use Rattle.std.specs.List.{slice_split, join_with_byte, AllByRecursion, AllPass}
 use Rattle.std.specs.Str.Lines.{strip_carriage_return}

@@ -1,6 +1,7 @@
 -- A fault that the bytes so far show is the fault of every longer text. If they show none, their
 -- complete lines begin some file.
-use Rattle.std.proofs.Common.{ℕ, ◌+◌, ◌-◌, ◌≤◌, List, take, length, Bool, true, false, cond, arith, ◌≡◌, refl, Some, None, [], ◌∷◌, ◌++◌, ◌<◌, sym, ◌∙◌, append_assoc, ◌⊎◌, inl, inr, map, subst, length-append, ap}
+use Rattle.std.proofs.Common.{ℕ, ◌+◌, ◌-◌, ◌≤◌, List, take, length, Bool, true, false, cond, arith, ◌≡◌, refl, Some, None}
+use Rattle.std.proofs.Common.{[], ◌∷◌, ◌++◌, ◌<◌, sym, ◌∙◌, append_assoc, ◌⊎◌, inl, inr, map, subst, length-append, ap}
 use Rattle.std.specs.Prelude.{◌==◌, slice_index, ◌≢◌, Option, nat_le}
 use Rattle.std.specs.List.{slice_split}
 use Rattle.std.specs.Str.Lines.{strip_carriage_return}
@@ -9,7 +10,8 @@ use Rattle.std.proofs.lemmas.List.{length-take-le, take_at}
 use Rattle.docker_model.specs.records.Record.{Lines}
 use Rattle.docker_model.specs.file.File.{BeginsFile}
 use Rattle.docker_model.specs.file.Text.{without_empty_last, lines_of}
-use Rattle.docker_model.specs.file.FileFault.{FileCause, too_many, after_trailer, bad_length, bad_byte, bad_kind, bad_place, bad_field, third_midnight, no_end, cause_rank, HoldsOf, IsCause, FileFault, IsRecordFault, IsFileFault}
+use Rattle.docker_model.specs.file.FileFault.{FileCause, too_many, after_trailer, bad_length, bad_byte, bad_kind, bad_place, bad_field}
+use Rattle.docker_model.specs.file.FileFault.{third_midnight, no_end, cause_rank, HoldsOf, IsCause, FileFault, IsRecordFault, IsFileFault}
 use Rattle.docker_model.specs.file.FaultSoFar.{IsFaultSoFar, lines_told, last_of}
 use Rattle.cif_laws.specs.FileStage.{Place, next_place, IsPlaceOf}
 use Rattle.cif_laws.specs.RecordCause.{is_after_end, byte_cause, cause_of, cause_of_long}

@@ -1,10 +1,11 @@
--- The units of a file, in order, make its changes. A schedule goes on up to the first record that
+-- The units of a file, in order, make its changes. A schedule ends before the first record that
 -- can't follow a basic schedule.
 use Rattle.std.proofs.Common.{◌≡◌, ℕ, ◌+◌, inl, inr, List, [], ◌∷◌, ◌++◌, length, map, subst, refl, ap, sym, ◌∙◌, true, Some, arith, append_assoc, append-nil}
 use Rattle.std.specs.Prelude.{Option}
 use Rattle.std.specs.List.{AllByRecursion, flat_map}
 use Rattle.std.proofs.lemmas.List.Elements.{recursion_from_All}
-use Rattle.docker_model.specs.records.Record.{Kind, tiploc_insert, tiploc_amend, tiploc_delete, association, basic_schedule, extra_details, origin_location, intermediate_location, terminating_location, change_en_route, trailer, HasKind, kind_of}
+use Rattle.docker_model.specs.records.Record.{Kind, tiploc_insert, tiploc_amend, tiploc_delete, association, basic_schedule, extra_details}
+use Rattle.docker_model.specs.records.Record.{origin_location, intermediate_location, terminating_location, change_en_route, trailer, HasKind, kind_of}
 use Rattle.docker_model.specs.file.File.{IsFile, IsSchedule, IsSingleKind, IsUnit, follows_basic}
 use Rattle.docker_model.specs.file.Change.{Key, Act, Change, schedule_rest, acts_by_kind, changes_of_record, changes_from, changes}
 use Rattle.cif_laws.specs.UnitChange.{changes_of_unit, changes_of_units, change_of_schedule}

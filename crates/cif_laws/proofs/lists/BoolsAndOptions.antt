@@ -17,7 +17,7 @@ pub not_true : (b : Bool) → not b ≡ true → b ≡ false
 not_true true h = cc
 not_true false h = refl
 
--- an option that passes the test of being none is none
+-- an option that passes `is_none` is none
 pub none_by_test : {A : Type 0} (o : Option A) → is_none o ≡ true → o ≡ None
 none_by_test None h = refl
 none_by_test (Some x) h = cc

@@ -5,7 +5,8 @@ use Rattle.std.specs.List.{AllByRecursion, AllPairs, flat_map}
 use Rattle.std.proofs.lemmas.List.Elements.{All-from_recursion, Contains-append_cases}
 use Rattle.std.proofs.lemmas.List.Kept.{AllPairs-cons}
 use Rattle.cif_laws.proofs.lists.AllOf.{all_append, all_map, all_weaker}
-use Rattle.cif_laws.proofs.lists.Membership.{Contains-cons, nil-Contains, below_by_recursion, cons-Contains, cons-Contains-first, each_member, Contains-flat_map}
+use Rattle.cif_laws.proofs.lists.Membership.{Contains-cons, nil-Contains, below_by_recursion, cons-Contains}
+use Rattle.cif_laws.proofs.lists.Membership.{cons-Contains-first, each_member, Contains-flat_map}
 
 -- each member is in the relation to each later one
 abbrev pub AllLater : {A : Type 0} → (A → A → Type 0) → List A → Type 0

@@ -1,12 +1,14 @@
 -- Tests of a record, and how often a schedule passes midnight as its lines come in.
-use Rattle.std.proofs.Common.{ℕ, List, ◌≡◌, refl, true, ◌+◌, [], ◌∷◌, length, ◌∙◌, cond, arith, Bool, false, suc, ◌≤◌, Some, None, sym, ap, eqb-true, ◌++◌, map, subst, ◌*◌, ◌⊎◌, inl, inr}
+use Rattle.std.proofs.Common.{ℕ, List, ◌≡◌, refl, true, ◌+◌, [], ◌∷◌, length, ◌∙◌, cond, arith, Bool, false}
+use Rattle.std.proofs.Common.{suc, ◌≤◌, Some, None, sym, ap, eqb-true, ◌++◌, map, subst, ◌*◌, ◌⊎◌, inl, inr}
 use Rattle.std.specs.Prelude.{not, option_map, nat_lt, ◌==◌, ◌↔◌, Option, slice_index, ◌||◌}
 use Rattle.std.specs.List.{prefix_len, AllByRecursion, AllPass, flat_map}
 use Rattle.std.proofs.lemmas.Bool.{ltb-true, ltb-false}
 use Rattle.std.proofs.lemmas.List.{map-append}
 use Rattle.std.proofs.lemmas.Grind.{flat_map-append}
 use Rattle.std.proofs.lemmas.List.Elements.{recursion_from_All, All-from_recursion}
-use Rattle.docker_model.specs.records.Record.{is_printable, leftmost_bad_byte, IsRecord, Kind, HasKind, origin_location, intermediate_location, terminating_location, columns, kind_of}
+use Rattle.docker_model.specs.records.Record.{is_printable, leftmost_bad_byte, IsRecord, Kind, HasKind, origin_location}
+use Rattle.docker_model.specs.records.Record.{intermediate_location, terminating_location, columns, kind_of}
 use Rattle.docker_model.specs.records.Clock.{is_clock, is_present_time, half_minutes, minute_of, is_blank, is_scheduled_time, scheduled_time}
 use Rattle.docker_model.specs.records.Field.{HasGoodFields}
 use Rattle.docker_model.specs.file.Journey.{fall_count, Occasion, times_of, times_along, midnights, times_by_kind, timed, departure, arrival, pass}

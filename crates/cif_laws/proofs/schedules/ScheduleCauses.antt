@@ -1,21 +1,28 @@
 -- The cause of a record that can't continue a schedule, by the stage of the earlier lines. A file's
 -- record at such a place has the same cause.
-use Rattle.std.proofs.Common.{◌≡◌, ℕ, List, refl, ap, ◌<◌, ◌⊎◌, inl, inr, sym, ◌∙◌, ◌≤◌, None, arith, [], ◌∷◌, Bool, true, false, cond, Some, ◌++◌, subst, length}
+use Rattle.std.proofs.Common.{◌≡◌, ℕ, List, refl, ap, ◌<◌, ◌⊎◌, inl, inr, sym, ◌∙◌, ◌≤◌, None}
+use Rattle.std.proofs.Common.{arith, [], ◌∷◌, Bool, true, false, cond, Some, ◌++◌, subst, length}
 use Rattle.std.specs.Prelude.{unwrap_or, Option, is_none, is_some, option_map, ◌&&◌, ◌==◌}
 use Rattle.std.proofs.lemmas.Bool.{cases_order, lt-leb}
-use Rattle.docker_model.specs.records.Record.{Lines, kind_of, Kind, basic_schedule, IsRecord, extra_details, origin_location, intermediate_location, terminating_location, change_en_route}
+use Rattle.docker_model.specs.records.Record.{Lines, kind_of, Kind, basic_schedule, IsRecord, extra_details, origin_location}
+use Rattle.docker_model.specs.records.Record.{intermediate_location, terminating_location, change_en_route}
 use Rattle.docker_model.specs.records.Field.{leftmost_bad_field, is_deletion}
 use Rattle.docker_model.specs.file.Journey.{midnights}
 use Rattle.docker_model.specs.file.File.{BeginsSchedule, first_record, follows_basic}
-use Rattle.docker_model.specs.file.FileFault.{FileCause, too_many, after_trailer, bad_length, bad_byte, bad_kind, bad_place, bad_field, third_midnight, no_end, cause_rank}
+use Rattle.docker_model.specs.file.FileFault.{FileCause, too_many, after_trailer, bad_length, bad_byte, bad_kind}
+use Rattle.docker_model.specs.file.FileFault.{bad_place, bad_field, third_midnight, no_end, cause_rank}
 use Rattle.cif_laws.specs.ScheduleFault.{HoldsInSchedule, IsScheduleFault, IsOutOfSchedule}
 use Rattle.cif_laws.specs.RecordTest.{is_record, has_good_fields}
 use Rattle.cif_laws.specs.ScheduleStage.{after_basic, is_first_line, is_basic_kind, Stage, next_stage, stage_of, stage_after, may_end, is_sound_next}
 use Rattle.cif_laws.specs.FileStage.{unit_by_kind, in_schedule, place_in, in_stage_or, is_sound_at, next_place, Place, between_units, IsPlaceOf}
-use Rattle.cif_laws.specs.RecordCause.{with_column, field_cause, first_line_cause, schedule_cause, is_after_end, kind_cause, byte_cause, length_cause, end_cause, cause_of}
+use Rattle.cif_laws.specs.RecordCause.{with_column, field_cause, first_line_cause, schedule_cause, is_after_end}
+use Rattle.cif_laws.specs.RecordCause.{kind_cause, byte_cause, length_cause, end_cause, cause_of}
 use Rattle.cif_laws.proofs.files.OneFileFault.{column_of, column_told, same_cause}
 use Rattle.cif_laws.proofs.records.RecordTests.{record_iff_test, no_bad_byte}
-use Rattle.cif_laws.proofs.schedules.ScheduleStages.{begins_iff_stage, witness, witness_kind, witness_record, witness_fields, front_of_basic, front_begins, first_line_iff_test, no_lines_begin, next_line_by_test, begins_more_iff, IsSound, IsFront, details_of, midnights_of_journey, test_by_next_line, front_of_stage, schedule_out_of_place, schedule_in_place, IsNoNextLine, no_next_line}
+use Rattle.cif_laws.proofs.schedules.ScheduleStages.{begins_iff_stage, witness, witness_kind, witness_record, witness_fields, front_of_basic}
+use Rattle.cif_laws.proofs.schedules.ScheduleStages.{front_begins, first_line_iff_test, no_lines_begin, next_line_by_test, begins_more_iff}
+use Rattle.cif_laws.proofs.schedules.ScheduleStages.{IsSound, IsFront, details_of, midnights_of_journey, test_by_next_line, front_of_stage}
+use Rattle.cif_laws.proofs.schedules.ScheduleStages.{schedule_out_of_place, schedule_in_place, IsNoNextLine, no_next_line}
 use Rattle.cif_laws.proofs.files.FileStages.{stage_stops, tracked_place}
 
 -- ---- one cause

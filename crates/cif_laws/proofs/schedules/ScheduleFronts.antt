@@ -1,12 +1,15 @@
 -- It is decided whether lines are a schedule, and whether they begin one.
-use Rattle.std.proofs.Common.{◌≡◌, ℕ, List, length, true, Some, [], ◌∷◌, ◌⊎◌, inr, inl, ◌+◌, ◌++◌, ap, refl, sym, subst, ◌≤◌, IsTrue, All, Bool, false, arith, if◌then◌else◌, nat_lt, map, ◌||◌, None, cond, not, find, ◌∙◌, codes, append-nil, lit≤}
+use Rattle.std.proofs.Common.{◌≡◌, ℕ, List, length, true, Some, [], ◌∷◌, ◌⊎◌, inr, inl, ◌+◌, ◌++◌, ap, refl, sym, subst, ◌≤◌, IsTrue, All}
+use Rattle.std.proofs.Common.{Bool, false, arith, if◌then◌else◌, nat_lt, map, ◌||◌, None, cond, not, find, ◌∙◌, codes, append-nil, lit≤}
 use Rattle.std.specs.Prelude.{⊤, slice_index, ◌==◌, option_map, Option}
 use Rattle.std.specs.List.{AllByRecursion, flat_map}
 use Rattle.std.proofs.lemmas.Bool.{ltb-true, le-ltb}
 use Rattle.std.proofs.lemmas.Grind.{flat_map-append}
 use Rattle.std.proofs.lemmas.List.{map-append}
 use Rattle.std.proofs.lemmas.List.Elements.{All-from_recursion, recursion_from_All}
-use Rattle.docker_model.specs.records.Record.{IsRecord, Lines, is_printable, Kind, kind_of, HasKind, intermediate_location, change_en_route, terminating_location, origin_location, column, extra_details, basic_schedule, columns, header, tiploc_insert, tiploc_amend, tiploc_delete, association, trailer}
+use Rattle.docker_model.specs.records.Record.{IsRecord, Lines, is_printable, Kind, kind_of, HasKind, intermediate_location, change_en_route}
+use Rattle.docker_model.specs.records.Record.{terminating_location, origin_location, column, extra_details, basic_schedule, columns}
+use Rattle.docker_model.specs.records.Record.{header, tiploc_insert, tiploc_amend, tiploc_delete, association, trailer}
 use Rattle.docker_model.specs.records.Date.{two_digits}
 use Rattle.docker_model.specs.records.Clock.{is_clock, is_present_time, half_minutes, is_blank, is_scheduled_time, scheduled_time}
 use Rattle.docker_model.specs.records.Field.{leftmost_bad_field, HasGoodFields, is_deletion, CheckedField, fields_of}
@@ -15,7 +18,8 @@ use Rattle.docker_model.specs.file.File.{IsWithinJourney, IsJourney, MayLackJour
 use Rattle.cif_laws.proofs.records.Builders.{lt, no_text, f2_origin, f2_terminus, f2_schedule}
 use Rattle.cif_laws.proofs.schedules.WorkedSchedule.{record_by_test, f2_journey, f2_is_schedule}
 use Rattle.cif_laws.proofs.lists.AllOf.{all_append, all_front}
-use Rattle.cif_laws.proofs.lists.Decisions.{Decided, both_decided, bool_decided, nat_decided, All_decided, kind_decided, none_decided, either_decided, empty_decided, le_decided, all_decided, decided_along}
+use Rattle.cif_laws.proofs.lists.Decisions.{Decided, both_decided, bool_decided, nat_decided, All_decided, kind_decided}
+use Rattle.cif_laws.proofs.lists.Decisions.{none_decided, either_decided, empty_decided, le_decided, all_decided, decided_along}
 use Rattle.cif_laws.proofs.lists.BoolsAndOptions.{both}
 
 abbrev AreRecords : Lines → Type 0

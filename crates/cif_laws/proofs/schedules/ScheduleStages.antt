@@ -1,22 +1,27 @@
 -- Where a reader of a schedule is after the lines so far: which line may come next, and whether the
 -- lines are a schedule.
-use Rattle.std.proofs.Common.{◌≡◌, ℕ, List, ◌∷◌, [], ◌⊎◌, true, ◌+◌, ◌++◌, inl, refl, Some, ap, inr, arith, ◌∙◌, ◌≤◌, Bool, false, subst, append_assoc, cond, None, sym, eqb-true, append-nil, All, ◌<◌}
+use Rattle.std.proofs.Common.{◌≡◌, ℕ, List, ◌∷◌, [], ◌⊎◌, true, ◌+◌, ◌++◌, inl, refl, Some, ap, inr, arith, ◌∙◌, ◌≤◌}
+use Rattle.std.proofs.Common.{Bool, false, subst, append_assoc, cond, None, sym, eqb-true, append-nil, All, ◌<◌}
 use Rattle.std.specs.Prelude.{Option, ◌&&◌, ◌↔◌, nat_le, ◌||◌, ◌==◌, codes, option_and_then, is_none}
 use Rattle.std.specs.List.{AllByRecursion}
 use Rattle.std.proofs.lemmas.Bool.{leb-true, le-leb, leb-false}
 use Rattle.std.proofs.lemmas.List.Elements.{All-from_recursion, recursion_from_All}
-use Rattle.docker_model.specs.records.Record.{origin_location, HasKind, Lines, basic_schedule, IsRecord, Kind, kind_of, extra_details, intermediate_location, terminating_location, change_en_route, column, header, tiploc_insert, tiploc_amend, tiploc_delete, association, trailer}
+use Rattle.docker_model.specs.records.Record.{origin_location, HasKind, Lines, basic_schedule, IsRecord, Kind, kind_of}
+use Rattle.docker_model.specs.records.Record.{extra_details, intermediate_location, terminating_location, change_en_route}
+use Rattle.docker_model.specs.records.Record.{column, header, tiploc_insert, tiploc_amend, tiploc_delete, association, trailer}
 use Rattle.docker_model.specs.records.Field.{is_deletion, HasGoodFields, leftmost_bad_field}
 use Rattle.docker_model.specs.file.Journey.{times_along, fall_count, midnights}
 use Rattle.docker_model.specs.file.File.{IsWithinJourney, IsJourney, AreExtraDetails, IsSoundJourney, first_record, MayLackJourney, IsSchedule, BeginsSchedule}
 use Rattle.cif_laws.specs.RecordTest.{is_record, has_good_fields}
 use Rattle.cif_laws.specs.TimesSoFar.{falls_after, last_of}
-use Rattle.cif_laws.specs.ScheduleStage.{in_journey, after_basic, Stage, after_details, after_journey, is_basic_kind, is_first_line, is_sound_next, stage_after, next_stage, may_lack, may_end, stage_from, stage_of}
+use Rattle.cif_laws.specs.ScheduleStage.{in_journey, after_basic, Stage, after_details, after_journey, is_basic_kind, is_first_line}
+use Rattle.cif_laws.specs.ScheduleStage.{is_sound_next, stage_after, next_stage, may_lack, may_end, stage_from, stage_of}
 use Rattle.cif_laws.proofs.records.Builders.{no_text, hd, ti, ta, aa, bs, lo, li, lt, cr, zz, wide}
 use Rattle.cif_laws.proofs.lists.AllOf.{all_append}
 use Rattle.cif_laws.proofs.records.Columns.{fields_good}
 use Rattle.cif_laws.proofs.lists.BoolsAndOptions.{both, none_by_test, test_by_none, and_true, either, then_some, some_then}
-use Rattle.cif_laws.proofs.records.RecordTests.{record_iff_test, no_times, no_times_before, midnights_step, last_time, no_fall_last, times_append, along_within, fewer_midnights}
+use Rattle.cif_laws.proofs.records.RecordTests.{record_iff_test, no_times, no_times_before, midnights_step, last_time}
+use Rattle.cif_laws.proofs.records.RecordTests.{no_fall_last, times_append, along_within, fewer_midnights}
 
 -- ---- what a stage means for the lines
 

@@ -1,6 +1,7 @@
 -- The events of a schedule, as a walk over its lines meets them. The walk carries along the falls
 -- and the last change en route.
-use Rattle.std.proofs.Common.{◌≡◌, ℕ, zero, suc, ◌+◌, ◌<◌, ◌≤◌, Bool, true, false, cond, List, [], ◌∷◌, ◌++◌, map, length, get_or, take, refl, ap, sym, ◌∙◌, subst, arith, Contains, Some, None, append_assoc, append-nil, length-append}
+use Rattle.std.proofs.Common.{◌≡◌, ℕ, zero, suc, ◌+◌, ◌<◌, ◌≤◌, Bool, true, false, cond, List, [], ◌∷◌, ◌++◌, map, length, get_or}
+use Rattle.std.proofs.Common.{take, refl, ap, sym, ◌∙◌, subst, arith, Contains, Some, None, append_assoc, append-nil, length-append}
 use Rattle.std.specs.Prelude.{Option, ◌↔◌, nat_lt, filter, codes}
 use Rattle.std.specs.List.{enumerate_from, last_or, flat_map}
 use Rattle.std.proofs.lemmas.List.{map-append, length-map, get_or-map}

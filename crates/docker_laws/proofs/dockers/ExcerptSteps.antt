@@ -1,6 +1,7 @@
 -- The walk that makes an excerpt, entry by entry: what it has after each, and what it keeps in the
 -- end.
-use Rattle.std.proofs.Common.{All, ◌≡◌, ℕ, List, [], ◌∷◌, ◌++◌, subst, inl, inr, ◌⊎◌, refl, ap, sym, ◌∙◌, Bool, true, false, cond, Some, Contains, append-nil, append_assoc}
+use Rattle.std.proofs.Common.{All, ◌≡◌, ℕ, List, [], ◌∷◌, ◌++◌, subst, inl, inr, ◌⊎◌, refl, ap, sym}
+use Rattle.std.proofs.Common.{◌∙◌, Bool, true, false, cond, Some, Contains, append-nil, append_assoc}
 use Rattle.std.specs.Prelude.{Option, ◌||◌, ◌↔◌, filter, fold, option_and_then}
 use Rattle.std.specs.List.{list_any}
 use Rattle.std.specs.Str.{bytes_eq}
@@ -8,14 +9,16 @@ use Rattle.std.specs.Ordering.{on}
 use Rattle.std.proofs.lemmas.Slice.Eq.{bytes_eq-Decides}
 use Rattle.std.proofs.lemmas.List.Elements.{filter-append, filter_map-append, Contains-append_cases, Contains-append_right}
 use Rattle.std.proofs.lemmas.List.Folds.{list_any-append}
-use Rattle.docker_model.specs.file.Change.{Key, tiploc_key, association_key, schedule_key, AssociationKey, ScheduleKey, tiploc_body, association_body, schedule_body}
+use Rattle.docker_model.specs.file.Change.{Key, tiploc_key, association_key, schedule_key, AssociationKey}
+use Rattle.docker_model.specs.file.Change.{ScheduleKey, tiploc_body, association_body, schedule_body}
 use Rattle.docker_model.specs.file.Journey.{CallsAt}
 use Rattle.docker_model.specs.state.Op.{Op, deleted, lapsed, put_with, Entry, body_of, key_cmp}
 use Rattle.docker_model.specs.state.Order.{IsBelow}
 use Rattle.docker_model.specs.state.Stamp.{LedgerItem}
 use Rattle.docker_model.specs.state.State.{State, AreAscending, AreEntries, live_table}
 use Rattle.docker_laws.specs.Excerpt.{IsNeeded, IsConcerned, IsSublist}
-use Rattle.docker_laws.specs.ExcerptWalk.{ExcerptSoFar, nothing_kept, is_here, has_uid, name_in, names_in, is_call, is_run_named, is_run_calling, is_run_needed, kept_after_run, goes_on, with_entry_of, next_kept, kept_from, kept_so_far, excerpt_for}
+use Rattle.docker_laws.specs.ExcerptWalk.{ExcerptSoFar, nothing_kept, is_here, has_uid, name_in, names_in, is_call, is_run_named, is_run_calling}
+use Rattle.docker_laws.specs.ExcerptWalk.{is_run_needed, kept_after_run, goes_on, with_entry_of, next_kept, kept_from, kept_so_far, excerpt_for}
 use Rattle.cif_laws.proofs.orders.Ascending.{later_of}
 use Rattle.cif_laws.proofs.lists.Membership.{member_of, cons-Contains-first, nil-Contains, Contains-single}
 use Rattle.docker_laws.proofs.dockers.Sublists.{sublist_itself, sublist_append, sublist_onward, sublist_member, sublist_front}
@@ -99,7 +102,8 @@ module _ (place : List ℕ) where
       by false = with_last done so_far x here
 
   within_other : (done : List Keyed) (so_far : ExcerptSoFar) (x : Keyed) (b : Bool) → Within done so_far
-      → Within (done ++ x ∷ []) (cond b (record { kept = kept_after_run place so_far ++ x ∷ []; run = [] }) (record { kept = kept_after_run place so_far; run = [] }))
+      → Within (done ++ x ∷ [])
+      (cond b (record { kept = kept_after_run place so_far ++ x ∷ []; run = [] }) (record { kept = kept_after_run place so_far; run = [] }))
   within_other done so_far x true here =
       subst (λ xs. IsSublist xs (done ++ x ∷ [])) (sym (append-nil (kept_after_run place so_far ++ x ∷ []))) (with_last done so_far x here)
   within_other done so_far x false here =
@@ -165,7 +169,7 @@ module _ (place : List ℕ) where
   run_of_one_uid : (entries : List Keyed) → OfOneUid entries (kept_so_far place entries)
   run_of_one_uid = all_along place OfOneUid (λ done so_far x here. one_uid_more done so_far x.0 x.1 here) ([], λ r among. absurd (nil-Contains r among))
 
-  -- if a schedule of this UID goes on with the run, all entries of the run have the UID
+  -- if a schedule of this UID continues the run, all entries of the run have the UID
   pub run_uid : (entries : List Keyed) (uid : List ℕ) (r : Keyed) → goes_on (kept_so_far place entries).run uid ≡ true
       → Contains (kept_so_far place entries).run r → has_uid uid r.0 ≡ true
   run_uid entries uid r goes among =
@@ -223,7 +227,8 @@ module _ (place : List ℕ) where
       by false = (names_after_run done so_far here ∙ ap names_in (sym same), refl)
 
   named_other : (done : List Keyed) (so_far : ExcerptSoFar) (x : Keyed) (b : Bool) → is_here place x.0 ≡ b → AreNamed done so_far
-      → AreNamed (done ++ x ∷ []) (cond b (record { kept = kept_after_run place so_far ++ x ∷ []; run = [] }) (record { kept = kept_after_run place so_far; run = [] }))
+      → AreNamed (done ++ x ∷ [])
+      (cond b (record { kept = kept_after_run place so_far ++ x ∷ []; run = [] }) (record { kept = kept_after_run place so_far; run = [] }))
   named_other done so_far x b h here = by b same
     where
       same : at_place (done ++ x ∷ []) ≡ at_place done ++ cond b (x ∷ []) []
@@ -290,7 +295,8 @@ module _ (place : List ℕ) (so_far : ExcerptSoFar) where
   ends_none none = subst (λ (run : List Keyed). kept_after_run place (record { kept = so_far.kept; run = run }) ≡ so_far.kept) (sym none) refl
 
   here_then : (x : Keyed) (b : Bool) → b ≡ true → so_far.run ≡ []
-      → ◌≡◌ {A = ExcerptSoFar} (cond b (record { kept = kept_after_run place so_far ++ x ∷ []; run = [] }) (record { kept = kept_after_run place so_far; run = [] }))
+      → ◌≡◌ {A = ExcerptSoFar}
+      (cond b (record { kept = kept_after_run place so_far ++ x ∷ []; run = [] }) (record { kept = kept_after_run place so_far; run = [] }))
       (record { kept = so_far.kept ++ x ∷ []; run = [] })
   here_then x true h none = λ i. record { kept = ends_none none i ++ x ∷ []; run = [] }
   here_then x false h none = false_true h
@@ -331,7 +337,8 @@ pub run_needed_iff : (place : List ℕ) (so_far : ExcerptSoFar) (key : ScheduleK
     → so_far.run ≡ (schedule_key key, entry) ∷ others
     → (is_run_needed place so_far ≡ true)
     ↔ (Contains (names_in so_far.kept) key.uid ⊎ ((r : Keyed) × Contains so_far.run r × (is_call place r.1.op ≡ true)))
-run_needed_iff place so_far key entry others is = (λ h. forth (either (is_run_named (names_in so_far.kept) so_far.run) (is_run_calling place so_far.run) h), back)
+run_needed_iff place so_far key entry others is =
+    (λ h. forth (either (is_run_named (names_in so_far.kept) so_far.run) (is_run_calling place so_far.run) h), back)
   where
     named : (is_run_named (names_in so_far.kept) so_far.run ≡ true) ↔ Contains (names_in so_far.kept) key.uid
     named =
@@ -371,7 +378,8 @@ names_with xs entry = filter_map-append (λ (e : Keyed). name_in e.0 e.1.op) xs 
 -- the live table has at an entry's key the body of that entry
 live_of : (state : State) → AreAscending state.entries → (key : Key) (entry : Entry) → Contains state.entries (key, entry)
     → live_table state key ≡ body_of entry.op
-live_of state up key entry among = ap (λ (found : Option Entry). option_and_then (λ (e : Entry). body_of e.op) found) ((entry_at_iff state up key entry).1 among)
+live_of state up key entry among =
+    ap (λ (found : Option Entry). option_and_then (λ (e : Entry). body_of e.op) found) ((entry_at_iff state up key entry).1 among)
 
 call_back : (place : List ℕ) (op : Op) → is_call place op ≡ true → (lines : List (List ℕ)) × (op ≡ put_with (schedule_body lines)) × CallsAt place lines
 call_back place deleted h = false_true h

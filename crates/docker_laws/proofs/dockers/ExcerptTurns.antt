@@ -8,10 +8,12 @@ use Rattle.docker_model.specs.state.Stamp.{LedgerItem}
 use Rattle.docker_model.specs.state.State.{State, AreEntries}
 use Rattle.docker_model.specs.state.StatePart.{IsAboveEntries}
 use Rattle.docker_laws.specs.Excerpt.{IsSublist}
-use Rattle.docker_laws.specs.ExcerptWalk.{ExcerptSoFar, is_here, has_uid, names_in, is_call, is_run_named, is_run_calling, kept_after_run, goes_on, next_kept, kept_so_far, excerpt_for, HasKept}
+use Rattle.docker_laws.specs.ExcerptWalk.{ExcerptSoFar, is_here, has_uid, names_in, is_call, is_run_named, is_run_calling}
+use Rattle.docker_laws.specs.ExcerptWalk.{kept_after_run, goes_on, next_kept, kept_so_far, excerpt_for, HasKept}
 use Rattle.state_laws.proofs.states.PlainTable.{Keyed}
 use Rattle.docker_laws.proofs.dockers.ExcerptWalk.{false_true, same_tests}
-use Rattle.docker_laws.proofs.dockers.ExcerptSteps.{so_far_more, so_far_within, so_far_good, no_run_before, names_stay, joins_run, begins_run, keeps_here, drops_elsewhere, calls_more, named_iff, or_false}
+use Rattle.docker_laws.proofs.dockers.ExcerptSteps.{so_far_more, so_far_within, so_far_good, no_run_before, names_stay, joins_run}
+use Rattle.docker_laws.proofs.dockers.ExcerptSteps.{begins_run, keeps_here, drops_elsewhere, calls_more, named_iff, or_false}
 
 abbrev at : List Keyed → List Keyed → ExcerptSoFar
 at kept run = record { kept = kept; run = run }

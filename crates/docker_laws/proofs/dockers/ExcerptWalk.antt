@@ -1,6 +1,7 @@
 -- A walk over entries in key order keeps exactly the entries whose keys are needed. Which keys are
 -- needed is found from the entries.
-use Rattle.std.proofs.Common.{◌≡◌, ℕ, List, [], ◌∷◌, ◌++◌, subst, inl, inr, ◌⊎◌, refl, ap, sym, ◌∙◌, Bool, true, false, cond, Some, None, Contains, append-nil, append_assoc}
+use Rattle.std.proofs.Common.{◌≡◌, ℕ, List, [], ◌∷◌, ◌++◌, subst, inl, inr, ◌⊎◌, refl, ap, sym, ◌∙◌}
+use Rattle.std.proofs.Common.{Bool, true, false, cond, Some, None, Contains, append-nil, append_assoc}
 use Rattle.std.specs.Prelude.{◌↔◌, Option, ◌||◌, filter}
 use Rattle.std.specs.List.{list_any}
 use Rattle.std.specs.declared.cmp.Ordering.{Ordering}
@@ -18,7 +19,8 @@ use Rattle.docker_model.specs.docker.DockerLine.{DockerLine}
 use Rattle.docker_model.specs.docker.DockerList.{IsDockerList}
 use Rattle.docker_model.specs.docker.DockerText.{IsDockerText}
 use Rattle.docker_laws.specs.Excerpt.{IsExcerptState}
-use Rattle.docker_laws.specs.ExcerptWalk.{ExcerptSoFar, nothing_kept, is_here, has_uid, name_in, names_in, is_call, is_run_calling, is_run_needed, kept_after_run, goes_on, with_entry_of, next_kept, kept_from, kept_so_far, excerpt_for}
+use Rattle.docker_laws.specs.ExcerptWalk.{ExcerptSoFar, nothing_kept, is_here, has_uid, name_in, names_in, is_call, is_run_calling, is_run_needed}
+use Rattle.docker_laws.specs.ExcerptWalk.{kept_after_run, goes_on, with_entry_of, next_kept, kept_from, kept_so_far, excerpt_for}
 use Rattle.cif_laws.proofs.orders.Ascending.{later_of}
 use Rattle.cif_laws.proofs.orders.AtMost.{level}
 use Rattle.cif_laws.proofs.lists.Later.{AllLater}
@@ -420,7 +422,8 @@ module _ (place : List ℕ) (all : List Keyed) (order : AllLater Below all) wher
         where
           inner : Contains done z ⊎ Contains so_far.run z → ⊥
           inner (inl here) =
-              at.apart z y other here (Contains-append_right so_far.run ((key, entry) ∷ rest) y (cons-Contains {A = Keyed} (key, entry) rest y behind)) of_z of_y
+              at.apart z y other here
+              (Contains-append_right so_far.run ((key, entry) ∷ rest) y (cons-Contains {A = Keyed} (key, entry) rest y behind)) of_z of_y
           inner (inr here) = none z here
 
       there : (kept : List Keyed) → kept ≡ filter (λ (e : Keyed). is_needed place all e.0) ((done ++ so_far.run) ++ (key, entry) ∷ [])

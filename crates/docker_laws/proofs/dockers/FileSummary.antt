@@ -1,6 +1,7 @@
 -- The summary of one file, made entry by entry: it is the summary. The join of an empty state with
 -- it.
-use Rattle.std.proofs.Common.{◌≡◌, ℕ, List, [], ◌∷◌, length, append-nil, refl, ap, sym, ◌∙◌, subst, inl, inr, ◌⊎◌, Some, None, Bool, true, false, Contains, All, ◌≤◌, arith}
+use Rattle.std.proofs.Common.{◌≡◌, ℕ, List, [], ◌∷◌, length, append-nil, refl, ap, sym, ◌∙◌, subst, inl}
+use Rattle.std.proofs.Common.{inr, ◌⊎◌, Some, None, Bool, true, false, Contains, All, ◌≤◌, arith}
 use Rattle.std.specs.Prelude.{Option, ◌↔◌, ◌==◌}
 use Rattle.std.specs.declared.cmp.Ordering.{Ordering}
 use Rattle.std.specs.declared.cmp.Ordering.TheVariants.{Less, Equal, Greater}
@@ -20,7 +21,8 @@ use Rattle.docker_model.specs.state.Summary.{IsSummary}
 use Rattle.docker_laws.specs.FileSummary.{placed, with_earlier, latest_entries, summary_of}
 use Rattle.cif_laws.proofs.orders.Orders.{key_total, exact_key, entry_total, file_stamp_total}
 use Rattle.cif_laws.proofs.orders.AtMost.{at_most_itself, at_most_below}
-use Rattle.cif_laws.proofs.lists.Membership.{Contains-cons, cons-Contains, cons-Contains-first, nil-Contains, Contains-single, single-Contains, Contains-map, below_by_recursion, each_member, all_members, member_of}
+use Rattle.cif_laws.proofs.lists.Membership.{Contains-cons, cons-Contains, cons-Contains-first, nil-Contains, Contains-single}
+use Rattle.cif_laws.proofs.lists.Membership.{single-Contains, Contains-map, below_by_recursion, each_member, all_members, member_of}
 use Rattle.cif_laws.proofs.lists.Later.{AllLater, later_map_weaker}
 use Rattle.cif_laws.proofs.files.ChangeOrder.{Apart, changes_apart}
 use Rattle.state_laws.proofs.states.PlainTable.{Keyed, Ascends, one_per_key, entry_of_change, entries_of, within_file}

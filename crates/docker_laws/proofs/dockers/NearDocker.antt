@@ -1,6 +1,7 @@
 -- A table and the part of it that may count near a day have the same dockers on that day. The part
 -- leaves out the schedules that run on no start day near it.
-use Rattle.std.proofs.Common.{◌≡◌, ℕ, zero, suc, ◌+◌, ◌-◌, ◌≤◌, List, [], ◌∷◌, subst, inl, inr, ◌⊎◌, refl, ap, sym, ◌∙◌, Bool, true, false, cond, Some, None, Contains, arith}
+use Rattle.std.proofs.Common.{◌≡◌, ℕ, zero, suc, ◌+◌, ◌-◌, ◌≤◌, List, [], ◌∷◌, subst, inl, inr, ◌⊎◌, refl}
+use Rattle.std.proofs.Common.{ap, sym, ◌∙◌, Bool, true, false, cond, Some, None, Contains, arith}
 use Rattle.std.specs.Prelude.{Option, ◌↔◌, ◌==◌, nat_lt, IsTrue}
 use Rattle.std.proofs.lemmas.List.Elements.{Contains-append_right}
 use Rattle.docker_model.specs.records.Date.{last_day}

@@ -17,7 +17,8 @@ use Rattle.docker_model.specs.docker.DockerLine.{DockerLine}
 use Rattle.docker_model.specs.docker.DockerList.{IsDockerList}
 use Rattle.docker_model.specs.docker.DockerText.{IsDockerText}
 use Rattle.cif_laws.proofs.files.FileChanges.{body_of_file}
-use Rattle.state_laws.proofs.states.PlainTable.{entries_along, step, NoneThere, LastThere, last_there, after_files_is, entries_ascend, suffix_ascends, out_entries}
+use Rattle.state_laws.proofs.states.PlainTable.{entries_along, step, NoneThere, LastThere, last_there}
+use Rattle.state_laws.proofs.states.PlainTable.{after_files_is, entries_ascend, suffix_ascends, out_entries}
 use Rattle.state_laws.proofs.states.TableLapsed.{live_lapsed}
 use Rattle.docker_laws.proofs.dockers.FewMidnights.{bodies_few}
 use Rattle.docker_laws.proofs.dockers.GoodBodies.{good_bodies}

@@ -1,6 +1,7 @@
 -- A thin body fits its key if the whole body does. The thin lines of a schedule call at no place
 -- where the schedule doesn't.
-use Rattle.std.proofs.Common.{◌≡◌, ℕ, suc, ◌+◌, ◌≤◌, List, [], ◌∷◌, ◌++◌, length, subst, inl, inr, ◌⊎◌, refl, ap, sym, ◌∙◌, Bool, true, false, cond, Some, None, Contains, map, All, arith, append-nil}
+use Rattle.std.proofs.Common.{◌≡◌, ℕ, suc, ◌+◌, ◌≤◌, List, [], ◌∷◌, ◌++◌, length, subst, inl, inr, ◌⊎◌, refl, ap, sym}
+use Rattle.std.proofs.Common.{◌∙◌, Bool, true, false, cond, Some, None, Contains, map, All, arith, append-nil}
 use Rattle.std.specs.Prelude.{Option, filter, nat_lt, IsTrue, ◌||◌, ◌&&◌}
 use Rattle.std.specs.Str.{bytes_eq}
 use Rattle.std.specs.List.{AllByRecursion}
@@ -11,7 +12,8 @@ use Rattle.docker_model.specs.records.Clock.{scheduled_time}
 use Rattle.docker_model.specs.records.Field.{is_deletion, HasGoodFields, HasNewTransaction}
 use Rattle.docker_model.specs.file.Journey.{Occasion, arrival, departure, timed, times_by_kind, fall_count, midnights, CallsAt, calls_at}
 use Rattle.docker_model.specs.file.File.{IsSchedule, IsJourney, IsSoundJourney, AreExtraDetails, MayLackJourney, IsWithinJourney, first_record}
-use Rattle.docker_model.specs.file.Change.{Key, tiploc_key, association_key, schedule_key, ScheduleKey, Body, tiploc_body, association_body, schedule_body, schedule_named}
+use Rattle.docker_model.specs.file.Change.{Key, tiploc_key, association_key, schedule_key, ScheduleKey, Body}
+use Rattle.docker_model.specs.file.Change.{tiploc_body, association_body, schedule_body, schedule_named}
 use Rattle.docker_model.specs.state.State.{IsScheduleOf, IsBodyOf}
 use Rattle.docker_laws.specs.Thinning.{is_end, thin_lines, lines_for, body_for}
 use Rattle.cif_laws.proofs.lists.Membership.{Contains-single, Contains-cons, cons-Contains, cons-Contains-first, nil-Contains, member_of, all_members}

@@ -1,5 +1,6 @@
 -- The changes kept for a place and a day make the thinned table of what all changes make.
-use Rattle.std.proofs.Common.{arith, append-nil, append_assoc, ◌≡◌, ℕ, List, [], ◌∷◌, ◌++◌, subst, inl, inr, ◌⊎◌, refl, ap, sym, ◌∙◌, Bool, true, false, cond, Some, None, Contains, map}
+use Rattle.std.proofs.Common.{arith, append-nil, append_assoc, ◌≡◌, ℕ, List, [], ◌∷◌, ◌++◌, subst, inl, inr}
+use Rattle.std.proofs.Common.{◌⊎◌, refl, ap, sym, ◌∙◌, Bool, true, false, cond, Some, None, Contains, map}
 use Rattle.std.specs.Prelude.{Option, option_and_then, filter, fold, not}
 use Rattle.std.specs.declared.cmp.Ordering.TheVariants.{Greater}
 use Rattle.std.specs.Ordering.{is_eq, ordering_reverse}
@@ -16,7 +17,8 @@ use Rattle.docker_model.specs.docker.Choice.{runs_within}
 use Rattle.docker_model.specs.records.Field.{as_new}
 use Rattle.cif_laws.proofs.records.Columns.{new_columns}
 use Rattle.std.specs.List.{list_any}
-use Rattle.docker_laws.specs.Thinning.{IsThinning, thin_lines, lines_for, body_for, may_matter, thin_body, thinned, thin_act, thin_change, thin_changes, table_of, AreEnough, HasNoChangeOf, AreAtMost, without}
+use Rattle.docker_laws.specs.Thinning.{IsThinning, thin_lines, lines_for, body_for, may_matter, thin_body, thinned, thin_act}
+use Rattle.docker_laws.specs.Thinning.{thin_change, thin_changes, table_of, AreEnough, HasNoChangeOf, AreAtMost, without}
 use Rattle.std.proofs.lemmas.List.{map-append}
 use Rattle.docker_laws.specs.Excerpt.{IsSublist}
 use Rattle.docker_laws.proofs.dockers.Sublists.{sublist_itself, sublist_filter, sublist_onward, sublist_append, sublist_front}
@@ -154,7 +156,7 @@ without_here key (change ∷ changes) table = by (is_of key change) refl (withou
         ∙ rest (after_change table change)
         ∙ after_there table change key h
 
--- without them, other keys are as they are with them
+-- whether the changes of one key are left out doesn't matter to any other key
 without_there : (key other : Key) → is_eq (key_cmp key other) ≡ false → (changes : List Change) (one two : Table) → one other ≡ two other
     → fold after_change one (without key changes) other ≡ fold after_change two changes other
 without_there key other apart [] one two same = same
@@ -275,7 +277,7 @@ module _ (place : List ℕ) (day : ℕ) where
     enough = thin_enough place day changes;
   }
 
-  -- of no changes none is kept
+  -- without changes nothing is kept
   pub thinning_at_first : IsThinning place day [] []
   thinning_at_first = record { some = tt; enough = enough_at_first place day }
 
@@ -290,7 +292,7 @@ module _ (place : List ℕ) (day : ℕ) where
         (sublist_onward others kept (before ++ thin_change place day change ∷ []) inside
         (sublist_onward kept before (before ++ thin_change place day change ∷ []) is.some (sublist_front before (thin_change place day change ∷ []))))
 
-    -- also if that one is kept
+    -- some of the changes, with the new one after them, are some of them with one more
     some_more : (others : List Change) → IsSublist others kept
         → IsSublist (others ++ thin_change place day change ∷ []) (map (thin_change place day) (changes ++ change ∷ []))
     some_more others inside =

@@ -5,7 +5,8 @@ use Rattle.std.proofs.lemmas.Slice.Eq.{bytes_eq-Decides}
 use Rattle.docker_model.specs.records.Record.{columns, column}
 use Rattle.docker_model.specs.file.Journey.{midnights, CallsAt, calls_at}
 use Rattle.docker_model.specs.file.File.{first_record}
-use Rattle.docker_model.specs.file.Change.{Key, tiploc_key, schedule_key, association_key, ScheduleKey, AssociationKey, Body, tiploc_body, schedule_body, association_body}
+use Rattle.docker_model.specs.file.Change.{Key, tiploc_key, schedule_key, association_key, ScheduleKey}
+use Rattle.docker_model.specs.file.Change.{AssociationKey, Body, tiploc_body, schedule_body, association_body}
 use Rattle.docker_model.specs.state.Table.{Table}
 use Rattle.docker_model.specs.state.State.{HasGoodBodies, IsBodyOf}
 use Rattle.docker_model.specs.docker.Event.{Event, event_day}

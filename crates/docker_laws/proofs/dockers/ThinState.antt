@@ -1,6 +1,7 @@
 -- The state made of what is kept of a file is valid. It gives the docker of the place and the day
 -- that the file's summary gives.
-use Rattle.std.proofs.Common.{◌≡◌, ℕ, ◌-◌, ◌^◌, ◌<◌, ◌≤◌, List, [], ◌∷◌, length, map, subst, inl, inr, ◌⊎◌, refl, ap, sym, ◌∙◌, Bool, true, false, cond, Some, None, Contains, All, arith}
+use Rattle.std.proofs.Common.{◌≡◌, ℕ, ◌-◌, ◌^◌, ◌<◌, ◌≤◌, List, [], ◌∷◌, length, map, subst, inl, inr, ◌⊎◌}
+use Rattle.std.proofs.Common.{refl, ap, sym, ◌∙◌, Bool, true, false, cond, Some, None, Contains, All, arith}
 use Rattle.std.specs.Prelude.{Option, option_and_then, ◌↔◌, fold}
 use Rattle.std.specs.declared.cmp.Ordering.TheVariants.{Less, Greater}
 use Rattle.std.specs.Ordering.{ordering_then}
@@ -26,7 +27,8 @@ use Rattle.cif_laws.proofs.lists.Later.{AllLater, later_map, later_map_weaker}
 use Rattle.docker_laws.proofs.dockers.Sublists.{sublist_member, sublist_later}
 use Rattle.cif_laws.proofs.files.ChangeOrder.{Apart, changes_apart}
 use Rattle.cif_laws.proofs.files.FileChanges.{file_change}
-use Rattle.state_laws.proofs.states.PlainTable.{Keyed, Found, NotFound, find_in, one_per_key, live_at, live_none, Ascends, NoneThere, LastThere, last_there, step, entry_of_change, fold_entries, within_file}
+use Rattle.state_laws.proofs.states.PlainTable.{Keyed, Found, NotFound, find_in, one_per_key, live_at, live_none, Ascends, NoneThere}
+use Rattle.state_laws.proofs.states.PlainTable.{LastThere, last_there, step, entry_of_change, fold_entries, within_file}
 use Rattle.state_laws.proofs.states.PlainLive.{lapse_table_none}
 use Rattle.state_laws.proofs.states.LapsedPlainTable.{live_is_plain}
 use Rattle.state_laws.proofs.states.SummaryValid.{item_good, summary_is_valid}

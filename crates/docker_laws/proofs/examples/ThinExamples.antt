@@ -1,5 +1,6 @@
 -- What is kept of a list of changes, for COLWELL on a day. Four ways to keep too little.
-use Rattle.std.proofs.Common.{length, length-append, ◌≡◌, ℕ, ◌≤◌, List, [], ◌∷◌, refl, inl, inr, ◌⊎◌, Some, None, arith, lit<, ap, sym, ◌∙◌, subst, Bool, true, false, cond}
+use Rattle.std.proofs.Common.{length, length-append, ◌≡◌, ℕ, ◌≤◌, List, [], ◌∷◌, refl, inl, inr, ◌⊎◌}
+use Rattle.std.proofs.Common.{Some, None, arith, lit<, ap, sym, ◌∙◌, subst, Bool, true, false, cond}
 use Rattle.std.specs.Prelude.{codes, slice_index, ◌↔◌, ◌&&◌, nat_le}
 use Rattle.std.specs.declared.cmp.Ordering.TheVariants.{Greater}
 use Rattle.std.specs.Ordering.{is_eq}
@@ -8,7 +9,8 @@ use Rattle.jiff_core.specs.Calendar.{days_from_civil, day_count, days_of_years, 
 use Rattle.docker_model.specs.records.PrintedTime.{spaces}
 use Rattle.docker_model.specs.file.Journey.{arrival, CallsAt, calls_at, midnights}
 use Rattle.docker_model.specs.file.File.{IsSchedule, IsJourney, MayLackJourney, first_record}
-use Rattle.docker_model.specs.file.Change.{Key, tiploc_key, association_key, schedule_key, ScheduleKey, tiploc_body, association_body, schedule_body, Act, delete, put, Change}
+use Rattle.docker_model.specs.file.Change.{Key, tiploc_key, association_key, schedule_key, ScheduleKey, tiploc_body}
+use Rattle.docker_model.specs.file.Change.{association_body, schedule_body, Act, delete, put, Change}
 use Rattle.docker_model.specs.state.Op.{schedule_key_cmp}
 use Rattle.docker_model.specs.state.Order.{IsAtMost}
 use Rattle.docker_model.specs.state.Table.{Table, empty_table}

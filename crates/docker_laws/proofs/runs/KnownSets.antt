@@ -4,7 +4,8 @@ use Rattle.std.specs.Prelude.{fold, filter}
 use Rattle.std.specs.List.{zip}
 use Rattle.std.proofs.lemmas.List.Sums.{fold-append}
 use Rattle.std.proofs.lemmas.List.{length-replicate}
-use Rattle.docker_model.specs.run.Run.{RunEvent, take_file, send_state, deliver, reload, horizon_event, Reply, done, refused, KnownSets, nothing, office_known, after_reply, none_known, known_sets, IsReply, AreReplies}
+use Rattle.docker_model.specs.run.Run.{RunEvent, take_file, send_state, deliver, reload, horizon_event, Reply, done, refused}
+use Rattle.docker_model.specs.run.Run.{KnownSets, nothing, office_known, after_reply, none_known, known_sets, IsReply, AreReplies}
 use Rattle.docker_model.specs.run.Knowledge.{is_sent, sent_count}
 
 zip_more : {A B : Type 0} (xs : List A) (ys : List B) (x : A) (y : B) → length xs ≡ length ys → zip (xs ++ x ∷ []) (ys ++ y ∷ []) ≡ zip xs ys ++ (x, y) ∷ []

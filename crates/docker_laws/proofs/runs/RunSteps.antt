@@ -9,7 +9,8 @@ use Rattle.docker_model.specs.state.State.{State, IsJoin, raise_horizon}
 use Rattle.docker_model.specs.state.Summary.{IsSummary}
 use Rattle.docker_model.specs.state.StateText.{Format, state_text, IsHorizonOf, IsToldState}
 use Rattle.docker_model.specs.state.StateFault.{IsStateText}
-use Rattle.docker_model.specs.run.Run.{RunEvent, take_file, send_state, deliver, reload, horizon_event, done, refused, Refusal, Known, KnownSets, IsOffice, IsMessage, IsStateOf, IsMessageOf, nothing, united, office_known, message_known, after_reply, none_known}
+use Rattle.docker_model.specs.run.Run.{RunEvent, take_file, send_state, deliver, reload, horizon_event, done, refused, Refusal, Known, KnownSets, IsOffice}
+use Rattle.docker_model.specs.run.Run.{IsMessage, IsStateOf, IsMessageOf, nothing, united, office_known, message_known, after_reply, none_known}
 use Rattle.docker_model.specs.run.Knowledge.{IsGoodKnown, Holds, office_state, message_text}
 use Rattle.state_laws.proofs.joins.JoinLaws.{join_commutes}
 use Rattle.docker_laws.proofs.runs.GoodKnowledge.{nothing_good, united_good, file_good, horizon_good}

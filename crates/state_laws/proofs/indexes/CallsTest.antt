@@ -4,14 +4,18 @@ use Rattle.std.specs.Prelude.{Option, ◌↔◌, filter, ◌&&◌, ◌||◌}
 use Rattle.std.specs.Str.{bytes_eq}
 use Rattle.std.specs.List.{flat_map, list_any}
 use Rattle.std.proofs.lemmas.Slice.Eq.{bytes_eq-Decides}
-use Rattle.docker_model.specs.records.Record.{Kind, header, tiploc_insert, tiploc_amend, tiploc_delete, association, basic_schedule, extra_details, origin_location, intermediate_location, terminating_location, change_en_route, trailer, kind_of, columns, is_location}
+use Rattle.docker_model.specs.records.Record.{Kind, header, tiploc_insert, tiploc_amend, tiploc_delete, association}
+use Rattle.docker_model.specs.records.Record.{basic_schedule, extra_details, origin_location, intermediate_location}
+use Rattle.docker_model.specs.records.Record.{terminating_location, change_en_route, trailer, kind_of, columns, is_location}
 use Rattle.docker_model.specs.file.Journey.{CallsAt, calls_at}
-use Rattle.docker_model.specs.file.Change.{Key, tiploc_key, association_key, schedule_key, AssociationKey, ScheduleKey, Body, tiploc_body, association_body, schedule_body}
+use Rattle.docker_model.specs.file.Change.{Key, tiploc_key, association_key, schedule_key, AssociationKey}
+use Rattle.docker_model.specs.file.Change.{ScheduleKey, Body, tiploc_body, association_body, schedule_body}
 use Rattle.docker_model.specs.state.Order.{IsStrictlyAscending}
 use Rattle.docker_model.specs.state.Table.{Table}
 use Rattle.state_laws.specs.Row.{Row, AreRowsOf}
 use Rattle.state_laws.specs.Index.{CallingRow, LinkedRow, calling_cmp, linked_cmp, calls_of, links_of, IsCallingIndex, IsLinkedIndex}
-use Rattle.cif_laws.proofs.lists.Membership.{Contains-cons, cons-Contains, cons-Contains-first, nil-Contains, Contains-flat_map, flat_map-Contains, Contains-single, single-Contains, Contains-map, map-Contains}
+use Rattle.cif_laws.proofs.lists.Membership.{Contains-cons, cons-Contains, cons-Contains-first, nil-Contains, Contains-flat_map}
+use Rattle.cif_laws.proofs.lists.Membership.{flat_map-Contains, Contains-single, single-Contains, Contains-map, map-Contains}
 use Rattle.cif_laws.proofs.lists.BoolsAndOptions.{both, either}
 use Rattle.cif_laws.proofs.lists.FilteredMembers.{filter_back, filter_forth}
 use Rattle.cif_laws.proofs.records.Locations.{IsLocation}

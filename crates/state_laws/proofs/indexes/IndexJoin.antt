@@ -9,7 +9,8 @@ use Rattle.docker_model.specs.state.Op.{Op, deleted, lapsed, put_with, Entry, bo
 use Rattle.docker_model.specs.state.Table.{Table}
 use Rattle.docker_model.specs.state.Lapse.{lapse, lapse_entry, unlapsed, lapse_table}
 use Rattle.docker_model.specs.state.State.{State, AreAscending, IsJoin, entry_at, live_table}
-use Rattle.state_laws.specs.Index.{CallingRow, LinkedRow, calling_cmp, linked_cmp, IsCalling, IsLinked, IsCallingIndex, IsLinkedIndex, IsFromEither, IsCallingFromEither, IsLinkedFromEither}
+use Rattle.state_laws.specs.Index.{CallingRow, LinkedRow, calling_cmp, linked_cmp, IsCalling, IsLinked, IsCallingIndex}
+use Rattle.state_laws.specs.Index.{IsLinkedIndex, IsFromEither, IsCallingFromEither, IsLinkedFromEither}
 use Rattle.cif_laws.proofs.lists.BoolsAndOptions.{none_some}
 use Rattle.state_laws.proofs.states.Lapse.{below_or, put_lapses, put_stays}
 use Rattle.state_laws.proofs.states.TableLapsed.{body_gone, live_stays}

@@ -144,7 +144,7 @@ commit_is_valid own received floor staged after valid valid_too is_floor stages 
     without : IsValid (without_horizon received)
     without = record { horizon = omega arith; ledger = valid_too.ledger; entries = valid_too.entries; have_lapsed = none_to_lapse received.entries }
 
--- of a state's own entries none is staged
+-- no entry of the state itself is staged
 pub own_stages_nothing : (own : State) (floor : Option FileStamp) → IsStaged own floor own.entries []
 own_stages_nothing own floor = record {
   ascending = tt;

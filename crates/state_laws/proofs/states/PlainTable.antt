@@ -9,13 +9,15 @@ use Rattle.std.specs.Cmp.{tied_itself}
 use Rattle.std.proofs.lemmas.Bool.{lt-ltb, eqb-true, eq-eqb}
 use Rattle.docker_model.specs.file.Change.{Key, Change, changes}
 use Rattle.docker_model.specs.state.Order.{IsBelow, bytes_cmp, IsStrictlyAscending, IsAtMost}
-use Rattle.docker_model.specs.state.Stamp.{stamp_cmp, file_stamp_of, moment_of, moment_cmp, file_stamp_cmp, ledger_item_of, IsFull, FileStamp, LedgerItem, IsFloor, IsKept}
+use Rattle.docker_model.specs.state.Stamp.{stamp_cmp, file_stamp_of, moment_of, moment_cmp, file_stamp_cmp}
+use Rattle.docker_model.specs.state.Stamp.{ledger_item_of, IsFull, FileStamp, LedgerItem, IsFloor, IsKept}
 use Rattle.docker_model.specs.state.Op.{Entry, key_cmp, body_of}
 use Rattle.docker_model.specs.state.Table.{Table, after_change, after_file, after_files, is_full, from_last_full, IsInMomentOrder}
 use Rattle.docker_model.specs.state.State.{State, live_table}
 use Rattle.docker_model.specs.state.Summary.{entry_of, IsEntryOf}
 use Rattle.cif_laws.proofs.orders.Orders.{same_key, other_key, file_stamp_total, key_total}
-use Rattle.cif_laws.proofs.lists.Membership.{Contains-cons, cons-Contains-first, cons-Contains, below_by_recursion, nil-Contains, Contains-map, map-Contains, flat_map-Contains, Contains-flat_map}
+use Rattle.cif_laws.proofs.lists.Membership.{Contains-cons, cons-Contains-first, cons-Contains, below_by_recursion}
+use Rattle.cif_laws.proofs.lists.Membership.{nil-Contains, Contains-map, map-Contains, flat_map-Contains, Contains-flat_map}
 use Rattle.cif_laws.proofs.orders.Ascending.{irreflexive}
 use Rattle.cif_laws.proofs.lists.Later.{AllLater, later_append_all, later_map_weaker}
 use Rattle.cif_laws.proofs.lists.AllOf.{all_append, all_map, all_weaker}

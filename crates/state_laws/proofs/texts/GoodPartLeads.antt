@@ -1,5 +1,6 @@
 -- A good part of a state's text leads to the next part.
-use Rattle.std.proofs.Common.{refl, arith, ◌≡◌, ℕ, ap, sym, subst, [], ◌++◌, ◌∙◌, append-nil, ◌<◌, ◌^◌, List, ◌∷◌, length, append_assoc, length-append, inl, inr, ◌≤◌}
+use Rattle.std.proofs.Common.{refl, arith, ◌≡◌, ℕ, ap, sym, subst, [], ◌++◌, ◌∙◌, append-nil, ◌<◌}
+use Rattle.std.proofs.Common.{◌^◌, List, ◌∷◌, length, append_assoc, length-append, inl, inr, ◌≤◌}
 use Rattle.std.specs.List.{flat_map, concat}
 use Rattle.std.specs.Int.{w16, to_be_bytes, from_be_bytes, w64, w32}
 use Rattle.std.proofs.lemmas.Grind.{flat_map-append}
@@ -9,8 +10,11 @@ use Rattle.docker_model.specs.file.Change.{Key, tiploc_key, association_key, sch
 use Rattle.docker_model.specs.state.Stamp.{LedgerItem, Stamp}
 use Rattle.docker_model.specs.state.Op.{key_tag, lapsed, deleted, put_with, body_end}
 use Rattle.docker_model.specs.state.State.{IsGoodItem, State, IsGoodKey, IsLedger, IsStampIn, IsAssociationOf}
-use Rattle.docker_model.specs.state.StateText.{dks_1, mark, dks_2, Format, head_text, item_bytes, ledger_text, entries_text, key_bytes, stamp_bytes, put_bytes, IsHorizonOf, IsOpByte, TellsOp}
-use Rattle.docker_model.specs.state.StatePart.{before_mark, before_ledger_count, before_horizon, AreGood, text_before, before_item, IsAboveItems, RaisesFloor, before_entry_count, before_tag, before_key, IsTag, in_entry, IsAboveEntries, key_width, before_stamp, before_op, key_text, before_body, IsLineCount, before_line, AreLinesUpTo, HaveNotToLapse}
+use Rattle.docker_model.specs.state.StateText.{dks_1, mark, dks_2, Format, head_text, item_bytes, ledger_text, entries_text}
+use Rattle.docker_model.specs.state.StateText.{key_bytes, stamp_bytes, put_bytes, IsHorizonOf, IsOpByte, TellsOp}
+use Rattle.docker_model.specs.state.StatePart.{before_mark, before_ledger_count, before_horizon, AreGood, text_before, before_item, IsAboveItems}
+use Rattle.docker_model.specs.state.StatePart.{RaisesFloor, before_entry_count, before_tag, before_key, IsTag, in_entry, IsAboveEntries, key_width}
+use Rattle.docker_model.specs.state.StatePart.{before_stamp, before_op, key_text, before_body, IsLineCount, before_line, AreLinesUpTo, HaveNotToLapse}
 use Rattle.docker_model.specs.state.StateFault.{StateCause, bad_item, bad_order, bad_floor, IsBadItem, bad_body, IsBadKey}
 use Rattle.state_laws.specs.TextStage.{after_items, after_entries, with_entry, after_lines}
 use Rattle.state_laws.proofs.texts.StateReadBack.{read_16, item_read, item_width, key_read, key_width_is, stamp_read, stamp_width}

@@ -1,4 +1,4 @@
--- A state that a format can hold, with one more good entry, is one too.
+-- If a format can hold a state, it can also hold it with one more good entry.
 use Rattle.std.proofs.Common.{ℕ, arith, List, [], ◌∷◌, ◌++◌, All, ◌≡◌, ◌<◌, ◌≤◌, ◌^◌, length, sym, subst, inl, inr, ◌⊎◌, true, false, cond, nat_le}
 use Rattle.std.specs.Ordering.{on}
 use Rattle.std.proofs.lemmas.List.Elements.{All-from_recursion, recursion_from_All}

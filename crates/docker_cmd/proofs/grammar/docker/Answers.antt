@@ -24,7 +24,8 @@ pub loop-subcommand-preserved : goal.loop-subcommand-preserved
 loop-subcommand-preserved c = record {
   shape = c.in_ok-docker.ensures.shape c.in_ok-command_of.ensures.local
       ∙ ap₂ with_subcommand c.loop-subcommand.invariant.shape (ap (λ (app : App). app.top) c.in_ok-command_of.ensures.shape)
-      ∙ sym (with_last start (take c.loop-subcommand.subcommand-index c.all-subcommand-items.result.now) (slice_index_or c.all-subcommand-items.result.now c.loop-subcommand.subcommand-index New))
+      ∙ sym (with_last start (take c.loop-subcommand.subcommand-index c.all-subcommand-items.result.now)
+      (slice_index_or c.all-subcommand-items.result.now c.loop-subcommand.subcommand-index New))
       ∙ sym (ap (with_all start) (take_more c.all-subcommand-items.result.now c.loop-subcommand.subcommand-index New c.loop-subcommand-test.true));
   all = c.loop-subcommand.invariant.all;
 }

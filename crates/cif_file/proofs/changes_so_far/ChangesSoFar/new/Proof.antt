@@ -20,11 +20,11 @@ use denote.Triple.Entry.{on_entry, alive}
 use denote.Triple.Spec.{Meets, triple_of}
 use denote.Triple.Table.{entered}
 use denote.Triple.Walked.{says, Stays, walk_of, Walks, ends_at, walked, walk_Meets}
-use Rattle.cif_file.specs.contracts.told.Told.new.Key.{name as key}
-use Rattle.cif_file.specs.contracts.told.Told.new as f
-use Rattle.cif_file.proofs.told.Told.new.Statement as stated
-use Rattle.cif_file.proofs.told.Told.new.Code as code
-use Rattle.cif_file.specs.contracts.told.Told as made
+use Rattle.cif_file.specs.contracts.changes_so_far.ChangesSoFar.new.Key.{name as key}
+use Rattle.cif_file.specs.contracts.changes_so_far.ChangesSoFar.new as f
+use Rattle.cif_file.proofs.changes_so_far.ChangesSoFar.new.Statement as stated
+use Rattle.cif_file.proofs.changes_so_far.ChangesSoFar.new.Code as code
+use Rattle.cif_file.specs.contracts.changes_so_far.ChangesSoFar as made
 
 abbrev stayed : Stays (f.ended).signature.params (f.ended).kept
 stayed = tt

@@ -29,15 +29,15 @@ use denote.Triple.Walked.{says, stay_none_ref, Stays, walk_of, Walks, ends_at, w
 use Rattle.std.proofs.Common.{◌++◌}
 use Rattle.cif_file.specs.SingleChanges.{listed}
 use Rattle.cif_file.specs.contracts.single.SingleChanges as single
-use Rattle.cif_file.specs.contracts.told.Told as told
-use Rattle.cif_file.specs.contracts.told.Told.with_single as f
-use Rattle.cif_file.specs.contracts.told.Told.with_single.Key.{name as #self}
-use Rattle.cif_file.proofs.told.Told.with_single.Statement as stated
-use Rattle.cif_file.proofs.told.Told.with_single.Code as code
+use Rattle.cif_file.specs.contracts.changes_so_far.ChangesSoFar as so_far
+use Rattle.cif_file.specs.contracts.changes_so_far.ChangesSoFar.with_single as f
+use Rattle.cif_file.specs.contracts.changes_so_far.ChangesSoFar.with_single.Key.{name as #self}
+use Rattle.cif_file.proofs.changes_so_far.ChangesSoFar.with_single.Statement as stated
+use Rattle.cif_file.proofs.changes_so_far.ChangesSoFar.with_single.Code as code
 
 abbrev stayed : Stays (f.ended).signature.params (f.ended).kept
 stayed = (
-  stay_none_ref (0 ∷ []) tt (plain (λ _. told.the_row)) yes,
+  stay_none_ref (0 ∷ []) tt (plain (λ _. so_far.the_row)) yes,
   (stay_none_ref (1 ∷ []) tt (plain (λ _. single.the_row)) yes, tt),
 )
 
@@ -57,7 +57,7 @@ module _ {M : Type 1} {𝓤 : Ura M} (𝓛 : Logic 𝓤) (mem : Memory → SProp
     abbrev passed : Fml
     passed = owns (types_at f.signature.params κs) a (before ∷ [], (of_single ∷ [], tt))
 
-    abbrev made : (told.the_row).Denot
+    abbrev made : (so_far.the_row).Denot
     made = record { changes = a.0.now.changes ++ listed a.1.0.now }
 
     walk : ent 𝓤 (on_entry 𝓛 f.signature κs qs a (before ∷ [], (of_single ∷ [], tt)))
@@ -67,14 +67,14 @@ module _ {M : Type 1} {𝓤 : Ura M} (𝓛 : Logic 𝓤) (mem : Memory → SProp
         alloc_all ! (λ l. pass_all ! refl ((tt, tt), ((tt, tt), tt)) $ sets ! (agg ! (no_more !)) refl (tt, tt) $
         returns ! (look_at ! 0 refl) $ free_all ! refl $
         suffices ! _ (ends_at 𝓛 f.ended stayed (f.clauses 𝓛 mem run) bound (vstruct vnil) made (tt, (tt, tt)) (tt, (tt, tt))) $
-        says ! refl $ pure_i ! (told.the_row.own_val made (vstruct vnil ∷ [])) ((λ vss. (tt, tt)), tt) ((tt, (refl, tt)), tt) $
+        says ! refl $ pure_i ! (so_far.the_row.own_val made (vstruct vnil ∷ [])) ((λ vss. (tt, tt)), tt) ((tt, (refl, tt)), tt) $
         move ! (1 ∷ 2 ∷ 0 ∷ []) $ done !)
 
   walks : Walks 𝓛 f.ended stayed (WpFn 𝓤 H C Λ code.function) (f.clauses 𝓛 mem run)
   walks =
       walked 𝓛 f.ended stayed (f.clauses 𝓛 mem run) (WpFn 𝓤 H C Λ code.function) (λ κs. (shr_vals, (shr_vals, tt)))
       (λ κs. (
-        shr_Tells (named 0) κs.0 told.the_row,
+        shr_Tells (named 0) κs.0 so_far.the_row,
         (shr_Tells (named 1) κs.1.0 single.the_row, tt),
       ))
       (λ κs qs bounds a g are. via 𝓤 _ (fst∗ 𝓤 _ (emp 𝓤)) (walk κs qs a))
@@ -83,7 +83,7 @@ meets : {M : Type 1} {𝓤 : Ura M} (𝓛 : Logic 𝓤) (mem : Memory → SProp 
     → Meets 𝓛 f.signature (WpFn 𝓤 𝓛.H 𝓣.C 𝓣.Λ code.function) (f.spec 𝓛 mem run)
 meets {𝓤 = 𝓤} 𝓛 mem run 𝓣 =
     walk_Meets 𝓛 f.ended stayed (
-      Goes-none_ref 𝓛 2 (0 ∷ []) tt (plain (λ _. told.the_row)) yes,
+      Goes-none_ref 𝓛 2 (0 ∷ []) tt (plain (λ _. so_far.the_row)) yes,
       (Goes-none_ref 𝓛 2 (1 ∷ []) tt (plain (λ _. single.the_row)) yes, tt),
     ) (f.clauses 𝓛 mem run) (WpFn 𝓤 𝓛.H 𝓣.C 𝓣.Λ code.function)
     (WpFn-mono 𝓤 𝓛.H 𝓛.laws 𝓣 code.function) (walks 𝓛 mem run 𝓣.C 𝓣.Λ)
