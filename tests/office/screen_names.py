@@ -462,7 +462,7 @@ class OldDesk(Office):
     """A desk of an older version has no names: pages have codes, as they had."""
 
     desk = STAND_IN
-    environment = {"OLD": "yes"}
+    environment = {"OLD": "places known permanent"}
 
     def test_pages(self):
         for path in ("/ASHFELD", f"/ASHFELD/{DAY}"):

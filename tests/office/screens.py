@@ -33,13 +33,17 @@ def run(*words):
     return subprocess.run([DOCKER, *words], stdin=subprocess.DEVNULL, capture_output=True, check=True).stdout
 
 
-def knows_places():
-    """Whether the program `desk` knows `places`: one of an older version doesn't."""
+def knows(request):
+    """Whether the program `desk` knows a request: one of an older version doesn't."""
     if REAL is None:
         return False
     with tempfile.TemporaryDirectory() as folder:
         run("new", f"{folder}/STATE")
-        return subprocess.run([REAL, f"{folder}/STATE"], input=b"places\n", capture_output=True, check=False).stdout.startswith(b"0 ")
+        return subprocess.run([REAL, f"{folder}/STATE"], input=f"{request}\n".encode(), capture_output=True, check=False).stdout.startswith(b"0 ")
+
+
+def knows_places():
+    return knows("places")
 
 
 def rows_of(text, names=None):
@@ -50,7 +54,8 @@ def rows_of(text, names=None):
         suffix, platform, track, path, public = line[22].strip(), line[24:27].strip(), line[28:31].strip(), line[32:35].strip(), line[36:40].strip()
         clock = at[:2] + ":" + at[2:4] + at[4].replace("H", "½").strip()
         if kind in LEADS:
-            ends = [f"{LEADS[kind]} {line[49:53]} {line[41:47]}"]
+            other, identity = line[41:47], line[49:53]
+            ends = [f"{LEADS[kind]} {other}, which doesn't run" if identity == "????" else f"{LEADS[kind]} {identity} {other}"]
         else:
             ends = [names.get(code, code) for code in (line[41:48].strip(), line[49:56].strip())]
         rows.append([clock, WORDS[kind], train, platform, path, track, public and public[:2] + ":" + public[2:], *ends, uid, suffix, stp])
