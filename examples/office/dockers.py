@@ -365,12 +365,13 @@ class Desk(Reader):
             process.stdin.close()
         except OSError:
             pass
-        process.stdout.close()
+        # It may have answers to write still. If nobody could read them, it would end with a fault.
         try:
             process.wait(timeout=1)
         except subprocess.TimeoutExpired:
             process.kill()
             process.wait()
+        process.stdout.close()
         told = process.stderr.read()
         process.stderr.close()
         return Answer(process.returncode, told) if 1 <= process.returncode <= 4 and told else None

@@ -1,10 +1,12 @@
 """Parts of tests/office/screen: what differs from the permanent timetable. The extract below has a train for each way to differ, and what a page has to say of it."""
 import csv
+import datetime
 import html
 import io
 import json
 import os
 import pathlib
+import random
 import re
 import subprocess
 import sys
@@ -14,9 +16,11 @@ from screen_names import Stated, extract, place
 from screen_parts import CUT, FAINT, WIDTHS, record, waited
 from screens import DAY, OFFICE, REAL, knows, rows_of, run
 
-sys.path.insert(0, str(OFFICE))
+sys.path[:0] = [str(OFFICE), str(OFFICE / "screen")]
 sys.dont_write_bytecode = True
+import changes  # noqa: E402
 import dockers  # noqa: E402
+import lines  # noqa: E402
 
 # A folder for pictures to look at.
 LOOKS = os.environ.get("LOOKS")
@@ -287,7 +291,7 @@ class Differing(Changed):
     def test_links(self):
         """A row that is gone leads to the page of its train, on the day on which that starts."""
         body = self.page(f"/ASHFELD/{DAY}")
-        links = re.findall(r'<tr class="P gone".*?<a href="([^"]*)">', body)
+        links = re.findall(r'<tr class="P gone [a-z]+".*?<a href="([^"]*)">', body)
         self.assertEqual(links, [f"/train/{row[2]}/{STARTS.get(row[2], DAY)}" for row in TOLD if is_gone(row[3])])
         for row, link in zip([row for row in TOLD if is_gone(row[3])], links):
             self.assertEqual("It is cancelled on this day." in self.page(link), row[3] == "cancelled", link)
@@ -457,3 +461,134 @@ class NoDesk(Changed):
     def test_pages(self):
         self.assertNotIn('id="changes"', self.page(f"/ASHFELD/{DAY}"))
         self.assertEqual(self.ask(f"/ASHFELD/{DAY}/changes")[0], 501)
+
+
+# Trains at random, and by their times alone what becomes of each.
+
+CODES = ("ASHFELD", "BRAYTON", "CORHAM", "DUNMERE")
+
+
+class Journey:
+    """The events of a train: place, kind, minutes since the midnight before its start, and platform."""
+
+    def __init__(self, drawn):
+        at = drawn.randrange(300, 1430)
+        places = [drawn.choice(CODES) for _ in range(drawn.randrange(2, 6))]
+        self.events, self.records, seen = [], [], []
+        for number, code in enumerate(places):
+            platform, clock = str(drawn.randrange(1, 4)), f"{at // 60 % 24:02}{at % 60:02}"
+            suffix = str(seen.count(code) + 1) if code in seen else " "
+            seen.append(code)
+            name = f"{code:<7}{suffix}"
+            if number == 0:
+                self.stands(name, "D", at, platform, record(f"LO{name}{clock} {clock}{platform:<3}"))
+            elif number == len(places) - 1:
+                self.stands(name, "A", at, platform, record(f"LT{name}{clock} {clock}{platform:<3}"))
+            elif drawn.random() < 0.3:
+                self.stands(name, "P", at, platform, record(f"LI{name}          {clock} 00000000{platform:<3}"))
+            else:
+                leaves = at + drawn.randrange(0, 20)
+                departs = f"{leaves // 60 % 24:02}{leaves % 60:02}"
+                self.stands(name, "A", at, platform, record(f"LI{name}{clock} {departs}      {clock}{departs}{platform:<3}"))
+                self.events.append((code, "D", leaves, platform))
+                at = leaves
+            at += drawn.randrange(5, 200)
+
+    def stands(self, name, kind, at, platform, text):
+        self.events.append((name[:7].strip(), kind, at, platform))
+        self.records.append(text)
+
+    def at(self, code, after):
+        """What the train does at a place, a number of days after its start."""
+        return [(kind, time % 1440, platform) for place, kind, time, platform in self.events if place == code and time // 1440 == after]
+
+
+class Drawn:
+    """A number of UIDs, each with a permanent schedule of all days, and some with others over it."""
+
+    FIRST = datetime.date(2024, 6, 3)
+
+    def __init__(self, seed, number=120):
+        drawn = random.Random(seed)
+        self.schedules, text = {}, [place(code, f"{code} TOWN") for code in CODES]
+        for uid in (f"R{at:05}" for at in range(number)):
+            own = [("P", 0, 193, Journey(drawn))] if drawn.random() < 0.85 else []
+            own += [(indicator, first, first + drawn.choice((0, 0, 2, 6)), Journey(drawn) if indicator != "C" else None)
+                    for indicator, first in {(drawn.choice("OOCCN"), drawn.randrange(4, 12)) for _ in range(drawn.choice((0, 1, 1, 2)))}]
+            self.schedules[uid] = own
+            for indicator, first, last, journey in own:
+                days = "".join((self.FIRST + datetime.timedelta(day)).strftime("%y%m%d") for day in (first, last)) + "1111111"
+                text.append(basic(uid, indicator, days, "1R01") + "".join(journey.records if journey else []))
+        self.text = extract(*text)
+
+    def chosen(self, uid, start, indicators="CNOP"):
+        """The schedule that is chosen for a train: of those that run, the first by indicator, and of these the one that begins last."""
+        day = (datetime.date.fromisoformat(start) - self.FIRST).days
+        runs = [it for it in self.schedules[uid] if it[0] in indicators and it[1] <= day <= it[2]]
+        return min(runs, key=lambda it: (it[0], -it[1]), default=("", 0, 0, None))
+
+    def expected(self, code, date):
+        """By what it is: the trains that differ at a place on a day."""
+        found = {}
+        for uid in self.schedules:
+            for after in range(3):
+                start = changes.date_after(date, -after)
+                indicator, _, _, journey = self.chosen(uid, start)
+                base = self.chosen(uid, start, "P")[3]
+                if kind := self.kind(indicator, journey, base, code, after):
+                    found.setdefault(kind, set()).add((uid, start))
+        return found
+
+    @staticmethod
+    def kind(indicator, journey, base, code, after):
+        now, before = (one.at(code, after) if one else [] for one in (journey, base))
+        if now == before:
+            return None
+        if not now:
+            return "cancelled" if indicator == "C" else "altered" if any(journey.at(code, day) for day in range(3)) else "absent"
+        if not before:
+            return "altered" if indicator == "O" and base and any(base.at(code, after + apart) for apart in (-1, 1)) else "added"
+        return "altered"
+
+
+class AtRandom(Changed):
+    """Each train that differs is found, on the day on which it started, and what becomes of it. No permanent line is lost."""
+
+    seeds = (0,)
+
+    def test_trains(self):
+        for seed in self.seeds:
+            made = Drawn(seed)
+            self.takes(made.text)
+            reader = dockers.Desk(self.desk, self.state)
+            self.addCleanup(reader.close)
+            number = 0
+            for code in CODES:
+                for day in range(5, 15):
+                    date = changes.date_after("2024-06-03", day)
+                    timetable = changes.Timetable(reader)
+                    told = changes.changes_of(timetable, code, date)
+                    self.assertEqual({kind: set(those) for kind, those in told.trains.items()}, made.expected(code, date), (seed, code, date))
+                    number += sum(map(len, told.trains.values()))
+                    self.conserved(timetable, code, date, told)
+            self.assertGreater(number, 500)
+
+    def conserved(self, timetable, code, date, told):
+        """Each permanent line is on the docker too, or a line there stands for it, or it is gone."""
+        own, base = ([line._replace(stp="") for line in lines.docker_of(timetable.text(command, code, date)).lines] for command in ("print", "permanent"))
+        for number, change in told.of.items():
+            own[number] = None
+            for was in change.was:
+                if not change.words.startswith("was on ") and was._replace(stp="") in base:
+                    base.remove(was._replace(stp=""))
+        for line, _ in told.gone:
+            base.remove(line._replace(stp=""))
+        self.assertEqual([line for line in own if line], base, (code, date))
+
+
+@unittest.skipUnless(knows(f"permanent ASHFELD {DAY}"), "there is no program desk that knows what is permanent")
+class RealAtRandom(AtRandom):
+    """The same over the program, of more trains."""
+
+    desk = REAL
+    seeds = range(1, 9)

@@ -235,7 +235,8 @@ class Day:
         return [found[number] for number, _ in permanent]
 
     def changed_start(self, line, changed):
-        """The start day of a permanent line's train that is one of these. If there are several, it is this day if the train departs from its origin before."""
+        """The start day of a permanent line's train that is one of these. If there are several, it is this day if the train departs from its origin before,
+        since no train takes a day to get here."""
         if len(changed) == 1:
             return changed[0]
         departs = self.timetable.departure(line.origin, line.uid, self.date)

@@ -85,7 +85,7 @@ class Rows:
             end = f'<td class="link" colspan="2">{self.linked(line.link, line.partner, "")}</td>'
         else:
             end = f'<td class="from"{self.cell(line.origin)}<td class="to"{self.cell(line.destination)}'
-        kind = f"{stp} gone" if row.is_gone else f"{stp} {row.change.kind}" if row.change else stp
+        kind = f"{stp}{' gone' if row.is_gone else ''} {row.change.kind}" if row.change else stp
         return (
             f'<tr{mark} class="{kind}" data-at="{line.half_minutes + after}"><td class="time">{line.clock}</td><td class="kind">{self.escaped[line.word]}</td>'
             f'<td class="train">{self.train(row)}</td><td class="platform">{platform}</td>'
