@@ -118,6 +118,9 @@ EXTRACT = extract(
     train("T00027", "O", WEEK, origin("CORHAM", "2300"), stop("ASHFELD", "0035", "0037", "4"), end("BRAYTON", "0110")),
     # 28 arrives before midnight and departs after it, and is cancelled.
     train("T00028", "P", ALL, origin("CORHAM", "2320"), stop("ASHFELD", "2358", "0003"), end("BRAYTON", "0030")), cancelled("T00028", ONCE),
+    # 30 passes, and goes another way on that day.
+    train("T00030", "P", ALL, origin("CORHAM", "1230"), passes("ASHFELD", "1500H"), end("BRAYTON", "1530")),
+    train("T00030", "O", ONCE, origin("CORHAM", "1230"), end("BRAYTON", "1530")),
     # 29 has ended before, and is cancelled all the same.
     through("T00029", "P", "2406032406101111111", "1500", "1502"), cancelled("T00029", ONCE),
 )
@@ -144,6 +147,7 @@ TOLD = [
     ("14:10", "divides", "T00017", "not today"),
     ("14:20", "arrives", "T00019", "cancelled"), ("14:20", "goes on", "T00019", "cancelled"),
     ("14:40", "is joined", "T00021", "added"),
+    ("15:00½", "passes", "T00030", "doesn’t pass here today"),
     ("23:50", "arrives", "T00026", "calls here on Thursday 13 June at 00:10"), ("23:51", "departs", "T00026", "calls here on Thursday 13 June at 00:10"),
     ("23:58", "arrives", "T00028", "cancelled"),
 ]
@@ -156,7 +160,7 @@ TOLD_NEXT = [
     ("13:40", "arrives", "T00013", "was 1T13"), ("13:42", "departs", "T00013", "was 1T13"),
     ("13:50", "arrives", "T00014", "added"), ("13:52", "departs", "T00014", "added"),
 ]
-COUNTED = "5 cancelled, 1 not calling, 14 altered, 1 added"
+COUNTED = "5 cancelled, 2 not calling, 14 altered, 1 added"
 # The start days of the trains that start on another day than the page's.
 STARTS = {"T00025": "2024-06-11", "T00027": "2024-06-11"}
 COLUMNS = "return [...document.querySelectorAll('#docker thead th')].map(head => head.textContent)"
@@ -325,7 +329,7 @@ class Differing(Changed):
 
     def test_json(self):
         told = json.loads(self.ask(f"/ASHFELD/{DAY}.json")[2])
-        self.assertEqual(told["changes"], {"cancelled": 5, "absent": 1, "altered": 14, "added": 1})
+        self.assertEqual(told["changes"], {"cancelled": 5, "absent": 2, "altered": 14, "added": 1})
         gone = [row for row in TOLD if is_gone(row[3])]
         self.assertEqual([(line["time"], line["uid"], line["start"]) for line in told["not_here"]],
                          [(row[0].replace(":", "").replace("½", "H"), row[2], STARTS.get(row[2], DAY)) for row in gone])
@@ -348,7 +352,7 @@ class Differing(Changed):
                 self.assertEqual({name for name, value in row.items() if value and not name.startswith("was_")}, {"uid", "start", "change"})
                 self.assertTrue(row["was_time"])
         self.assertEqual([(row["uid"], row["was_time"], row["start"]) for row in table if not row["time"]],
-                         [(row[2], row[0].replace(":", ""), STARTS.get(row[2], DAY)) for row in TOLD if is_gone(row[3])])
+                         [(row[2], row[0].replace(":", "").replace("½", "H"), STARTS.get(row[2], DAY)) for row in TOLD if is_gone(row[3])])
         self.assertEqual([[row[name] for name in ("time", "platform", "was_time", "was_platform")] for row in table if row["uid"] == "T00002"],
                          [["0815H", "3", "0810", "1"], ["0817", "3", "0812", "1"]])
         self.assertEqual(sum(bool(row["time"]) for row in table), len(self.rows()))
@@ -356,7 +360,7 @@ class Differing(Changed):
     def test_alone(self):
         """A page in a file has all of it, without a link."""
         ended = subprocess.run([OFFICE / "screen" / "serve", "--page", "ASHFELD", DAY, self.state], env={**os.environ, "DESK": self.desk}, capture_output=True, check=True)
-        self.assertEqual(told_of(rows_of_page(ended.stdout.decode())), TOLD)
+        self.assertEqual(told_of(rows_of_page(ended.stdout.decode())), [(*row[:3], row[3].replace("today", "on this day")) for row in TOLD])
         self.assertIn(f'<p id="changes">{COUNTED}</p>'.encode(), ended.stdout)
 
     def test_everybody(self):

@@ -25,7 +25,9 @@ NAMES = {"ASHFELD": "Ashfeld Junction", "BRAYTON": "Brayton", "CORHAM": "Corham 
 # What a page says for each kind, and for what an association leads to.
 WORDS = {"A": "arrives", "P": "passes", "D": "departs", "J": "is joined", "V": "divides", "N": "goes on"}
 LEADS = {"J": "by", "V": "into", "N": "as"}
-ROWS = "return [...document.querySelectorAll('#day tr')].map(row => [...row.cells].map(cell => cell.textContent))"
+# The cells of each row, without what differs.
+CELLS = "row => [...row.cells].slice(0, row.cells.length - document.querySelectorAll('#docker thead .change').length).map(cell => cell.textContent)"
+ROWS = f"return [...document.querySelectorAll('#day tr')].map({CELLS})"
 SHOWN = "return [...document.querySelectorAll('#day tr')].map(row => row.getBoundingClientRect()).map(box => box.height ? [box.top, box.bottom] : null)"
 
 

@@ -18,6 +18,8 @@ DAYS = 3
 ORDER = "APJVND"
 # What isn't there, if an event of a call isn't.
 EVENTS = {"A": "arrival", "P": "pass", "D": "departure"}
+# What a train doesn't do that isn't here, or not at a time: of one that stops, and of one that passes.
+NOT = ("doesn’t call", "doesn’t pass")
 
 
 class Change(NamedTuple):
@@ -30,7 +32,7 @@ class Change(NamedTuple):
 
     def told_of(self, when):
         """Its words, of a day in words; nothing where they are what it was."""
-        return (self.words or self.kind if self.kind in ("cancelled", "added") else self.words).format(when=when)
+        return self.words.format(when=when)
 
 
 class Gone(NamedTuple):
@@ -129,7 +131,7 @@ def kept_of(calls, others):
 
 
 def paired(calls, others):
-    """The calls of a train with the permanent ones that they stand for, by their order. Of the longer list some stay alone: that is None beside them."""
+    """The calls of a train with the permanent ones that they stand for, by their order. A call for which there is no other has None beside it."""
     if len(calls) < len(others):
         return [(call, other) for other, call in paired(others, calls)]
     stands_for = dict(zip(kept_of(calls, others), others))
@@ -275,20 +277,22 @@ class Comparison:
         if (len(self.changes.of), len(self.changes.gone)) != (of, gone):
             self.changes.trains.setdefault(kind, []).append(train)
 
-    def goes(self, train, kind, line, words=""):
+    def goes(self, train, kind, line, words):
         self.changes.gone.append(Gone(line, Change(kind, train[1], (line,), words)))
 
     def comes(self, train, kind, number, was=(), words=""):
         self.changes.of[number] = Change(kind, train[1], tuple(was), words)
 
     def loses(self, train, before):
-        """A train that isn't here on this day: it is cancelled, or it runs and is here on another day, or nowhere near."""
-        kind, words = "cancelled", ""
-        if self.timetable.indicator(*train) != "C":
-            elsewhen = self.elsewhen(train)
-            kind, words = ("altered", f"calls here on {elsewhen}") if elsewhen else ("absent", "doesn’t call here {when}")
+        """A train that isn't here on this day: it is cancelled, or it is here on another day, or not at all."""
+        if self.timetable.indicator(*train) == "C":
+            kind, words = "cancelled", ("cancelled", "cancelled")
+        elif elsewhen := self.elsewhen(train):
+            kind, words = "altered", (f"calls here on {elsewhen}", f"passes here on {elsewhen}")
+        else:
+            kind, words = "absent", tuple(f"{word} here {{when}}" for word in NOT)
         for _, line in before:
-            self.goes(train, kind, line, words)
+            self.goes(train, kind, line, words[line.kind == "P"])
         return kind
 
     def elsewhen(self, train):
@@ -304,7 +308,7 @@ class Comparison:
             if was:
                 self.comes(train, "altered", number, was, f"was on {long(date)} at {was[0].clock}")
             else:
-                self.comes(train, "added", number)
+                self.comes(train, "added", number, words="added")
         return "altered" if was else "added"
 
     def lines_beside(self, train):
@@ -329,14 +333,14 @@ class Comparison:
         is_same = bool(now.keys() & before.keys())
         for kind, (number, line) in now.items():
             if not other:
-                self.comes(train, "added", number)
+                self.comes(train, "added", number, words="added")
             elif kind not in before:
                 self.comes(train, "altered", number, () if is_same else before.values(), f"was no {EVENTS[kind]}" if is_same else "")
             elif differs(line, before[kind]):
                 self.comes(train, "altered", number, [before[kind]])
         for kind, line in before.items():
             if not call:
-                self.goes(train, "altered", line, "doesn’t call at this time {when}")
+                self.goes(train, "altered", line, f"{NOT[kind == 'P']} at this time {{when}}")
             elif kind not in now and is_same:
                 self.goes(train, "altered", line, f"no {EVENTS[kind]} {{when}}")
 
@@ -346,7 +350,7 @@ class Comparison:
         for number, line in now:
             was = others.pop((line.kind, line.partner, line.suffix), None)
             if was is None:
-                self.comes(train, "added", number)
+                self.comes(train, "added", number, words="added")
             elif differs(line, was):
                 self.comes(train, "altered", number, [was])
         for line in others.values():

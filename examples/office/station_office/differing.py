@@ -34,7 +34,7 @@ def prints_differences(office, reader, date):
 
 
 def differences(text, permanent):
-    """The lines that only one of two dockers has, in their order: with `-` those that are permanent, with `+` those of the day."""
+    """The lines that only one of two dockers has, in their order: with `-` if it is the permanent one, with `+` if it is the day's."""
     found = [(mark, row.decode("ascii")) for mark, docker, other in (("-", permanent, text), ("+", text, permanent)) for row in changes.lone(docker, other)]
     found.sort(key=lambda one: changes.place_in_day(lines.line_of(one[1])))
     return [f"{mark} {row}" for mark, row in found]
