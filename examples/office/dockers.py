@@ -260,7 +260,8 @@ def together(requests):
             part, size = [], 0
         part.append(request)
         size += length
-    yield part
+    if part:
+        yield part
 
 
 class Desk(Reader):

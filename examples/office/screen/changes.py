@@ -155,8 +155,8 @@ class Timetable:
 
     def fetches(self, wanted):
         """Asks for trains, each by its UID and its start day."""
-        new = [one for one in dict.fromkeys(wanted) if one not in self.answers]
-        self.answers.update(zip(new, self.reader.trains(new)))
+        if new := [one for one in dict.fromkeys(wanted) if one not in self.answers]:
+            self.answers.update(zip(new, self.reader.trains(new)))
 
     def indicator(self, uid, start):
         """The STP indicator of the schedule that is chosen for a train; nothing if there is none."""

@@ -1,5 +1,5 @@
 """The rows of a docker's table as HTML. A busy place has thousands, so no template makes them."""
-import heapq
+import bisect
 from html import escape
 from typing import NamedTuple, Optional
 import urllib.parse
@@ -30,9 +30,11 @@ class Row(NamedTuple):
 
 def rows_of(docker, differing):
     """A docker's lines in their order, and in their places among them what is gone. Nothing differs where that isn't known."""
-    here = [Row(line, differing and differing.of.get(number), False) for number, line in enumerate(docker.lines)]
-    gone = [Row(*one, True) for one in differing.gone] if differing else []
-    return list(heapq.merge(here, gone, key=lambda row: changes.place_in_day(row.line)))
+    found = [Row(line, differing and differing.of.get(number), False) for number, line in enumerate(docker.lines)]
+    for line, change in differing.gone if differing else ():
+        at = bisect.bisect_right(found, changes.place_in_day(line), key=lambda row: changes.place_in_day(row.line))
+        found.insert(at, Row(line, change, True))
+    return found
 
 
 class Rows:
