@@ -42,6 +42,8 @@ PATIENCE = 300
 UNKNOWN = 5
 # The status with which a desk refuses a line that it doesn't know.
 NO_REQUEST = 2
+# The status of an answer to good words that says that nobody knows the request.
+LACKING = (UNKNOWN, NO_REQUEST)
 # What is asked once of each STATE; and of `permanent`, that a desk doesn't know it.
 LISTS = (("files",), ("known",), ("places",))
 # How many bytes of requests are sent together: no pipe takes less.

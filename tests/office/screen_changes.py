@@ -457,6 +457,19 @@ class NotPermanent(Changed):
         self.assertEqual([line.split()[0] for line in (self.folder / "asked").read_text().splitlines()].count("permanent"), 1)
 
 
+class Poor(Changed):
+    """Where it can't be said what is cancelled, no page looks as if nothing were."""
+
+    environment = {"POOR": "permanent"}
+
+    def test_pages(self):
+        for path in (f"/ASHFELD/{DAY}", "/ASHFELD", f"/ASHFELD/{DAY}/changes", f"/ASHFELD/{DAY}.json", f"/ASHFELD/{DAY}.csv"):
+            status, headers, body = self.ask(path)
+            self.assertEqual((status, headers["Retry-After"]), (503, "60"), path)
+            self.assertIn(b"docker: want of memory", body)
+        self.assertEqual(self.ask(f"/ASHFELD/{DAY}.txt")[0::2], (200, self.docker()))
+
+
 class NoDesk(Changed):
     """Nor is anything said where there is no desk."""
 

@@ -13,9 +13,13 @@ import lines  # noqa: E402
 
 
 def permanent_of(reader, place, date):
-    """The permanent docker of a place on a day; None if there is no desk that knows it."""
+    """The permanent docker of a place on a day."""
     answer = reader.permanent(place, date)
-    return answer.text if answer.status == 0 else None
+    if answer.status in dockers.LACKING:
+        raise Fault(4, "desk", "what differs needs a program desk that knows what is permanent: there is none, or one of an older version")
+    if answer.status != 0:
+        raise Fault(answer.status, place, answer.text.decode().strip())
+    return answer.text
 
 
 def prints_differences(office, reader, date):
@@ -23,8 +27,6 @@ def prints_differences(office, reader, date):
     is_same = True
     for place, text in dockers_of(office, reader, date):
         permanent = permanent_of(reader, place, date)
-        if permanent is None:
-            raise Fault(4, "desk", "what differs needs a program desk that knows what is permanent: there is none, or one of an older version")
         if found := differences(text, permanent):
             is_same = False
             with writing():
@@ -42,10 +44,11 @@ def differences(text, permanent):
 
 def says_differences(office, reader, date, places):
     """Says how many trains differ on a day at some places. It says nothing where there is no desk that knows it."""
+    if not places or reader.permanent(places[0], date).status in dockers.LACKING:
+        return
     found, number = {}, 0
     for place in places:
-        if permanent_of(reader, place, date) is None:
-            return
+        permanent_of(reader, place, date)
         told = changes.changes_of(changes.Timetable(reader), place, date).trains
         number += bool(told)
         for kind, those in told.items():
@@ -53,5 +56,5 @@ def says_differences(office, reader, date, places):
     if found:
         at = f"at {number} of {len(places)} {'place' if len(places) == 1 else 'places'}"
         office.say(date, f"{changes.counted(found)} {at}; `station-office changes {office.state} {date}` prints them")
-    elif places:
+    else:
         office.say(date, "nothing differs from the permanent timetable")
