@@ -32,7 +32,8 @@ function daysBetween(from, to) {
 function fold() {
   const [date, time] = now();
   const table = document.getElementById("docker");
-  if (!table) return;
+  // A list of what differs is shown whole.
+  if (!table || "whole" in table.dataset) return;
   const days = daysBetween(page.dataset.date, date);
   const start = days === 0 || isOfToday && days > 0 ? halfMinutes(time) + 2880 * days : 0;
   const rows = table.querySelectorAll("tr[data-at]");

@@ -133,6 +133,12 @@ def train_of(text):
     return Train(*fields, part(basic, BASIC["train identity"]), runs_from, runs_to, part(basic, BASIC["days"]), calls_of(records))
 
 
+def indicator_of(text):
+    """The STP indicator of the schedule that is chosen, by the heading of a text of `train`; nothing if there is none."""
+    first, last = HEADING["STP indicator"]
+    return text[first - 1:last].decode("ascii").strip()
+
+
 def weekdays(days):
     """`1111100` in words."""
     marked = [name for name, mark in zip(WEEKDAYS, days) if mark == "1"]
