@@ -38,7 +38,7 @@ fn real_host(rt: &HostRuntime) -> Host<InputDevice, RealFolder, OutputDevice, Ou
     }
 }
 
-/// Does what the program's own words ask for, if they can be had.
+/// Does what the program's own words ask for, and reports a fault if it can't get them.
 fn run_own_words(rt: &HostRuntime) -> u8 {
     match own_words(rt).and_then(|words| run_strings(rt, words.as_slice())) {
         Ok(status) => status,
@@ -52,7 +52,8 @@ fn run_strings(rt: &HostRuntime, words: &[String]) -> Result<u8, JobFault> {
     Ok(run_words(rt, words.as_slice()))
 }
 
-/// The words after the program's name. A word that is no text is a usage fault.
+/// The words after the program's name. `Usage` if a word is no text, and `Memory` if there is no
+/// room for the words.
 pub fn own_words(rt: &HostRuntime) -> Result<Vec<String>, JobFault> {
     let all = match env::args(rt) {
         Ok(all) => all,

@@ -110,8 +110,8 @@ impl Gathered {
             .saturating_sub(self.lines.len())
     }
 
-    /// Takes room for `count` lines at once, if there are no lines yet and this number of bytes has
-    /// all of them. If memory runs out, each line takes room as it comes.
+    /// Takes room for `count` lines at once, if there are no lines yet and the next `bytes` bytes
+    /// have all of them. If memory runs out, each line takes room as it comes.
     pub fn make_room(&mut self, alloc: Global, count: u32, bytes: usize)
         ensures { self.new ≡ self.old }
     {
@@ -222,7 +222,8 @@ fn may_follow<K: Keeper>(key: &ScheduleKey, told: &Told<K>, lines: &Gathered, li
 }
 
 /// Takes the next of `count` lines of this key. `Body` if the line doesn't continue a schedule with
-/// this key and `count` lines, or if the schedule lapses under the horizon that was read.
+/// this key and `count` lines, or if the schedule lapses under the horizon that was read. `Memory`
+/// if the lines have no room to grow.
 pub fn judged_line<K: Keeper>(
     key: &ScheduleKey,
     told: &Told<K>,
