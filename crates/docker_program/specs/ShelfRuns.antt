@@ -30,6 +30,7 @@ pub record IsTaken (state extract : List ℕ) (events : List Event) : Type 0 whe
   pub few : ReadsFewOfState dks_2 (Some state) (Some left)
   pub history : events ≡ placed state_name (Some state) ∷ placed file_name (Some extract)
       ∷ looked state_name ∷ opened state_name (Some state) ∷ opened file_name (Some extract)
-      ∷ closed (Some left) ∷ closed (Some []) ∷ drafted state_name 2 ∷ placed state_name (Some text) ∷ []
+      ∷ closed (Some left) ∷ closed (Some [])
+      ∷ drafted state_name 2 ∷ placed state_name (Some text) ∷ []
   pub known : (known : Known) (file : List (List ℕ)) → IsKnownText dks_2 known state
       → IsFileText most_records extract file → IsKnownText dks_2 (united known (of_file file)) text

@@ -137,6 +137,6 @@ pub record AreRead (names : SourceNames) (asked : Asking) (job : JobView)
   pub reads : ReadsInOrder job read.first read.first_left read.second read.second_left result
 
 -- how opening and reading the sources of these names ends: a file wasn't opened, or all files were,
--- and then the sources were read
+-- and were closed once the sources were read
 abbrev pub ReadsBy : SourceNames → Asking → JobView → Result PreparedView OfficeFault → Type 0
 ReadsBy names asked job result = AreNotOpened names asked result ⊎ AreRead names asked job result
