@@ -1,7 +1,7 @@
 -- How the program ends, by how far its job came.
 use Rattle.std.proofs.Common.{◌≡◌, ◌≢◌, ◌≤◌, ◌↔◌, ℕ, Bool, List, [], ◌∷◌, Option, None, Some, Err, arith, ap, inl, inr, refl, sym, ◌∙◌, subst}
 use Rattle.docker_host.specs.History.{Bytes, Event}
-use Rattle.docker_host.specs.FaultSink.{TellsText, Told, told, told_by}
+use Rattle.docker_host.specs.FaultSink.{FaultsView, TellsText, faults_of, faults_view}
 use Rattle.docker_host.specs.Host.{HostView}
 use Rattle.docker_cmd.specs.Words.{Text}
 use Rattle.docker_cmd.specs.Job.{JobView, NameNoJob}
@@ -143,15 +143,15 @@ ends_still words names_bytes old new faults failures (Office office.Sink) ends =
 pub performs_telling : (words : List Text) (names_bytes : Bool) (old shown new : HostView) (faults : Bytes) (failures : ℕ) (fault : Fault) (status : ℕ)
     → shown ≡ new → EndsBy words names_bytes old new (Some fault) → IsCounted (status_of fault) (failures_of old) (failures_of new)
     → new.faults ≡ old.faults → new.faults_failures ≡ old.faults_failures → status ≡ status_of fault
-    → TellsText (fault_line fault) (told_by shown) (told faults failures)
+    → TellsText (fault_line fault) (faults_of shown) (faults_view faults failures)
     → Performs words names_bytes old (with_faults shown faults failures) status
 performs_telling words names_bytes old shown new faults failures fault status same ends counted kept untold is tells = record {
   ending = Some fault;
   ends = ends_still words names_bytes old shown faults failures fault
       (subst (λ (host : HostView). EndsBy words names_bytes old host (Some fault)) (sym same) ends);
   status_is = is;
-  tells = subst (λ (before : Told). TellsText (fault_line fault) before (told faults failures))
-      (ap told_by same ∙ (λ i. told (kept i) (untold i))) tells;
+  tells = subst (λ (before : FaultsView). TellsText (fault_line fault) before (faults_view faults failures))
+      (ap faults_of same ∙ (λ i. faults_view (kept i) (untold i))) tells;
   counted = subst (λ (n : ℕ). IsCounted n (failures_of old) (failures_of shown)) (sym is)
       (subst (λ (host : HostView). IsCounted (status_of fault) (failures_of old) (failures_of host)) (sym same) counted);
 }

@@ -1,7 +1,7 @@
 -- What the program does with its words, on its devices.
 use Rattle.std.specs.Prelude.{◌≡◌, ◌≢◌, ◌↔◌, ℕ, ◌+◌, Bool, List, [], ◌∷◌, length, Option, Some, None, Result, Ok, Err, ◌⊎◌}
 use Rattle.docker_host.specs.History.{Bytes, Event}
-use Rattle.docker_host.specs.FaultSink.{TellsText, Told, told_by}
+use Rattle.docker_host.specs.FaultSink.{FaultsView, TellsText, faults_of}
 use Rattle.docker_host.specs.Host.{HostView}
 use Rattle.docker_cmd.specs.Words.{Text}
 use Rattle.docker_cmd.specs.Job.{JobView, IsJobOf, NameNoJob}
@@ -132,7 +132,7 @@ ending_status (Some fault) = status_of fault
 
 -- without a fault, the sink of faults gained nothing. With one, it gained the fault's line; or it
 -- failed once more, and gained a proper prefix of the line
-abbrev pub Tells : Option Fault → (old new : Told) → Type 0
+abbrev pub Tells : Option Fault → (old new : FaultsView) → Type 0
 Tells None old new = (new.taken ≡ old.taken) × (new.failures ≡ old.failures)
 Tells (Some fault) old new = TellsText (fault_line fault) old new
 
@@ -147,7 +147,7 @@ pub record Performs (words : List Text) (names_bytes : Bool) (old new : HostView
   pub ending : Option Fault
   pub ends : EndsBy words names_bytes old new ending
   pub status_is : status ≡ ending_status ending
-  pub tells : Tells ending (told_by old) (told_by new)
+  pub tells : Tells ending (faults_of old) (faults_of new)
   pub counted : IsCounted status (failures_of old) (failures_of new)
 
 -- if there are words, the status is 2, which says usage, exactly if they name no job

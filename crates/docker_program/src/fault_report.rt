@@ -1,7 +1,7 @@
 //! How a fault is reported.
 ghost use Rattle.std.specs.Prelude.{◌≡◌, ◌-◌, ◌^◌, ◌<◌};
 ghost use Rattle.docker_cmd.specs.FaultLine.{fault_line, status_of};
-ghost use Rattle.docker_host.specs.FaultSink.{TellsText, told};
+ghost use Rattle.docker_host.specs.FaultSink.{TellsText, faults_view};
 
 use cif_line::Sink;
 use docker_cmd::{Fault, fault_text, status};
@@ -13,8 +13,8 @@ pub fn tell<L: Sink>(fault: &Fault, faults: &mut L) -> u8
     requires { L.failures faults.old < 2 ^ 64 - 1 }
     ensures status { result ≡ status_of fault.now }
     ensures line { TellsText (fault_line fault.now)
-        (told (L.taken faults.old) (L.failures faults.old))
-        (told (L.taken faults.new) (L.failures faults.new)) }
+        (faults_view (L.taken faults.old) (L.failures faults.old))
+        (faults_view (L.taken faults.new) (L.failures faults.new)) }
 {
     let text = fault_text(fault);
     tell_text(text.as_slice(), faults);
