@@ -420,6 +420,7 @@ class Everybody(Trains):
 
     def unfolded(self, made):
         made.run("document.getElementById('fold')?.click(); for (const it of document.querySelectorAll('details')) it.open = true")
+        self.assertTrue(waited(10, lambda: made.run("return [...document.querySelectorAll('.across')].every(it => it.querySelector('svg'))")))
 
     def test_widths(self):
         """Nothing is wider than the screen, and no text is cut, from 320 pixels to 3840."""

@@ -23,15 +23,15 @@ NOT = ("doesn’t call", "doesn’t pass")
 
 
 class Change(NamedTuple):
-    """How a line differs, and the start day of its train. `was` has the permanent lines that it stands for. `words` says it, where they don't;
-    `{when}` stands for the day there."""
+    """How a line differs, and the start day of its train. `was` has the permanent lines that it stands for. If they don't say it, `words` do, in which `{when}`
+    stands for the day."""
     kind: str
     start: str
     was: tuple = ()
     words: str = ""
 
-    def told_of(self, when):
-        """Its words, of a day in words; nothing where they are what it was."""
+    def worded(self, when):
+        """Its words, with the day in words; nothing if what it was says it."""
         return self.words.format(when=when)
 
 
@@ -171,6 +171,11 @@ class Timetable:
             answer = self.answers[uid, start]
             self.read[uid, start] = trains.train_of(answer.text) if answer.status == 0 else None
         return self.read[uid, start]
+
+    def starts_of(self, docker):
+        """The start day of each line's train; nothing where it can't be said."""
+        self.fetches((line.uid, date_after(docker.date, -before)) for line in docker.lines for before in range(DAYS))
+        return trains.starts_of(docker, self.train)
 
     def text(self, command, tiploc, date):
         """The docker of a place on a day, by `print` or by `permanent`; nothing if it is refused."""
@@ -346,14 +351,16 @@ class Comparison:
 
     def links(self, train, now, before):
         """The associations of a train: those of one kind with the same other train stand for each other."""
-        others = {(line.kind, line.partner, line.suffix): line for _, line in before}
+        others = [line for _, line in before]
         for number, line in now:
-            was = others.pop((line.kind, line.partner, line.suffix), None)
+            was = next((other for other in others if (other.kind, other.partner, other.suffix) == (line.kind, line.partner, line.suffix)), None)
             if was is None:
                 self.comes(train, "added", number, words="added")
-            elif differs(line, was):
+                continue
+            others.remove(was)
+            if differs(line, was):
                 self.comes(train, "altered", number, [was])
-        for line in others.values():
+        for line in others:
             self.goes(train, "altered", line, "not {when}")
 
 
@@ -381,7 +388,7 @@ def was_of(line, name, labels):
 
 def told(line, change, labels, when):
     """A change in words: `was 09:00, platform 1`."""
-    if words := change.told_of(when):
+    if words := change.worded(when):
         return words
     if [was.kind for was in change.was] == [line.kind]:
         was = change.was[0]
