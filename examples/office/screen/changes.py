@@ -144,10 +144,11 @@ def differs(line, was):
 
 
 class Timetable:
-    """What is asked of a desk to compare dockers: trains and permanent dockers. Answers are kept. A pair of dockers may be at hand."""
+    """What is asked of a desk to compare the dockers of a place: trains, with their calls there, and permanent dockers. Answers are kept. A pair of dockers may be
+    at hand."""
 
-    def __init__(self, reader, pair=None):
-        self.reader = reader
+    def __init__(self, reader, tiploc, pair=None):
+        self.reader, self.tiploc = reader, tiploc
         self.answers = {}
         self.read = {}
         self.texts = {("print", pair.tiploc, pair.date): pair.text, ("permanent", pair.tiploc, pair.date): pair.permanent} if pair else {}
@@ -169,7 +170,7 @@ class Timetable:
         if (uid, start) not in self.read:
             self.fetches([(uid, start)])
             answer = self.answers[uid, start]
-            self.read[uid, start] = trains.train_of(answer.text) if answer.status == 0 else None
+            self.read[uid, start] = trains.train_of(answer.text, self.tiploc) if answer.status == 0 else None
         return self.read[uid, start]
 
     def starts_of(self, docker):
@@ -200,13 +201,13 @@ class Timetable:
 class Day:
     """A place on a day: the lines of some UIDs on its docker, and the permanent ones, by their trains."""
 
-    def __init__(self, timetable, tiploc, date, uids):
-        self.timetable, self.tiploc, self.date = timetable, tiploc, date
+    def __init__(self, timetable, date, uids):
+        self.timetable, self.date = timetable, date
         self.starts = [date_after(date, -before) for before in range(DAYS)]
         timetable.fetches([(uid, start) for uid in sorted(uids) for start in self.starts])
         self.now, self.before = {}, {}
         for uid in sorted(uids):
-            own, permanent = (timetable.lines(command, tiploc, date, uid) for command in ("print", "permanent"))
+            own, permanent = (timetable.lines(command, timetable.tiploc, date, uid) for command in ("print", "permanent"))
             starts = self.starts_of(own)
             self.sort(self.now, own, starts)
             self.sort(self.before, permanent, self.permanent_starts(uid, own, starts, permanent))
@@ -218,7 +219,7 @@ class Day:
 
     def starts_of(self, numbered):
         """The start day of each line's train."""
-        docker = lines.Docker(self.tiploc, self.date, "", [line for _, line in numbered])
+        docker = lines.Docker(self.timetable.tiploc, self.date, "", [line for _, line in numbered])
         return [start or self.date for start in trains.starts_of(docker, self.timetable.train)]
 
     def permanent_starts(self, uid, own, starts, permanent):
@@ -254,9 +255,9 @@ class Day:
 class Comparison:
     """Compares the docker of a place on a day with the permanent one."""
 
-    def __init__(self, timetable, tiploc, date):
-        self.timetable, self.tiploc, self.date = timetable, tiploc, date
-        self.day = Day(timetable, tiploc, date, uids_of(*(timetable.text(command, tiploc, date) for command in ("print", "permanent"))))
+    def __init__(self, timetable, date):
+        self.timetable, self.date = timetable, date
+        self.day = Day(timetable, date, uids_of(*(timetable.text(command, timetable.tiploc, date) for command in ("print", "permanent"))))
         self.changes = Changes({}, [], {})
         self.beside = {}
 
@@ -303,7 +304,7 @@ class Comparison:
     def elsewhen(self, train):
         """The first day and time at which a train is here, in words; nothing if it isn't."""
         found = self.timetable.train(*train)
-        times = ((call.days[kind], time) for call in found.calls if call.tiploc == self.tiploc for kind, time in call.times.items()) if found else ()
+        times = ((call.days[kind], time) for call in found.calls for kind, time in call.times.items()) if found else ()
         return next((f"{long(date_after(found.date, after))} at {trains.clock(time)}" for after, time in times), "")
 
     def gains(self, train, now):
@@ -328,7 +329,7 @@ class Comparison:
         """The day before or after, with the altered trains that aren't here on this day permanently."""
         if apart not in self.beside:
             uids = {uid for uid, start in self.day.now.keys() - self.day.before.keys() if self.timetable.indicator(uid, start) == "O"}
-            self.beside[apart] = Day(self.timetable, self.tiploc, date_after(self.date, apart), uids)
+            self.beside[apart] = Day(self.timetable, date_after(self.date, apart), uids)
         return self.beside[apart]
 
     def alters(self, train, call, other):
@@ -364,9 +365,9 @@ class Comparison:
             self.goes(train, "altered", line, "not {when}")
 
 
-def changes_of(timetable, tiploc, date):
+def changes_of(timetable, date):
     """What differs at a place on a day."""
-    return Comparison(timetable, tiploc, date).made()
+    return Comparison(timetable, date).made()
 
 
 def was_of(line, name, labels):

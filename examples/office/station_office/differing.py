@@ -49,7 +49,7 @@ def says_differences(office, reader, date, places):
     found, number = {}, 0
     for place in places:
         permanent_of(reader, place, date)
-        told = changes.changes_of(changes.Timetable(reader), place, date).trains
+        told = changes.changes_of(changes.Timetable(reader, place), date).trains
         number += bool(told)
         for kind, those in told.items():
             found.setdefault(kind, set()).update(those)
