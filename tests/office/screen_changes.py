@@ -592,7 +592,7 @@ class AtRandom(Changed):
 
     def conserved(self, timetable, code, date, told):
         """Each permanent line is on the docker too, or a line there stands for it, or it is gone."""
-        own, base = ([line._replace(stp="") for line in lines.docker_of(timetable.text(command, code, date)).lines] for command in ("print", "permanent"))
+        own, base = ([line._replace(stp="") for line in lines.docker_of(timetable.text(command, date)).lines] for command in ("print", "permanent"))
         for number, change in told.of.items():
             own[number] = None
             for was in change.was:

@@ -143,15 +143,46 @@ def differs(line, was):
     return any(getattr(line, name) != getattr(was, name) for name in COMPARED)
 
 
+def departures_of(docker, origin):
+    """When each UID departs that starts at a place, by the text of the place's docker, in half minutes."""
+    found, arrived = {}, set()
+    for row in docker.decode("ascii").split("\n")[1:-2]:
+        if row[6] in "AD":
+            line = lines.line_of(row)
+            if line.kind == "A":
+                arrived.add(line.uid)
+            elif line.uid in arrived:
+                # It comes back to where it started.
+                arrived.remove(line.uid)
+            elif line.origin == origin:
+                found.setdefault(line.uid, line.half_minutes)
+    return found
+
+
+class Departures:
+    """When permanent trains depart from their origins. What was asked is kept."""
+
+    def __init__(self, reader):
+        self.reader = reader
+        self.kept = {}
+
+    def of(self, origin, date):
+        if (origin, date) not in self.kept:
+            answer = self.reader.permanent(origin, date)
+            self.kept[origin, date] = departures_of(answer.text, origin) if answer.status == 0 else {}
+        return self.kept[origin, date]
+
+
 class Timetable:
     """What is asked of a desk to compare the dockers of a place: trains, with their calls there, and permanent dockers. Answers are kept. A pair of dockers may be
-    at hand."""
+    at hand, and the departures that another comparison asked for."""
 
-    def __init__(self, reader, tiploc, pair=None):
+    def __init__(self, reader, tiploc, pair=None, departures=None):
         self.reader, self.tiploc = reader, tiploc
+        self.departures = departures or Departures(reader)
         self.answers = {}
         self.read = {}
-        self.texts = {("print", pair.tiploc, pair.date): pair.text, ("permanent", pair.tiploc, pair.date): pair.permanent} if pair else {}
+        self.texts = {("print", pair.date): pair.text, ("permanent", pair.date): pair.permanent} if pair else {}
         self.rows = {}
 
     def fetches(self, wanted):
@@ -178,24 +209,18 @@ class Timetable:
         self.fetches((line.uid, date_after(docker.date, -before)) for line in docker.lines for before in range(DAYS))
         return trains.starts_of(docker, self.train)
 
-    def text(self, command, tiploc, date):
-        """The docker of a place on a day, by `print` or by `permanent`; nothing if it is refused."""
-        if (command, tiploc, date) not in self.texts:
-            answer = self.reader.print_docker(tiploc, date) if command == "print" else self.reader.permanent(tiploc, date)
-            self.texts[command, tiploc, date] = answer.text if answer.status == 0 else b""
-        return self.texts[command, tiploc, date]
+    def text(self, command, date):
+        """The docker of the place on a day, by `print` or by `permanent`; nothing if it is refused."""
+        if (command, date) not in self.texts:
+            answer = self.reader.print_docker(self.tiploc, date) if command == "print" else self.reader.permanent(self.tiploc, date)
+            self.texts[command, date] = answer.text if answer.status == 0 else b""
+        return self.texts[command, date]
 
-    def lines(self, command, tiploc, date, uid):
+    def lines(self, command, date, uid):
         """The lines of a UID on a docker, with their numbers."""
-        key = command, tiploc, date
-        if key not in self.rows:
-            self.rows[key] = rows_of(self.text(*key))
-        return [(number, lines.line_of(row)) for number, row in self.rows[key].get(uid, ())]
-
-    def departure(self, origin, uid, date):
-        """When the permanent train of a UID departs from its origin on a day, if one does, in half minutes."""
-        events = [(number, line) for number, line in self.lines("permanent", origin, date, uid) if line.kind in EVENTS]
-        return next((time_of(call) for call in calls_of(events) if call[0][1].kind == "D" and call[0][1].origin == origin), None)
+        if (command, date) not in self.rows:
+            self.rows[command, date] = rows_of(self.text(command, date))
+        return [(number, lines.line_of(row)) for number, row in self.rows[command, date].get(uid, ())]
 
 
 class Day:
@@ -207,7 +232,7 @@ class Day:
         timetable.fetches([(uid, start) for uid in sorted(uids) for start in self.starts])
         self.now, self.before = {}, {}
         for uid in sorted(uids):
-            own, permanent = (timetable.lines(command, timetable.tiploc, date, uid) for command in ("print", "permanent"))
+            own, permanent = (timetable.lines(command, date, uid) for command in ("print", "permanent"))
             starts = self.starts_of(own)
             self.sort(self.now, own, starts)
             self.sort(self.before, permanent, self.permanent_starts(uid, own, starts, permanent))
@@ -247,7 +272,7 @@ class Day:
         since no train takes a day to get here."""
         if len(changed) == 1:
             return changed[0]
-        departs = self.timetable.departure(line.origin, line.uid, self.date)
+        departs = self.timetable.departures.of(line.origin, self.date).get(line.uid)
         is_of_day = departs is not None and departs <= line.half_minutes
         return self.date if is_of_day and self.date in changed else next((start for start in changed if start < self.date), changed[0])
 
@@ -257,7 +282,7 @@ class Comparison:
 
     def __init__(self, timetable, date):
         self.timetable, self.date = timetable, date
-        self.day = Day(timetable, date, uids_of(*(timetable.text(command, timetable.tiploc, date) for command in ("print", "permanent"))))
+        self.day = Day(timetable, date, uids_of(*(timetable.text(command, date) for command in ("print", "permanent"))))
         self.changes = Changes({}, [], {})
         self.beside = {}
 
