@@ -583,8 +583,8 @@ class AtRandom(Changed):
             for code in CODES:
                 for day in range(5, 15):
                     date = changes.date_after("2024-06-03", day)
-                    timetable = changes.Timetable(reader)
-                    told = changes.changes_of(timetable, code, date)
+                    timetable = changes.Timetable(reader, code)
+                    told = changes.changes_of(timetable, date)
                     self.assertEqual({kind: set(those) for kind, those in told.trains.items()}, made.expected(code, date), (seed, code, date))
                     number += sum(map(len, told.trains.values()))
                     self.conserved(timetable, code, date, told)
@@ -592,7 +592,7 @@ class AtRandom(Changed):
 
     def conserved(self, timetable, code, date, told):
         """Each permanent line is on the docker too, or a line there stands for it, or it is gone."""
-        own, base = ([line._replace(stp="") for line in lines.docker_of(timetable.text(command, code, date)).lines] for command in ("print", "permanent"))
+        own, base = ([line._replace(stp="") for line in lines.docker_of(timetable.text(command, date)).lines] for command in ("print", "permanent"))
         for number, change in told.of.items():
             own[number] = None
             for was in change.was:

@@ -12,7 +12,7 @@ import tempfile
 import time
 import unittest
 
-from screens import CELLS, DAY, NAMES, REAL, SHOWN, STAND_IN, Office, Seen, run
+from screens import CELLS, DAY, NAMES, REAL, SHOWN, STAND_IN, Office, Seen, knows, run
 
 NEXT = "2024-06-13"
 AHEAD = f"return [...document.querySelectorAll('#next tr[data-at]')].map({CELLS})"
@@ -249,6 +249,20 @@ class Busy(Office):
         self.assertGreater(page.count(b">cancelled<"), 100)
 
 
+@unittest.skipUnless(knows(f"permanent ASHFELD {DAY}"), "there is no program desk that knows what is permanent")
+class RealBusy(Busy):
+    """The same over the program, which also compares the dockers of both days in little time."""
+
+    desk = REAL
+
+    def test_first(self):
+        """The first page after STATE changed takes less than a second and a half of processor time."""
+        run("take", self.state, str(self.folder / "update.cif"))
+        before = self.spent()
+        self.assertEqual(self.ask("/ASHFELD")[0], 200)
+        self.assertLess(self.spent() - before, 1.5)
+
+
 # A train that passes midnight, changes its identity, divides and is joined, and goes on as another the next day; one is altered, one is cancelled.
 NIGHT = [
     record("HDTPS.UDFROC1.PD2406110706242100DFROC1FDFROC1EFA"),
@@ -420,6 +434,7 @@ class Everybody(Trains):
 
     def unfolded(self, made):
         made.run("document.getElementById('fold')?.click(); for (const it of document.querySelectorAll('details')) it.open = true")
+        self.assertTrue(waited(10, lambda: made.run("return [...document.querySelectorAll('.across')].every(it => it.querySelector('svg'))")))
 
     def test_widths(self):
         """Nothing is wider than the screen, and no text is cut, from 320 pixels to 3840."""

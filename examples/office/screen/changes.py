@@ -23,15 +23,15 @@ NOT = ("doesn’t call", "doesn’t pass")
 
 
 class Change(NamedTuple):
-    """How a line differs, and the start day of its train. `was` has the permanent lines that it stands for. `words` says it, where they don't;
-    `{when}` stands for the day there."""
+    """How a line differs, and the start day of its train. `was` has the permanent lines that it stands for. If they don't say it, `words` do, in which `{when}`
+    stands for the day."""
     kind: str
     start: str
     was: tuple = ()
     words: str = ""
 
-    def told_of(self, when):
-        """Its words, of a day in words; nothing where they are what it was."""
+    def worded(self, when):
+        """Its words, with the day in words; nothing if what it was says it."""
         return self.words.format(when=when)
 
 
@@ -143,14 +143,46 @@ def differs(line, was):
     return any(getattr(line, name) != getattr(was, name) for name in COMPARED)
 
 
-class Timetable:
-    """What is asked of a desk to compare dockers: trains and permanent dockers. Answers are kept. A pair of dockers may be at hand."""
+def departures_of(docker, origin):
+    """When each UID departs that starts at a place, by the text of the place's docker, in half minutes."""
+    found, arrived = {}, set()
+    for row in docker.decode("ascii").split("\n")[1:-2]:
+        if row[6] in "AD":
+            line = lines.line_of(row)
+            if line.kind == "A":
+                arrived.add(line.uid)
+            elif line.uid in arrived:
+                # It comes back to where it started.
+                arrived.remove(line.uid)
+            elif line.origin == origin:
+                found.setdefault(line.uid, line.half_minutes)
+    return found
 
-    def __init__(self, reader, pair=None):
+
+class Departures:
+    """When permanent trains depart from their origins. What was asked is kept."""
+
+    def __init__(self, reader):
         self.reader = reader
+        self.kept = {}
+
+    def of(self, origin, date):
+        if (origin, date) not in self.kept:
+            answer = self.reader.permanent(origin, date)
+            self.kept[origin, date] = departures_of(answer.text, origin) if answer.status == 0 else {}
+        return self.kept[origin, date]
+
+
+class Timetable:
+    """What is asked of a desk to compare the dockers of a place: trains, with their calls there, and permanent dockers. Answers are kept. A pair of dockers may be
+    at hand, and the departures that another comparison asked for."""
+
+    def __init__(self, reader, tiploc, pair=None, departures=None):
+        self.reader, self.tiploc = reader, tiploc
+        self.departures = departures or Departures(reader)
         self.answers = {}
         self.read = {}
-        self.texts = {("print", pair.tiploc, pair.date): pair.text, ("permanent", pair.tiploc, pair.date): pair.permanent} if pair else {}
+        self.texts = {("print", pair.date): pair.text, ("permanent", pair.date): pair.permanent} if pair else {}
         self.rows = {}
 
     def fetches(self, wanted):
@@ -169,39 +201,38 @@ class Timetable:
         if (uid, start) not in self.read:
             self.fetches([(uid, start)])
             answer = self.answers[uid, start]
-            self.read[uid, start] = trains.train_of(answer.text) if answer.status == 0 else None
+            self.read[uid, start] = trains.train_of(answer.text, self.tiploc) if answer.status == 0 else None
         return self.read[uid, start]
 
-    def text(self, command, tiploc, date):
-        """The docker of a place on a day, by `print` or by `permanent`; nothing if it is refused."""
-        if (command, tiploc, date) not in self.texts:
-            answer = self.reader.print_docker(tiploc, date) if command == "print" else self.reader.permanent(tiploc, date)
-            self.texts[command, tiploc, date] = answer.text if answer.status == 0 else b""
-        return self.texts[command, tiploc, date]
+    def starts_of(self, docker):
+        """The start day of each line's train; nothing where it can't be said."""
+        self.fetches((line.uid, date_after(docker.date, -before)) for line in docker.lines for before in range(DAYS))
+        return trains.starts_of(docker, self.train)
 
-    def lines(self, command, tiploc, date, uid):
+    def text(self, command, date):
+        """The docker of the place on a day, by `print` or by `permanent`; nothing if it is refused."""
+        if (command, date) not in self.texts:
+            answer = self.reader.print_docker(self.tiploc, date) if command == "print" else self.reader.permanent(self.tiploc, date)
+            self.texts[command, date] = answer.text if answer.status == 0 else b""
+        return self.texts[command, date]
+
+    def lines(self, command, date, uid):
         """The lines of a UID on a docker, with their numbers."""
-        key = command, tiploc, date
-        if key not in self.rows:
-            self.rows[key] = rows_of(self.text(*key))
-        return [(number, lines.line_of(row)) for number, row in self.rows[key].get(uid, ())]
-
-    def departure(self, origin, uid, date):
-        """When the permanent train of a UID departs from its origin on a day, if one does, in half minutes."""
-        events = [(number, line) for number, line in self.lines("permanent", origin, date, uid) if line.kind in EVENTS]
-        return next((time_of(call) for call in calls_of(events) if call[0][1].kind == "D" and call[0][1].origin == origin), None)
+        if (command, date) not in self.rows:
+            self.rows[command, date] = rows_of(self.text(command, date))
+        return [(number, lines.line_of(row)) for number, row in self.rows[command, date].get(uid, ())]
 
 
 class Day:
     """A place on a day: the lines of some UIDs on its docker, and the permanent ones, by their trains."""
 
-    def __init__(self, timetable, tiploc, date, uids):
-        self.timetable, self.tiploc, self.date = timetable, tiploc, date
+    def __init__(self, timetable, date, uids):
+        self.timetable, self.date = timetable, date
         self.starts = [date_after(date, -before) for before in range(DAYS)]
         timetable.fetches([(uid, start) for uid in sorted(uids) for start in self.starts])
         self.now, self.before = {}, {}
         for uid in sorted(uids):
-            own, permanent = (timetable.lines(command, tiploc, date, uid) for command in ("print", "permanent"))
+            own, permanent = (timetable.lines(command, date, uid) for command in ("print", "permanent"))
             starts = self.starts_of(own)
             self.sort(self.now, own, starts)
             self.sort(self.before, permanent, self.permanent_starts(uid, own, starts, permanent))
@@ -213,7 +244,7 @@ class Day:
 
     def starts_of(self, numbered):
         """The start day of each line's train."""
-        docker = lines.Docker(self.tiploc, self.date, "", [line for _, line in numbered])
+        docker = lines.Docker(self.timetable.tiploc, self.date, "", [line for _, line in numbered])
         return [start or self.date for start in trains.starts_of(docker, self.timetable.train)]
 
     def permanent_starts(self, uid, own, starts, permanent):
@@ -241,7 +272,7 @@ class Day:
         since no train takes a day to get here."""
         if len(changed) == 1:
             return changed[0]
-        departs = self.timetable.departure(line.origin, line.uid, self.date)
+        departs = self.timetable.departures.of(line.origin, self.date).get(line.uid)
         is_of_day = departs is not None and departs <= line.half_minutes
         return self.date if is_of_day and self.date in changed else next((start for start in changed if start < self.date), changed[0])
 
@@ -249,9 +280,9 @@ class Day:
 class Comparison:
     """Compares the docker of a place on a day with the permanent one."""
 
-    def __init__(self, timetable, tiploc, date):
-        self.timetable, self.tiploc, self.date = timetable, tiploc, date
-        self.day = Day(timetable, tiploc, date, uids_of(*(timetable.text(command, tiploc, date) for command in ("print", "permanent"))))
+    def __init__(self, timetable, date):
+        self.timetable, self.date = timetable, date
+        self.day = Day(timetable, date, uids_of(*(timetable.text(command, date) for command in ("print", "permanent"))))
         self.changes = Changes({}, [], {})
         self.beside = {}
 
@@ -298,7 +329,7 @@ class Comparison:
     def elsewhen(self, train):
         """The first day and time at which a train is here, in words; nothing if it isn't."""
         found = self.timetable.train(*train)
-        times = ((call.days[kind], time) for call in found.calls if call.tiploc == self.tiploc for kind, time in call.times.items()) if found else ()
+        times = ((call.days[kind], time) for call in found.calls for kind, time in call.times.items()) if found else ()
         return next((f"{long(date_after(found.date, after))} at {trains.clock(time)}" for after, time in times), "")
 
     def gains(self, train, now):
@@ -323,7 +354,7 @@ class Comparison:
         """The day before or after, with the altered trains that aren't here on this day permanently."""
         if apart not in self.beside:
             uids = {uid for uid, start in self.day.now.keys() - self.day.before.keys() if self.timetable.indicator(uid, start) == "O"}
-            self.beside[apart] = Day(self.timetable, self.tiploc, date_after(self.date, apart), uids)
+            self.beside[apart] = Day(self.timetable, date_after(self.date, apart), uids)
         return self.beside[apart]
 
     def alters(self, train, call, other):
@@ -346,20 +377,22 @@ class Comparison:
 
     def links(self, train, now, before):
         """The associations of a train: those of one kind with the same other train stand for each other."""
-        others = {(line.kind, line.partner, line.suffix): line for _, line in before}
+        others = [line for _, line in before]
         for number, line in now:
-            was = others.pop((line.kind, line.partner, line.suffix), None)
+            was = next((other for other in others if (other.kind, other.partner, other.suffix) == (line.kind, line.partner, line.suffix)), None)
             if was is None:
                 self.comes(train, "added", number, words="added")
-            elif differs(line, was):
+                continue
+            others.remove(was)
+            if differs(line, was):
                 self.comes(train, "altered", number, [was])
-        for line in others.values():
+        for line in others:
             self.goes(train, "altered", line, "not {when}")
 
 
-def changes_of(timetable, tiploc, date):
+def changes_of(timetable, date):
     """What differs at a place on a day."""
-    return Comparison(timetable, tiploc, date).made()
+    return Comparison(timetable, date).made()
 
 
 def was_of(line, name, labels):
@@ -381,7 +414,7 @@ def was_of(line, name, labels):
 
 def told(line, change, labels, when):
     """A change in words: `was 09:00, platform 1`."""
-    if words := change.told_of(when):
+    if words := change.worded(when):
         return words
     if [was.kind for was in change.was] == [line.kind]:
         was = change.was[0]

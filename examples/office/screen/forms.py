@@ -55,7 +55,7 @@ def json_of(docker, starts, known, named, differing):
     told = [described(line, start, named) for line, start in zip(docker.lines, starts)]
     if differing:
         heading["changes"] = {kind: len(differing.trains.get(kind, ())) for kind in changes.WORDS}
-        heading["not_here"] = [described(line, change.start, named) | {"change": change.kind, "words": change.told_of("on this day")} for line, change in differing.gone]
+        heading["not_here"] = [described(line, change.start, named) | {"change": change.kind, "words": change.worded("on this day")} for line, change in differing.gone]
         told = [line | change_of(differing.of.get(number)) for number, line in enumerate(told)]
     return json.dumps(heading | {"lines": told}, indent=1) + "\n"
 

@@ -37,6 +37,18 @@ def rows_of(docker, differing):
     return found
 
 
+def once_here(docker):
+    """The UIDs with one call on a docker. It belongs to one train, and a link to that needs no time. A train may also end here, and another one start."""
+    events = {}
+    for line in docker.lines:
+        if line.kind in changes.EVENTS:
+            events.setdefault(line.uid, []).append(line)
+    return {
+        uid for uid, found in events.items()
+        if len(found) == 1 or [line.kind for line in found] == ["A", "D"] and found[0].suffix == found[1].suffix and docker.tiploc not in (found[0].destination, found[1].origin)
+    }
+
+
 class Rows:
     """How the rows of a docker are made. They link to their trains if single trains can be shown. Without a list of names they have codes. Where it is
     known what differs, `when` is the day in words, and each row has a cell for it."""
@@ -47,6 +59,7 @@ class Rows:
         self.is_linked = is_linked
         self.when = when
         self.place = part(docker.tiploc)
+        self.once = once_here(docker)
         self.cells = {}
         self.escaped = Escaped()
 
@@ -71,7 +84,7 @@ class Rows:
     def train(self, row):
         """The train's identity. One that isn't here is found by its start day."""
         line = row.line
-        return self.link(line.train, line.uid, row.change.start) if row.is_gone else self.linked(line.train, line.uid, line.time)
+        return self.link(line.train, line.uid, row.change.start) if row.is_gone else self.linked(line.train, line.uid, "" if line.uid in self.once else line.time)
 
     def difference(self, row):
         """The cell that says how a row differs, if any row has it."""

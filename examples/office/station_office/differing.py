@@ -46,10 +46,10 @@ def says_differences(office, reader, date, places):
     """Says how many trains differ on a day at some places. It says nothing where there is no desk that knows it."""
     if not places or reader.permanent(places[0], date).status in dockers.LACKING:
         return
-    found, number = {}, 0
+    found, number, departures = {}, 0, changes.Departures(reader)
     for place in places:
         permanent_of(reader, place, date)
-        told = changes.changes_of(changes.Timetable(reader), place, date).trains
+        told = changes.changes_of(changes.Timetable(reader, place, departures=departures), date).trains
         number += bool(told)
         for kind, those in told.items():
             found.setdefault(kind, set()).update(those)
