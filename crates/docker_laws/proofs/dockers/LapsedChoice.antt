@@ -1,5 +1,5 @@
 -- On each day from a horizon on, a table and the table lapsed under the horizon choose the same
--- schedules and associations: a schedule or an association that runs on such a day hasn't lapsed.
+-- schedules and associations. Whatever runs on such a day hasn't lapsed.
 use Rattle.std.proofs.Common.{ℕ, ◌≤◌, List, Bool, true, false, cond, arith}
 use Rattle.std.specs.Prelude.{◌↔◌, ◌&&◌, IsTrue, nat_le}
 use Rattle.std.proofs.lemmas.Bool.{leb-true}
