@@ -34,12 +34,12 @@ record WalksOn {E : Type 0} (picked : E → E → E) (old : List (Key × E)) (le
   joined : AreAscending (left_rows left old) → (rest : List (Key × E)) → AreAscending (rest ++ row ∷ [])
       → joined_with picked later new rest ≡ joined_with picked left old (rest ++ row ∷ [])
 
--- a row below another, the other way round
+-- if a row is below another, the other compares as greater
 above_turned : {E : Type 0} (a b : Key × E) → row_cmp b a ≡ Less → row_cmp a b ≡ Greater
 above_turned a b below = key_total.antisymm (key_meant a.0) (key_meant b.0) ∙ ap ordering_reverse below
 
 module _ {E : Type 0} (picked : E → E → E) where
-  -- the walk over one table and an empty one
+  -- the walk over a table and an empty one is the table
   pub walk_none : (xs : List (Key × E)) → walk picked xs [] ≡ xs
   walk_none [] = refl
   walk_none (x ∷ xs) = ap (λ rest. x ∷ rest) (walk_none xs)
@@ -120,7 +120,7 @@ module _ {E : Type 0} where
       let rest = below_row (y ∷ rows) last row d up.1 (λ _. (omega arith, known.1)) in
       ((key_total.trans (key_meant x.0) (key_meant y.0) (key_meant row.0) up.0.0 rest.0.0, tt), rest)
 
-  -- the second of two lists of rows, from its length
+  -- two lists of rows that were concatenated are found again by the length of the second
   parts : (front back : List (Key × E)) (m : ℕ) → m ≡ length back
       → (drop (length (front ++ back) - m) (front ++ back) ≡ back) × (take (length (front ++ back) - m) (front ++ back) ≡ front)
   parts front back m size =
@@ -129,7 +129,7 @@ module _ {E : Type 0} where
       (ap (λ n. drop n (front ++ back)) at ∙ drop-append_seam front back, ap (λ n. take n (front ++ back)) at ∙ take-append_seam front back)
 
 module _ {E : Type 0} (picked : E → E → E) where
-  -- the walk over rows above a row, and that row
+  -- the walk over rows and a lower row puts out the lower row, and then the rows
   walk_row : (rows : List (Key × E)) (row : Key × E) → Above row rows → walk picked rows (row ∷ []) ≡ row ∷ rows
   walk_row rows row above = lower_first picked rows (row ∷ []) [] (above, tt) ∙ ap (λ rest. row ∷ rest) (walk_none picked rows)
 
@@ -165,7 +165,7 @@ module _ {E : Type 0} (picked : E → E → E) where
           subst (λ k. key_cmp (key_meant x.0) k ≡ Less) (sym (exact_key (key_meant own.0) (key_meant row.0) level)) low.0.0 in
           ((under, above_lower x own r under above), rest_under xs low.1)
 
-  -- the rows that are left, if it is known where they begin
+  -- if rows are a front and a back, and as many are left as the back has, the back is left
   left_is : (rows front back : List (Key × E)) (m : ℕ) → rows ≡ front ++ back → m ≡ length back → left_rows m rows ≡ back
   left_is rows front back m is size = ap (λ xs. drop (length xs - m) xs) is ∙ (parts front back m size).0
 
@@ -301,7 +301,7 @@ module _ {E : Type 0} (picked : E → E → E) (old : List (Key × E)) (n left r
       ∙ ap (λ k. get_or old k row) (let plain : n - run + 0 ≡ n - run = omega arith in plain) in
       ap (λ x. row_cmp x row) first ∙ above_is (row_cmp (get_or old (n - run) row) row) (is_run.above row (let from = run_size in omega arith)))
 
-  -- the last row that is then left
+  -- the last row that is left then is the row before the run
   last_at : (d : Key × E) → 0 < later → get_or a (later - 1) d ≡ get_or old (n - (run + 1)) d
   last_at d some =
       let run_in = is_run.within in
@@ -380,7 +380,7 @@ none_yet {E = E} picked first second rows left same size =
       },
     )
 
--- if no row could be popped, none of the second table is left
+-- if no row could be popped, no row of the second table is left
 pub none_popped : {A : Type 0} (P Q : Type 0) (popped : Option A) (rows : List A) (n : ℕ) → ((x : A) → popped ≡ Some x → ⊥) → n ≡ length rows
     → MatchOption popped ((n ≡ 0) × P) (λ _. Q) → rows ≡ []
 none_popped P Q None [] n never size done = refl

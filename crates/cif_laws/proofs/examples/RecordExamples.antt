@@ -91,7 +91,7 @@ half_minute = refl
 public_times : map public_time (codes "0000" ∷ codes "    " ∷ codes "0932" ∷ []) ≡ None ∷ None ∷ Some 572 ∷ []
 public_times = refl
 
--- 23:55, 00:00½ twice, 00:10 and 00:20: one fall
+-- the times 23:55, 00:00½ twice, 00:10 and 00:20 fall once
 night_times : times_along night_schedule ≡ 2870 ∷ 1 ∷ 1 ∷ 20 ∷ 40 ∷ []
 night_times = refl
 
@@ -138,7 +138,7 @@ change_of_deletion : changes_of_unit 2 (bs (codes "D") (codes "C10001") (codes "
     ≡ record { number = 2; key = schedule_named f2_basic; act = delete } ∷ []
 change_of_deletion = refl
 
--- a journey whose last arrival makes the third fall if it is at 00:01, and none if it is at 00:06
+-- a journey passes midnight a third time if its last arrival is at 00:01, and not if it is at 00:06
 abbrev late_schedule : List ℕ → List (List ℕ)
 late_schedule arrives =
     bs (codes "N") (codes "C20001") (codes "240610") (codes "240610") (codes "1000000") (codes "2B20") (codes "P")

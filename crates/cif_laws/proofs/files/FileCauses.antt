@@ -1,5 +1,5 @@
--- The cause of a record at fault, by the place of the earlier records. A text that isn't a file's
--- has a fault.
+-- The cause of a record at fault, by the place to which the earlier records lead. A text that isn't
+-- the text of a file has a fault.
 use Rattle.std.proofs.Common.{◌≡◌, refl, true, [], ◌∷◌, Some, None, ℕ, ◌+◌, List, ◌++◌, sym, ◌∙◌, Bool, false, cond, ◌⊎◌, inl, inr}
 use Rattle.std.proofs.Common.{Contains, ap, subst, ◌<◌, ◌≤◌, length, arith, eqb-true, append_assoc, append-nil, length-append}
 use Rattle.std.specs.Prelude.{Any, Option, is_some, ◌&&◌, ◌||◌, nat_le, is_none, ◌==◌}
@@ -141,7 +141,7 @@ ends_in_schedule stage lines records within = record {
       (shape_follows stage within.front.extra within.front.journey within.front.shape)));
 }
 
--- if a line has good fields but isn't sound, it makes the third fall
+-- if a line has good fields but isn't sound, the schedule passes midnight a third time there
 third_fall : (stage : Stage) (lines records : Lines) (line : List ℕ) → IsWithin stage lines records → HasGoodFields line → is_sound_next lines line ≡ false
     → HasThirdFall records line
 third_fall stage lines records line within fields test = (lines, ends_in_schedule stage lines records within, few within.front.sound, third)
@@ -175,7 +175,7 @@ module _ (limit : ℕ) (earlier : Lines) (place : Place) (line : List ℕ) (foun
   at : IsAt place earlier
   at = at_of_place earlier place found
 
-  -- no cause with a lower rank holds, if each of them is excluded
+  -- no cause with a lower rank holds, if each such cause is excluded
   none_below : (rank : ℕ) → rank ≤ 7 → (0 < rank → ¬ (limit ≤ length earlier)) → (1 < rank → ¬ Any (HasKind trailer) earlier) → (2 < rank → length line ≡ 80)
       → (3 < rank → leftmost_bad_byte line ≡ None) → (4 < rank → ¬ (kind_of line ≡ None)) → (5 < rank → ¬ IsOutOfPlace earlier line)
       → (6 < rank → leftmost_bad_field line ≡ None)
@@ -212,7 +212,8 @@ module _ (limit : ℕ) (earlier : Lines) (place : Place) (line : List ℕ) (foun
           (at_begins there.0 (earlier ++ witness kind ∷ [])
           (next_at place earlier (witness kind) there.0 at (witness_next place earlier kind there.0 at there.1)))
 
-  -- a record that is in place and has good fields, but leads nowhere, makes a third fall
+  -- if a record is in place and has good fields, but leads nowhere, its schedule passes midnight a
+  -- third time
   third : (next : Place) → IsRecord line → place_by_kind place (kind_of line) line ≡ Some next → HasGoodFields line → next_place place line ≡ None
       → HasThirdFall earlier line
   third next is told fields nowhere = by place at unsound
@@ -351,7 +352,7 @@ module _ (limit : ℕ) (earlier : Lines) (place : Place) (line : List ℕ) (foun
           let reached = (begins_iff_place (earlier ++ line ∷ [])).0 begins in
           let bad : None ≡ Some reached.0 = sym nowhere ∙ sym (place_of_more earlier place line found) ∙ reached.1 in cc)
 
--- records that lead to a place before the end are unended
+-- if records lead to a place before the end, the fault is that the file doesn't end
 pub no_end_behind : (limit : ℕ) (records : Lines) (place : Place) → IsPlaceOf records place → is_after_end place ≡ false → length records ≤ limit
     → IsUnended limit records (record { number = length records + 1; cause = no_end })
 no_end_behind limit records place found open_end within = record {
@@ -401,7 +402,7 @@ pass_from (line ∷ rest) limit records earlier place found within whole =
 pub pass_or_fault : (limit : ℕ) (records : Lines) → Pass limit records ⊎ HasRecordFault limit records
 pass_or_fault limit records = pass_from records limit records [] before_header refl (omega arith) refl
 
--- a text is a file's within the limit, or has a fault
+-- a text is the text of a file within the limit, or it has a fault
 pub file_or_fault : (limit : ℕ) (text : List ℕ) → ((file : Lines) × IsFileText limit text file) ⊎ ((fault : FileFault) × IsFileFault limit text fault)
 file_or_fault limit text = by (pass_or_fault limit (lines_of text))
   where

@@ -89,7 +89,7 @@ between_more records unit between is = record {
   each = all_append IsUnit between.units (unit ∷ []) between.each (is, tt);
 }
 
--- after a record of this kind, records that were between units are at this place
+-- records between units and one more record of this kind are at the place that the kind gives
 unit_more : (records : Lines) (kind : Kind) (line : List ℕ) (next : Place) → IsBetween records → IsRecord line → HasKind kind line → HasGoodFields line
     → unit_by_kind (Some kind) line ≡ Some next
     → IsAt next (records ++ line ∷ [])
@@ -125,7 +125,7 @@ unit_more records trailer line next between is kind fields found =
     })
 unit_more records _ line next between is kind fields found = cc
 
--- after a record between units, the records are at the place that its kind gives
+-- records between units and one more record are at the place that the record's kind gives
 unit_more_of : (records : Lines) (line : List ℕ) (next : Place) → IsBetween records → IsRecord line → HasGoodFields line
     → unit_by_kind (kind_of line) line ≡ Some next → IsAt next (records ++ line ∷ [])
 unit_more_of records line next between is fields found = by (kind_of line) refl found
@@ -154,7 +154,7 @@ within_more stage lines records line next within found = record {
   front = next_front stage lines line next within.front found;
 }
 
--- if one more record leads to a next place, the records are at that place
+-- if a record leads to a next place, the records up to and including it are at that place
 pub next_at : (place : Place) (records : Lines) (line : List ℕ) (next : Place) → IsAt place records → next_place place line ≡ Some next
     → IsAt next (records ++ line ∷ [])
 next_at before_header records line next at found = by (next_by_test before_header line next found) (kind_of line) refl
@@ -211,13 +211,13 @@ at_from (line ∷ rest) place records final at found =
     subst (IsAt final) (append_assoc records (line ∷ []) rest)
     (at_from rest step.0 (records ++ line ∷ []) final (next_at place records line step.0 at step.1) step.2)
 
--- records that lead to a place are at it
+-- records that lead to a place are at that place
 pub at_of_place : (records : Lines) (place : Place) → IsPlaceOf records place → IsAt place records
 at_of_place records place found = at_from records before_header [] place refl found
 
 -- ---- records at a place begin some file
 
--- some good record of each kind that may come next leads to a next place
+-- for each kind that may come next, some good record leads to a next place
 pub witness_next : (place : Place) (records : Lines) (kind : Kind) (next : Place) → IsAt place records → place_by_kind place (Some kind)
     (witness kind) ≡ Some next → next_place place (witness kind) ≡ Some next
 witness_next place records kind next at found = test_by_next place (witness kind) next (record {
@@ -280,7 +280,7 @@ place_from_append (line ∷ front) place middle more found =
     let step = then_some (λ next. place_from next front) (next_place place line) middle found in
     (λ i. option_and_then (λ next. place_from next (front ++ more)) (step.1 i)) ∙ place_from_append front step.0 middle more step.2
 
--- a line that leads to a schedule's next stage leads to the place there
+-- a line that leads a schedule to a next stage leads to the place of that stage
 pub next_of_stage : (stage : Stage) (lines : Lines) (line : List ℕ) (next : Stage) → next_stage stage lines line ≡ Some next
     → next_place (in_schedule stage lines) line ≡ Some (place_in next (lines ++ line ∷ []))
 next_of_stage stage lines line next found =
@@ -430,11 +430,11 @@ file_iff_place records = (place_of_file records, at_of_place records after_end)
 pub one_place : (records : Lines) (first second : Place) → IsPlaceOf records first → IsPlaceOf records second → first ≡ second
 one_place records first second one two = let both_are : Some first ≡ Some second = sym one ∙ two in cc
 
--- the place after one more record
+-- after one more record, the place is the next place from where the records were
 pub place_of_more : (records : Lines) (place : Place) (line : List ℕ) → IsPlaceOf records place → place_at (records ++ line ∷ []) ≡ next_place place line
 place_of_more records place line found = place_from_append records before_header place (line ∷ []) found ∙ some_then (next_place place line)
 
--- with one more record they begin a file if and only if it leads to a next place
+-- records and one more begin a file if and only if the last one leads to a next place
 pub begins_next_iff : (records : Lines) (place : Place) (line : List ℕ) → IsPlaceOf records place → BeginsFile (records ++ line ∷ [])
     ↔ ((next : Place) × IsNext place line next)
 begins_next_iff records place line found = (

@@ -93,7 +93,7 @@ same_association line = λ i. association_key (record {
   indicator = new_column line 80 (omega arith) i;
 })
 
--- setting the transaction to N leaves the schedule's key
+-- setting the transaction to N keeps the schedule's key
 pub same_schedule : (line : List ℕ) → schedule_named (as_new line) ≡ schedule_named line
 same_schedule line = λ i. schedule_key (record {
   uid = new_columns line 4 9 (omega arith) i;
@@ -243,8 +243,8 @@ new_is_schedule lines schedule kept =
     sound (inl deletion) = let bad : false ≡ true = sym kept ∙ deletion in cc
     sound (inr good) = inr good
 
--- the schedule before these records ends with them: they don't begin with a record that can follow
--- a basic schedule
+-- the first of these records, if there is one, can't follow a basic schedule, so a schedule before
+-- them ends there
 abbrev pub StopsHere : List (List ℕ) → Type 0
 StopsHere [] = ⊤
 StopsHere (line ∷ lines) = follows_basic (kind_of line) ≡ false
@@ -264,7 +264,7 @@ prefix_is (line ∷ lines) rest all stops =
 pub rest_is : (lines rest : List (List ℕ)) → AllByRecursion Follows lines → StopsHere rest → schedule_rest (lines ++ rest) ≡ lines
 rest_is lines rest all stops = ap (λ n. take n (lines ++ rest)) (prefix_is lines rest all stops) ∙ take-append_seam lines rest
 
--- a record whose kind can follow a basic schedule
+-- a record can follow a basic schedule if its kind can
 pub follows_by : (kind : Kind) (line : List ℕ) → HasKind kind line → follows_basic (Some kind) ≡ true → Follows line
 follows_by kind line is follows = ap follows_basic is ∙ follows
 
@@ -343,7 +343,7 @@ no_acts (Some terminating_location) line following h = tt
 no_acts (Some change_en_route) line following h = tt
 no_acts _ line following h = cc
 
--- each change of these records is good
+-- each change of these records is well formed
 abbrev pub AllChangesGood : List (List ℕ) → Type 0
 AllChangesGood lines = (n : ℕ) → AllByRecursion IsGoodChange (changes_from n lines)
 
@@ -379,7 +379,7 @@ unit_stops unit rest (inl single) = subst (λ u. StopsHere (u ++ rest)) (sym sin
     by (inr (inr (inr kind))) = stops_by association single.0 kind refl
 unit_stops unit rest (inr schedule) = subst (λ u. StopsHere (u ++ rest)) (sym schedule.whole) (stops_by basic_schedule schedule.basic schedule.kind refl)
 
--- a schedule before these units and the trailer ends with them
+-- the first record of units and a trailer can't follow a basic schedule
 pub units_stop : (units : List (List (List ℕ))) (last : List ℕ) → AllByRecursion IsUnit units → HasKind trailer last
     → StopsHere (flat_map (λ unit. unit) units ++ last ∷ [])
 units_stop [] last all end = stops_by trailer last end refl

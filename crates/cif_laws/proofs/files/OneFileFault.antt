@@ -10,8 +10,8 @@ use Rattle.docker_model.specs.file.Text.{lines_of}
 use Rattle.docker_model.specs.file.FileFault.{FileFault, IsRecordFault, FileCause, bad_byte, bad_field, too_many, after_trailer, bad_length, bad_kind}
 use Rattle.docker_model.specs.file.FileFault.{bad_place, third_midnight, no_end, cause_rank, HoldsOf, IsCause, IsUnended, IsFileFault, IsFileText}
 
--- if two records of a list are given by what comes before them, they are the same, or one is before
--- the other
+-- of two records of a list, each given with the records before it, either both are the same or one
+-- is earlier
 head_or : List ℕ → Lines → List ℕ
 head_or line [] = line
 head_or line (first ∷ rest) = first

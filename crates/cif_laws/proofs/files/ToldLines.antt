@@ -178,7 +178,7 @@ pub record GoesOn (text more : List ℕ) : Type 0 where
   pub told : told_lines (text ++ more) ≡ told_lines text ++ map strip_carriage_return (but_last ((open_line text ++ first) ∷ pieces))
   pub open_is : open_line (text ++ more) ≡ last_of ((open_line text ++ first) ∷ pieces)
 
--- more bytes continue the text in this way
+-- any text, with any more bytes, goes on as `GoesOn` says
 pub goes_on : (text more : List ℕ) → GoesOn text more
 goes_on text more = by (slice_split (λ b. b == 10) more) refl
   where

@@ -31,7 +31,7 @@ single_alike n line following others (inr (inl is)) = alike_by n tiploc_amend li
 single_alike n line following others (inr (inr (inl is))) = alike_by n tiploc_delete line following others is refl
 single_alike n line following others (inr (inr (inr is))) = alike_by n association line following others is refl
 
--- only the records up to the next one that can't follow a basic schedule matter
+-- a basic schedule's change depends only on the records up to one that can't follow it
 basic_alike : (n : ℕ) (basic : List ℕ) (following others : List (List ℕ)) → HasKind basic_schedule basic → schedule_rest following ≡ others
     → changes_of_record n basic following ≡ change_of_schedule n basic others ∷ []
 basic_alike n basic following others is run =
@@ -93,7 +93,7 @@ schedule_then n basic others rest is stops =
     follow : AllByRecursion Follows others
     follow = others_follow basic others is
 
--- first the changes of a unit, then the changes of the records after it
+-- the changes of a unit come first, and then the changes of the records after the unit
 pub unit_then : (n : ℕ) (unit rest : List (List ℕ)) → IsUnit unit → StopsHere rest → changes_from n (unit ++ rest) ≡ changes_of_unit n unit ++ changes_from
     (n + length unit) rest
 unit_then n unit rest (inl single) stops =
@@ -106,7 +106,7 @@ unit_then n unit rest (inr schedule) stops = by unit schedule schedule.whole
     by [] is whole = absurd (let size = ap length whole in omega arith)
     by (basic ∷ others) is whole = schedule_then n basic others rest is stops
 
--- the changes of units before a trailer
+-- units and a trailer make the changes of the units
 units_then : (n : ℕ) (units : List (List (List ℕ))) (last : List ℕ) → AllByRecursion IsUnit units → HasKind trailer last
     → changes_from n (flat_map (λ unit. unit) units ++ last ∷ []) ≡ changes_of_units n units
 units_then n [] last all end = λ i. map (change_of_act n) (acts_by_kind (end i) last []) ++ []

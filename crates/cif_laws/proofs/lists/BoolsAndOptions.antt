@@ -22,7 +22,7 @@ pub none_by_test : {A : Type 0} (o : Option A) → is_none o ≡ true → o ≡ 
 none_by_test None h = refl
 none_by_test (Some x) h = cc
 
--- an option that is none passes that test
+-- an option that is none passes `is_none`
 pub test_by_none : {A : Type 0} (o : Option A) → o ≡ None → is_none o ≡ true
 test_by_none o none = λ i. is_none (none i)
 

@@ -87,6 +87,6 @@ new_kind line =
 pub new_record : (line : List ℕ) → IsRecord line → IsRecord (as_new line)
 new_record line is = (length-set line 2 78 ∙ is.0, All-set (λ b. is_printable b ≡ true) line 2 78 refl is.1)
 
--- the transaction of such a line is N
+-- a record whose transaction is set to N has the transaction N
 pub is_new : (line : List ℕ) → IsRecord line → HasNewTransaction (as_new line)
 is_new line is = let size = is.0 in get_or-set_same line 2 78 0 (omega arith)

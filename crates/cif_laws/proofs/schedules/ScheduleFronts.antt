@@ -258,7 +258,7 @@ scheduled_from_present field present = by (is_blank field)
 some_is_not_none : (n : ℕ) → Some n ≡ None → ⊥
 some_is_not_none n h = cc
 
--- if none of some fields is the leftmost bad one, they are all good
+-- if no field is the leftmost bad one, all fields are good
 all_good : (line : List ℕ) (fields : List CheckedField)
     → option_map (λ (field : CheckedField). field.first) (find (λ field. not (field.is_good (columns field.first field.last line))) fields) ≡ None
     → AllByRecursion (λ (field : CheckedField). field.is_good (columns field.first field.last line) ≡ true) fields
@@ -326,8 +326,8 @@ small_along (line ∷ lines) good =
     times_of-times : List ℕ → List ℕ
     times_of-times l = times_in (times_of l)
 
--- a prefix of some times has no more falls than all of them, and the day's last half minute adds
--- none
+-- a prefix of some times has no more falls than all the times. The day's last half minute adds no
+-- fall
 falls_front : (times more : List ℕ) → fall_count times ≤ fall_count (times ++ more)
 falls_front [] more = omega arith
 falls_front (time ∷ []) more = omega arith
@@ -378,7 +378,7 @@ front_here_decided (basic ∷ lines) =
     both_decided (both_decided (records_decided (basic ∷ lines)) (basic_decided basic))
     (either_decided (front_part_decided basic lines) (extra_and_front_decided basic lines))
 
--- lines that begin a schedule are such a prefix
+-- lines that begin a schedule have the form `FrontHere`
 front_of_whole : (lines rest : Lines) → WholeCalls (lines ++ rest) → FrontOfCalls lines
 front_of_whole [] rest calls = tt
 front_of_whole (line ∷ lines) rest (inl told) = inl (told.0, nothing lines told.1)
@@ -410,7 +410,7 @@ front_of_schedule (basic ∷ lines) rest here = ((all_front IsRecord (basic ∷ 
     by [] (inr part) = inl tt
     by (extra ∷ others) (inr part) = inr (part.0, front_of_part basic others rest part.1)
 
--- lines that complete such a prefix to a schedule
+-- lines that complete a prefix to a schedule
 record Ending (basic : List ℕ) (lines : Lines) : Type 0 where
   rest : Lines
   records : AreRecords rest

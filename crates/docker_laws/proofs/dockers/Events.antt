@@ -73,7 +73,7 @@ same_at [] k x low is = absurd (omega arith)
 same_at (y ∷ ys) zero x low is = is
 same_at (y ∷ ys) (suc k) x low is = same_at ys k x (omega arith) is
 
--- one of the times of the line at the event's place
+-- an event is one of its line's times if its place is the line's and the line has its time
 time_of_line : (lines : List (List ℕ)) (event : Event) (k : ℕ) (line : List ℕ) → k < length lines → get_or lines k [] ≡ line → event.place ≡ k
     → Contains (times_of line) (event.occasion, event.time) → IsTimeOf lines event
 time_of_line lines event k line low is place among =

@@ -42,7 +42,7 @@ IsLineFrom live place day key start line =
     ((schedule : ScheduleKey) × (schedule_key schedule ≡ key) × IsOfSchedule live place day schedule start line)
     ⊎ ((association : AssociationKey) × (association_key association ≡ key) × IsOfAssociation live place day association start line)
 
--- a line of a schedule or association, so made, is a line of the docker
+-- such a line of a schedule or an association is a line of the docker
 from_is : (live : Table) (place : List ℕ) (day : ℕ) (key : Key) (start : ℕ) (line : DockerLine) → IsLineFrom live place day key start line
     → IsDockerLine live place day line
 from_is live place day key start line (inl (schedule, same, of)) = inl of.made
@@ -67,7 +67,7 @@ same_source live place day first second start other a b (inl (x, x_is, one)) (in
 same_source live place day first second start other a b (inr (x, x_is, one)) (inl (y, y_is, two)) e =
     absurd (event_apart live place day b a two.made one.made (sym (tied_lines_agree a b e).occasions))
 
--- the three differences to the day ascend
+-- the differences 0, 1 and 2 to the day ascend
 counted_up : AllLater (λ (a b : ℕ). a < b) (0 ∷ 1 ∷ 2 ∷ [])
 counted_up = ((lit< tt, (lit< tt, tt)), ((lit< tt, tt), (tt, tt)))
 

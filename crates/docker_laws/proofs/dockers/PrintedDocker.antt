@@ -25,7 +25,7 @@ use Rattle.docker_laws.proofs.dockers.GoodBodies.{good_bodies}
 use Rattle.docker_laws.proofs.dockers.LapsedDocker.{docker_list_iff, docker_text_iff}
 use Rattle.state_laws.proofs.states.PlainLive.{lapse_table_none, live_is_lapsed_plain}
 
--- a horizon that is a day is at most the end number of no end
+-- a horizon that is a day is at most the end number that stands for no end
 pub day_bound : (horizon : ℕ) → IsDay horizon → horizon ≤ no_end_number
 day_bound horizon day = omega arith
 

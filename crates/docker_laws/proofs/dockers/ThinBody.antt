@@ -96,7 +96,7 @@ thin_is lines is =
 
 -- ---- two ends pass midnight at most once
 
--- the times of occasions that may have one
+-- the times in a list of occasions with times
 abbrev times_in : List (Occasion × ℕ) → List ℕ
 times_in timings = map (λ (time : Occasion × ℕ). time.1) timings
 
@@ -153,7 +153,7 @@ module _ (lines : List (List ℕ)) (is : IsSchedule lines) where
         subst (λ ls. Contains ls journey.last) (sym journey.whole)
         (Contains-append_right (journey.first ∷ journey.between) (journey.last ∷ []) journey.last (cons-Contains-first journey.last []))
 
-    -- a property of each line of the journey is a property of its ends
+    -- if each line of the journey has a property, so have its ends
     of_ends : (P : List ℕ → Type 0) → ((line : List ℕ) → Contains is.journey line → P line) → All P (journey.first ∷ journey.last ∷ [])
     of_ends P each = all_members P (journey.first ∷ journey.last ∷ [])
         (λ line among. by line (Contains-cons journey.first (journey.last ∷ []) line among))
@@ -300,7 +300,7 @@ thin_elsewhere place lines none = by (calls_at place (thin_lines lines)) refl
         absurd (let worse : false ≡ true = bad in cc)
     by false h = refl
 
--- the thin lines, with one more line
+-- one more line is added to the thin lines if it is an end
 thin_more : (basic : List ℕ) (others : List (List ℕ)) (line : List ℕ) (b : Bool) → is_end (kind_of line) ≡ b
     → thin_lines (basic ∷ others ++ line ∷ []) ≡ thin_lines (basic ∷ others) ++ cond b (line ∷ []) []
 thin_more basic others line b h =

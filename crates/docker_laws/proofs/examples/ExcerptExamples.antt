@@ -92,7 +92,7 @@ runs_by_overlay : ¬ TrainRuns (live_table overlaid) (codes "C40001") 23538 stop
 unfolding days_from_civil day_count days_of_years days_of_months
 runs_by_overlay runs = runs.chosen.first short_key short (record { uid_is = refl; is_live = refl; runs_then = refl }) refl
 
--- without the overlay it would
+-- without the overlay the train would run by the permanent schedule
 would_stop : TrainRuns (live_table alone) (codes "C40001") 23538 stops_key stops
 unfolding days_from_civil day_count days_of_years days_of_months
 would_stop = record {
@@ -226,7 +226,7 @@ identity_there =
       refl,
     )
 
--- without the partner it would not
+-- without the partner the docker would not have the partner's identity
 identity_lost : ¬ IsPartnerIdentity (live_table parted) (codes "C40002") (Some 23537) (codes "4D42")
 identity_lost (inl runs) = no_partner runs.0 runs.1 runs.2.chosen.running.uid_is runs.2.chosen.running.is_live
 identity_lost (inr none) = let first : ◌≡◌ {A = ℕ} 52 63 = ap (λ bytes. slice_index bytes 0) none.1 in omega arith
@@ -246,8 +246,8 @@ parted_is_no_excerpt is = by (is (schedule_key partner_key))
 partner_is_kept : (excerpt_for place joined).entries ≡ joined.entries
 partner_is_kept = refl
 
--- of a state with only the partner nothing is needed. So an excerpt is taken of a whole state:
--- joined with the association later, the excerpt of this one would lack the partner
+-- an excerpt of a state with only the partner has no entry. If it were joined with the association
+-- later, the partner would be missing. So an excerpt is taken of a whole state
 partner_alone_is_dropped : (excerpt_for place (state_of (put_in (schedule_key partner_key) (schedule_body partner) ∷ []))).entries ≡ []
 partner_alone_is_dropped = refl
 

@@ -1,5 +1,5 @@
 -- The lapse keeps the order of ops and entries. A second lapse under the same horizon changes
--- nothing. A lapse under two horizons is one under the greater.
+-- nothing. A lapse under two horizons is a lapse under the greater one.
 use Rattle.std.proofs.Common.{◌≡◌, ℕ, ◌<◌, ◌≤◌, subst, inl, inr, ◌⊎◌, refl, ap, sym, ◌∙◌, Bool, true, false, cond, arith}
 use Rattle.std.specs.Prelude.{max, nat_lt}
 use Rattle.std.specs.declared.cmp.Ordering.{Ordering}

@@ -1,5 +1,5 @@
--- If the files of a set have distinct moments, its summary under a horizon has as live table the
--- plain table, lapsed under the horizon.
+-- If the files of a set have distinct moments, the live table of their summary under a horizon is
+-- the plain table, lapsed under the horizon.
 use Rattle.std.proofs.Common.{◌≡◌, ℕ, List, Contains, subst, inl, inr, ◌⊎◌, ap, sym, ◌∙◌, None}
 use Rattle.std.specs.Prelude.{fold, option_and_then}
 use Rattle.std.specs.declared.cmp.Ordering.TheVariants.{Less, Greater}

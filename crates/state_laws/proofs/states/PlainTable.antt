@@ -318,7 +318,7 @@ not_dropped files ordered same (Some stamp) is file kept above =
 
 module _ (files ordered : List (List (List ℕ))) (order : IsInMomentOrder files ordered) (floor : Option FileStamp)
     (is_floor : IsFloor (map ledger_item_of files) floor) where
-  -- an entry of a kept file is among those from the last full extract on
+  -- an entry of a kept file is among the entries from the last full extract on
   pub in_entries : (key : Key) (entry : Entry) → IsEntryOf files floor key entry → Contains (entries_along (from_last_full ordered)) (key, entry)
   in_entries key entry made =
       let there = (order.same made.file).1 made.kept.among in
@@ -410,11 +410,11 @@ one_per_key (entry ∷ entries) up key first second in_first in_second =
     by rest (inr inside) (inl f) = absurd (not_both_here first second f inside)
     by rest (inr inside) (inr within) = rest inside within
 
--- the live table at a key whose entry is found
+-- at a key whose entry is found, the live table has the entry's body
 pub live_at : (state : State) (key : Key) (pair : Keyed) → find (λ entry. is_eq (key_cmp entry.0 key)) state.entries ≡ Some pair
     → live_table state key ≡ body_of pair.1.op
 live_at state key pair h = λ i. option_and_then (λ (entry : Entry). body_of entry.op) (option_and_then (λ (entry : Keyed). Some entry.1) (h i))
 
--- the live table at a key without an entry: nothing
+-- at a key without an entry, the live table has nothing
 pub live_none : (state : State) (key : Key) → find (λ entry. is_eq (key_cmp entry.0 key)) state.entries ≡ None → live_table state key ≡ None
 live_none state key h = λ i. option_and_then (λ (entry : Entry). body_of entry.op) (option_and_then (λ (entry : Keyed). Some entry.1) (h i))

@@ -198,7 +198,7 @@ judge_stamp format count state key bytes told here size small = by (stamp_in_dec
         )
     by (inr bad) = inl (bad_stamp, (refl, bad))
 
--- which op a byte stands for
+-- an op byte is 0, 1, or 2 if the format has lapsed ops
 op_of_byte : (format : Format) (byte : ℕ) → IsOpByte format byte → (byte ≡ 0) ⊎ (byte ≡ 1) ⊎ ((byte ≡ 2) × TellsOp format lapsed)
 op_of_byte dks_1 byte (inl e) = inl e
 op_of_byte dks_1 byte (inr e) = inr (inl e)

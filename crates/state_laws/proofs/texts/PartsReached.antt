@@ -1,5 +1,5 @@
--- Each point in a state's text, if what is before it is good, is reached from the start part by
--- part.
+-- If everything before a point in a state's text is good, reading reaches the point from the start,
+-- part by part.
 use Rattle.std.proofs.Common.{List, ◌∷◌, ◌++◌, ◌≡◌, [], refl, ap, sym, ◌∙◌, subst, Contains, Some, None, ℕ, ◌<◌}
 use Rattle.std.proofs.Common.{◌≤◌, length, arith, append_assoc, append-nil, length-append, inl, inr, ◌^◌, ◌⊎◌}
 use Rattle.std.specs.Prelude.{Option}
@@ -237,7 +237,7 @@ entry_count_leads format horizon ledger is_horizon is fits =
     then_leads format _ _ _ (ledger_leads format horizon (length ledger) ledger is_horizon is fits (omega arith))
     (no_step format _ _ (all_items horizon ledger))
 
--- the entries of a state that the format can hold
+-- the format can hold each entry that is good, hasn't to lapse and has an op of the format
 told_entries : (format : Format) (horizon : ℕ) (ledger : List LedgerItem) (entries : List (Key × Entry)) → AllByRecursion (IsGoodEntry ledger) entries
     → AllByRecursion (λ (entry : Key × Entry). HasNotToLapse horizon entry.1.op) entries
     → AllByRecursion (λ (entry : Key × Entry). TellsOp format entry.1.op) entries

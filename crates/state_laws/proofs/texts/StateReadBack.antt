@@ -14,7 +14,7 @@ use Rattle.docker_model.specs.state.StateText.{item_in, key_in, stamp_in, associ
 use Rattle.docker_model.specs.state.StatePart.{key_width}
 use Rattle.cif_laws.proofs.lists.Membership.{Contains-map}
 
--- what is left of two lists once the first is dropped
+-- dropping the first list and `k` more elements leaves the second list without its first `k`
 pub drop_past : (xs ys : List ℕ) (n k : ℕ) → length xs ≡ n → drop (n + k) (xs ++ ys) ≡ drop k ys
 drop_past [] ys n k size = ap (λ j. drop j ys) (omega arith)
 drop_past (x ∷ xs) ys n k size =

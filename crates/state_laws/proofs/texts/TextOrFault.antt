@@ -1,4 +1,4 @@
--- Every text is a state's within the limit, or has a fault: a walk over its parts.
+-- A walk over a text's parts: every text is the text of a state within the limit, or has a fault.
 use Rattle.std.proofs.Common.{◌≡◌, ℕ, zero, suc, ◌+◌, ◌<◌, ◌≤◌, List, [], ◌∷◌, ◌++◌, length, take, drop, refl, ap}
 use Rattle.std.proofs.Common.{sym, ◌∙◌, subst, inl, inr, ◌⊎◌, arith, append_assoc, append-nil, length-append, All}
 use Rattle.std.proofs.lemmas.List.{take-append-drop, length-take-le}
@@ -203,7 +203,7 @@ walk format limit text zero before rest told few = one_step_on format limit text
 walk format limit text (suc steps) before rest told few =
     one_step_on format limit text before rest told (λ after more further less. walk format limit text steps after more further (omega arith))
 
--- a text of bytes is a state's within the limit, or has a fault
+-- a text of bytes is the text of a state within the limit, or it has a fault
 pub text_or_fault : (format : Format) → (limit : ℕ) (text : List ℕ) → All (λ b. b < 256) text → Answer format limit text
 text_or_fault format limit text small =
     walk format limit text (length text) before_mark text

@@ -1,4 +1,4 @@
--- One change, or two.
+-- A record makes one change or two, and each is added.
 use Rattle.std.proofs.Common.{subst}
 use Rattle.std.specs.Prelude.{IfSome}
 use Rattle.cif_change.specs.Meaning.{change_meant}
