@@ -26,7 +26,7 @@ use Rattle.docker_program.proofs.CommandLemmas.{may_store_known, prints_known, s
 abbrev pub texts_of : List Version → List (List ℕ)
 texts_of versions = map (λ (version : Version). version.text) versions
 
--- each of these texts is the text of the summary of what is known of it
+-- each of these texts has the summary of what is known of it
 abbrev AreKnown : List Known → List (List ℕ) → Type 0
 AreKnown knowns texts = AllZip (IsKnownText dks_2) knowns texts
 
@@ -80,7 +80,7 @@ known_long : (knowns : List Known) (texts : List (List ℕ)) (versions : List Ve
 known_long knowns texts versions are made =
     zip_long (IsKnownText dks_2) (known_after knowns versions) (texts ++ texts_of versions) (all_known knowns texts versions are made)
 
--- each version is the text of the summary of what is known of it
+-- each version's text has the summary of what is known of the version
 pub version_known : (versions : List Version) (number : ℕ) (text : List ℕ) (known : Known) → AreVersions versions → IsVersion versions number text known
     → IsKnownText dks_2 known text
 version_known versions number text known are is =
