@@ -76,7 +76,7 @@ module _ (before after : Moment) (known : Known) where
       by (Ok done) None told asked ends = absurd ends.0
       by (Err fault) held told asked ends = let never : ⊥ = cc in absurd never
 
-  -- a text that was saved
+  -- after a saving, what is known of the state is known of the saved text
   pub places_known : (setting : Setting) (text : List ℕ) → IsKnown known before.desk.state → Saves setting before (done_with text) after
       → PlacesKnown setting before after known
   places_known setting text is does = by does.result does.told does.stores
@@ -131,7 +131,7 @@ module _ (setting : Setting) where
   learns_some (Some request) no_request before after old does hears = (old, refl)
   learns_some None answer before after old does hears = (old, refl)
 
-  -- and from all of them
+  -- something is learned from all steps together
   pub learned_of : (first last : Moment) (steps : List Step) (old : Known) → AreSteps setting first steps last → AllHearKnown setting steps
       → (new : Known) × AreLearned setting old steps new
   learned_of first last [] old are hear = (old, refl)

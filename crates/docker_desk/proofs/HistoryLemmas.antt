@@ -1,4 +1,4 @@
--- What was asked of a folder, and what it was answered with.
+-- What was asked of a folder, and what the folder answered.
 use Rattle.std.proofs.Common.{◌≡◌, ℕ, List, [], ◌∷◌, ◌++◌, Bool, true, false, ap, subst, ◌∙◌, append_assoc, Ok}
 use Rattle.std.specs.Prelude.{Option, Result, ⊤}
 use Rattle.cif_line.specs.Device.{Takes}
@@ -9,7 +9,7 @@ use Rattle.docker_model.specs.state.State.{State}
 use Rattle.docker_model.specs.state.StateText.{dks_2, state_text}
 use Rattle.docker_desk.specs.Desk.{EndsSaving, OpensOnce}
 
--- what was asked, and then what was asked next
+-- if some events were added to a history and then others, both were added
 pub then : (old middle new : List Event) (first next : List Event) → middle ≡ old ++ first → new ≡ middle ++ next → new ≡ old ++ (first ++ next)
 then old middle new first next before after =
     after ∙ ap (λ (events : List Event). events ++ next) before ∙ append_assoc old first next
@@ -20,7 +20,7 @@ pub draft_took : (names_bytes : Bool) (text : List ℕ) (before after : Bytes) �
 draft_took true text before after empty takes = rw empty at takes
 draft_took false text before after empty takes = rw empty at takes
 
--- a draft that was made, and then didn't take its place
+-- a draft that was made and didn't take its place adds these two events
 pub then_unplaced : (name made_for : Text) (look : ℕ) (old middle new : List Event) (took bytes : Bytes)
     → middle ≡ old ++ drafted name look ∷ [] → new ≡ middle ++ unplaced made_for took ∷ [] → made_for ≡ name → took ≡ bytes
     → new ≡ old ++ drafted name look ∷ unplaced name bytes ∷ []
@@ -42,7 +42,7 @@ opens_as name Ends own now old new result before after is same opens = record {
 
 -- ---- a saving
 
--- a text that was stored, and then a look
+-- a text that was stored and then looked at was saved
 pub saved_then : (names_bytes : Bool) (name : Text) (look : ℕ) (own state : State) (old middle new : List Event)
     → IsStored names_bytes name look (state_text dks_2 own) old middle → new ≡ middle ++ looked name ∷ [] → own ≡ state
     → EndsSaving names_bytes name look (state_text dks_2 state) old new (Ok tt)

@@ -29,17 +29,17 @@ use Rattle.docker_desk.specs.Learning.{AreLearned, Hears, HearsFile, HearsState,
 
 -- ---- what is known
 
--- adding nothing leaves what is known
+-- what is known stays the same if nothing is added
 known_with_nothing : (known : Known) → united known nothing ≡ known
 known_with_nothing known = λ i. record { files = append-nil known.files i; horizon = max-zero known.horizon i }
 
--- what is known of a state, when nothing was heard and the state is the same
+-- if nothing was heard and the state is the same, the same is known of it
 nothing_heard : (old heard : Known) (before after : State) → heard ≡ nothing → after ≡ before → IsKnown old before → IsKnown (united old heard) after
 nothing_heard old heard before after none same is =
     subst (λ h. IsKnown (united old h) after) (sym none)
     (subst (λ k. IsKnown k after) (sym (known_with_nothing old)) (subst (IsKnown old) (sym same) is))
 
--- what is known after a join, by what was known of both states
+-- after a join, what was known of both states is known of the joined state
 known_joined : (old heard : Known) (own other after : State) → IsKnown old own → IsKnown heard other
     → IsJoin own other after → IsKnown (united old heard) after
 known_joined old heard own other after first second join = record {
@@ -47,7 +47,7 @@ known_joined old heard own other after first second join = record {
   is = join_is_summary old.files heard.files old.horizon heard.horizon own other after first.is second.is join;
 }
 
--- what is known after a horizon was set
+-- after a horizon is set, the horizon is known too
 known_raised : (old heard : Known) (day : ℕ) (state : State) → IsDay day → heard ≡ record { files = []; horizon = day } → IsKnown old state
     → IsKnown (united old heard) (raise_horizon day state)
 known_raised old heard day state is_day heard_is known =
@@ -58,7 +58,7 @@ known_raised old heard day state is_day heard_is known =
           (raised_summary old.files old.horizon day state known.is);
     })
 
--- a file that was read is known
+-- after a file is read, the file is known
 known_file : (file : List (List ℕ)) (state : State) → IsFile file → length file ≤ most_records → IsSummary (file ∷ []) 0 state
     → IsKnown (record { files = file ∷ []; horizon = 0 }) state
 known_file file state is few summary = record {
@@ -69,7 +69,7 @@ known_file file state is few summary = record {
 -- ---- one request
 
 module _ (setting : Setting) (before after : Moment) where
-  -- after a file was taken
+  -- after a file is taken, the file is known too
   file_known : (name : Text) (old heard : Known) → HearsFile name before after heard → IsKnown old before.desk.state
       → IsKnown (united old heard) after.desk.state
   file_known name old heard hears is =
@@ -110,7 +110,7 @@ module _ (setting : Setting) (before after : Moment) where
   some_answer (Ok done) told = let never : ⊥ = cc in never
   some_answer (Err fault) told = let never : ⊥ = cc in never
 
-  -- what is known after a request that was done
+  -- after a request is done, what was heard is known too
   known_done : (request : RequestView) (text : List ℕ) (old heard : Known) → ((day : ℕ) → request ≡ horizon_request day → IsDay day)
       → DoesRequest setting request before (done_with text) after → Hears setting request before after heard → IsKnown old before.desk.state
       → IsKnown (united old heard) after.desk.state
@@ -156,7 +156,7 @@ module _ (setting : Setting) (before after : Moment) where
   never_unasked (horizon_request day) does = let told = does.0 in let never : ⊥ = cc in never
   never_unasked save_request does = some_answer does.result does.told
 
-  -- what is known after what was asked for
+  -- after a line is answered, what was learned from it is known
   known_asked : (request : Option RequestView) (answer : AnswerView) (old new : Known) → ((day : ℕ) → request ≡ Some (horizon_request day) → IsDay day)
       → DoesAsked setting request before answer after → Learns setting request before answer after old new → IsKnown old before.desk.state
       → IsKnown new after.desk.state
@@ -171,7 +171,7 @@ module _ (setting : Setting) (before after : Moment) where
 
 -- ---- steps
 
--- the day of a horizon that was asked for is a day
+-- the day of a horizon request is a day
 one_day : (words : List Text) (day : ℕ) → OfOne (λ date. NamesDay date day) words → IsDay day
 one_day [] day of = absurd of
 one_day (word ∷ []) day of = of.within
@@ -185,14 +185,14 @@ day_asked may_write bad_line request day asks same = let never : ⊥ = cc in abs
 day_asked may_write cut_line request day asks same = let never : ⊥ = cc in absurd never
 
 module _ (setting : Setting) where
-  -- what is known after a step
+  -- after a step, what was learned from it is known
   known_step : (step : Step) (old new : Known) → IsStep setting step → Learns setting step.request step.before step.answer step.after old new
       → IsKnown old step.before.desk.state → IsKnown new step.after.desk.state
   known_step step old new does learns is =
       known_asked setting step.before step.after step.request step.answer old new
       (λ day same. day_asked setting.may_write step.line step.request day does.asks same) does.does learns is
 
-  -- what is known after steps
+  -- after some steps, what was learned from all of them is known
   pub known_steps : (first last : Moment) (steps : List Step) (old new : Known) → IsKnown old first.desk.state → AreSteps setting first steps last
       → AreLearned setting old steps new → IsKnown new last.desk.state
   known_steps first last [] old new is are learned =
@@ -201,11 +201,11 @@ module _ (setting : Setting) where
       known_steps step.after last steps learned.0 new
       (known_step step old learned.0 are.1.0 learned.1.0 (subst (λ (m : Moment). IsKnown old m.desk.state) (sym are.0) is)) are.1.1 learned.1.1
 
-  -- what is known at a moment of a session
+  -- at each moment of a session, what was learned up to then is known of the state
   pub known_then : (known : Known) (state : State) → KnowsAt setting known state → IsKnown known state
   known_then known state at = subst (IsKnown known) at.has (known_steps at.first at.last at.steps at.start known at.begins at.are at.learned)
 
-  -- the first steps lead to a moment, and the others on from there
+  -- if steps are split in two, the first part leads to a moment, and the second part on from there
   pub steps_apart : (first last : Moment) (earlier later : List Step) → AreSteps setting first (earlier ++ later) last
       → (between : Moment) × (AreSteps setting first earlier between × AreSteps setting between later last)
   steps_apart first last [] later are = (first, (refl, are))
@@ -220,7 +220,7 @@ one_read limit left read sent reads holds =
     let same : holds.text ≡ reads.text = subst (λ bytes. Held bytes reads.text) holds.told reads.held in
     one_text dks_2 read sent reads.is.valid holds.is.valid (sym reads.is.is ∙ sym same ∙ holds.is.is)
 
--- what is known of that state is known of the state that was read
+-- what is known of the state that a file held is known of the state that was read
 pub known_read : (limit : ℕ) (left : Option (List ℕ)) (read sent : State) (start : Known) → ReadsState dks_2 limit left read → HoldsState dks_2 limit left sent
     → IsKnown start sent → IsKnown start read
 known_read limit left read sent start reads holds is = subst (IsKnown start) (sym (one_read limit left read sent reads holds)) is

@@ -39,7 +39,7 @@ module _ (name : Text) where
       → IsGoodLook name new look
   good_opened old new held look grown number = inl (record { earlier = old; held = held; later = []; whole = grown; number = number })
 
-  -- a draft that took its place, and then a look
+  -- a look after a draft took its place is good
   good_placed : (old new : List Event) (bytes : Bytes) (from look : ℕ) → new ≡ old ++ drafted name from ∷ placed name bytes ∷ looked name ∷ []
       → look ≡ length old + 2 → IsGoodLook name new look
   good_placed old new bytes from look grown number = inr (record {
@@ -50,7 +50,7 @@ module _ (name : Text) where
     number = (let size = length-append old (drafted name from ∷ []) in omega (arith, size, number));
   })
 
-  -- the same look, after any events
+  -- if the look doesn't change, it is good after any events
   good_same : (old new more : List Event) (look look_now : ℕ) → new ≡ old ++ more → look_now ≡ look → IsGoodLook name old look
       → IsGoodLook name new look_now
   good_same old new more look look_now grown same good = subst (IsGoodLook name new) (sym same) (good_more old new more look grown good)
@@ -64,7 +64,7 @@ module _ (name : Text) where
   good_renewed old new held (Err fault) own after look look_now grown ends same good =
       good_same old new (looked name ∷ opening_of name held ∷ []) look look_now grown same good
 
-  -- after a saving
+  -- after a saving that failed the look is good
   good_unsaved : (names_bytes : Bool) (text : List ℕ) (old new : List Event) (from look look_now : ℕ) → FailsToStore names_bytes name from text old new
       → look_now ≡ look → IsGoodLook name old look → IsGoodLook name new look_now
   good_unsaved names_bytes text old new from look look_now (inl grown) same good =
@@ -96,7 +96,7 @@ module _ (setting : Setting) where
   good_kept : (before after : Moment) → after ≡ before → LooksWell before → LooksWell after
   good_kept before after same good = subst LooksWell (sym same) good
 
-  -- after a request
+  -- after a request the look is still good
   good_request : (request : RequestView) (before after : Moment) (answer : AnswerView) → DoesRequest setting request before answer after → LooksWell before
       → LooksWell after
   good_request (print_request place day) before after answer does good = good_kept before after does.1 good
@@ -124,7 +124,7 @@ module _ (setting : Setting) where
   good_asked (Some request) before after answer does good = good_request request before after answer does good
   good_asked None before after answer does good = good_kept before after does.1 good
 
-  -- after steps
+  -- after some steps the look is still good
   pub good_steps : (first last : Moment) (steps : List Step) → LooksWell first → AreSteps setting first steps last → LooksWell last
   good_steps first last [] good are = good_kept first last are good
   good_steps first last (step ∷ steps) good are =

@@ -17,12 +17,12 @@ use Rattle.docker_cmd.specs.SourceRead.{JoinsState, ReadsState, WantsMemory}
 use Rattle.docker_host.specs.History.{Bytes, IsText, Text}
 use Rattle.docker_desk.specs.Desk.{EndsComparing, EndsReceiving, EndsReloading, EndsTaking, IsCounted, RefusesToReceive, result_status}
 
--- a status that is not a device's, and no failure
+-- a status that isn't a device's counts no failure
 not_failed : (status before after : ℕ) → status ≢ 4 → after ≡ before → IsCounted status before after
 not_failed status before after other same =
     ((λ is. absurd (other is), λ rose. let never : ⊥ = omega (arith, same, rose) in absurd never), λ differs. same)
 
--- a device's status, and one failure
+-- a device's status counts one failure
 failed_once : (before after : ℕ) → after ≡ before + 1 → IsCounted 4 before after
 failed_once before after rose = ((λ is. rose, λ is. refl), λ differs. absurd (differs refl))
 

@@ -119,8 +119,8 @@ pub fn dockers_are_of_the_plain_table()
         → (plain : Table) × IsPlainTable known.files plain × PrintsAs state plain }
 {}
 
-/// Each train that is answered came from a file that is known. If no two of these files have the
-/// same moment, it is the schedule that their plain table has for the UID on the day.
+/// Each schedule that `train` shows came from a known file. If no two known files have the same
+/// moment, it is the schedule that their plain table has for the UID on the day.
 pub fn trains_came_from_known_files()
     ensures { (known : Known) (state : State) (uid : List ℕ) (day : ℕ) (text : List ℕ)
         → IsKnown known state → IsTrainText state uid day text → state.horizon ≤ day

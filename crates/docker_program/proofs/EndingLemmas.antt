@@ -17,7 +17,7 @@ use Rattle.docker_program.specs.Commands.{AreNoStorings, IsDone, IsRun, IsUndone
 
 -- ---- no storing
 
--- since then no event stored anything
+-- no event after the old ones stored anything
 NoStoring : List Event → List Event → Type 0
 NoStoring old new = (events : List Event) × (new ≡ old ++ events) × AreNoStorings events
 
@@ -203,7 +203,7 @@ want_none run job rest None has wants = none_same run.old.history has.read run.n
 want_none run job rest (Some name) has wants =
     none_more run.old.history has.read run.new.history (undrafted name (length run.old.history) ∷ []) (read_none run job rest has) wants (tt, tt)
 
--- nothing was asked of the folder
+-- if the command asked nothing of the folder, it stored nothing
 unasked : (run : Run) → run.new.history ≡ run.old.history → IsUndone run
 unasked run same = inl (nothing_stored run (none_same run.old.history run.old.history run.new.history (none_here run.old.history) same))
 
@@ -230,6 +230,6 @@ undone_by run status (Some (Office office.Memory)) some same (asked, kept) = by 
     by (inl (inr wants)) = inl (nothing_stored run (none_if_opened run asked.job asked.rest run.new.history wants.0))
     by (inr has) = inl (nothing_stored run (want_none run asked.job asked.rest (stored_by has.prepared.job) has has.holds))
 
--- a command with another status stored nothing, or may have
+-- a command with another status stored nothing, or may have stored its text
 pub run_undone : (run : Run) (status : ℕ) → IsRun run status → status ≢ 0 → IsUndone run
 run_undone run status performs some = undone_by run status performs.ending some performs.status_is performs.ends

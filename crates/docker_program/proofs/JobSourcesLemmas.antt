@@ -34,7 +34,7 @@ opened_by asked job result read = record {
   second_few = read.reads.second_few;
 }
 
--- so the result of reading them means what it should
+-- if a job's sources were read, the result means what it should
 by_reading : (asked : Asking) (job : JobView) (result : Result PreparedView OfficeFault) → AreRead (names_of job) asked job result
     → ReadsNamed asked job result
 unfolding opened_by
@@ -71,7 +71,7 @@ reads_named names asked job result is reads =
 
 -- ---- what each kind of sources is
 
--- no source
+-- a job without a source reads nothing
 pub reads_none : (history : List Event) (rest first first_left second second_left : Bytes) (job : JobView) (result : Result PreparedView OfficeFault)
     → first ≡ Some [] → second ≡ Some [] → ReadsInOrder job first first_left second second_left result
     → ReadsBy no_source (asking history history rest rest) job result
@@ -83,7 +83,7 @@ reads_none history rest first first_left second second_left job result none none
       reads = reads;
     })
 
--- standard input
+-- a job whose source is standard input reads the input
 pub reads_stdin : (history : List Event) (rest left second second_left : Bytes) (job : JobView) (result : Result PreparedView OfficeFault)
     → second ≡ Some [] → ReadsInOrder job rest left second second_left result
     → ReadsBy standard_input (asking history history rest left) job result
@@ -95,7 +95,7 @@ reads_stdin history rest left second second_left job result none_behind reads =
       reads = reads;
     })
 
--- one file, which was read as if no other came after it
+-- a job with one file reads this file and no other
 pub reads_alone : (name : Text) (before now : List Event) (rest second second_left : Bytes) (job : JobView)
     (result : Result PreparedView OfficeFault) → second ≡ Some [] → ReadsBy (file_and_input name) (asking before now second second_left) job result
     → ReadsBy (one_file name) (asking before now rest rest) job result

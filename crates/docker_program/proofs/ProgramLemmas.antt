@@ -50,7 +50,7 @@ unwritten words names_bytes old new job rest read prepared (office.File fault) a
 unwritten words names_bytes old new job rest read prepared (office.State fault) asks at_most is ends = elim ends [ ]
 unwritten words names_bytes old new job rest read prepared office.Source asks at_most is ends = elim ends [ ]
 
--- the same from what the host showed before, and from the history after the look
+-- as `unread`, for the host as it was seen before, and for the history after the look
 pub ends_unread : (words : List Text) (names_bytes : Bool) (before old new : HostView) (shown : List Event) (job : JobView) (rest : Bytes)
     (fault : OfficeFault) → before ≡ old → shown ≡ with_look_at (stored_by job) before.history → AsksFor words before.input job rest
     → AsksAtMost words before.input rest → new.output ≡ before.output → ReadsNamed (asking shown new.history rest new.input) job (Err fault)
@@ -161,12 +161,12 @@ names_one : (words : List Text) (input : Bytes) (Holds : JobView → Bytes → T
 names_one [] input Holds some asked = absurd (some refl)
 names_one (word ∷ words) input Holds some asked = λ none. none asked.job asked.asks.0
 
--- words that ask for none name none
+-- words that ask for no job name no job
 names_none : (words : List Text) (input : Bytes) → words ≢ [] → AskForNone words input → NameNoJob words
 names_none [] input some none = absurd (some refl)
 names_none (word ∷ words) input some none = none
 
--- words that ask for some name one
+-- words that ask for some job name a job
 names_some : (words : List Text) (input : Bytes) → words ≢ [] → AskForSome words input → ¬ NameNoJob words
 names_some [] input some one = absurd (some refl)
 names_some (word ∷ words) input some one = one

@@ -1,4 +1,4 @@
--- What commands leave on a shelf, from nothing but their contract.
+-- What commands leave on a shelf, by their contract only.
 use Rattle.std.proofs.Common.{◌≡◌, ℕ, true, List, [], ◌∷◌, ◌++◌, Option, None, Some, length, refl, sym, ◌∙◌, ap, subst, arith, inl, inr, codes}
 use Rattle.docker_model.specs.file.Change.{changes}
 use Rattle.docker_model.specs.file.Text.{lines_of}
@@ -65,7 +65,7 @@ take_named files_task words more same = let other : ◌≡◌ {A = ℕ} 116 102 
 take_named (horizon_task day) words more same = let other : ◌≡◌ {A = ℕ} 116 104 = ap first_of same in let never : ⊥ = omega arith in absurd never
 take_named migrate_task words more same = let other : ◌≡◌ {A = ℕ} 116 109 = ap first_of same in let never : ⊥ = omega arith in absurd never
 
--- a job of these parts
+-- a job with this task and these words
 abbrev job_of : TaskView → List Text → JobView
 job_of task words = record { task = task; words = words }
 
@@ -77,7 +77,7 @@ take_job state file job is = λ i. job_of (take_named job.task job.words (state 
 
 -- ---- check
 
--- the counts of the file whose text a source held
+-- `check` writes the counts of the file whose text its source held
 counted : (extract : List ℕ) (first : Bytes) (what : ReadView) (text : List ℕ) → first ≡ Some extract → IsReadOf check_task first (Some []) what
     → IsOutputText counts_written what text → text ≡ count_line (length (lines_of extract)) (length (changes (lines_of extract)))
 counted extract first (office_read state) text same reads is = absurd reads
@@ -87,7 +87,7 @@ counted extract first (file_read file) text same reads is =
     is.1 ∙ (λ i. count_line ((reads.1.of_text.of_records.count_is ∙ ap length (sym lines)) i)
     ((reads.1.of_text.of_records.changes_are ∙ ap (λ (ls : List (List ℕ)). length (changes ls)) (sym lines)) i))
 
--- what `check` printed on a shelf
+-- a `check` with status 0 on a shelf printed the counts of the file
 pub check_printed : (extract : List ℕ) (old new : HostView) → old.history ≡ placed file_name (Some extract) ∷ [] → old.output ≡ Some []
     → IsShelfHistory new.history → Performs (codes "check" ∷ file_name ∷ []) true old new 0
     → new.output ≡ Some (count_line (length (lines_of extract)) (length (changes (lines_of extract))))
@@ -116,7 +116,7 @@ check_printed extract old new put empty met performs = by (run_done run performs
 some_one : (one two : List ℕ) → ◌≡◌ {A = Bytes} (Some one) (Some two) → one ≡ two
 some_one one two same = cc
 
--- the same from what the host shows after the command
+-- as `check_printed`, by what the host shows after the command
 pub check_result : (extract text : List ℕ) (words : List Text) (old shown new : HostView) (status : ℕ)
     → words ≡ codes "check" ∷ file_name ∷ [] → status ≡ 0 → shown ≡ new
     → old.history ≡ placed file_name (Some extract) ∷ [] → old.output ≡ Some [] → IsShelfHistory shown.history
@@ -207,7 +207,7 @@ take_left state extract old new put met performs = by (run_done run performs)
     by (job, read, text, inr prints) =
         absurd (none_some state_name (sym (subst (λ (j : JobView). stored_by j ≡ None) (take_job state_name file_name job prints.reads.asks.0) prints.unstored)))
 
--- the same from what the host shows after the command
+-- as `take_left`, by what the host shows after the command
 pub take_result : (state extract : List ℕ) (words : List Text) (old shown new : HostView) (status : ℕ)
     → words ≡ codes "take" ∷ state_name ∷ file_name ∷ [] → status ≡ 0 → shown ≡ new
     → old.history ≡ both_put state extract → IsShelfHistory shown.history

@@ -1,4 +1,4 @@
--- What the versions of STATE files know, and what that fixes.
+-- What the versions of STATE files know. What is known fixes their texts.
 use Rattle.std.proofs.Common.{◌≡◌, Some, ◌<◌, ◌⊎◌, ℕ, List, [], ◌∷◌, ◌++◌, length, map, refl, sym, ◌∙◌, ap, subst, arith, inl, inr, append-nil, append_assoc}
 use Rattle.std.specs.Prelude.{slice_index_or}
 use Rattle.std.specs.List.{AllZip}
@@ -28,7 +28,7 @@ use Rattle.docker_program.proofs.CommandLemmas.{IsKnown, known_held, known_joine
 abbrev pub texts_of : List Version → List (List ℕ)
 texts_of versions = map (λ (version : Version). version.text) versions
 
--- these texts are the texts of the summaries of what is known
+-- each of these texts has the summary of what is known of it
 abbrev AreKnown : List Known → List (List ℕ) → Type 0
 AreKnown knowns texts = AllZip (IsKnownText dks_2) knowns texts
 
@@ -101,7 +101,7 @@ made_known knowns texts (raised own day) text are made =
 made_known knowns texts (migrated known) text are made = by_command migrate_task known text made made.held
 made_known knowns texts (saved own gains) text are made = saved_known knowns texts own gains text are made
 
--- all versions are known
+-- each of all versions is the text of what is known of it
 all_known : (knowns : List Known) (texts : List (List ℕ)) (versions : List Version) → AreKnown knowns texts → AreMade texts versions
     → AreKnown (known_after knowns versions) (texts ++ texts_of versions)
 all_known knowns texts [] are made = subst (AreKnown knowns) (sym (append-nil texts)) are
@@ -111,13 +111,13 @@ all_known knowns texts (version ∷ versions) are made =
     (all_known (knowns ++ known_by knowns version.origin ∷ []) (texts ++ version.text ∷ []) versions
     (zip_end (IsKnownText dks_2) knowns texts (known_by knowns version.origin) version.text are (made_known knowns texts version.origin version.text are made.0)) made.1)
 
--- there are as many known as there are versions
+-- for each version there is one entry of what is known
 known_long : (knowns : List Known) (texts : List (List ℕ)) (versions : List Version) → AreKnown knowns texts → AreMade texts versions
     → length (known_after knowns versions) ≡ length (texts ++ texts_of versions)
 known_long knowns texts versions are made =
     zip_long (IsKnownText dks_2) (known_after knowns versions) (texts ++ texts_of versions) (all_known knowns texts versions are made)
 
--- each version is the text of the summary of what it knows
+-- each version's text has the summary of what is known of the version
 pub version_known : (versions : List Version) (number : ℕ) (text : List ℕ) (known : Known) → AreVersions versions → IsVersion versions number text known
     → IsKnownText dks_2 known text
 version_known versions number text known are is =

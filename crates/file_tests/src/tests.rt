@@ -73,7 +73,7 @@ fn check_f2(rt: &impl Abort, file: CifFile) {
     same(rt, file.into_changes().len(), 1);
 }
 
-/// Asserts that it has the header of the file of one schedule.
+/// Asserts that a file has the header of the file of one schedule.
 fn check_header(rt: &impl Abort, file: &CifFile) {
     let header = file.header();
     same(rt, header.day().number(), 23536);
@@ -296,14 +296,14 @@ fn check_f2_ends(rt: &impl Abort, alloc: Global, end: &[u8]) {
     check_f2_text(rt, alloc, whole.as_slice());
 }
 
-/// Asserts that they are accepted without the last line feed.
+/// Asserts that the file of one schedule is accepted without the last line feed.
 fn check_f2_open(rt: &impl Abort, alloc: Global) {
     let mut whole = text(alloc, &F2, b"\n").expect(rt, "room");
     whole.pop();
     check_f2_text(rt, alloc, whole.as_slice());
 }
 
-/// Asserts that they are accepted in pieces of one byte.
+/// Asserts that the file of one schedule is accepted in pieces of one byte.
 fn check_f2_bytes(rt: &impl Abort, alloc: Global) {
     let whole = text(alloc, &F2, b"\n").expect(rt, "room");
     let mut parser = FileParser::new(alloc, 4_294_967_294);

@@ -71,7 +71,7 @@ impl<'a> Desk<'a> {
         self.print(ending.line());
     }
 
-    /// Prints that something is so, or that it isn't.
+    /// Prints a statement, with a mark if it doesn't hold.
     pub(crate) fn report(&self, holds: bool, what: &str) {
         let front = if holds { "" } else { "not so: " };
         let _ = println!(self.rt; "  {front}{what}");

@@ -19,7 +19,7 @@ pub(crate) enum Ending {
 }
 
 impl Ending {
-    /// The line that is printed for it.
+    /// The line that is printed for the ending.
     pub(crate) fn line<'a>(self) -> &'a [u8] {
         match self {
             Ending::Done => b"  done\n",

@@ -1,4 +1,4 @@
-//! What is made from texts, and the texts of what is made.
+//! Files, states and offices made from texts, and the texts of states.
 ghost use Rattle.std.specs.Prelude.{◌≡◌, IfSome};
 
 use crate::desk::Desk;

@@ -87,7 +87,7 @@ module _ (places : Places) where
   pub moved_along : (moves : List (Option ℕ)) (rows : List Keyed) → length moves ≡ length rows → moved_spots moves (spots_of places rows) ≡ along moves rows
   moved_along moves rows size = along_from [] moves rows size
 
--- the first list has just the members of the two others
+-- the first list has the members of the two others, and no other members
 abbrev AreOfBoth : List Spot → List Spot → List Spot → Type 0
 AreOfBoth all first second = (spot : Spot) → Contains all spot ↔ (Contains first spot ⊎ Contains second spot)
 

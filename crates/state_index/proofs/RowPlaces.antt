@@ -1,4 +1,4 @@
--- The places of a row: where its schedule calls, or where its association is.
+-- The places of a row: where its schedule calls, or where its trains are associated.
 use Rattle.std.proofs.Common.{◌≡◌, ℕ, List, [], refl, ap, subst, inl, inr, ◌⊎◌, true, false, Some, None, Contains}
 use Rattle.std.specs.Prelude.{Option, filter}
 use Rattle.docker_model.specs.records.Record.{Kind, header, tiploc_insert, tiploc_amend, tiploc_delete, association}

@@ -1,5 +1,5 @@
--- The turns of a walk over two tables: the rows they have, the rows that win, and where the winning
--- rows go.
+-- The turns of a walk over two tables: their rows, the rows that win, and where the winning rows
+-- go.
 use Rattle.std.proofs.Common.{◌≡◌, ℕ, suc, ◌+◌, ◌≤◌, List, [], ◌∷◌, map, length, refl, ap, Bool, true, false, cond, None, arith}
 use Rattle.std.specs.Prelude.{Option, ⊤}
 use Rattle.std.specs.List.{AllByRecursion}
@@ -32,7 +32,7 @@ winner (in_first one) = one
 winner (in_second other) = other
 winner (in_both one other) = (one.0, picked one.1 other.1)
 
--- if both tables have a row at this turn, the rows have one key
+-- if both tables have a row at this turn, the two rows have one key
 abbrev pub IsLevel : AtKey → Type 0
 IsLevel (in_first one) = ⊤
 IsLevel (in_second other) = ⊤
