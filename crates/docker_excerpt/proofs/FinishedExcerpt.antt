@@ -13,7 +13,7 @@ use Rattle.docker_laws.proofs.dockers.NearDocker.{near_description}
 use Rattle.docker_laws.proofs.dockers.NearState.{near_part, near_valid, near_state_list, excerpt_on_valid}
 use Rattle.docker_day.specs.DockerValue.{Docker}
 use Rattle.docker_day.specs.Dockers.{IsDockerOf}
-use Rattle.state_text.specs.Told.{horizon_meant, under}
+use Rattle.state_text.specs.PartsSoFar.{horizon_meant, under}
 use Rattle.docker_excerpt.specs.Values.{Excerpt, with_entries, StandsAt, IsExcerptOf}
 
 -- a state without a horizon is itself under the horizon 0

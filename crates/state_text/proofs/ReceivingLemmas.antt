@@ -12,8 +12,8 @@ use Rattle.state_laws.proofs.joins.StagedEntry.{nothing_staged, one_staged_more,
 use Rattle.docker_state.specs.declared.item.LedgerItem.{LedgerItem}
 use Rattle.docker_state.specs.Parts.{last_key}
 use Rattle.docker_state.specs.Staging.{Staging, IsOffered, IsAboveStaged}
-use Rattle.state_text.specs.Receiving.{told_state, items_of, IsStagedOf}
-use Rattle.state_text.specs.Told.{under}
+use Rattle.state_text.specs.Receiving.{given_state, items_of, IsStagedOf}
+use Rattle.state_text.specs.PartsSoFar.{under}
 
 -- a key above the keys of all entries given is above the keys of the entries staged
 pub above_staged : (own : State) (floor : Option FileStamp) (entries staged : List (Key × Entry)) (key : Key) → IsStaged own floor entries staged
@@ -42,14 +42,14 @@ none_staged own staging entries none empty floor = record {
 
 -- a commit of the entries staged is the join with the entries given
 pub commit_joins : (own after : State) (items : List LedgerItem) (held : Option Staging) (entries : List (Key × Entry)) (staging : Staging) (horizon : ℕ)
-    → IsValid own → IsValid (under horizon (told_state (items_of items held) entries)) → items_of items held ≡ staging.items
+    → IsValid own → IsValid (under horizon (given_state (items_of items held) entries)) → items_of items held ≡ staging.items
     → IsStagedOf own staging entries
     → ((offered : List (Key × Entry)) → IsStaged own staging.floor offered staging.staged → IsCommit own staging.items staging.staged after)
-    → IsJoin own (told_state (items_of items held) entries) after
+    → IsJoin own (given_state (items_of items held) entries) after
 commit_joins own after items held entries staging horizon valid told same are commit =
-    subst (λ its. IsJoin own (told_state its entries) after) (sym same)
-    (staging_joins_before own (under horizon (told_state staging.items entries)) staging.floor staging.staged after valid
-    (subst (λ its. IsValid (under horizon (told_state its entries))) same told) are.floor are.staged (commit entries are.staged))
+    subst (λ its. IsJoin own (given_state its entries) after) (sym same)
+    (staging_joins_before own (under horizon (given_state staging.items entries)) staging.floor staging.staged after valid
+    (subst (λ its. IsValid (under horizon (given_state its entries))) same told) are.floor are.staged (commit entries are.staged))
 
 -- if there are no entries, there is no last key
 pub no_last : (entries : List (Key × Entry)) → entries ≡ [] → None ≡ last_key entries

@@ -7,7 +7,7 @@ ghost use Rattle.cif_file.specs.Meaning.{key_meant};
 ghost use Rattle.docker_join.specs.Meaning.{entry_meant};
 ghost use Rattle.docker_state.specs.Meaning.{item_meant};
 ghost use Rattle.docker_state.specs.Parts.{last_key};
-ghost use Rattle.state_text.specs.Told.{under, with_item, with_row};
+ghost use Rattle.state_text.specs.PartsSoFar.{under, with_item, with_row};
 
 use crate::keeper::{Keeper, Maker};
 use crate::received::Received;
@@ -20,26 +20,26 @@ use std::marker::Model;
 
 /// The horizon, if one was read, and the keeper of the parts so far.
 #[derive(Debug, Drop)]
-pub struct Told<K: Keeper> {
+pub struct PartsSoFar<K: Keeper> {
     horizon: Option<Day>,
     keeper: K,
 }
 
-impl<K: Keeper> Model for Told<K> {
+impl<K: Keeper> Model for PartsSoFar<K> {
     ghost use Rattle.docker_model.specs.state.State as states;
-    ghost use Rattle.state_text.specs.Told.{horizon_meant, under};
+    ghost use Rattle.state_text.specs.PartsSoFar.{horizon_meant, under};
 
     ghost Value = { states.State };
 
     ghost view = { λ it. under (horizon_meant it.horizon) (K.given it.keeper) };
 }
 
-impl<K: Keeper> Told<K> {
+impl<K: Keeper> PartsSoFar<K> {
     /// What a keeper was given, without a horizon.
-    pub fn new(keeper: K) -> Told<K>
+    pub fn new(keeper: K) -> PartsSoFar<K>
         ensures { result ≡ under 0 (K.given keeper) }
     {
-        Told {
+        PartsSoFar {
             horizon: None,
             keeper,
         }
@@ -104,18 +104,18 @@ impl<K: Keeper> Told<K> {
     }
 }
 
-impl<K: Maker> Told<K> {
+impl<K: Maker> PartsSoFar<K> {
     /// What the keeper makes of the parts, with the horizon that was read.
     pub fn finish(self) -> Result<K::Made, Memory>
         requires { IsValid self }
         ensures { IfOk result (λ made. K.makes made self) }
     {
-        let Told { horizon, keeper } = self;
+        let PartsSoFar { horizon, keeper } = self;
         keeper.finish(horizon)
     }
 }
 
-impl<R: Receiver> Told<Received<R>> {
+impl<R: Receiver> PartsSoFar<Received<R>> {
     /// The receiving state, joined with the parts, and then with the horizon that was read. If
     /// memory runs out, the state is as it was.
     pub fn join(self) -> (State, Result<(), Memory>)
@@ -123,7 +123,7 @@ impl<R: Receiver> Told<Received<R>> {
         ensures ok { IsOk result.1 → IsJoin R.own self result.0 }
         ensures err { IsErr result.1 → result.0 ≡ R.own }
     {
-        let Told { horizon, keeper } = self;
+        let PartsSoFar { horizon, keeper } = self;
         keeper.join(horizon)
     }
 
@@ -131,7 +131,7 @@ impl<R: Receiver> Told<Received<R>> {
     pub fn into_own(self) -> State
         ensures { result ≡ R.own }
     {
-        let Told { horizon: _, keeper } = self;
+        let PartsSoFar { horizon: _, keeper } = self;
         keeper.into_own()
     }
 }
