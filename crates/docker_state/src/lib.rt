@@ -20,4 +20,4 @@ pub use live::Live;
 pub use parts::Parts;
 pub use staging::Staging;
 pub use state::State;
-pub use state_index::{Numbered, Standing};
+pub use state_index::{Numbered, PlaceRows};
