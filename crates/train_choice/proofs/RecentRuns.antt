@@ -10,14 +10,14 @@ use Rattle.docker_model.specs.file.Change.{ScheduleKey}
 use Rattle.docker_model.specs.docker.Choice.{schedule_runs}
 use Rattle.docker_model.specs.state.State.{IsScheduleOf}
 use Rattle.train_choice.specs.Runs.{runs_until}
-use Rattle.train_choice.specs.Lately.{AreLately, runs_back, lately_back, marked_back, may_run_lately}
-use Rattle.train_choice.specs.declared.lately.Lately.{Lately}
+use Rattle.train_choice.specs.RecentRuns.{AreRecentRuns, runs_back, runs_back_by_fields, marked_back, may_run_recently}
+use Rattle.train_choice.specs.declared.recent_runs.RecentRuns.{RecentRuns}
 use Rattle.train_choice.proofs.KeptLines.{runs_by_key}
 
 -- if two tests agree on all numbers of days back, three flags that are the one's are also the
 -- other's
-pub same_lately : (test other : ℕ → Bool) (lately : Lately) → ((back : ℕ) → test back ≡ other back) → AreLately test lately → AreLately other lately
-same_lately test other lately same are = record {
+pub same_recent_runs : (test other : ℕ → Bool) (recent : RecentRuns) → ((back : ℕ) → test back ≡ other back) → AreRecentRuns test recent → AreRecentRuns other recent
+same_recent_runs test other recent same are = record {
   today_is = are.today_is ∙ same 0;
   day_before_is = are.day_before_is ∙ same 1;
   two_before_is = are.two_before_is ∙ same 2;
@@ -50,27 +50,27 @@ four_tests true true false false = refl
 
 -- by the date in its key, a schedule runs if it has begun, its weekday is marked and it hasn't
 -- ended
-pub lately_runs : (key : ScheduleKey) (lines : List (List ℕ)) (day : ℕ) → IsScheduleOf key lines
-    → (back : ℕ) → lately_back (first_record lines) key.runs_from day back ≡ runs_back lines day back
-lately_runs key lines day of back =
+pub recent_runs_are : (key : ScheduleKey) (lines : List (List ℕ)) (day : ℕ) → IsScheduleOf key lines
+    → (back : ℕ) → runs_back_by_fields (first_record lines) key.runs_from day back ≡ runs_back lines day back
+recent_runs_are key lines day of back =
     four_tests (nat_le back day) (nat_le key.runs_from (day - back)) (runs_on_weekday (columns 22 28 (first_record lines)) (weekday_of (day - back)))
     (nat_le (day - back) (end_number (columns 16 21 (first_record lines))))
     ∙ ap (λ b. nat_le back day && b) (runs_by_key key lines (day - back) of)
 
 -- this is what the code returns if the schedule has begun by the day
-pub lately_told : (key : ScheduleKey) (lines : List (List ℕ)) (line : List ℕ) (first day : ℕ) (lately : Lately) → IsScheduleOf key lines
-    → line ≡ first_record lines → first ≡ key.runs_from → AreLately (lately_back line first day) lately → AreLately (runs_back lines day) lately
-lately_told key lines line first day lately of line_is first_is are =
-    same_lately (lately_back (first_record lines) key.runs_from day) (runs_back lines day) lately (lately_runs key lines day of)
-    (subst (λ (n : ℕ). AreLately (lately_back (first_record lines) n day) lately) first_is
-    (subst (λ (l : List ℕ). AreLately (lately_back l first day) lately) line_is are))
+pub recent_runs_told : (key : ScheduleKey) (lines : List (List ℕ)) (line : List ℕ) (first day : ℕ) (recent : RecentRuns) → IsScheduleOf key lines
+    → line ≡ first_record lines → first ≡ key.runs_from → AreRecentRuns (runs_back_by_fields line first day) recent → AreRecentRuns (runs_back lines day) recent
+recent_runs_told key lines line first day recent of line_is first_is are =
+    same_recent_runs (runs_back_by_fields (first_record lines) key.runs_from day) (runs_back lines day) recent (recent_runs_are key lines day of)
+    (subst (λ (n : ℕ). AreRecentRuns (runs_back_by_fields (first_record lines) n day) recent) first_is
+    (subst (λ (l : List ℕ). AreRecentRuns (runs_back_by_fields l first day) recent) line_is are))
 
 -- this is what the code returns if it begins later
-pub never_told : (key : ScheduleKey) (lines : List (List ℕ)) (first day : ℕ) (lately : Lately) → IsScheduleOf key lines
-    → first ≡ key.runs_from → nat_lt day first ≡ true → AreLately (λ back. false) lately → AreLately (runs_back lines day) lately
-never_told key lines first day lately of first_is late are =
+pub never_told : (key : ScheduleKey) (lines : List (List ℕ)) (first day : ℕ) (recent : RecentRuns) → IsScheduleOf key lines
+    → first ≡ key.runs_from → nat_lt day first ≡ true → AreRecentRuns (λ back. false) recent → AreRecentRuns (runs_back lines day) recent
+never_told key lines first day recent of first_is late are =
     let behind = ltb-true day first late in
-    same_lately (λ back. false) (runs_back lines day) lately (never_yet key lines day of (omega arith)) are
+    same_recent_runs (λ back. false) (runs_back lines day) recent (never_yet key lines day of (omega arith)) are
 
 -- if two of four tests don't both pass, the four don't all pass
 both_of : (a b c e : Bool) → (a && c) ≡ false → ((a && (b && c)) && e) ≡ false
@@ -84,17 +84,17 @@ none_of_three false false c none = (refl, refl, none)
 none_of_three false true c none = let bad : true ≡ false = none in cc
 none_of_three true b c none = let bad : true ≡ false = none in cc
 
--- if a schedule may not run lately, it doesn't run on any of the three days
-pub idle_lately : (key : ScheduleKey) (lines : List (List ℕ)) (day : ℕ) → IsScheduleOf key lines → may_run_lately key lines day ≡ false
+-- if a schedule may not run recently, it doesn't run on any of the three days
+pub idle_recently : (key : ScheduleKey) (lines : List (List ℕ)) (day : ℕ) → IsScheduleOf key lines → may_run_recently key lines day ≡ false
     → (runs_back lines day 0 ≡ false) × (runs_back lines day 1 ≡ false) × (runs_back lines day 2 ≡ false)
-idle_lately key lines day of never = by (nat_lt day key.runs_from) refl
+idle_recently key lines day of never = by (nat_lt day key.runs_from) refl
   where
     days : List ℕ
     days = columns 22 28 (first_record lines)
 
     idle : (back : ℕ) → marked_back days day back ≡ false → runs_back lines day back ≡ false
     idle back none =
-        sym (lately_runs key lines day of back)
+        sym (recent_runs_are key lines day of back)
         ∙ both_of (nat_le back day) (nat_le key.runs_from (day - back)) (runs_on_weekday days (weekday_of (day - back)))
         (nat_le (day - back) (end_number (columns 16 21 (first_record lines)))) none
 

@@ -4,13 +4,13 @@ ghost use Rattle.std.specs.Prelude.{◌≡◌, ◌≤◌, ◌||◌, ◌-◌, fal
 ghost use Rattle.std.specs.Option.{SomeIff};
 ghost use Rattle.docker_model.specs.records.Record.{HasKind, basic_schedule, columns};
 ghost use Rattle.docker_model.specs.records.Field.{HasGoodFields, is_deletion};
-ghost use Rattle.train_choice.specs.Lately.{AreLately, begun_back, lasts_back, lately_back, marked_back};
+ghost use Rattle.train_choice.specs.RecentRuns.{AreRecentRuns, begun_back, lasts_back, runs_back_by_fields, marked_back};
 
 use cif_line::{Day, Days, Line};
 
 /// Whether a schedule runs on a day, on the day before and two days before.
 #[derive(Clone, Copy, Debug)]
-pub struct Lately {
+pub struct RecentRuns {
     /// Whether it runs on the day.
     pub today: bool,
     /// Whether it runs on the day before.
@@ -19,12 +19,12 @@ pub struct Lately {
     pub two_before: bool,
 }
 
-impl Lately {
+impl RecentRuns {
     /// The schedule doesn't run on any of the three days.
-    pub(crate) fn never() -> Lately
-        ensures { AreLately (λ back. false) result }
+    pub(crate) fn never() -> RecentRuns
+        ensures { AreRecentRuns (λ back. false) result }
     {
-        Lately {
+        RecentRuns {
             today: false,
             day_before: false,
             two_before: false,
@@ -50,17 +50,17 @@ pub fn day_back(day: Day, back: u16) -> Option<Day>
 /// Whether a schedule that begins on `first` runs on a day, on the day before and two days before.
 /// All but `first` is read from its basic schedule. The end date is read only if it can matter.
 #[tactic(auto, using(crate::proofs::RunFields::schedule_fields))]
-pub(crate) fn days_lately(line: &Line, first: Day, day: Day) -> Lately
+pub(crate) fn recent_runs_of(line: &Line, first: Day, day: Day) -> RecentRuns
     requires kind { HasKind basic_schedule line.now }
     requires good { HasGoodFields line.now }
     requires no_deletion { is_deletion line.now ≡ false }
-    ensures { AreLately (lately_back line.now first day) result }
+    ensures { AreRecentRuns (runs_back_by_fields line.now first day) result }
 {
     let days = match line.days_unless_deleted(22) {
         Some(days) => days,
         None => unreachable!(),
     };
-    let begun = Lately {
+    let begun = RecentRuns {
         today: begun_back(&days, first, day, 0),
         day_before: begun_back(&days, first, day, 1),
         two_before: begun_back(&days, first, day, 2),
@@ -69,7 +69,7 @@ pub(crate) fn days_lately(line: &Line, first: Day, day: Day) -> Lately
         return begun;
     }
     match line.end_unless_deleted(16) {
-        Some(last) => Lately {
+        Some(last) => RecentRuns {
             today: begun.today & lasts_back(last.number(), day, 0),
             day_before: begun.day_before & lasts_back(last.number(), day, 1),
             two_before: begun.two_before & lasts_back(last.number(), day, 2),
@@ -97,7 +97,7 @@ fn lasts_back(last: u16, day: Day, back: u16) -> bool
 }
 
 /// Whether a basic schedule marks one of three weekdays: the day's and the two before.
-pub(crate) fn is_marked_lately(line: &Line, day: Day) -> bool
+pub(crate) fn is_marked_recently(line: &Line, day: Day) -> bool
     ensures { result ≡ (marked_back (columns 22 28 line.now) day 0
         || marked_back (columns 22 28 line.now) day 1 || marked_back (columns 22 28 line.now) day 2) }
 {

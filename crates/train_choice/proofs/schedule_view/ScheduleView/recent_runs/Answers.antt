@@ -1,14 +1,14 @@
 use Rattle.std.proofs.Common.{ap, sym, ◌∙◌, subst}
 use Rattle.docker_model.specs.docker.Choice.{Train}
 use Rattle.docker_model.specs.state.State.{IsScheduleOf}
-use Rattle.train_choice.proofs.LatelyRuns.{lately_told, never_told}
-use Rattle.train_choice.proofs.schedule_view.ScheduleView.runs_lately.Goals as goal
+use Rattle.train_choice.proofs.RecentRuns.{recent_runs_told, never_told}
+use Rattle.train_choice.proofs.schedule_view.ScheduleView.recent_runs.Goals as goal
 
 pub returns : goal.returns
 returns c =
-    lately_told c.args.self.now.key c.args.self.now.lines c.first.result.now c.self.inside.key.now.runs_from c.args.day c.days_lately.result
+    recent_runs_told c.args.self.now.key c.args.self.now.lines c.first.result.now c.self.inside.key.now.runs_from c.args.day c.recent_runs_of.result
     (subst (λ (view : Train). IsScheduleOf view.key view.lines) c.self.view_is c.self.invariant) c.first.ensures.line
-    (ap (λ (view : Train). view.key.runs_from) c.self.view_is) c.days_lately.ensures
+    (ap (λ (view : Train). view.key.runs_from) c.self.view_is) c.recent_runs_of.ensures
 
 pub returns-then-begins_behind : goal.returns-then-begins_behind
 returns-then-begins_behind c =

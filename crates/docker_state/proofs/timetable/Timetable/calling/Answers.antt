@@ -1,0 +1,17 @@
+use Rattle.std.proofs.Common.{sym, subst}
+use Rattle.docker_model.specs.state.State.{live_table}
+use Rattle.state_laws.specs.Index.{AreCalling}
+use Rattle.state_laws.specs.Row.{Row}
+use Rattle.docker_laws.proofs.dockers.CountedRows.{counted_calling}
+use Rattle.docker_state.specs.Timetables.{Timetable, counts}
+use Rattle.docker_state.proofs.Timetables.{timetable_good}
+use Rattle.docker_state.proofs.timetable.Timetable.calling.Goals as goal
+
+pub returns-clause-rows : goal.returns-clause-rows
+returns-clause-rows c =
+    let whole = counted_calling (counts c.self.inside.permanent) (live_table c.self.inside.state.now) c.args.tiploc.now c.NUMBERED c.CALLING in
+    subst (λ (t : Timetable). AreCalling t.live c.args.tiploc.now c.of.result) c.self.view_is
+    (subst (λ (rows : List Row). AreCalling _ c.args.tiploc.now rows) (sym c.of.ensures) whole)
+
+pub returns-clause-good : goal.returns-clause-good
+returns-clause-good c = timetable_good c.self.inside.permanent c.self.inside.state.now c.args.self.now c.self.invariant c.self.view_is
