@@ -32,7 +32,7 @@ class Browser:
         return self.ask("/goog/cdp/execute", {"cmd": command, "params": words})
 
     def sized(self, width, height, is_phone=False):
-        """Gives the page so much room, on a screen or a phone's."""
+        """Gives the page this much room, on a screen or a phone's."""
         self.cdp("Emulation.setDeviceMetricsOverride", width=width, height=height, deviceScaleFactor=1, mobile=is_phone)
 
     def open(self, address):
