@@ -10,6 +10,7 @@ use Rattle.docker_model.specs.state.Table.{Table}
 use Rattle.docker_laws.specs.LiveRows.{train_in, link_in}
 use Rattle.docker_laws.specs.Gathering.{gathered, row_lines}
 use Rattle.docker_model.specs.docker.DockerLine.{DockerLine}
+use Rattle.docker_state.specs.Timetables.{live_in}
 use Rattle.train_choice.specs.Along.{AreGoodRows, AreLive}
 use Rattle.train_choice.specs.Known.{PlaceDay}
 use Rattle.docker_day.specs.Lines.{Adds}
@@ -73,17 +74,17 @@ moved_again there again all rest fewer first second third same one two = λ rows
 
 -- a walk that has gone on, and passes over rows
 pub moved_over : (there again : PlaceDay) (all rest fewer : List Row) (first second : List DockerLine) → again ≡ there
-    → AreLive again.live rest → HaveMoved there all rest first second → ArePassedOver again.day rest fewer
+    → AreLive (live_in again.timetable) rest → HaveMoved there all rest first second → ArePassedOver again.day rest fewer
     → HaveMoved there all fewer first second
 moved_over there again all rest fewer first second same live one passed = λ rows are.
     ap (λ more. second ++ more)
-    (sym (subst (λ (p : PlaceDay). ArePassedOver p.day rest fewer) same passed there.place there.live
-    (subst (λ (p : PlaceDay). AreLive p.live rest) same live) rows are))
+    (sym (subst (λ (p : PlaceDay). ArePassedOver p.day rest fewer) same passed there.place (live_in there.timetable)
+    (subst (λ (p : PlaceDay). AreLive (live_in p.timetable) rest) same live) rows are))
     ∙ one rows are
 
 -- rows that are live in one state are live in an equal one
-pub live_again : (there again : PlaceDay) (rows : List Row) → again ≡ there → AreLive there.live rows → AreLive again.live rows
-live_again there again rows same live = subst (λ (p : PlaceDay). AreLive p.live rows) (sym same) live
+pub live_again : (there again : PlaceDay) (rows : List Row) → again ≡ there → AreLive (live_in there.timetable) rows → AreLive (live_in again.timetable) rows
+live_again there again rows same live = subst (λ (p : PlaceDay). AreLive (live_in p.timetable) rows) (sym same) live
 
 -- ---- the rows of a portion
 
@@ -109,20 +110,20 @@ live_item live [] i row are below is = let bad : i < 0 = below in absurd (omega 
 
 -- each is live in an equal state
 pub live_at : (there again : PlaceDay) (portion : List (ℕ × RowView)) (i : ℕ) (row : ℕ × RowView) → again ≡ there
-    → AreLiveViews there.live (views_in portion) → i < length portion → row ≡ get_or portion i row
-    → IsLiveView again.live row.1
+    → AreLiveViews (live_in there.timetable) (views_in portion) → i < length portion → row ≡ get_or portion i row
+    → IsLiveView (live_in again.timetable) row.1
 live_at there again portion i row same are below is =
-    live_item again.live portion i row (subst (λ (p : PlaceDay). AreLiveViews p.live (views_in portion)) (sym same) are) below is
+    live_item (live_in again.timetable) portion i row (subst (λ (p : PlaceDay). AreLiveViews (live_in p.timetable) (views_in portion)) (sym same) are) below is
 
 module _ (there : PlaceDay) (portion : List (ℕ × RowView)) where
   -- the lines of the first rows of the portion were added
   abbrev pub AddsFirst : ℕ → List DockerLine → List DockerLine → Type 0
   AddsFirst n before after =
-      Adds there.live (λ trains links. lines_of trains links there.place there.day (views_in (take n portion))) before after
+      Adds (live_in there.timetable) (λ trains links. lines_of trains links there.place there.day (views_in (take n portion))) before after
 
   -- once all lines of a portion are added, the walk has gone on by its rows
   pub moved_open : (all rest : List Row) (rows : List (ℕ × RowView)) (first second : List DockerLine) → AreOpened all rest [] portion → rows ≡ portion
-      → Adds there.live (λ trains links. lines_of trains links there.place there.day (views_in rows)) first second
+      → Adds (live_in there.timetable) (λ trains links. lines_of trains links there.place there.day (views_in rows)) first second
       → HaveMoved there all rest first second
   moved_open all rest rows first second opened same adds = λ table are.
       let f : RowView → List DockerLine = view_lines (train_in table) (link_in table) there.place there.day in

@@ -5,6 +5,7 @@ ghost use Rattle.std.specs.Ordering.{nat_cmp};
 ghost use Rattle.docker_laws.specs.Row.{Row, AreRowsOf};
 ghost use Rattle.docker_laws.specs.LiveRows.{train_in};
 ghost use Rattle.docker_day.specs.Bases.{first_call, meant_if};
+ghost use Rattle.docker_state.specs.Timetables.{live_in};
 
 use crate::base_calls::{BaseCalls, first_calls};
 use crate::first_event::FirstEvent;
@@ -28,19 +29,20 @@ pub(crate) struct Bases<'a> {
 }
 
 impl<'a> Model for Bases<'a> {
+    ghost use Rattle.docker_state.specs.Timetables.{live_in};
     ghost use Rattle.train_choice.specs.Known.{PlaceDay};
     ghost use Rattle.docker_day.specs.Bases.{AreKnownCalls};
 
     ghost Value = { PlaceDay };
 
     ghost view = { λ bases. record {
-      live = bases.timetable.live;
+      timetable = bases.timetable;
       place = bases.place;
       day = bases.day;
     } };
 
     ghost invariant = { λ bases.
-        AreKnownCalls bases.timetable.live bases.place bases.day bases.last };
+        AreKnownCalls (live_in bases.timetable) bases.place bases.day bases.last };
 }
 
 impl<'a> Bases<'a> {
@@ -52,14 +54,14 @@ impl<'a> Bases<'a> {
         day: Day,
     ) -> Bases<'a>
         ensures { result ≡ record {
-          live = timetable.entry.now.live;
+          timetable = timetable.entry.now;
           place = place.now;
           day = day;
         } }
     {
         Bases {
             alloc,
-            timetable: *timetable,
+            timetable: timetable.again(),
             place: *place,
             day,
             last: None,
@@ -75,7 +77,7 @@ impl<'a> Bases<'a> {
     ) -> Result<Option<Occurrence<'a>>, Memory>
         ensures same { self.new ≡ self.old }
         ensures event { IfOk result (λ event. (rows : List Row)
-            → AreRowsOf self.old.live rows → meant_if event
+            → AreRowsOf (live_in self.old.timetable) rows → meant_if event
             ≡ first_call (train_in rows uid.now self.old.day) self.old.place suffix) }
     {
         match self.known(uid, suffix) {
@@ -88,7 +90,7 @@ impl<'a> Bases<'a> {
     /// kept, or another train's.
     fn known(&self, uid: &Uid, suffix: u8) -> Option<Option<Occurrence<'a>>>
         ensures { IfSome result (λ event. (rows : List Row)
-            → AreRowsOf self.now.live rows → meant_if event
+            → AreRowsOf (live_in self.now.timetable) rows → meant_if event
             ≡ first_call (train_in rows uid.now self.now.day) self.now.place suffix) }
     {
         match &self.last {
@@ -101,7 +103,7 @@ impl<'a> Bases<'a> {
     fn look_up(&mut self, uid: &Uid, suffix: u8) -> Result<Option<Occurrence<'a>>, Memory>
         ensures same { self.new ≡ self.old }
         ensures event { IfOk result (λ event. (rows : List Row)
-            → AreRowsOf self.old.live rows → meant_if event
+            → AreRowsOf (live_in self.old.timetable) rows → meant_if event
             ≡ first_call (train_in rows uid.now self.old.day) self.old.place suffix) }
     {
         let calls = calls_of(self.alloc, &self.timetable, uid, &self.place, self.day)?;
@@ -121,7 +123,7 @@ fn calls_of<'a>(
     day: Day,
 ) -> Result<BTreeMap<u8, FirstEvent<'a>>, Memory>
     ensures { IfOk result (λ calls. (suffix : ℕ) (rows : List Row)
-        → AreRowsOf timetable.now.live rows
+        → AreRowsOf (live_in timetable.now) rows
         → get nat_cmp calls suffix
         ≡ first_call (train_in rows uid.now day) place.now suffix) }
 {

@@ -4,6 +4,7 @@ ghost use Rattle.train_choice.specs.Along.{IsLiveLink};
 ghost use Rattle.docker_day.specs.Lines.{Adds, link_here};
 ghost use Rattle.docker_day.specs.RowViews.{IsLiveView, row_runs_recently, row_under_way, view_lines};
 ghost use Rattle.docker_day.specs.Visits.{AddsAt, AddsIf, IsLiveAt};
+ghost use Rattle.docker_state.specs.Timetables.{live_in};
 
 use crate::docker_line::DockerLine;
 use crate::link_lines::link_line;
@@ -22,9 +23,9 @@ pub(crate) fn add_row<'a>(
     row: usize,
     view: &RowView<'a>,
 ) -> Result<(), Memory>
-    requires { IsLiveView visits.old.live view.now }
+    requires { IsLiveView (live_in visits.old.timetable) view.now }
     ensures same { visits.new ≡ visits.old }
-    ensures added { OnOk result (Adds visits.old.live
+    ensures added { OnOk result (Adds (live_in visits.old.timetable)
         (λ trains links. view_lines trains links visits.old.place visits.old.day view.now)
         lines.old.items lines.new.items) }
 {
@@ -85,7 +86,7 @@ fn add_piece<'a>(
     row: usize,
     view: &RowView<'a>,
 ) -> Result<(), Memory>
-    requires { IsLiveView visit.old.live view.now }
+    requires { IsLiveView (live_in visit.old.timetable) view.now }
     ensures same { visit.new ≡ visit.old }
     ensures added { OnOk result (AddsAt visit.old view.now lines.old.items lines.new.items) }
 {
@@ -102,9 +103,9 @@ fn add_link<'a>(
     visit: &mut Visit<'a>,
     link: &LinkView<'a>,
 ) -> Result<(), Memory>
-    requires live { IsLiveLink visit.old.live link.now }
+    requires live { IsLiveLink (live_in visit.old.timetable) link.now }
     ensures same { visit.new ≡ visit.old }
-    ensures added { OnOk result (Adds visit.old.live
+    ensures added { OnOk result (Adds (live_in visit.old.timetable)
         (λ trains links. link_here trains links visit.old.place visit.old.day link.now
         visit.old.start)
         lines.old.items lines.new.items) }

@@ -10,6 +10,7 @@ ghost use Rattle.docker_laws.specs.CountedRows.{IsOfGoodRows};
 ghost use Rattle.docker_model.specs.state.Lapse.{IsDayRefused};
 ghost use Rattle.docker_model.specs.docker.DockerText.{description_in};
 ghost use Rattle.docker_day.specs.Dockers.{HasGathered, IsDockerOf};
+ghost use Rattle.docker_state.specs.Timetables.{live_in};
 
 use crate::docker_line::DockerLine;
 use crate::docker_list::Docker;
@@ -60,8 +61,8 @@ fn docker_of<'a>(
     tiploc: &Tiploc,
     day: Day,
 ) -> Result<Docker<'a>, DockerFault>
-    ensures ok { IfOk result (IsDockerOf timetable.now.live tiploc.now day) }
-    ensures lapsed { (result ≡ Err DockerFault.Lapsed) ↔ IsDayRefused timetable.now.horizon day }
+    ensures ok { IfOk result (IsDockerOf (live_in timetable.now) tiploc.now day) }
+    ensures lapsed { (result ≡ Err DockerFault.Lapsed) ↔ IsDayRefused timetable.now.state.horizon day }
 {
     if is_refused(timetable.horizon(), day) {
         return Err(DockerFault::Lapsed);
@@ -85,7 +86,7 @@ fn add_all<'a>(
     day: Day,
 ) -> Result<(), Memory>
     ensures { OnOk result
-        (HasGathered timetable.now.live place.now day lines.old.items lines.new.items) }
+        (HasGathered (live_in timetable.now) place.now day lines.old.items lines.new.items) }
 {
     let mut visits = Visits::at(alloc, timetable, place, day)?;
     add_rows(lines, &mut visits, associations_at(timetable, place))?;
@@ -111,8 +112,8 @@ fn is_refused(horizon: u16, day: Day) -> bool
 
 /// The description of a timing point: 26 bytes, which are spaces if the timing point isn't live.
 fn description<'a>(timetable: &Timetable<'a>, tiploc: &Tiploc) -> &'a [u8; 26]
-    ensures text { result.now ≡ description_in (timetable.now.live (tiploc_key tiploc.now)) }
-    ensures good { IsOfGoodRows timetable.now.live }
+    ensures text { result.now ≡ description_in (live_in timetable.now (tiploc_key tiploc.now)) }
+    ensures good { IsOfGoodRows (live_in timetable.now) }
 {
     match timetable.tiploc(tiploc) {
         Some(Body::Tiploc(bytes)) => description_of(bytes),

@@ -6,6 +6,7 @@ ghost use Rattle.train_choice.specs.Along.{AreGoodRows, AreLive};
 ghost use Rattle.docker_day.specs.Lines.{Adds};
 ghost use Rattle.docker_day.specs.RowViews.{AreLiveViews, lines_of, row_may_run, views_in};
 ghost use Rattle.docker_day.specs.Portions.{AreLeft, AreOpened, ArePassedOver};
+ghost use Rattle.docker_state.specs.Timetables.{live_in};
 
 use crate::docker_line::DockerLine;
 use crate::gathering::add_row;
@@ -28,10 +29,10 @@ pub(crate) fn add_rows<'a>(
     mut rows: TimetableRows<'a>,
 ) -> Result<(), Memory>
     requires good { AreGoodRows rows }
-    requires live { AreLive visits.old.live rows }
+    requires live { AreLive (live_in visits.old.timetable) rows }
     ensures same { visits.new ≡ visits.old }
     ensures added { OnOk result
-        (Adds visits.old.live
+        (Adds (live_in visits.old.timetable)
         (λ trains links. gathered trains links visits.old.place visits.old.day rows.entry)
         lines.old.items lines.new.items) }
 {
@@ -102,10 +103,10 @@ fn add_portion<'a>(
     visits: &mut Visits<'a>,
     rows: &[(usize, RowView<'a>)],
 ) -> Result<(), Memory>
-    requires { AreLiveViews visits.old.live (views_in rows.now) }
+    requires { AreLiveViews (live_in visits.old.timetable) (views_in rows.now) }
     ensures same { visits.new ≡ visits.old }
     ensures added { OnOk result
-        (Adds visits.old.live
+        (Adds (live_in visits.old.timetable)
         (λ trains links. lines_of trains links visits.old.place visits.old.day
         (views_in rows.now))
         lines.old.items lines.new.items) }

@@ -8,6 +8,7 @@ ghost use Rattle.train_choice.specs.EventWalk.{occurrence_meant};
 ghost use Rattle.docker_day.specs.Lines.{Adds, is_here, is_today, lines_there, runs_recently, is_under_way, schedule_piece};
 ghost use Rattle.train_choice.specs.Along.{IsLiveTrain};
 ghost use Rattle.train_choice.specs.UpTo.{occurrences_to};
+ghost use Rattle.docker_state.specs.Timetables.{live_in};
 
 use crate::detail::Detail;
 use crate::docker_line::DockerLine;
@@ -25,9 +26,9 @@ pub(crate) fn add_schedule<'a>(
     row: usize,
     train: &ScheduleView<'a>,
 ) -> Result<(), Memory>
-    requires live { IsLiveTrain visit.old.live train.now }
+    requires live { IsLiveTrain (live_in visit.old.timetable) train.now }
     ensures same { visit.new ≡ visit.old }
-    ensures added { OnOk result (Adds visit.old.live
+    ensures added { OnOk result (Adds (live_in visit.old.timetable)
         (λ trains links. schedule_piece trains visit.old.place visit.old.day train.now.key
         train.now.lines visit.old.start)
         lines.old.items lines.new.items) }

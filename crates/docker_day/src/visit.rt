@@ -8,6 +8,7 @@ ghost use Rattle.docker_laws.specs.LiveRows.{train_in, link_in};
 ghost use Rattle.train_choice.specs.Along.{IsLiveTrain};
 ghost use Rattle.train_choice.specs.Keys.{association_key_meant};
 ghost use Rattle.docker_day.specs.Bases.{first_call, meant_if};
+ghost use Rattle.docker_state.specs.Timetables.{live_in};
 
 use crate::bases::Bases;
 use cif_change::AssocKey;
@@ -39,7 +40,7 @@ impl<'a> Model for Visit<'a> {
     ghost Value = { visits.Visit };
 
     ghost view = { λ visit. record {
-      live = visit.identities;
+      timetable = visit.identities;
       place = visit.place;
       day = visit.day;
       start = visit.start;
@@ -61,7 +62,7 @@ impl<'a> Visit<'a> {
     ) -> Result<Visit<'a>, Memory>
         requires past { start ≤ day }
         ensures { IfOk result (λ visit. visit ≡ record {
-          live = timetable.entry.now.live;
+          timetable = timetable.entry.now;
           place = place.now;
           day = day;
           start = start;
@@ -103,10 +104,10 @@ impl<'a> Visit<'a> {
     /// Whether the train of this schedule's UID runs by this schedule on the start day. The
     /// schedule has to run on that day. `row` is the index of its row.
     pub(crate) fn runs_by(&mut self, row: usize, train: &ScheduleView<'a>) -> bool
-        requires live { IsLiveTrain self.old.live train.now }
+        requires live { IsLiveTrain (live_in self.old.timetable) train.now }
         requires runs { schedule_runs (first_record train.now.lines) self.old.start ≡ true }
         ensures same { self.new ≡ self.old }
-        ensures answer { (rows : List Row) → AreRowsOf self.old.live rows
+        ensures answer { (rows : List Row) → AreRowsOf (live_in self.old.timetable) rows
             → result ≡ runs_by (train_in rows train.now.key.uid self.old.start) train.now.key }
     {
         self.trains.runs_by(row, train)
@@ -115,7 +116,7 @@ impl<'a> Visit<'a> {
     /// Whether this association at the place is the one chosen in its group on the start day.
     pub(crate) fn counts(&self, key: &AssocKey) -> bool
         requires { key.now.location ≡ self.now.place }
-        ensures { (rows : List Row) → AreRowsOf self.now.live rows → result
+        ensures { (rows : List Row) → AreRowsOf (live_in self.now.timetable) rows → result
             ≡ counts_as (link_in rows (group_of (association_key_meant key.now)) self.now.start)
             (association_key_meant key.now) }
     {
@@ -131,7 +132,7 @@ impl<'a> Visit<'a> {
     ) -> Result<Option<Occurrence<'a>>, Memory>
         ensures same { self.new ≡ self.old }
         ensures event { IfOk result (λ event. (rows : List Row)
-            → AreRowsOf self.old.live rows → meant_if event
+            → AreRowsOf (live_in self.old.timetable) rows → meant_if event
             ≡ first_call (train_in rows uid.now self.old.start) self.old.place suffix) }
     {
         self.bases.first_call(uid, suffix)
@@ -142,7 +143,7 @@ impl<'a> Visit<'a> {
     pub(crate) fn identity(&mut self, uid: &Uid, day: Day) -> Result<[u8; 4], Memory>
         ensures same { self.new ≡ self.old }
         ensures identity { IfOk result (λ identity. (rows : List Row)
-            → AreRowsOf self.old.live rows
+            → AreRowsOf (live_in self.old.timetable) rows
             → identity ≡ identity_of (train_in rows uid.now day)) }
     {
         self.identities.identity(uid, day)

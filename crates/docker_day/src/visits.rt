@@ -26,14 +26,14 @@ impl<'a> Model for Visits<'a> {
     ghost Value = { PlaceDay };
 
     ghost view = { λ visits. record {
-      live = visits.today.live;
+      timetable = visits.today.timetable;
       place = visits.today.place;
       day = visits.today.day;
     } };
 
     ghost invariant = { λ visits. AreVisits
         (record {
-          live = visits.today.live;
+          timetable = visits.today.timetable;
           place = visits.today.place;
           day = visits.today.day;
         })
@@ -50,7 +50,7 @@ impl<'a> Visits<'a> {
         day: Day,
     ) -> Result<Visits<'a>, Memory>
         ensures { IfOk result (λ visits. visits
-            ≡ record { live = timetable.entry.now.live; place = place.now; day = day }) }
+            ≡ record { timetable = timetable.entry.now; place = place.now; day = day }) }
     {
         Ok(Visits {
             today: Visit::of(alloc, timetable, place, day, day)?,
@@ -83,7 +83,7 @@ fn visit_back<'a>(
     back: u16,
 ) -> Result<Option<Visit<'a>>, Memory>
     ensures { IfOk result (λ visit. visit ≡ visit_back
-        (record { live = timetable.entry.now.live; place = place.now; day = day }) back) }
+        (record { timetable = timetable.entry.now; place = place.now; day = day }) back) }
 {
     match day_back(day, back) {
         Some(start) => Ok(Some(Visit::of(alloc, timetable, place, day, start)?)),

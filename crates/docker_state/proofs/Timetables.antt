@@ -2,12 +2,11 @@
 use Rattle.std.proofs.Common.{◌≡◌, List, refl, ap, sym, ◌∙◌, subst, Bool, true, false}
 use Rattle.docker_model.specs.file.Change.{Key}
 use Rattle.docker_model.specs.state.State.{State, IsValid, live_table}
-use Rattle.docker_model.specs.state.Table.{Table}
-use Rattle.docker_laws.specs.CountedRows.{counted_table, IsOfGoodRows}
+use Rattle.docker_laws.specs.CountedRows.{IsOfGoodRows}
 use Rattle.docker_laws.proofs.dockers.CountedRows.{counted_good}
 use Rattle.docker_laws.proofs.dockers.GoodBodies.{good_bodies}
 use Rattle.docker_state.specs.Live.{live_rows}
-use Rattle.docker_state.specs.Timetables.{Timetable, counts, timetable_of}
+use Rattle.docker_state.specs.Timetables.{Timetable, counts, live_in}
 use Rattle.docker_state.proofs.LiveTable.{live_ascends, live_walks}
 
 -- the live table of a valid state is that of good rows
@@ -22,6 +21,5 @@ of_good_rows state valid = record {
 }
 
 -- so is the table of a timetable
-pub timetable_good : (permanent : Bool) (state : State) (table : Timetable) → IsValid state → timetable_of permanent state ≡ table → IsOfGoodRows table.live
-timetable_good permanent state table valid is =
-    subst (λ (t : Timetable). IsOfGoodRows t.live) is (counted_good (counts permanent) (live_table state) (of_good_rows state valid))
+pub timetable_good : (timetable : Timetable) → IsValid timetable.state → IsOfGoodRows (live_in timetable)
+timetable_good timetable valid = counted_good (counts timetable.permanent) (live_table timetable.state) (of_good_rows timetable.state valid)

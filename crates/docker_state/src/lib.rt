@@ -24,4 +24,4 @@ pub use staging::Staging;
 pub use state::State;
 pub use state_index::{Numbered, PlaceRows};
 pub use timetable::Timetable;
-pub use timetable_rows::{TimetableRows, UidRows};
+pub use timetable_rows::{TimetableRows, UidSchedules};

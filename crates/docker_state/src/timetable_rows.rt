@@ -60,12 +60,12 @@ impl<'a> Iterator for TimetableRows<'a> {
 
 /// Walks over the schedules of a UID that count, in key order. It gives each row's key and body.
 #[derive(Clone, Debug, Drop)]
-pub struct UidRows<'a> {
+pub struct UidSchedules<'a> {
     rows: Live<'a>,
     permanent: bool,
 }
 
-impl<'a> Model for UidRows<'a> {
+impl<'a> Model for UidSchedules<'a> {
     ghost use Rattle.std.specs.Prelude.{List};
     ghost use Rattle.state_laws.specs.Row.{Row};
     ghost use Rattle.docker_laws.specs.CountedRows.{counted_rows};
@@ -76,16 +76,16 @@ impl<'a> Model for UidRows<'a> {
     ghost view = { λ walk. counted_rows (counts walk.permanent) walk.rows };
 }
 
-impl<'a> UidRows<'a> {
+impl<'a> UidSchedules<'a> {
     /// The rows of a walk that count: all of them, or only the permanent ones.
-    pub(crate) fn of(rows: Live<'a>, permanent: bool) -> UidRows<'a>
+    pub(crate) fn of(rows: Live<'a>, permanent: bool) -> UidSchedules<'a>
         ensures { result ≡ counted_rows (counts permanent) rows.entry }
     {
-        UidRows { rows, permanent }
+        UidSchedules { rows, permanent }
     }
 }
 
-impl<'a> Iterator for UidRows<'a> {
+impl<'a> Iterator for UidSchedules<'a> {
     type Item = (&'a Key, &'a Body);
 
     ghost next_gives = { YieldsFirstBy

@@ -11,16 +11,17 @@ use Rattle.docker_laws.specs.LiveRows.{Link, is_linked, link_in, train_in}
 use Rattle.docker_model.specs.state.Order.{bytes_cmp}
 use Rattle.docker_laws.specs.Row.{Row, AreRowsOf}
 use Rattle.docker_model.specs.state.Table.{Table}
+use Rattle.docker_state.specs.Timetables.{Timetable}
 use Rattle.train_choice.specs.declared.uid_train.UidTrain.{UidTrain}
 
--- a live table and a start day
+-- a timetable and a start day
 pub record StartDay : Type 0 where
-  pub live : Table
+  pub timetable : Timetable
   pub day : ℕ
 
--- a live table, a place and a start day
+-- a timetable, a place and a start day
 pub record PlaceDay : Type 0 where
-  pub live : Table
+  pub timetable : Timetable
   pub place : List ℕ
   pub day : ℕ
 

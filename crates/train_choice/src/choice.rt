@@ -12,6 +12,7 @@ ghost use Rattle.docker_laws.specs.LiveRows.{is_running, train_in, unless_cancel
 ghost use Rattle.cif_line.specs.Letter.{stp_letter};
 ghost use Rattle.train_choice.specs.Along.{chosen_along, AreGoodRows, IsLiveTrain};
 ghost use Rattle.train_choice.specs.Ranked.{is_cancellation};
+ghost use Rattle.docker_state.specs.Timetables.{live_in};
 
 use crate::ranked::is_better;
 use crate::rows::schedule_of;
@@ -20,7 +21,7 @@ use crate::uid_search::UidSearch;
 use crate::walks::schedules_of;
 use cif_change::{Body, Key};
 use cif_line::{Day, Stp, Uid};
-use docker_state::{State, Timetable, UidRows};
+use docker_state::{State, Timetable, UidSchedules};
 
 /// The schedule chosen for a UID on a day. Of the live schedules of the UID that run on the day, it
 /// has the lowest STP indicator; of several of these, it has the latest first date. It may be a
@@ -33,7 +34,7 @@ pub fn chosen<'a>(state: &'a State, uid: &Uid, day: Day) -> Option<ScheduleView<
 
 /// Like `chosen`, of the schedules that count in a timetable.
 fn chosen_in<'a>(timetable: &Timetable<'a>, uid: &Uid, day: Day) -> Option<ScheduleView<'a>>
-    ensures { IsChosenOn timetable.now.live uid.now day result }
+    ensures { IsChosenOn (live_in timetable.now) uid.now day result }
 {
     let place = UidSearch::from_start(timetable);
     best_of(None, schedules_of(&place, uid), uid, day)
@@ -42,7 +43,7 @@ fn chosen_in<'a>(timetable: &Timetable<'a>, uid: &Uid, day: Day) -> Option<Sched
 /// The train of a timetable's UID that starts on a day: the chosen schedule, unless it is a cancellation.
 /// `None` if the train doesn't run.
 pub fn train_on<'a>(timetable: &Timetable<'a>, uid: &Uid, day: Day) -> Option<ScheduleView<'a>>
-    ensures { (rows : List Row) → AreRowsOf timetable.now.live rows
+    ensures { (rows : List Row) → AreRowsOf (live_in timetable.now) rows
         → result ≡ train_in rows uid.now day }
 {
     unless_cancelled(chosen_in(timetable, uid, day))
@@ -74,9 +75,9 @@ pub(crate) fn train_from<'a>(
     train: &ScheduleView<'a>,
     day: Day,
 ) -> Option<ScheduleView<'a>>
-    requires live { IsLiveTrain place.now train.now }
+    requires live { IsLiveTrain (live_in place.now) train.now }
     requires runs { schedule_runs (first_record train.now.lines) day ≡ true }
-    ensures { (rows : List Row) → AreRowsOf place.now rows
+    ensures { (rows : List Row) → AreRowsOf (live_in place.now) rows
         → result ≡ train_in rows train.now.key.uid day }
 {
     let uid = &train.key().uid;
@@ -86,7 +87,7 @@ pub(crate) fn train_from<'a>(
 /// The best so far, after all these rows.
 fn best_of<'a>(
     so_far: Option<ScheduleView<'a>>,
-    rows: UidRows<'a>,
+    rows: UidSchedules<'a>,
     uid: &Uid,
     day: Day,
 ) -> Option<ScheduleView<'a>>

@@ -11,6 +11,7 @@ ghost use Rattle.docker_model.specs.state.State.{IsBodyOf};
 ghost use Rattle.train_choice.specs.Along.{link_along, AreGoodRows};
 ghost use Rattle.train_choice.specs.Keys.{association_key_meant};
 ghost use Rattle.train_choice.specs.Known.{group_cmp, HasOneMore};
+ghost use Rattle.docker_state.specs.Timetables.{live_in};
 
 use crate::link_group::LinkGroup;
 use crate::link_view::LinkView;
@@ -36,18 +37,19 @@ pub struct DayLinks<'a> {
 }
 
 impl<'a> Model for DayLinks<'a> {
+    ghost use Rattle.docker_state.specs.Timetables.{live_in};
     ghost use Rattle.train_choice.specs.Known.{PlaceDay, AreDayLinks};
 
     ghost Value = { PlaceDay };
 
     ghost view = { λ links. record {
-      live = links.timetable.live;
+      timetable = links.timetable;
       place = links.place;
       day = links.day;
     } };
 
     ghost invariant = { λ links.
-        AreDayLinks links.timetable.live links.place links.day links.best };
+        AreDayLinks (live_in links.timetable) links.place links.day links.best };
 }
 
 impl<'a> DayLinks<'a> {
@@ -59,11 +61,11 @@ impl<'a> DayLinks<'a> {
         day: Day,
     ) -> Result<DayLinks<'a>, Memory>
         ensures { IfOk result (λ links. links
-            ≡ record { live = timetable.entry.now.live; place = place.now; day = day }) }
+            ≡ record { timetable = timetable.entry.now; place = place.now; day = day }) }
     {
         let best = best_of(alloc, associations_at(timetable, place), day)?;
         Ok(DayLinks {
-            timetable: *timetable,
+            timetable: timetable.again(),
             place: *place,
             day,
             best,
@@ -73,7 +75,7 @@ impl<'a> DayLinks<'a> {
     /// Whether this association at the place is the one chosen in its group.
     pub fn counts(&self, key: &AssocKey) -> bool
         requires { key.now.location ≡ self.now.place }
-        ensures { (rows : List Row) → AreRowsOf self.now.live rows → result
+        ensures { (rows : List Row) → AreRowsOf (live_in self.now.timetable) rows → result
             ≡ counts_as (link_in rows (group_of (association_key_meant key.now)) self.now.day)
             (association_key_meant key.now) }
     {

@@ -7,6 +7,7 @@ ghost use Rattle.docker_laws.specs.Gathering.{runs_by};
 ghost use Rattle.docker_laws.specs.LiveRows.{train_in};
 ghost use Rattle.train_choice.specs.Along.{IsLiveTrain};
 ghost use Rattle.train_choice.specs.Keys.{schedule_key_meant};
+ghost use Rattle.docker_state.specs.Timetables.{live_in};
 
 use crate::choice::train_from;
 use crate::schedule_view::ScheduleView;
@@ -27,26 +28,27 @@ pub struct DayTrains<'a> {
 }
 
 impl<'a> Model for DayTrains<'a> {
+    ghost use Rattle.docker_state.specs.Timetables.{live_in};
     ghost use Rattle.train_choice.specs.Known.{StartDay, IsKnownTrain};
 
     ghost Value = { StartDay };
 
     ghost view = { λ trains. record {
-      live = trains.timetable.live;
+      timetable = trains.timetable;
       day = trains.day;
     } };
 
     ghost invariant = { λ trains.
-        IsKnownTrain trains.timetable.live trains.day trains.last };
+        IsKnownTrain (live_in trains.timetable) trains.day trains.last };
 }
 
 impl<'a> DayTrains<'a> {
     /// The trains of a timetable that start on a day, before any is looked up.
     pub fn of(timetable: &Timetable<'a>, day: Day) -> DayTrains<'a>
-        ensures { result ≡ record { live = timetable.entry.now.live; day = day } }
+        ensures { result ≡ record { timetable = timetable.entry.now; day = day } }
     {
         DayTrains {
-            timetable: *timetable,
+            timetable: timetable.again(),
             day,
             last: None,
         }
@@ -57,10 +59,10 @@ impl<'a> DayTrains<'a> {
     /// this index. The index is only a hint: a wrong one makes the search longer and changes no
     /// answer.
     pub fn runs_by(&mut self, row: usize, train: &ScheduleView<'a>) -> bool
-        requires live { IsLiveTrain (self.old.live) train.now }
+        requires live { IsLiveTrain (live_in self.old.timetable) train.now }
         requires runs { schedule_runs (first_record train.now.lines) self.old.day ≡ true }
         ensures same { self.new ≡ self.old }
-        ensures answer { (rows : List Row) → AreRowsOf (self.old.live) rows
+        ensures answer { (rows : List Row) → AreRowsOf (live_in self.old.timetable) rows
             → result ≡ runs_by (train_in rows train.now.key.uid self.old.day) train.now.key }
     {
         match self.known(train.key()) {
@@ -72,7 +74,7 @@ impl<'a> DayTrains<'a> {
     /// Whether the kept train runs by the schedule. `None` if no train is kept, or another UID's.
     fn known(&self, key: &ScheduleKey) -> Option<bool>
         ensures { IfSome result (λ answer. (rows : List Row)
-            → AreRowsOf (self.now.live) rows
+            → AreRowsOf (live_in self.now.timetable) rows
             → answer ≡ runs_by (train_in rows key.now.uid self.now.day)
             (schedule_key_meant key.now)) }
     {
@@ -84,10 +86,10 @@ impl<'a> DayTrains<'a> {
 
     /// Like `runs_by`, by a walk over the schedules of the UID. It keeps the train that it finds.
     fn look_up(&mut self, row: usize, train: &ScheduleView<'a>) -> bool
-        requires live { IsLiveTrain (self.old.live) train.now }
+        requires live { IsLiveTrain (live_in self.old.timetable) train.now }
         requires runs { schedule_runs (first_record train.now.lines) self.old.day ≡ true }
         ensures same { self.new ≡ self.old }
-        ensures answer { (rows : List Row) → AreRowsOf (self.old.live) rows
+        ensures answer { (rows : List Row) → AreRowsOf (live_in self.old.timetable) rows
             → result ≡ runs_by (train_in rows train.now.key.uid self.old.day) train.now.key }
     {
         let key = train.key();

@@ -3,6 +3,7 @@ ghost use Rattle.std.specs.Prelude.{◌≡◌, List, IfOk};
 ghost use Rattle.docker_laws.specs.Row.{Row, AreRowsOf};
 ghost use Rattle.docker_laws.specs.Gathering.{identity_of};
 ghost use Rattle.docker_laws.specs.LiveRows.{train_in};
+ghost use Rattle.docker_state.specs.Timetables.{live_in};
 
 use crate::choice::train_on;
 use crate::schedule_view::ScheduleView;
@@ -21,24 +22,25 @@ pub struct Identities<'a> {
 }
 
 impl<'a> Model for Identities<'a> {
-    ghost use Rattle.docker_model.specs.state.Table.{Table};
+    ghost use Rattle.docker_state.specs.Timetables as timetables;
+    ghost use Rattle.docker_state.specs.Timetables.{live_in};
     ghost use Rattle.train_choice.specs.Known.{AreIdentities};
 
-    ghost Value = { Table };
+    ghost Value = { timetables.Timetable };
 
-    ghost view = { λ identities. identities.timetable.live };
+    ghost view = { λ identities. identities.timetable };
 
     ghost invariant = { λ identities.
-        AreIdentities identities.timetable.live identities.known };
+        AreIdentities (live_in identities.timetable) identities.known };
 }
 
 impl<'a> Identities<'a> {
     /// The train identities of a timetable, before any is looked up.
     pub fn of(alloc: Global, timetable: &Timetable<'a>) -> Identities<'a>
-        ensures { result ≡ timetable.entry.now.live }
+        ensures { result ≡ timetable.entry.now }
     {
         Identities {
-            timetable: *timetable,
+            timetable: timetable.again(),
             known: BTreeMap::new(alloc),
         }
     }
@@ -48,7 +50,7 @@ impl<'a> Identities<'a> {
     pub fn identity(&mut self, uid: &Uid, day: Day) -> Result<[u8; 4], Memory>
         ensures same { self.new ≡ self.old }
         ensures identity { IfOk result (λ identity. (rows : List Row)
-            → AreRowsOf self.old rows
+            → AreRowsOf (live_in self.old) rows
             → identity ≡ identity_of (train_in rows uid.now day)) }
     {
         let known = self.known.get(&(*uid, day)).copied();
@@ -63,7 +65,7 @@ impl<'a> Identities<'a> {
     fn look_up(&mut self, uid: &Uid, day: Day) -> Result<[u8; 4], Memory>
         ensures same { self.new ≡ self.old }
         ensures identity { IfOk result (λ identity. (rows : List Row)
-            → AreRowsOf self.old rows
+            → AreRowsOf (live_in self.old) rows
             → identity ≡ identity_of (train_in rows uid.now day)) }
     {
         let identity = identity_of(train_on(&self.timetable, uid, day));

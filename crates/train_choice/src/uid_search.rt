@@ -2,9 +2,10 @@
 ghost use Rattle.std.specs.Prelude.{◌≡◌};
 ghost use Rattle.docker_laws.specs.CountedRows.{IsOfGoodRows};
 ghost use Rattle.docker_laws.specs.Index.{AreOfUid};
+ghost use Rattle.docker_state.specs.Timetables.{live_in};
 
 use cif_line::Uid;
-use docker_state::{Timetable, UidRows};
+use docker_state::{Timetable, UidSchedules};
 use std::marker::Model;
 
 /// A timetable, and the index of one of its rows. The search for the schedules of a UID begins at
@@ -16,35 +17,35 @@ pub(crate) struct UidSearch<'a> {
 }
 
 impl<'a> Model for UidSearch<'a> {
-    ghost use Rattle.docker_model.specs.state.Table.{Table};
+    ghost use Rattle.docker_state.specs.Timetables as timetables;
 
-    ghost Value = { Table };
+    ghost Value = { timetables.Timetable };
 
-    ghost view = { λ place. place.timetable.live };
+    ghost view = { λ place. place.timetable };
 }
 
 impl<'a> UidSearch<'a> {
     /// A search that begins at the row with this index.
     pub(crate) fn at_row(timetable: &Timetable<'a>, row: usize) -> UidSearch<'a>
-        ensures { result ≡ timetable.entry.now.live }
+        ensures { result ≡ timetable.entry.now }
     {
         UidSearch {
-            timetable: *timetable,
+            timetable: timetable.again(),
             row,
         }
     }
 
     /// A search without a hint.
     pub(crate) fn from_start(timetable: &Timetable<'a>) -> UidSearch<'a>
-        ensures { result ≡ timetable.entry.now.live }
+        ensures { result ≡ timetable.entry.now }
     {
         UidSearch::at_row(timetable, 0)
     }
 
     /// The schedules of a UID, each with its lines, in key order.
-    pub(crate) fn of_uid(&self, uid: &Uid) -> UidRows<'a>
-        ensures rows { AreOfUid self.now uid.now result }
-        ensures good { IsOfGoodRows self.now }
+    pub(crate) fn of_uid(&self, uid: &Uid) -> UidSchedules<'a>
+        ensures rows { AreOfUid (live_in self.now) uid.now result }
+        ensures good { IsOfGoodRows (live_in self.now) }
     {
         self.timetable.of_uid_near(uid, self.row)
     }

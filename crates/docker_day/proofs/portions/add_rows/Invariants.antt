@@ -1,4 +1,5 @@
 use Rattle.std.proofs.Common.{◌≡◌, length}
+use Rattle.docker_state.specs.Timetables.{live_in}
 use Rattle.train_choice.specs.Along.{AreGoodRows, AreLive}
 use Rattle.docker_day.specs.Portions.{HaveMoved}
 use Rattle.docker_day.proofs.portions.add_rows.Given as goal
@@ -7,7 +8,7 @@ use Rattle.docker_day.proofs.portions.add_rows.Given as goal
 abbrev pub invariant-portions : goal.invariant-portions
 invariant-portions l = record {
   good : AreGoodRows l.rows;
-  live : AreLive l.visits.live l.rows;
+  live : AreLive (live_in l.visits.timetable) l.rows;
   same : l.visits ≡ l.fn.visits;
   all : HaveMoved l.fn.visits l.fn.rows l.rows l.fn.lines.items l.lines.items;
 }

@@ -1,10 +1,11 @@
 use Rattle.std.specs.BTreeMap.{get}
+use Rattle.docker_state.specs.Timetables.{live_in}
 use Rattle.train_choice.specs.Known.{group_cmp}
 use Rattle.train_choice.proofs.Along.{link_of_group, link_of_rows}
 use Rattle.train_choice.proofs.day_links.DayLinks.at.Goals as goal
 
 pub invariant_of-result : goal.invariant_of-result
 invariant_of-result c = λ group here rows are.
-    link_of_rows c.args.timetable.now.live rows group c.args.day (get group_cmp c.in_ok-best.best group) are
-    (link_of_group c.args.timetable.now.live group c.args.day c.associations_at.result (get group_cmp c.in_ok-best.best group)
+    link_of_rows (live_in c.args.timetable.now) rows group c.args.day (get group_cmp c.in_ok-best.best group) are
+    (link_of_group (live_in c.args.timetable.now) group c.args.day c.associations_at.result (get group_cmp c.in_ok-best.best group)
     (c.associations_at.ensures.has group here) (c.in_ok-best.ensures group))

@@ -1,7 +1,7 @@
 use Rattle.std.proofs.Common.{◌≡◌, length}
 use Rattle.docker_laws.specs.CountedRows.{counted_rows}
 use Rattle.docker_state.specs.Timetables.{counts}
-use Rattle.docker_state.proofs.timetable_rows.UidRowsIterator.next.Given as goal
+use Rattle.docker_state.proofs.timetable_rows.UidSchedulesIterator.next.Given as goal
 
 abbrev pub invariant-loop-key : goal.invariant-loop-key
 invariant-loop-key l =
