@@ -32,7 +32,7 @@ use Rattle.docker_day.specs.declared.row_view.RowView.{RowView}
 use Rattle.docker_day.specs.declared.row_view.RowView.TheVariants.{Train, Link, Other}
 use Rattle.train_choice.specs.RecentRuns.{runs_back}
 use Rattle.train_choice.specs.Ranked.{is_cancellation}
-use Rattle.train_choice.proofs.RecentRuns.{idle_recently}
+use Rattle.train_choice.proofs.RecentDays.{idle_recently}
 use Rattle.docker_day.proofs.TrainLines.{event_lines_are}
 use Rattle.docker_day.proofs.UpToLast.{lines_to_last}
 use Rattle.docker_day.proofs.LinkLines.{three_backs}

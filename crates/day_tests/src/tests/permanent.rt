@@ -90,7 +90,7 @@ fn overlaid_and_cancelled(rt: HostRuntime) {
 
 /// A new short-term train isn't there, whether it is alone or beside a permanent schedule.
 #[test]
-fn new_train(rt: HostRuntime) {
+fn new_trains_left_out(rt: HostRuntime) {
     let alloc = rt.alloc();
     let alone: &[&[&[u8]]] = &[&[HD, BS_NEW, LO, LT, ZZ]];
     shows(&rt, alloc, alone, "ASHFELD", "2024-06-13", &[LEAVES_AS_NEW]);
@@ -109,7 +109,7 @@ fn new_train(rt: HostRuntime) {
 
 /// An overlay moves a train away: it stays where its permanent schedule has it.
 #[test]
-fn moved_away(rt: HostRuntime) {
+fn train_moved_away(rt: HostRuntime) {
     let alloc = rt.alloc();
     let files: &[&[&[u8]]] = &[&[
         HD,
@@ -140,7 +140,7 @@ fn two_permanent_schedules(rt: HostRuntime) {
 
 /// A cancelled train that passes midnight is there on the day after its start.
 #[test]
-fn night_train(rt: HostRuntime) {
+fn cancelled_night_train(rt: HostRuntime) {
     let alloc = rt.alloc();
     let files: &[&[&[u8]]] = &[&[
         HD,
@@ -223,7 +223,7 @@ fn works_on(rt: &impl Abort, alloc: Global, association: &[u8], now: &[u8], want
 /// The associated train has its identity, though it is cancelled. A short-term association has no
 /// line.
 #[test]
-fn cancelled_partner(rt: HostRuntime) {
+fn identity_of_a_cancelled_partner(rt: HostRuntime) {
     let unknown = WORKS_ON_UNKNOWN;
     works_on(&rt, rt.alloc(), AA_N, unknown, &[COMES_2350, WORKS_ON]);
     works_on(&rt, rt.alloc(), AA_NEW, WORKS_ON_AS_NEW, &[COMES_2350]);
@@ -231,7 +231,7 @@ fn cancelled_partner(rt: HostRuntime) {
 
 /// The heading has the description of the place.
 #[test]
-fn heading(rt: HostRuntime) {
+fn permanent_heading(rt: HostRuntime) {
     let alloc = rt.alloc();
     let state = state(&rt, alloc, &[HD, TI, BS, LO, LT, ZZ]);
     let kept = printed(&rt, alloc, &state, "ASHFELD", "2024-06-10");
@@ -242,7 +242,7 @@ fn heading(rt: HostRuntime) {
 
 /// A permanent docker is refused if its day is earlier than three days after the horizon.
 #[test]
-fn horizon(rt: HostRuntime) {
+fn permanent_dockers_refused(rt: HostRuntime) {
     let alloc = rt.alloc();
     let mut state = state(&rt, alloc, &[HD, BS_WEEK, LO, LT, ZZ]);
     state.set_horizon(day(&rt, "2024-06-12"));

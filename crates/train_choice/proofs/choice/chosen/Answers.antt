@@ -1,0 +1,7 @@
+use Rattle.std.proofs.Common.{subst}
+use Rattle.docker_model.specs.docker.Choice.{IsChosenOn}
+use Rattle.docker_state.specs.Timetables.{Timetable, live_in}
+use Rattle.train_choice.proofs.choice.chosen.Goals as goal
+
+pub returns : goal.returns
+returns c = subst (λ (t : Timetable). IsChosenOn (live_in t) c.args.uid.now c.args.day c.chosen_in.result) c.of.ensures c.chosen_in.ensures
