@@ -27,7 +27,7 @@ pub record IsKnown (known : Known) (state : State) : Type 0 where
   pub good : IsGoodKnown dks_2 known
   pub is : IsStateOf known state
 
--- each docker of the state without the short-term plan is that of this table, for each day that the
+-- without the short-term plan the state and this table have the same dockers, on each day that the
 -- horizon doesn't refuse
 abbrev pub KeepsAs : State → Table → Type 0
 KeepsAs state table = (place : List ℕ) (day : ℕ) (text : List ℕ) → ¬ IsDayRefused state.horizon day

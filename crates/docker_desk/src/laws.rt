@@ -120,10 +120,10 @@ pub fn dockers_are_of_the_plain_table()
         → (plain : Table) × IsPlainTable known.files plain × PrintsAs state plain }
 {}
 
-/// Sessions and offices of runs that know the same files give the same docker without the short-term
-/// plan for each timing point and each day that neither refuses, even if their horizons differ. If no
-/// two of these files have the same moment, it is the docker that their plain table gives without its
-/// short-term entries.
+/// Two sessions, or a session and an office of a run, that know the same files have the same dockers
+/// without the short-term plan. This holds for each timing point and each day that neither refuses,
+/// even if their horizons differ. If no two of these files have the same moment, they are the dockers
+/// of the plain table without its short-term entries.
 pub fn known_files_fix_permanent_answers()
     ensures docker { (first second : Known) (one two : State) → IsKnown first one
         → IsKnown second two → HaveSameFiles first.files second.files → (place : List ℕ) (day : ℕ)
