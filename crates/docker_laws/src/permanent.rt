@@ -13,8 +13,8 @@ ghost use Rattle.docker_model.specs.docker.Permanent.{is_permanent, permanent_ta
 ghost use Rattle.docker_model.specs.run.Knowledge.{AreFiles, HaveSameFiles};
 ghost use Rattle.docker_laws.specs.Gathering.{IsDockerLine};
 
-/// The table that some changes leave, without its short-term entries, is the one that the changes
-/// of permanent entries alone leave.
+/// The table that some changes leave, without its short-term entries, is the one that only the
+/// changes of permanent entries leave.
 pub fn permanent_table_of_changes()
     ensures { (table : Table) (changes : List Change)
         → permanent_table (fold after_change table changes) ≡ fold after_change

@@ -9,7 +9,7 @@ use Rattle.docker_state.specs.Live.{live_rows}
 use Rattle.docker_state.specs.Timetables.{Timetable, counts, live_in}
 use Rattle.docker_state.proofs.LiveTable.{live_ascends, live_walks}
 
--- the live table of a valid state is that of good rows
+-- good rows have the live table of a valid state
 of_good_rows : (state : State) → IsValid state → IsOfGoodRows (live_table state)
 of_good_rows state valid = record {
   rows = live_rows state.entries;

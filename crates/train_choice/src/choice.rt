@@ -36,11 +36,11 @@ pub fn chosen<'a>(state: &'a State, uid: &Uid, day: Day) -> Option<ScheduleView<
 fn chosen_in<'a>(timetable: &Timetable<'a>, uid: &Uid, day: Day) -> Option<ScheduleView<'a>>
     ensures { IsChosenOn (live_in timetable.now) uid.now day result }
 {
-    let place = UidSearch::from_start(timetable);
-    best_of(None, schedules_of(&place, uid), uid, day)
+    let from = UidSearch::without_hint(timetable);
+    best_of(None, schedules_of(&from, uid), uid, day)
 }
 
-/// The train of a timetable's UID that starts on a day: the chosen schedule, unless it is a cancellation.
+/// The train of a UID that starts on a day, in a timetable: the chosen schedule, unless it is a cancellation.
 /// `None` if the train doesn't run.
 pub fn train_on<'a>(timetable: &Timetable<'a>, uid: &Uid, day: Day) -> Option<ScheduleView<'a>>
     ensures { (rows : List Row) → AreRowsOf (live_in timetable.now) rows
@@ -71,17 +71,17 @@ pub fn is_cancellation(stp: Stp) -> bool
 /// Like `train_on`, for the UID of a schedule that runs on the day. That schedule is the best so
 /// far when the walk over the rows begins.
 pub(crate) fn train_from<'a>(
-    place: &UidSearch<'a>,
+    from: &UidSearch<'a>,
     train: &ScheduleView<'a>,
     day: Day,
 ) -> Option<ScheduleView<'a>>
-    requires live { IsLiveTrain (live_in place.now) train.now }
+    requires live { IsLiveTrain (live_in from.now) train.now }
     requires runs { schedule_runs (first_record train.now.lines) day ≡ true }
-    ensures { (rows : List Row) → AreRowsOf (live_in place.now) rows
+    ensures { (rows : List Row) → AreRowsOf (live_in from.now) rows
         → result ≡ train_in rows train.now.key.uid day }
 {
     let uid = &train.key().uid;
-    unless_cancelled(best_of(Some(train.again()), schedules_of(place, uid), uid, day))
+    unless_cancelled(best_of(Some(train.again()), schedules_of(from, uid), uid, day))
 }
 
 /// The best so far, after all these rows.

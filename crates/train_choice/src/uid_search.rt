@@ -21,7 +21,7 @@ impl<'a> Model for UidSearch<'a> {
 
     ghost Value = { timetables.Timetable };
 
-    ghost view = { λ place. place.timetable };
+    ghost view = { λ from. from.timetable };
 }
 
 impl<'a> UidSearch<'a> {
@@ -36,7 +36,7 @@ impl<'a> UidSearch<'a> {
     }
 
     /// A search without a hint.
-    pub(crate) fn from_start(timetable: &Timetable<'a>) -> UidSearch<'a>
+    pub(crate) fn without_hint(timetable: &Timetable<'a>) -> UidSearch<'a>
         ensures { result ≡ timetable.entry.now }
     {
         UidSearch::at_row(timetable, 0)

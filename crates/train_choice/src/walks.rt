@@ -10,12 +10,12 @@ use crate::uid_search::UidSearch;
 use cif_line::{Tiploc, Uid};
 use docker_state::{Timetable, TimetableRows, UidSchedules};
 
-/// The rows of the schedules of a UID.
-pub(crate) fn schedules_of<'a>(place: &UidSearch<'a>, uid: &Uid) -> UidSchedules<'a>
-    ensures has { HasSchedulesOf (live_in place.now) uid.now result }
+/// The rows of the schedules of a UID, found by a search from here.
+pub(crate) fn schedules_of<'a>(from: &UidSearch<'a>, uid: &Uid) -> UidSchedules<'a>
+    ensures has { HasSchedulesOf (live_in from.now) uid.now result }
     ensures good { AreGoodRows result }
 {
-    place.of_uid(uid)
+    from.of_uid(uid)
 }
 
 /// The rows of the associations at a place.

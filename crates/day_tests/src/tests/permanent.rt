@@ -88,7 +88,7 @@ fn overlaid_and_cancelled(rt: HostRuntime) {
     keeps(&rt, alloc, files, "ASHFELD", "2024-06-17", &[]);
 }
 
-/// A new short-term train isn't there, whether it is alone or beside a permanent schedule.
+/// A new short-term train isn't there, with or without a permanent schedule beside it.
 #[test]
 fn new_trains_left_out(rt: HostRuntime) {
     let alloc = rt.alloc();

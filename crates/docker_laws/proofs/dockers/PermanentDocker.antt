@@ -69,7 +69,7 @@ after_one table change = by (is_permanent change.key) refl
     by false h = λ i key.
         (outside key (is_permanent key) refl ∙ passed h key (is_eq (key_cmp change.key key)) refl) i
 
--- the changes of permanent keys alone leave the permanent entries
+-- the changes of permanent keys leave the permanent entries by themselves
 pub permanent_along : (table : Table) (changes : List Change)
     → permanent_table (fold after_change table changes)
     ≡ fold after_change (permanent_table table) (filter (λ (it : Change). is_permanent it.key) changes)
