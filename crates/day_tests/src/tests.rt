@@ -5,6 +5,7 @@ mod compare;
 mod horizons;
 mod memory;
 mod midnights;
+mod permanent;
 mod stamps;
 mod texts;
 mod trains;

@@ -19,8 +19,8 @@ const INPUT: &[u8] = b"files\nsave\n";
 /// The line for words that name no session.
 const USAGE_LINE: &str = "\
 desk: usage: [--write] STATE, and then a line for each request: print TIPLOC DATE \
-| train UID DATE | files | places | known | renew | with --write take FILE | merge OTHER \
-| horizon DATE | save
+| permanent TIPLOC DATE | train UID DATE | files | places | known | renew \
+| with --write take FILE | merge OTHER | horizon DATE | save
 ";
 
 /// Asserts the status and the line of faults of a session over this folder that can't begin. It

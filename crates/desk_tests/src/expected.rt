@@ -1,11 +1,11 @@
 //! The answers, and the lines of faults, that the rows expect, worked out by hand.
 
-/// The line that answers a line that asks for nothing: 193 bytes.
+/// The line that answers a line that asks for nothing: 217 bytes.
 pub(crate) const USAGE: &str = "\
-2 1 193
+2 1 217
 desk: usage: [--write] STATE, and then a line for each request: print TIPLOC DATE \
-| train UID DATE | files | places | known | renew | with --write take FILE | merge OTHER \
-| horizon DATE | save
+| permanent TIPLOC DATE | train UID DATE | files | places | known | renew \
+| with --write take FILE | merge OTHER | horizon DATE | save
 ";
 
 /// The answer of the desk that knows the morning train, for Ashfeld on 10 June.
@@ -13,6 +13,14 @@ pub(crate) const ANSWER_0900: &str = "\
 0 3 171
 DOCKER ASHFELD 2024-06-10                               
 0900  D 1A10 C10001 P   1   SL      0900 ASHFELD BRAYTON
+END                                                     
+";
+
+/// The answer of the desk that knows the morning train and its overlay.
+pub(crate) const ANSWER_OVERLAID: &str = "\
+0 3 171
+DOCKER ASHFELD 2024-06-10                               
+0905  D 1A10 C10001 O   1   SL      0905 ASHFELD BRAYTON
 END                                                     
 ";
 

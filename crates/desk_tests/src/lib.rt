@@ -21,6 +21,8 @@ mod lists;
 #[cfg(test)]
 mod marked;
 #[cfg(test)]
+mod permanent;
+#[cfg(test)]
 mod records;
 #[cfg(test)]
 mod requests;

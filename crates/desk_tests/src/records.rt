@@ -17,6 +17,10 @@ const HD_LATER: &str =
 /// A new permanent schedule of C10001, on weekdays from 10 to 14 June 2024.
 const BS: &str = "BSNC100012406102406141111100 POO1A10                                           P";
 
+/// An overlay of C10001's schedule, on the same days.
+const BS_OVERLAY: &str =
+    "BSNC100012406102406141111100 POO1A10                                           O";
+
 /// A revision of C10001's schedule.
 const BS_REVISED: &str =
     "BSRC100012406102406141111100 POO1A10                                           P";
@@ -66,6 +70,9 @@ const ITEM_LATER: &str = "\x5b\u{f1}\x04\u{ec}DFROC1BUDFROC1A";
 /// The entry of C10001 in each of the two files, up to its op.
 const ENTRY: &str = "\x03C10001\x5b\u{f1}P\x5b\u{f0}\x04\u{ec}DFROC1A\0\0\0\x02";
 
+/// The entry of its overlay in the first file, up to its op.
+const ENTRY_OVERLAY: &str = "\x03C10001\x5b\u{f1}O\x5b\u{f0}\x04\u{ec}DFROC1A\0\0\0\x05";
+
 const ENTRY_LATER: &str = "\x03C10001\x5b\u{f1}P\x5b\u{f1}\x04\u{ec}DFROC1B\0\0\0\x02";
 
 /// The op of an entry that is put, and three lines of its body. The op of one that lapsed.
@@ -78,6 +85,24 @@ pub(crate) const EMPTY_STATE: Parts = &[MARK, NONE, NONE];
 
 /// The state that knows the morning train: 311 bytes.
 pub(crate) const MORNING_STATE: Parts = &[MARK, ONE, ITEM, ONE, ENTRY, THREE_LINES, BS, LO, LT];
+
+/// The state that knows the morning train and an overlay of it.
+pub(crate) const OVERLAID_STATE: Parts = &[
+    MARK,
+    ONE,
+    ITEM,
+    TWO,
+    ENTRY_OVERLAY,
+    THREE_LINES,
+    BS_OVERLAY,
+    LO_LATER,
+    LT,
+    ENTRY,
+    THREE_LINES,
+    BS,
+    LO,
+    LT,
+];
 
 /// The state that knows only the revision of the morning train: 311 bytes. It keeps the transaction
 /// `N`.

@@ -1,7 +1,7 @@
 //! What lines ask for.
 
 use crate::compare::same_in;
-use cif_line::Bytes;
+use cif_line::{Bytes, Day, Tiploc};
 use docker_desk::{Ahead, Asked, Request, next_line, request_in};
 use std::alloc::Global;
 use std::process::Abort;
@@ -15,13 +15,19 @@ fn add(rt: &impl Abort, text: &mut Vec<u8>, word: &[u8]) {
     text.extend_from_slice(word).expect(rt, "room");
 }
 
+/// Adds the words of a request that names a timing point and a day.
+fn add_place_and_day(rt: &impl Abort, text: &mut Vec<u8>, verb: &[u8], place: &Tiploc, day: &Day) {
+    text.extend_from_slice(verb).expect(rt, "room");
+    add(rt, text, place.bytes());
+    add(rt, text, &day.iso());
+}
+
 /// Adds the words of a request that names a day. Adds nothing for any other request.
 fn add_dated(rt: &impl Abort, text: &mut Vec<u8>, request: &Request<'_>) {
     match request {
-        Request::Print { place, day } => {
-            text.extend_from_slice(b"print").expect(rt, "room");
-            add(rt, text, place.bytes());
-            add(rt, text, &day.iso());
+        Request::Print { place, day } => add_place_and_day(rt, text, b"print", place, day),
+        Request::Permanent { place, day } => {
+            add_place_and_day(rt, text, b"permanent", place, day);
         }
         Request::Train { uid, day } => {
             text.extend_from_slice(b"train").expect(rt, "room");
@@ -91,6 +97,11 @@ const READING: &[Row] = &[
     ("print ASHFELD 2024-06-10", "print ASHFELD 2024-06-10"),
     ("  print  ELM   1960-01-01 ", "print ELM     1960-01-01"),
     ("print A-1 2059-12-31", "print A-1     2059-12-31"),
+    (
+        "permanent ASHFELD 2024-06-10",
+        "permanent ASHFELD 2024-06-10",
+    ),
+    (" permanent ELM 1960-01-01", "permanent ELM     1960-01-01"),
     ("train C10001 2024-02-29", "train C10001 2024-02-29"),
     ("train -10001 2024-06-10", "train -10001 2024-06-10"),
     ("files", "files"),
@@ -138,6 +149,11 @@ const NOTHING: &[&str] = &[
     "save S",
     "print",
     "print ASHFELD",
+    "permanent",
+    "permanent ASHFELD",
+    "permanent ASHFELD 2024-06-10 twice",
+    "permanent -SHFELD 2024-06-10",
+    "permanent ASHFELD 2024-02-30",
     "print 2024-06-10",
     "print 2024-06-10 ASHFELD",
     "print ASHFELD 2024-06-10 twice",

@@ -58,7 +58,7 @@ const READ: &[Row] = &[
     (READING, "", &[], "", 0, MORNING_STATE),
     (
         READING,
-        "print ASHFELD 2024-06-10\nfiles\nrenew\nprint ASHFELD 2024-06-18\n",
+        "print ASHFELD 2024-06-10\nfiles\nrenew\npermanent ASHFELD 2024-06-18\n",
         &[ANSWER_0900, FILES, DONE, ANSWER_18_JUNE],
         "",
         0,

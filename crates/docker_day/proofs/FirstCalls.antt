@@ -16,10 +16,10 @@ use Rattle.docker_model.specs.records.Record.{column}
 use Rattle.docker_laws.specs.Row.{Row, AreRowsOf}
 use Rattle.docker_model.specs.state.Table.{Table}
 use Rattle.docker_laws.proofs.dockers.TrainOfRows.{trains_tell}
+use Rattle.docker_state.specs.Timetables.{live_in}
 use Rattle.train_choice.specs.Occurrences as events
 use Rattle.train_choice.specs.Occurrences.{occurrences}
 use Rattle.train_choice.specs.declared.walk.Occurrence.{Occurrence}
-use Rattle.docker_model.specs.state.State.{live_table}
 use Rattle.docker_day.specs.Visits.{Visit}
 use Rattle.docker_day.specs.declared.base_calls.BaseCalls.{BaseCalls}
 use Rattle.docker_day.specs.Bases.{first_call, meant_if, AreKnownCalls, kept_or, HasCall, HasEvent}
@@ -122,22 +122,22 @@ module _ (trains : List ℕ → ℕ → Option Train) (day start : ℕ) (link : 
 -- if there is a line, it is the association's line at this event, for any base train of its UID
 abbrev pub IsAtEvent : Link → Occasion → events.Occurrence → Visit → Option DockerLine → Type 0
 IsAtEvent link occasion event visit line =
-    (rows : List Row) → AreRowsOf (live_table visit.state) rows → (base : ScheduleKey) → base.uid ≡ link.key.base
+    (rows : List Row) → AreRowsOf (live_in visit.timetable) rows → (base : ScheduleKey) → base.uid ≡ link.key.base
     → listed line ≡ link_line_at (train_in rows) visit.day visit.start link occasion base event
 
 -- if there is a line, it is the association's line with its base train
 abbrev pub IsWithBase : Link → Occasion → Visit → Option DockerLine → Type 0
 IsWithBase link occasion visit line =
-    (rows : List Row) → AreRowsOf (live_table visit.state) rows
+    (rows : List Row) → AreRowsOf (live_in visit.timetable) rows
     → listed line ≡ link_line_with (train_in rows) visit.day visit.start link (Some occasion) (train_in rows link.key.base visit.start)
 
 -- the line at the first event of the call is the line with the base train
 pub with_base : {Fault : Type 0} (link : Link) (occasion : Occasion) (event : events.Occurrence) (visit again : Visit) (result : Result (Option DockerLine) Fault) → again ≡ visit
-    → ((rows : List Row) → AreRowsOf (live_table visit.state) rows
+    → ((rows : List Row) → AreRowsOf (live_in visit.timetable) rows
     → Some event ≡ first_call (train_in rows link.key.base visit.start) link.key.location link.key.suffix)
     → IfOk result (IsAtEvent link occasion event again) → IfOk result (IsWithBase link occasion visit)
 with_base link occasion event visit again (Ok line) same first told = λ rows are.
     line_at_call (train_in rows) visit.day visit.start link occasion (train_in rows link.key.base visit.start) event (listed line) (first rows are)
-    (λ train is. uid_of_train (live_table visit.state) rows link.key.base visit.start train are is)
+    (λ train is. uid_of_train (live_in visit.timetable) rows link.key.base visit.start train are is)
     (subst (λ (v : Visit). IsAtEvent link occasion event v line) same told rows are)
 with_base link occasion event visit again (Err refused) same first told = tt

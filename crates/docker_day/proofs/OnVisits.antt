@@ -5,7 +5,7 @@ use Rattle.std.proofs.Math.Dec.{leb-zero}
 use Rattle.docker_model.specs.docker.DockerLine.{DockerLine}
 use Rattle.docker_laws.specs.Gathering.{gathered}
 use Rattle.docker_laws.specs.LiveRows.{train_in, link_in}
-use Rattle.docker_model.specs.state.State.{live_table}
+use Rattle.docker_state.specs.Timetables.{live_in}
 use Rattle.train_choice.specs.Known.{PlaceDay}
 use Rattle.docker_day.specs.Lines.{Adds}
 use Rattle.docker_day.specs.RowViews.{IsLiveView, row_back, row_piece, row_under_way, view_lines}
@@ -17,7 +17,7 @@ use Rattle.docker_laws.specs.Row.{Row}
 
 module _ (there : PlaceDay) (view : RowView) where
   abbrev AddsBack : ℕ → List DockerLine → List DockerLine → Type 0
-  AddsBack back before after = Adds (live_table there.state) (λ trains links. row_back trains links there.place there.day view back) before after
+  AddsBack back before after = Adds (live_in there.timetable) (λ trains links. row_back trains links there.place there.day view back) before after
 
   -- the lines that a visit adds are the row's for the start day `back` days before
   adds_back : (back : ℕ) (visit : Option Visit) (before after : List DockerLine) → visit ≡ visit_back there back → AddsIf visit view before after
@@ -25,7 +25,7 @@ module _ (there : PlaceDay) (view : RowView) where
   adds_back back visit before after is adds = by (nat_le back there.day) refl (subst (λ (v : Option Visit). AddsIf v view before after) is adds)
     where
       by : (b : Bool) → nat_le back there.day ≡ b
-          → AddsIf (cond b (Some (record { state = there.state; place = there.place; day = there.day; start = there.day - back })) None) view before after
+          → AddsIf (cond b (Some (record { timetable = there.timetable; place = there.place; day = there.day; start = there.day - back })) None) view before after
           → AddsBack back before after
       by true there_is added = λ rows are.
           added rows are
@@ -34,21 +34,21 @@ module _ (there : PlaceDay) (view : RowView) where
           same ∙ sym (append-nil before)
           ∙ (λ i. before ++ cond (sym none i) (row_piece (train_in rows) (link_in rows) there.place there.day view (there.day - back)) [])
 
-  today_is_back : visit_back there 0 ≡ Some (record { state = there.state; place = there.place; day = there.day; start = there.day })
+  today_is_back : visit_back there 0 ≡ Some (record { timetable = there.timetable; place = there.place; day = there.day; start = there.day })
   today_is_back =
       let same : there.day - 0 ≡ there.day = omega arith in
-      (λ i. cond (leb-zero there.day i) (Some (record { state = there.state; place = there.place; day = there.day; start = there.day - 0 })) None)
-      ∙ (λ i. Some (record { state = there.state; place = there.place; day = there.day; start = same i }))
+      (λ i. cond (leb-zero there.day i) (Some (record { timetable = there.timetable; place = there.place; day = there.day; start = there.day - 0 })) None)
+      ∙ (λ i. Some (record { timetable = there.timetable; place = there.place; day = there.day; start = same i }))
 
   -- the lines that the day's own visit adds are the row's for that day
   adds_today : (today : Visit) (before after : List DockerLine)
-      → today ≡ record { state = there.state; place = there.place; day = there.day; start = there.day } → AddsAt today view before after
+      → today ≡ record { timetable = there.timetable; place = there.place; day = there.day; start = there.day } → AddsAt today view before after
       → AddsBack 0 before after
   adds_today today before after is adds = adds_back 0 (Some today) before after (ap Some is ∙ sym today_is_back) adds
 
   -- all lines of the row were added
   abbrev AddsRow : List DockerLine → List DockerLine → Type 0
-  AddsRow before after = Adds (live_table there.state) (λ trains links. view_lines trains links there.place there.day view) before after
+  AddsRow before after = Adds (live_in there.timetable) (λ trains links. view_lines trains links there.place there.day view) before after
 
 module _ (there again : PlaceDay) (view : RowView) (today : Visit) (day_before two_before : Option Visit) where
   -- all visits together add the lines of the row
@@ -57,20 +57,20 @@ module _ (there again : PlaceDay) (view : RowView) (today : Visit) (day_before t
       → AddsIf two_before view third last → AddsRow again view first last
   adds_on_visits first second third last same are one two three =
       subst (λ (p : PlaceDay). AddsRow p view first last) same
-      (three_backs there.place there.day view (live_table there.state) first second third last (adds_today there view today first second are.today_is one)
+      (three_backs there.place there.day view (live_in there.timetable) first second third last (adds_today there view today first second are.today_is one)
       (adds_back there view 1 day_before second third are.day_before_is two) (adds_back there view 2 two_before third last are.two_before_is three))
 
   -- if the row's train can't be there after its start day, the day's own visit adds all lines
   pub adds_today_alone : (first second : List DockerLine) → there ≡ again → AreVisits there today day_before two_before
-      → IsLiveView (live_table again.state) view → row_under_way again.place view again.day ≡ false → AddsAt today view first second
+      → IsLiveView (live_in again.timetable) view → row_under_way again.place view again.day ≡ false → AddsAt today view first second
       → AddsRow again view first second
   adds_today_alone first second same are is_live idle one =
-      first_back_alone again.place again.day view (live_table again.state) first second is_live idle
+      first_back_alone again.place again.day view (live_in again.timetable) first second is_live idle
       (subst (λ (p : PlaceDay). AddsBack p view 0 first second) same (adds_today there view today first second are.today_is one))
 
 -- lines that were added for one place are also added for an equal one
 pub gathered_at : (there again : PlaceDay) (walk : List Row) (before after : List DockerLine) → again ≡ there
-    → Adds (live_table again.state) (λ trains links. gathered trains links again.place again.day walk) before after
-    → Adds (live_table there.state) (λ trains links. gathered trains links there.place there.day walk) before after
+    → Adds (live_in again.timetable) (λ trains links. gathered trains links again.place again.day walk) before after
+    → Adds (live_in there.timetable) (λ trains links. gathered trains links there.place there.day walk) before after
 gathered_at there again walk before after same adds =
-    subst (λ (p : PlaceDay). Adds (live_table p.state) (λ trains links. gathered trains links p.place p.day walk) before after) same adds
+    subst (λ (p : PlaceDay). Adds (live_in p.timetable) (λ trains links. gathered trains links p.place p.day walk) before after) same adds

@@ -27,12 +27,12 @@ use Rattle.train_choice.specs.UpTo.{occurrences_to}
 use Rattle.train_choice.specs.Along.{IsLiveTrain, IsLiveLink}
 use Rattle.train_choice.specs.Midnights.{some_late}
 use Rattle.docker_day.specs.Lines.{line_at_event, is_here, is_today, lines_there, schedule_piece, Adds}
-use Rattle.docker_day.specs.RowViews.{IsLiveView, row_back, row_lately, row_may_run, row_under_way, view_lines, view_of}
+use Rattle.docker_day.specs.RowViews.{IsLiveView, row_back, row_runs_recently, row_may_run, row_under_way, view_lines, view_of}
 use Rattle.docker_day.specs.declared.row_view.RowView.{RowView}
 use Rattle.docker_day.specs.declared.row_view.RowView.TheVariants.{Train, Link, Other}
-use Rattle.train_choice.specs.Lately.{runs_back}
+use Rattle.train_choice.specs.RecentRuns.{runs_back}
 use Rattle.train_choice.specs.Ranked.{is_cancellation}
-use Rattle.train_choice.proofs.LatelyRuns.{idle_lately}
+use Rattle.train_choice.proofs.RecentDays.{idle_recently}
 use Rattle.docker_day.proofs.TrainLines.{event_lines_are}
 use Rattle.docker_day.proofs.UpToLast.{lines_to_last}
 use Rattle.docker_day.proofs.LinkLines.{three_backs}
@@ -178,13 +178,13 @@ module _ (live : Table) (rows : List Row) (are : AreRowsOf live rows) (place : L
   none_back Other is_live not_so = absurd (true_false not_so)
 
   -- a row whose schedule doesn't run on any of the three days has no line
-  none_lately : (view : RowView) → IsLiveView live view → row_lately view day ≡ false
+  none_recently : (view : RowView) → IsLiveView live view → row_runs_recently view day ≡ false
       → (lines_back view 0 ≡ []) × (lines_back view 1 ≡ []) × (lines_back view 2 ≡ [])
-  none_lately (Train train) is_live not_so =
+  none_recently (Train train) is_live not_so =
       let idle = none_of_three (runs_back train.lines day 0) (runs_back train.lines day 1) (runs_back train.lines day 2) not_so in
       (idle_back train 0 is_live idle.0, idle_back train 1 is_live idle.1, idle_back train 2 is_live idle.2)
-  none_lately (Link link) is_live not_so = absurd (true_false not_so)
-  none_lately Other is_live not_so = absurd (true_false not_so)
+  none_recently (Link link) is_live not_so = absurd (true_false not_so)
+  none_recently Other is_live not_so = absurd (true_false not_so)
 
 -- if no lines are added, nothing changes
 nothing : (before : List DockerLine) {more : List DockerLine} → more ≡ [] → before ≡ before ++ more
@@ -201,19 +201,19 @@ first_back_alone place day view live first second is_live not_so one =
     (λ rows are. nothing second (none_back live rows are place day view is_live not_so).1)
 
 -- a row that doesn't run on any of the three days adds nothing
-pub not_lately : (place : List ℕ) (day : ℕ) (view : RowView) (live : Table) (first : List DockerLine) → IsLiveView live view
-    → row_lately view day ≡ false → Adds live (λ trains links. view_lines trains links place day view) first first
-not_lately place day view live first is_live not_so =
+pub not_recently : (place : List ℕ) (day : ℕ) (view : RowView) (live : Table) (first : List DockerLine) → IsLiveView live view
+    → row_runs_recently view day ≡ false → Adds live (λ trains links. view_lines trains links place day view) first first
+not_recently place day view live first is_live not_so =
     three_backs place day view live first first first first
-    (λ rows are. nothing first (none_lately live rows are place day view is_live not_so).0)
-    (λ rows are. nothing first (none_lately live rows are place day view is_live not_so).1)
-    (λ rows are. nothing first (none_lately live rows are place day view is_live not_so).2)
+    (λ rows are. nothing first (none_recently live rows are place day view is_live not_so).0)
+    (λ rows are. nothing first (none_recently live rows are place day view is_live not_so).1)
+    (λ rows are. nothing first (none_recently live rows are place day view is_live not_so).2)
 
 -- a schedule that hasn't begun, or whose days run leave out the three days, doesn't run on any of
 -- them
 pub row_idle : (key : Key) (body : Body) (day : ℕ) → IsBodyOf key body → row_may_run (view_of key body) day ≡ false
-    → row_lately (view_of key body) day ≡ false
-row_idle (schedule_key key) (schedule_body lines) day of never = let idle = idle_lately key lines day of never in (λ i. idle.0 i || idle.1 i || idle.2 i)
+    → row_runs_recently (view_of key body) day ≡ false
+row_idle (schedule_key key) (schedule_body lines) day of never = let idle = idle_recently key lines day of never in (λ i. idle.0 i || idle.1 i || idle.2 i)
 row_idle (schedule_key key) (tiploc_body bytes) day of never = absurd (true_false never)
 row_idle (schedule_key key) (association_body line) day of never = absurd (true_false never)
 row_idle (tiploc_key code) body day of never = absurd (true_false never)

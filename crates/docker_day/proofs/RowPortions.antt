@@ -5,18 +5,19 @@ use Rattle.std.proofs.lemmas.Grind.{flat_map-append}
 use Rattle.std.specs.List.{flat_map}
 use Rattle.docker_model.specs.file.Change.{Key, Body}
 use Rattle.docker_laws.specs.Row.{Row, AreRowsOf}
-use Rattle.docker_model.specs.state.State.{IsBodyOf, live_table}
+use Rattle.docker_model.specs.state.State.{IsBodyOf}
 use Rattle.docker_model.specs.state.Table.{Table}
 use Rattle.docker_laws.specs.LiveRows.{train_in, link_in}
 use Rattle.docker_laws.specs.Gathering.{gathered, row_lines}
 use Rattle.docker_model.specs.docker.DockerLine.{DockerLine}
+use Rattle.docker_state.specs.Timetables.{live_in}
 use Rattle.train_choice.specs.Along.{AreGoodRows, AreLive}
 use Rattle.train_choice.specs.Known.{PlaceDay}
 use Rattle.docker_day.specs.Lines.{Adds}
 use Rattle.docker_day.specs.RowViews.{AreLiveViews, IsLiveView, lines_of, row_may_run, view_lines, view_of, views_in, views_of}
 use Rattle.docker_day.specs.Portions.{AreLeft, AreOpened, ArePassedOver, HaveMoved}
 use Rattle.docker_day.specs.declared.row_view.RowView.{RowView}
-use Rattle.docker_day.proofs.PassedOver.{not_lately, row_idle}
+use Rattle.docker_day.proofs.PassedOver.{not_recently, row_idle}
 use Rattle.docker_day.proofs.RowViews.{gathered_viewed, lines_viewed, live_view, live_views}
 
 -- a row that can't run on the day or on the two days before has no lines
@@ -24,7 +25,7 @@ no_lines : (place : List ℕ) (day : ℕ) (key : Key) (body : Body) (live : Tabl
     → IsBodyOf key body → row_may_run (view_of key body) day ≡ false → row_lines (train_in rows) (link_in rows) place day key body ≡ []
 no_lines place day key body live rows are is_live of never =
     sym (lines_viewed (train_in rows) (link_in rows) place day key body)
-    ∙ sym (not_lately place day (view_of key body) live [] (live_view live key body is_live) (row_idle key body day of never) rows are)
+    ∙ sym (not_recently place day (view_of key body) live [] (live_view live key body is_live) (row_idle key body day of never) rows are)
 
 -- a row that can't run on the three days may be passed over
 pub row_passed : (day : ℕ) (key : Key) (body : Body) (row : RowView) (before after : List Row) (may : Bool) → before ≡ (key, body) ∷ after
@@ -74,17 +75,17 @@ moved_again there again all rest fewer first second third same one two = λ rows
 
 -- a walk that has gone on and passes over rows has gone on by those rows too
 pub moved_over : (there again : PlaceDay) (all rest fewer : List Row) (first second : List DockerLine) → again ≡ there
-    → AreLive (live_table again.state) rest → HaveMoved there all rest first second → ArePassedOver again.day rest fewer
+    → AreLive (live_in again.timetable) rest → HaveMoved there all rest first second → ArePassedOver again.day rest fewer
     → HaveMoved there all fewer first second
 moved_over there again all rest fewer first second same live one passed = λ rows are.
     ap (λ more. second ++ more)
-    (sym (subst (λ (p : PlaceDay). ArePassedOver p.day rest fewer) same passed there.place (live_table there.state)
-    (subst (λ (p : PlaceDay). AreLive (live_table p.state) rest) same live) rows are))
+    (sym (subst (λ (p : PlaceDay). ArePassedOver p.day rest fewer) same passed there.place (live_in there.timetable)
+    (subst (λ (p : PlaceDay). AreLive (live_in p.timetable) rest) same live) rows are))
     ∙ one rows are
 
 -- rows that are live in one state are live in an equal one
-pub live_again : (there again : PlaceDay) (rows : List Row) → again ≡ there → AreLive (live_table there.state) rows → AreLive (live_table again.state) rows
-live_again there again rows same live = subst (λ (p : PlaceDay). AreLive (live_table p.state) rows) (sym same) live
+pub live_again : (there again : PlaceDay) (rows : List Row) → again ≡ there → AreLive (live_in there.timetable) rows → AreLive (live_in again.timetable) rows
+live_again there again rows same live = subst (λ (p : PlaceDay). AreLive (live_in p.timetable) rows) (sym same) live
 
 -- ---- the rows of a portion
 
@@ -110,20 +111,20 @@ live_item live [] i row are below is = let bad : i < 0 = below in absurd (omega 
 
 -- each row of the portion is live in an equal state
 pub live_at : (there again : PlaceDay) (portion : List (ℕ × RowView)) (i : ℕ) (row : ℕ × RowView) → again ≡ there
-    → AreLiveViews (live_table there.state) (views_in portion) → i < length portion → row ≡ get_or portion i row
-    → IsLiveView (live_table again.state) row.1
+    → AreLiveViews (live_in there.timetable) (views_in portion) → i < length portion → row ≡ get_or portion i row
+    → IsLiveView (live_in again.timetable) row.1
 live_at there again portion i row same are below is =
-    live_item (live_table again.state) portion i row (subst (λ (p : PlaceDay). AreLiveViews (live_table p.state) (views_in portion)) (sym same) are) below is
+    live_item (live_in again.timetable) portion i row (subst (λ (p : PlaceDay). AreLiveViews (live_in p.timetable) (views_in portion)) (sym same) are) below is
 
 module _ (there : PlaceDay) (portion : List (ℕ × RowView)) where
   -- the lines of the first rows of the portion were added
   abbrev pub AddsFirst : ℕ → List DockerLine → List DockerLine → Type 0
   AddsFirst n before after =
-      Adds (live_table there.state) (λ trains links. lines_of trains links there.place there.day (views_in (take n portion))) before after
+      Adds (live_in there.timetable) (λ trains links. lines_of trains links there.place there.day (views_in (take n portion))) before after
 
   -- once all lines of a portion are added, the walk has gone on by its rows
   pub moved_open : (all rest : List Row) (rows : List (ℕ × RowView)) (first second : List DockerLine) → AreOpened all rest [] portion → rows ≡ portion
-      → Adds (live_table there.state) (λ trains links. lines_of trains links there.place there.day (views_in rows)) first second
+      → Adds (live_in there.timetable) (λ trains links. lines_of trains links there.place there.day (views_in rows)) first second
       → HaveMoved there all rest first second
   moved_open all rest rows first second opened same adds = λ table are.
       let f : RowView → List DockerLine = view_lines (train_in table) (link_in table) there.place there.day in

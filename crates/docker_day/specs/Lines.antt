@@ -19,7 +19,7 @@ use Rattle.docker_laws.specs.Gathering.{event_lines, runs_by, partner_identity, 
 use Rattle.train_choice.specs.Occurrences.{Occurrence, occurrences}
 use Rattle.train_choice.specs.Midnights.{some_late}
 use Rattle.train_choice.specs.UpTo.{occurrences_to}
-use Rattle.train_choice.specs.Lately.{runs_back}
+use Rattle.train_choice.specs.RecentRuns.{runs_back}
 
 -- the docker line of an event, for the schedule with this key, on this start day, with these ends
 abbrev pub line_at_event : ScheduleKey → ℕ → Detail → Occurrence → DockerLine
@@ -73,8 +73,8 @@ lines_there place day start key detail (event ∷ events) =
     ++ lines_there place day start key detail events
 
 -- the schedule runs on the day or on one of the two days before
-abbrev pub is_lately : List (List ℕ) → ℕ → Bool
-is_lately lines day = runs_back lines day 0 || runs_back lines day 1 || runs_back lines day 2
+abbrev pub runs_recently : List (List ℕ) → ℕ → Bool
+runs_recently lines day = runs_back lines day 0 || runs_back lines day 1 || runs_back lines day 2
 
 -- the schedule's train may be there on the day, after starting earlier. The schedule runs on one of
 -- the two days before, and passes midnight by its last event at the place

@@ -1,11 +1,11 @@
 -- The rows of a walk, read a portion at a time.
 use Rattle.std.specs.Prelude.{◌≡◌, ℕ, List, ◌++◌}
 use Rattle.docker_laws.specs.Row.{Row, AreRowsOf}
-use Rattle.docker_model.specs.state.State.{live_table}
 use Rattle.docker_model.specs.state.Table.{Table}
 use Rattle.docker_model.specs.docker.DockerLine.{DockerLine}
 use Rattle.docker_laws.specs.LiveRows.{train_in, link_in}
 use Rattle.docker_laws.specs.Gathering.{gathered}
+use Rattle.docker_state.specs.Timetables.{live_in}
 use Rattle.train_choice.specs.Along.{AreGoodRows, AreLive}
 use Rattle.train_choice.specs.Known.{PlaceDay}
 use Rattle.docker_day.specs.RowViews.{views_in, views_of}
@@ -29,6 +29,6 @@ ArePassedOver day before after = (place : List ℕ) (live : Table) → AreLive l
 -- a walk has gone on: the lines so far and the lines of the rows to come are, together, the same as
 -- before
 abbrev pub HaveMoved : PlaceDay → List Row → List Row → List DockerLine → List DockerLine → Type 0
-HaveMoved there before after lines more = (rows : List Row) → AreRowsOf (live_table there.state) rows
+HaveMoved there before after lines more = (rows : List Row) → AreRowsOf (live_in there.timetable) rows
     → more ++ gathered (train_in rows) (link_in rows) there.place there.day after
     ≡ lines ++ gathered (train_in rows) (link_in rows) there.place there.day before

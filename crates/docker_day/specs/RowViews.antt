@@ -10,8 +10,8 @@ use Rattle.docker_model.specs.docker.Choice as choices
 use Rattle.docker_laws.specs.LiveRows as live_rows
 use Rattle.docker_laws.specs.Gathering.{association_lines, schedule_lines}
 use Rattle.train_choice.specs.Along.{IsLiveLink, IsLiveTrain}
-use Rattle.train_choice.specs.Lately.{may_run_lately}
-use Rattle.docker_day.specs.Lines.{is_lately, is_under_way, link_here, schedule_piece}
+use Rattle.train_choice.specs.RecentRuns.{may_run_recently}
+use Rattle.docker_day.specs.Lines.{runs_recently, is_under_way, link_here, schedule_piece}
 use Rattle.docker_day.specs.declared.row_view.RowView.{RowView}
 use Rattle.docker_day.specs.declared.row_view.RowView.TheVariants.{Train, Link, Other}
 
@@ -41,10 +41,10 @@ AreLiveViews live [] = ⊤
 AreLiveViews live (row ∷ rows) = IsLiveView live row × AreLiveViews live rows
 
 -- a schedule's row runs on the day or on one of the two days before; any other row may have lines
-abbrev pub row_lately : RowView → ℕ → Bool
-row_lately (Train train) day = is_lately train.lines day
-row_lately (Link link) day = true
-row_lately Other day = true
+abbrev pub row_runs_recently : RowView → ℕ → Bool
+row_runs_recently (Train train) day = runs_recently train.lines day
+row_runs_recently (Link link) day = true
+row_runs_recently Other day = true
 
 -- the train of a schedule's row may be at the place on a day after its start; any other row may
 -- have lines
@@ -56,7 +56,7 @@ row_under_way place Other day = true
 -- a schedule's row has begun by the day and marks it or one of the two days before; any other row
 -- may have lines
 abbrev pub row_may_run : RowView → ℕ → Bool
-row_may_run (Train train) day = may_run_lately train.key train.lines day
+row_may_run (Train train) day = may_run_recently train.key train.lines day
 row_may_run (Link link) day = true
 row_may_run Other day = true
 

@@ -2,15 +2,15 @@
 ghost use Rattle.std.specs.Prelude.{◌≡◌, ℕ, List, IfOk, IfSome};
 ghost use Rattle.std.specs.BTreeMap.{get};
 ghost use Rattle.std.specs.Ordering.{nat_cmp};
-ghost use Rattle.docker_model.specs.state.State.{live_table};
 ghost use Rattle.docker_laws.specs.Row.{Row, AreRowsOf};
 ghost use Rattle.docker_laws.specs.LiveRows.{train_in};
 ghost use Rattle.docker_day.specs.Bases.{first_call, meant_if};
+ghost use Rattle.docker_state.specs.Timetables.{live_in};
 
 use crate::base_calls::{BaseCalls, first_calls};
 use crate::first_event::FirstEvent;
 use cif_line::{Day, Memory, Tiploc, Uid};
-use docker_state::State;
+use docker_state::Timetable;
 use std::alloc::Global;
 use std::collections::BTreeMap;
 use std::marker::Model;
@@ -22,37 +22,46 @@ use train_choice::{Occurrence, train_on};
 #[derive(Debug, Drop)]
 pub(crate) struct Bases<'a> {
     alloc: Global,
-    state: &'a State,
+    timetable: Timetable<'a>,
     place: Tiploc,
     day: Day,
     last: Option<BaseCalls<'a>>,
 }
 
 impl<'a> Model for Bases<'a> {
-    ghost use Rattle.docker_model.specs.state.State.{live_table};
+    ghost use Rattle.docker_state.specs.Timetables.{live_in};
     ghost use Rattle.train_choice.specs.Known.{PlaceDay};
     ghost use Rattle.docker_day.specs.Bases.{AreKnownCalls};
 
     ghost Value = { PlaceDay };
 
     ghost view = { λ bases. record {
-      state = bases.state.now;
+      timetable = bases.timetable;
       place = bases.place;
       day = bases.day;
     } };
 
     ghost invariant = { λ bases.
-        AreKnownCalls (live_table bases.state.now) bases.place bases.day bases.last };
+        AreKnownCalls (live_in bases.timetable) bases.place bases.day bases.last };
 }
 
 impl<'a> Bases<'a> {
     /// The calls at a place of the trains that start on a day, before any is looked up.
-    pub(crate) fn at(alloc: Global, state: &'a State, place: &Tiploc, day: Day) -> Bases<'a>
-        ensures { result ≡ record { state = state.entry.now; place = place.now; day = day } }
+    pub(crate) fn at(
+        alloc: Global,
+        timetable: &Timetable<'a>,
+        place: &Tiploc,
+        day: Day,
+    ) -> Bases<'a>
+        ensures { result ≡ record {
+          timetable = timetable.entry.now;
+          place = place.now;
+          day = day;
+        } }
     {
         Bases {
             alloc,
-            state,
+            timetable: timetable.again(),
             place: *place,
             day,
             last: None,
@@ -68,7 +77,7 @@ impl<'a> Bases<'a> {
     ) -> Result<Option<Occurrence<'a>>, Memory>
         ensures same { self.new ≡ self.old }
         ensures event { IfOk result (λ event. (rows : List Row)
-            → AreRowsOf (live_table self.old.state) rows → meant_if event
+            → AreRowsOf (live_in self.old.timetable) rows → meant_if event
             ≡ first_call (train_in rows uid.now self.old.day) self.old.place suffix) }
     {
         match self.known(uid, suffix) {
@@ -81,7 +90,7 @@ impl<'a> Bases<'a> {
     /// kept, or another train's.
     fn known(&self, uid: &Uid, suffix: u8) -> Option<Option<Occurrence<'a>>>
         ensures { IfSome result (λ event. (rows : List Row)
-            → AreRowsOf (live_table self.now.state) rows → meant_if event
+            → AreRowsOf (live_in self.now.timetable) rows → meant_if event
             ≡ first_call (train_in rows uid.now self.now.day) self.now.place suffix) }
     {
         match &self.last {
@@ -94,10 +103,10 @@ impl<'a> Bases<'a> {
     fn look_up(&mut self, uid: &Uid, suffix: u8) -> Result<Option<Occurrence<'a>>, Memory>
         ensures same { self.new ≡ self.old }
         ensures event { IfOk result (λ event. (rows : List Row)
-            → AreRowsOf (live_table self.old.state) rows → meant_if event
+            → AreRowsOf (live_in self.old.timetable) rows → meant_if event
             ≡ first_call (train_in rows uid.now self.old.day) self.old.place suffix) }
     {
-        let calls = calls_of(self.alloc, self.state, uid, &self.place, self.day)?;
+        let calls = calls_of(self.alloc, &self.timetable, uid, &self.place, self.day)?;
         let last = BaseCalls { uid: *uid, calls };
         let event = last.first(suffix);
         self.last = Some(last);
@@ -108,17 +117,17 @@ impl<'a> Bases<'a> {
 /// The calls at a place of a UID's train that starts on a day, each with its first event.
 fn calls_of<'a>(
     alloc: Global,
-    state: &'a State,
+    timetable: &Timetable<'a>,
     uid: &Uid,
     place: &Tiploc,
     day: Day,
 ) -> Result<BTreeMap<u8, FirstEvent<'a>>, Memory>
     ensures { IfOk result (λ calls. (suffix : ℕ) (rows : List Row)
-        → AreRowsOf (live_table state.now) rows
+        → AreRowsOf (live_in timetable.now) rows
         → get nat_cmp calls suffix
         ≡ first_call (train_in rows uid.now day) place.now suffix) }
 {
-    match train_on(state, uid, day) {
+    match train_on(timetable, uid, day) {
         Some(train) => first_calls(alloc, train.events(), place),
         None => Ok(BTreeMap::new(alloc)),
     }

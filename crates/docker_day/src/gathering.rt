@@ -1,15 +1,15 @@
 //! The lines of one row in a docker.
 ghost use Rattle.std.specs.Prelude.{◌≡◌, OnOk};
-ghost use Rattle.docker_model.specs.state.State.{live_table};
 ghost use Rattle.train_choice.specs.Along.{IsLiveLink};
 ghost use Rattle.docker_day.specs.Lines.{Adds, link_here};
-ghost use Rattle.docker_day.specs.RowViews.{IsLiveView, row_lately, row_under_way, view_lines};
+ghost use Rattle.docker_day.specs.RowViews.{IsLiveView, row_runs_recently, row_under_way, view_lines};
 ghost use Rattle.docker_day.specs.Visits.{AddsAt, AddsIf, IsLiveAt};
+ghost use Rattle.docker_state.specs.Timetables.{live_in};
 
 use crate::docker_line::DockerLine;
 use crate::link_lines::link_line;
 use crate::row_view::RowView;
-use crate::train_lines::{add_schedule, is_lately, is_under_way};
+use crate::train_lines::{add_schedule, is_under_way, runs_recently};
 use crate::visit::Visit;
 use crate::visits::Visits;
 use cif_line::{Day, Memory, Tiploc};
@@ -23,13 +23,13 @@ pub(crate) fn add_row<'a>(
     row: usize,
     view: &RowView<'a>,
 ) -> Result<(), Memory>
-    requires { IsLiveView (live_table visits.old.state) view.now }
+    requires { IsLiveView (live_in visits.old.timetable) view.now }
     ensures same { visits.new ≡ visits.old }
-    ensures added { OnOk result (Adds (live_table visits.old.state)
+    ensures added { OnOk result (Adds (live_in visits.old.timetable)
         (λ trains links. view_lines trains links visits.old.place visits.old.day view.now)
         lines.old.items lines.new.items) }
 {
-    if !is_row_lately(view, visits.day()) {
+    if !row_runs_recently(view, visits.day()) {
         return Ok(());
     }
     add_piece(lines, &mut visits.today, row, view)?;
@@ -42,11 +42,11 @@ pub(crate) fn add_row<'a>(
 
 /// Whether a row may have lines on a day. A schedule has none if it runs neither on that day nor on
 /// one of the two days before. Its fields are read once for that.
-fn is_row_lately(view: &RowView<'_>, day: Day) -> bool
-    ensures { result ≡ row_lately view.now day }
+fn row_runs_recently(view: &RowView<'_>, day: Day) -> bool
+    ensures { result ≡ row_runs_recently view.now day }
 {
     match view {
-        RowView::Train(train) => is_lately(train, day),
+        RowView::Train(train) => runs_recently(train, day),
         RowView::Link(_) | RowView::Other => true,
     }
 }
@@ -86,7 +86,7 @@ fn add_piece<'a>(
     row: usize,
     view: &RowView<'a>,
 ) -> Result<(), Memory>
-    requires { IsLiveView (live_table visit.old.state) view.now }
+    requires { IsLiveView (live_in visit.old.timetable) view.now }
     ensures same { visit.new ≡ visit.old }
     ensures added { OnOk result (AddsAt visit.old view.now lines.old.items lines.new.items) }
 {
@@ -103,9 +103,9 @@ fn add_link<'a>(
     visit: &mut Visit<'a>,
     link: &LinkView<'a>,
 ) -> Result<(), Memory>
-    requires live { IsLiveLink (live_table visit.old.state) link.now }
+    requires live { IsLiveLink (live_in visit.old.timetable) link.now }
     ensures same { visit.new ≡ visit.old }
-    ensures added { OnOk result (Adds (live_table visit.old.state)
+    ensures added { OnOk result (Adds (live_in visit.old.timetable)
         (λ trains links. link_here trains links visit.old.place visit.old.day link.now
         visit.old.start)
         lines.old.items lines.new.items) }

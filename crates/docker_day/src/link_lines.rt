@@ -2,7 +2,6 @@
 ghost use Rattle.std.specs.Prelude.{◌≡◌, List, Some, option_map, IfOk};
 ghost use Rattle.docker_model.specs.file.Change.{ScheduleKey};
 ghost use Rattle.docker_model.specs.records.Record.{columns, column};
-ghost use Rattle.docker_model.specs.state.State.{live_table};
 ghost use Rattle.docker_model.specs.docker.Association.{category_occasion, is_date_indicator, partner_start};
 ghost use Rattle.docker_laws.specs.Gathering.{is_in_force, partner_identity};
 ghost use Rattle.docker_laws.specs.Row.{Row, AreRowsOf};
@@ -11,6 +10,7 @@ ghost use Rattle.train_choice.specs.Meaning.{occasion_meant};
 ghost use Rattle.train_choice.specs.EventWalk.{occurrence_meant};
 ghost use Rattle.train_choice.specs.Along.{IsLiveLink};
 ghost use Rattle.docker_day.specs.Lines.{listed, link_line_at, link_line_with, link_piece};
+ghost use Rattle.docker_state.specs.Timetables.{live_in};
 
 use crate::docker_line::DockerLine;
 use crate::starts::{is_today, partner_start};
@@ -24,11 +24,11 @@ pub(crate) fn link_line<'a>(
     visit: &mut Visit<'a>,
     link: &LinkView<'a>,
 ) -> Result<Option<DockerLine<'a>>, Memory>
-    requires live { IsLiveLink (live_table visit.old.state) link.now }
+    requires live { IsLiveLink (live_in visit.old.timetable) link.now }
     requires here { link.now.key.location ≡ visit.old.place }
     ensures same { visit.new ≡ visit.old }
     ensures line { IfOk result (λ line. (rows : List Row)
-        → AreRowsOf (live_table visit.old.state) rows → listed line
+        → AreRowsOf (live_in visit.old.timetable) rows → listed line
         ≡ link_piece (train_in rows) (link_in rows) visit.old.day link.now visit.old.start) }
 {
     if is_in_force(visit, link) {
@@ -41,9 +41,9 @@ pub(crate) fn link_line<'a>(
 /// Whether an association is chosen on the start day, isn't a cancellation, and has a date
 /// indicator that gives a line.
 fn is_in_force(visit: &Visit<'_>, link: &LinkView<'_>) -> bool
-    requires live { IsLiveLink (live_table visit.now.state) link.now }
+    requires live { IsLiveLink (live_in visit.now.timetable) link.now }
     requires here { link.now.key.location ≡ visit.now.place }
-    ensures { (rows : List Row) → AreRowsOf (live_table visit.now.state) rows
+    ensures { (rows : List Row) → AreRowsOf (live_in visit.now.timetable) rows
         → result ≡ is_in_force (link_in rows) visit.now.start link.now.key link.now.line }
 {
     // Its own days are checked first, as the choice in its group takes a search.
@@ -87,7 +87,7 @@ fn line_with<'a>(
     requires here { link.now.key.location ≡ visit.old.place }
     ensures same { visit.new ≡ visit.old }
     ensures line { IfOk result (λ line. (rows : List Row)
-        → AreRowsOf (live_table visit.old.state) rows → listed line
+        → AreRowsOf (live_in visit.old.timetable) rows → listed line
         ≡ link_line_with (train_in rows) visit.old.day visit.old.start link.now
         (category_occasion (columns 35 36 link.now.line))
         (train_in rows link.now.key.base visit.old.start)) }
@@ -107,7 +107,7 @@ fn line_by<'a>(
     requires here { link.now.key.location ≡ visit.old.place }
     ensures same { visit.new ≡ visit.old }
     ensures line { IfOk result (λ line. (rows : List Row)
-        → AreRowsOf (live_table visit.old.state) rows → listed line
+        → AreRowsOf (live_in visit.old.timetable) rows → listed line
         ≡ link_line_with (train_in rows) visit.old.day visit.old.start link.now
         (Some (occasion_meant occasion)) (train_in rows link.now.key.base visit.old.start)) }
 {
@@ -128,7 +128,7 @@ fn line_at<'a>(
 ) -> Result<Option<DockerLine<'a>>, Memory>
     ensures same { visit.new ≡ visit.old }
     ensures line { IfOk result (λ line. (rows : List Row)
-        → AreRowsOf (live_table visit.old.state) rows
+        → AreRowsOf (live_in visit.old.timetable) rows
         → (base : ScheduleKey) → base.uid ≡ link.now.key.base → listed line
         ≡ link_line_at (train_in rows) visit.old.day visit.old.start link.now
         (occasion_meant occasion) base (occurrence_meant event.now)) }
@@ -145,7 +145,7 @@ fn line_at<'a>(
 fn partner_identity<'a>(visit: &mut Visit<'a>, link: &LinkView<'_>) -> Result<[u8; 4], Memory>
     ensures same { visit.new ≡ visit.old }
     ensures identity { IfOk result (λ identity. (rows : List Row)
-        → AreRowsOf (live_table visit.old.state) rows → identity
+        → AreRowsOf (live_in visit.old.timetable) rows → identity
         ≡ partner_identity (train_in rows) link.now.key.associated
         (partner_start (column 37 link.now.line) visit.old.start)) }
 {

@@ -3,22 +3,23 @@ ghost use Rattle.std.specs.Prelude.{◌≡◌, ◌+◌, ◌-◌, ◌<◌, ◌≤
 ghost use Rattle.std.specs.List.Sorted.{IsSorted, IsPermutation};
 ghost use Rattle.docker_model.specs.docker.DockerLine.{docker_line_cmp};
 ghost use Rattle.docker_model.specs.records.Record.{columns};
-ghost use Rattle.docker_model.specs.state.Op.{body_of};
-ghost use Rattle.docker_state.specs.Meaning.{op_meant};
 ghost use Rattle.docker_model.specs.file.Change.{tiploc_key};
-ghost use Rattle.docker_model.specs.state.State.{IsValid, live_table};
+ghost use Rattle.docker_model.specs.state.State.{live_table};
+ghost use Rattle.docker_model.specs.docker.Permanent.{permanent_table};
+ghost use Rattle.docker_laws.specs.CountedRows.{IsOfGoodRows};
 ghost use Rattle.docker_model.specs.state.Lapse.{IsDayRefused};
 ghost use Rattle.docker_model.specs.docker.DockerText.{description_in};
 ghost use Rattle.docker_day.specs.Dockers.{HasGathered, IsDockerOf};
+ghost use Rattle.docker_state.specs.Timetables.{live_in};
 
 use crate::docker_line::DockerLine;
 use crate::docker_list::Docker;
 use crate::fault::DockerFault;
 use crate::portions::add_rows;
 use crate::visits::Visits;
-use cif_change::{Body, Key};
+use cif_change::Body;
 use cif_line::{Day, Memory, Tiploc};
-use docker_state::{Op, State};
+use docker_state::{State, Timetable};
 use std::alloc::Global;
 use train_choice::{associations_at, schedules_at};
 
@@ -35,13 +36,41 @@ pub fn docker<'a>(
     ensures ok { IfOk result (IsDockerOf (live_table state.now) tiploc.now day) }
     ensures lapsed { (result ≡ Err DockerFault.Lapsed) ↔ IsDayRefused state.now.horizon day }
 {
-    if is_refused(state.horizon(), day) {
+    docker_of(alloc, &Timetable::of(state), tiploc, day)
+}
+
+/// Like `docker`, without the short-term plan: of schedules and associations only those with the STP
+/// indicator `P` count. So it has the trains that short-term entries cancel or change, as they run
+/// otherwise, and none that they add. It is refused as `docker` is.
+pub fn permanent_docker<'a>(
+    alloc: Global,
+    state: &'a State,
+    tiploc: &Tiploc,
+    day: Day,
+) -> Result<Docker<'a>, DockerFault>
+    ensures ok { IfOk result (IsDockerOf (permanent_table (live_table state.now)) tiploc.now day) }
+    ensures lapsed { (result ≡ Err DockerFault.Lapsed) ↔ IsDayRefused state.now.horizon day }
+{
+    docker_of(alloc, &Timetable::permanent(state), tiploc, day)
+}
+
+/// The docker of a timetable, a timing point and a day.
+fn docker_of<'a>(
+    alloc: Global,
+    timetable: &Timetable<'a>,
+    tiploc: &Tiploc,
+    day: Day,
+) -> Result<Docker<'a>, DockerFault>
+    ensures ok { IfOk result (IsDockerOf (live_in timetable.now) tiploc.now day) }
+    ensures lapsed { (result ≡ Err DockerFault.Lapsed) ↔ IsDayRefused timetable.now.state.horizon day }
+{
+    if is_refused(timetable.horizon(), day) {
         return Err(DockerFault::Lapsed);
     }
     let mut lines = Vec::new(alloc);
-    match add_all(alloc, &mut lines, state, tiploc, day) {
+    match add_all(alloc, &mut lines, timetable, tiploc, day) {
         Ok(()) => {
-            let description = description(state, tiploc);
+            let description = description(timetable, tiploc);
             Ok(Docker::of(*tiploc, day, description, in_order(lines)))
         }
         Err(_) => Err(DockerFault::Memory),
@@ -52,16 +81,16 @@ pub fn docker<'a>(
 fn add_all<'a>(
     alloc: Global,
     lines: &mut Vec<DockerLine<'a>>,
-    state: &'a State,
+    timetable: &Timetable<'a>,
     place: &Tiploc,
     day: Day,
 ) -> Result<(), Memory>
     ensures { OnOk result
-        (HasGathered (live_table state.now) place.now day lines.old.items lines.new.items) }
+        (HasGathered (live_in timetable.now) place.now day lines.old.items lines.new.items) }
 {
-    let mut visits = Visits::at(alloc, state, place, day)?;
-    add_rows(lines, &mut visits, associations_at(state, place))?;
-    add_rows(lines, &mut visits, schedules_at(state, place))
+    let mut visits = Visits::at(alloc, timetable, place, day)?;
+    add_rows(lines, &mut visits, associations_at(timetable, place))?;
+    add_rows(lines, &mut visits, schedules_at(timetable, place))
 }
 
 /// The lines, in order.
@@ -82,22 +111,12 @@ fn is_refused(horizon: u16, day: Day) -> bool
 }
 
 /// The description of a timing point: 26 bytes, which are spaces if the timing point isn't live.
-fn description<'a>(state: &'a State, tiploc: &Tiploc) -> &'a [u8; 26]
-    ensures text { result.now ≡ description_in (live_table state.now (tiploc_key tiploc.now)) }
-    ensures valid { IsValid state.now }
+fn description<'a>(timetable: &Timetable<'a>, tiploc: &Tiploc) -> &'a [u8; 26]
+    ensures text { result.now ≡ description_in (live_in timetable.now (tiploc_key tiploc.now)) }
+    ensures good { IsOfGoodRows (live_in timetable.now) }
 {
-    match state.get(&Key::Tiploc(*tiploc)) {
-        Some(entry) => described(&entry.op),
-        None => b"                          ",
-    }
-}
-
-/// The description in the body that an op puts. Spaces if it puts none.
-fn described(op: &Op) -> &[u8; 26]
-    ensures { result.now ≡ description_in (body_of (op_meant op.entry.now)) }
-{
-    match op {
-        Op::Put(Body::Tiploc(bytes)) => description_of(bytes),
+    match timetable.tiploc(tiploc) {
+        Some(Body::Tiploc(bytes)) => description_of(bytes),
         _ => b"                          ",
     }
 }

@@ -1,12 +1,12 @@
 //! Gathers the lines of a docker from the rows of a walk, a portion at a time.
 ghost use Rattle.std.specs.Prelude.{◌≡◌, ◌<◌, ◌⊎◌, [], true, false, length, IsNone, IsSome, OnOk, Some};
 ghost use Rattle.arrayvec.specs.ArrayVec.{array_vec_len};
-ghost use Rattle.docker_model.specs.state.State.{live_table};
 ghost use Rattle.docker_laws.specs.Gathering.{gathered};
 ghost use Rattle.train_choice.specs.Along.{AreGoodRows, AreLive};
 ghost use Rattle.docker_day.specs.Lines.{Adds};
 ghost use Rattle.docker_day.specs.RowViews.{AreLiveViews, lines_of, row_may_run, views_in};
 ghost use Rattle.docker_day.specs.Portions.{AreLeft, AreOpened, ArePassedOver};
+ghost use Rattle.docker_state.specs.Timetables.{live_in};
 
 use crate::docker_line::DockerLine;
 use crate::gathering::add_row;
@@ -14,7 +14,7 @@ use crate::row_view::RowView;
 use crate::visits::Visits;
 use arrayvec::ArrayVec;
 use cif_line::{Day, Memory};
-use docker_state::{Numbered, Standing};
+use docker_state::TimetableRows;
 
 /// How many rows are read before lines are added, so that cache misses overlap.
 const PORTION: usize = 16;
@@ -26,20 +26,19 @@ type Portion<'a> = ArrayVec<(usize, RowView<'a>), PORTION>;
 pub(crate) fn add_rows<'a>(
     lines: &mut Vec<DockerLine<'a>>,
     visits: &mut Visits<'a>,
-    rows: Standing<'a>,
+    mut rows: TimetableRows<'a>,
 ) -> Result<(), Memory>
     requires good { AreGoodRows rows }
-    requires live { AreLive (live_table visits.old.state) rows }
+    requires live { AreLive (live_in visits.old.timetable) rows }
     ensures same { visits.new ≡ visits.old }
     ensures added { OnOk result
-        (Adds (live_table visits.old.state)
+        (Adds (live_in visits.old.timetable)
         (λ trains links. gathered trains links visits.old.place visits.old.day rows.entry)
         lines.old.items lines.new.items) }
 {
-    let mut rest = rows.numbered();
     let mut portion = Portion::new();
     'portions: loop {
-        let may_run = open_portion(&mut portion, &mut rest, visits.day());
+        let may_run = open_portion(&mut portion, &mut rows, visits.day());
         if portion.is_empty() {
             return Ok(());
         }
@@ -52,7 +51,7 @@ pub(crate) fn add_rows<'a>(
 /// Refills the portion with the next rows of the walk, and returns whether any of them may have
 /// lines on the day. It reads every row, so that cache misses overlap. At the end of the walk the
 /// portion is empty.
-fn open_portion<'a>(portion: &mut Portion<'a>, rows: &mut Numbered<'a>, day: Day) -> bool
+fn open_portion<'a>(portion: &mut Portion<'a>, rows: &mut TimetableRows<'a>, day: Day) -> bool
     requires { AreGoodRows rows.old }
     ensures left { AreLeft rows.old rows.new }
     ensures opened { AreOpened rows.old rows.new [] portion.new.items }
@@ -69,7 +68,7 @@ fn open_portion<'a>(portion: &mut Portion<'a>, rows: &mut Numbered<'a>, day: Day
 
 /// Adds the next row of the walk to the portion, and returns whether it may have lines on the day.
 /// `None` if the portion is full or the walk is at its end.
-fn open_next<'a>(portion: &mut Portion<'a>, rows: &mut Numbered<'a>, day: Day) -> Option<bool>
+fn open_next<'a>(portion: &mut Portion<'a>, rows: &mut TimetableRows<'a>, day: Day) -> Option<bool>
     requires { AreGoodRows rows.old }
     ensures none { IsNone result → (array_vec_len portion.new ≡ PORTION) ⊎ (rows.new ≡ []) }
     ensures left { AreLeft rows.old rows.new }
@@ -93,7 +92,7 @@ fn may_row_run(view: &RowView<'_>, day: Day) -> bool
     ensures { result ≡ row_may_run view.now day }
 {
     match view {
-        RowView::Train(train) => train.may_run_lately(day),
+        RowView::Train(train) => train.may_run_recently(day),
         RowView::Link(_) | RowView::Other => true,
     }
 }
@@ -104,10 +103,10 @@ fn add_portion<'a>(
     visits: &mut Visits<'a>,
     rows: &[(usize, RowView<'a>)],
 ) -> Result<(), Memory>
-    requires { AreLiveViews (live_table visits.old.state) (views_in rows.now) }
+    requires { AreLiveViews (live_in visits.old.timetable) (views_in rows.now) }
     ensures same { visits.new ≡ visits.old }
     ensures added { OnOk result
-        (Adds (live_table visits.old.state)
+        (Adds (live_in visits.old.timetable)
         (λ trains links. lines_of trains links visits.old.place visits.old.day
         (views_in rows.now))
         lines.old.items lines.new.items) }

@@ -1,14 +1,14 @@
 //! The docker lines of a train's events.
 ghost use Rattle.std.specs.Prelude.{◌≡◌, ◌≤◌, ◌&&◌, ◌++◌, [], OnOk, IfSome, IsNone, codes};
-ghost use Rattle.docker_model.specs.state.State.{live_table};
 ghost use Rattle.docker_model.specs.docker.DockerLine.{ends, tiploc_of_first};
 ghost use Rattle.docker_laws.specs.Gathering.{event_lines};
 ghost use Rattle.docker_day.specs.Details.{detail_meant};
 ghost use Rattle.train_choice.specs.Occurrences.{occurrences};
 ghost use Rattle.train_choice.specs.EventWalk.{occurrence_meant};
-ghost use Rattle.docker_day.specs.Lines.{Adds, is_here, is_today, lines_there, is_lately, is_under_way, schedule_piece};
+ghost use Rattle.docker_day.specs.Lines.{Adds, is_here, is_today, lines_there, runs_recently, is_under_way, schedule_piece};
 ghost use Rattle.train_choice.specs.Along.{IsLiveTrain};
 ghost use Rattle.train_choice.specs.UpTo.{occurrences_to};
+ghost use Rattle.docker_state.specs.Timetables.{live_in};
 
 use crate::detail::Detail;
 use crate::docker_line::DockerLine;
@@ -26,9 +26,9 @@ pub(crate) fn add_schedule<'a>(
     row: usize,
     train: &ScheduleView<'a>,
 ) -> Result<(), Memory>
-    requires live { IsLiveTrain (live_table visit.old.state) train.now }
+    requires live { IsLiveTrain (live_in visit.old.timetable) train.now }
     ensures same { visit.new ≡ visit.old }
-    ensures added { OnOk result (Adds (live_table visit.old.state)
+    ensures added { OnOk result (Adds (live_in visit.old.timetable)
         (λ trains links. schedule_piece trains visit.old.place visit.old.day train.now.key
         train.now.lines visit.old.start)
         lines.old.items lines.new.items) }
@@ -45,10 +45,10 @@ pub(crate) fn add_schedule<'a>(
 }
 
 /// Whether a schedule runs on a day or on one of the two days before.
-pub(crate) fn is_lately(train: &ScheduleView<'_>, day: Day) -> bool
-    ensures { result ≡ is_lately train.now.lines day }
+pub(crate) fn runs_recently(train: &ScheduleView<'_>, day: Day) -> bool
+    ensures { result ≡ runs_recently train.now.lines day }
 {
-    train.runs_lately(day).is_some()
+    train.recent_runs(day).is_some()
 }
 
 /// Whether a schedule's train may be at a place on a day, after starting earlier. It may if the
@@ -56,8 +56,8 @@ pub(crate) fn is_lately(train: &ScheduleView<'_>, day: Day) -> bool
 pub(crate) fn is_under_way(train: &ScheduleView<'_>, place: &Tiploc, day: Day) -> bool
     ensures { result ≡ is_under_way place.now train.now.lines day }
 {
-    let lately = train.runs_lately(day);
-    if !(lately.day_before | lately.two_before) {
+    let recent = train.recent_runs(day);
+    if !(recent.day_before | recent.two_before) {
         return false;
     }
     passes_midnight(train, place)

@@ -1,7 +1,6 @@
 //! A visit: a place on a day, for the trains that start on one day.
 ghost use Rattle.std.specs.Prelude.{◌≡◌, ◌≤◌, true, List, IfOk};
 ghost use Rattle.docker_model.specs.file.File.{first_record};
-ghost use Rattle.docker_model.specs.state.State.{live_table};
 ghost use Rattle.docker_laws.specs.Row.{Row, AreRowsOf};
 ghost use Rattle.docker_model.specs.docker.Choice.{group_of, schedule_runs};
 ghost use Rattle.docker_laws.specs.Gathering.{counts_as, identity_of, runs_by};
@@ -9,11 +8,12 @@ ghost use Rattle.docker_laws.specs.LiveRows.{train_in, link_in};
 ghost use Rattle.train_choice.specs.Along.{IsLiveTrain};
 ghost use Rattle.train_choice.specs.Keys.{association_key_meant};
 ghost use Rattle.docker_day.specs.Bases.{first_call, meant_if};
+ghost use Rattle.docker_state.specs.Timetables.{live_in};
 
 use crate::bases::Bases;
 use cif_change::AssocKey;
 use cif_line::{Day, Memory, Tiploc, Uid};
-use docker_state::State;
+use docker_state::Timetable;
 use std::alloc::Global;
 use std::marker::Model;
 use train_choice::{DayLinks, DayTrains, Identities, Occurrence, ScheduleView};
@@ -40,7 +40,7 @@ impl<'a> Model for Visit<'a> {
     ghost Value = { visits.Visit };
 
     ghost view = { λ visit. record {
-      state = visit.identities;
+      timetable = visit.identities;
       place = visit.place;
       day = visit.day;
       start = visit.start;
@@ -55,14 +55,14 @@ impl<'a> Visit<'a> {
     /// associations chosen on that day.
     pub(crate) fn of(
         alloc: Global,
-        state: &'a State,
+        timetable: &Timetable<'a>,
         place: &Tiploc,
         day: Day,
         start: Day,
     ) -> Result<Visit<'a>, Memory>
         requires past { start ≤ day }
         ensures { IfOk result (λ visit. visit ≡ record {
-          state = state.entry.now;
+          timetable = timetable.entry.now;
           place = place.now;
           day = day;
           start = start;
@@ -72,10 +72,10 @@ impl<'a> Visit<'a> {
             place: *place,
             day,
             start,
-            trains: DayTrains::of(state, start),
-            links: DayLinks::at(alloc, state, place, start)?,
-            bases: Bases::at(alloc, state, place, start),
-            identities: Identities::of(alloc, state),
+            trains: DayTrains::of(timetable, start),
+            links: DayLinks::at(alloc, timetable, place, start)?,
+            bases: Bases::at(alloc, timetable, place, start),
+            identities: Identities::of(alloc, timetable),
         })
     }
 
@@ -104,10 +104,10 @@ impl<'a> Visit<'a> {
     /// Whether the train of this schedule's UID runs by this schedule on the start day. The
     /// schedule has to run on that day. `row` is the index of its row.
     pub(crate) fn runs_by(&mut self, row: usize, train: &ScheduleView<'a>) -> bool
-        requires live { IsLiveTrain (live_table self.old.state) train.now }
+        requires live { IsLiveTrain (live_in self.old.timetable) train.now }
         requires runs { schedule_runs (first_record train.now.lines) self.old.start ≡ true }
         ensures same { self.new ≡ self.old }
-        ensures answer { (rows : List Row) → AreRowsOf (live_table self.old.state) rows
+        ensures answer { (rows : List Row) → AreRowsOf (live_in self.old.timetable) rows
             → result ≡ runs_by (train_in rows train.now.key.uid self.old.start) train.now.key }
     {
         self.trains.runs_by(row, train)
@@ -116,7 +116,7 @@ impl<'a> Visit<'a> {
     /// Whether this association at the place is the one chosen in its group on the start day.
     pub(crate) fn counts(&self, key: &AssocKey) -> bool
         requires { key.now.location ≡ self.now.place }
-        ensures { (rows : List Row) → AreRowsOf (live_table self.now.state) rows → result
+        ensures { (rows : List Row) → AreRowsOf (live_in self.now.timetable) rows → result
             ≡ counts_as (link_in rows (group_of (association_key_meant key.now)) self.now.start)
             (association_key_meant key.now) }
     {
@@ -132,7 +132,7 @@ impl<'a> Visit<'a> {
     ) -> Result<Option<Occurrence<'a>>, Memory>
         ensures same { self.new ≡ self.old }
         ensures event { IfOk result (λ event. (rows : List Row)
-            → AreRowsOf (live_table self.old.state) rows → meant_if event
+            → AreRowsOf (live_in self.old.timetable) rows → meant_if event
             ≡ first_call (train_in rows uid.now self.old.start) self.old.place suffix) }
     {
         self.bases.first_call(uid, suffix)
@@ -143,7 +143,7 @@ impl<'a> Visit<'a> {
     pub(crate) fn identity(&mut self, uid: &Uid, day: Day) -> Result<[u8; 4], Memory>
         ensures same { self.new ≡ self.old }
         ensures identity { IfOk result (λ identity. (rows : List Row)
-            → AreRowsOf (live_table self.old.state) rows
+            → AreRowsOf (live_in self.old.timetable) rows
             → identity ≡ identity_of (train_in rows uid.now day)) }
     {
         self.identities.identity(uid, day)

@@ -5,7 +5,7 @@ ghost use Rattle.docker_day.specs.Visits.{visit_back};
 
 use crate::visit::Visit;
 use cif_line::{Day, Memory, Tiploc};
-use docker_state::State;
+use docker_state::Timetable;
 use std::alloc::Global;
 use std::marker::Model;
 use train_choice::day_back;
@@ -26,14 +26,14 @@ impl<'a> Model for Visits<'a> {
     ghost Value = { PlaceDay };
 
     ghost view = { λ visits. record {
-      state = visits.today.state;
+      timetable = visits.today.timetable;
       place = visits.today.place;
       day = visits.today.day;
     } };
 
     ghost invariant = { λ visits. AreVisits
         (record {
-          state = visits.today.state;
+          timetable = visits.today.timetable;
           place = visits.today.place;
           day = visits.today.day;
         })
@@ -45,17 +45,17 @@ impl<'a> Visits<'a> {
     /// the start days.
     pub(crate) fn at(
         alloc: Global,
-        state: &'a State,
+        timetable: &Timetable<'a>,
         place: &Tiploc,
         day: Day,
     ) -> Result<Visits<'a>, Memory>
         ensures { IfOk result (λ visits. visits
-            ≡ record { state = state.entry.now; place = place.now; day = day }) }
+            ≡ record { timetable = timetable.entry.now; place = place.now; day = day }) }
     {
         Ok(Visits {
-            today: Visit::of(alloc, state, place, day, day)?,
-            day_before: visit_back(alloc, state, place, day, 1)?,
-            two_before: visit_back(alloc, state, place, day, 2)?,
+            today: Visit::of(alloc, timetable, place, day, day)?,
+            day_before: visit_back(alloc, timetable, place, day, 1)?,
+            two_before: visit_back(alloc, timetable, place, day, 2)?,
         })
     }
 
@@ -77,16 +77,16 @@ impl<'a> Visits<'a> {
 /// The visit of the trains that start `back` days before the day. `None` if there is no such day.
 fn visit_back<'a>(
     alloc: Global,
-    state: &'a State,
+    timetable: &Timetable<'a>,
     place: &Tiploc,
     day: Day,
     back: u16,
 ) -> Result<Option<Visit<'a>>, Memory>
     ensures { IfOk result (λ visit. visit ≡ visit_back
-        (record { state = state.entry.now; place = place.now; day = day }) back) }
+        (record { timetable = timetable.entry.now; place = place.now; day = day }) back) }
 {
     match day_back(day, back) {
-        Some(start) => Ok(Some(Visit::of(alloc, state, place, day, start)?)),
+        Some(start) => Ok(Some(Visit::of(alloc, timetable, place, day, start)?)),
         None => Ok(None),
     }
 }

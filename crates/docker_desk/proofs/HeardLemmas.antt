@@ -8,7 +8,7 @@ use Rattle.docker_cmd.specs.Prepared.{most_bytes}
 use Rattle.docker_cmd.specs.SourceRead.{JoinsState}
 use Rattle.docker_host.specs.History.{Bytes, Event, Text, looked, opened}
 use Rattle.docker_desk.specs.Desk.{EndsReceiving, EndsRenewing, EndsSaving, EndsTaking, opening_of}
-use Rattle.docker_desk.specs.Requests.{RequestView, print_request, train_request, files_request, places_request, known_request, renew_request, take_request, merge_request, horizon_request, save_request}
+use Rattle.docker_desk.specs.Requests.{RequestView, print_request, permanent_request, train_request, files_request, places_request, known_request, renew_request, take_request, merge_request, horizon_request, save_request}
 use Rattle.docker_desk.specs.Replies.{AnswerView, done_with, no_request, refused_for}
 use Rattle.docker_desk.specs.Moments.{Moment, Setting, Step}
 use Rattle.docker_desk.specs.Doing.{AreSteps, DoesAsked, DoesRequest, Joins, Renews, Saves, answer_of}
@@ -112,6 +112,7 @@ module _ (setting : Setting) where
   hears_some : (request : RequestView) (text : List ℕ) (before after : Moment) → DoesRequest setting request before (done_with text) after
       → ReceivesKnown setting request before after → (heard : Known) × Hears setting request before after heard
   hears_some (print_request place day) text before after does received = (nothing, refl)
+  hears_some (permanent_request place day) text before after does received = (nothing, refl)
   hears_some (train_request uid day) text before after does received = (nothing, refl)
   hears_some files_request text before after does received = (nothing, refl)
   hears_some places_request text before after does received = (nothing, refl)

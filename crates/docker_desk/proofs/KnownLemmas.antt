@@ -20,7 +20,7 @@ use Rattle.docker_cmd.specs.Words.{NamesDay, OfOne, Text}
 use Rattle.docker_host.specs.History.{Bytes, Event}
 use Rattle.docker_desk.specs.Lines.{LineView, whole_line, bad_line, cut_line}
 use Rattle.docker_cmd.specs.JobLine.{words_in}
-use Rattle.docker_desk.specs.Requests.{RequestView, behind_word, print_request, train_request, files_request, places_request, known_request, renew_request, take_request, merge_request, horizon_request, save_request}
+use Rattle.docker_desk.specs.Requests.{RequestView, behind_word, print_request, permanent_request, train_request, files_request, places_request, known_request, renew_request, take_request, merge_request, horizon_request, save_request}
 use Rattle.docker_desk.specs.Desk.{DeskView, EndsReceiving, EndsRenewing, EndsTaking}
 use Rattle.docker_desk.specs.Replies.{AnswerView, done_with, no_request, refused_for}
 use Rattle.docker_desk.specs.Moments.{Moment, Setting, Step}
@@ -116,6 +116,8 @@ module _ (setting : Setting) (before after : Moment) where
       → IsKnown (united old heard) after.desk.state
   known_done (print_request place day) text old heard days does hears is =
       nothing_heard old heard _ _ hears (ap (λ (m : Moment). m.desk.state) does.1) is
+  known_done (permanent_request place day) text old heard days does hears is =
+      nothing_heard old heard _ _ hears (ap (λ (m : Moment). m.desk.state) does.1) is
   known_done (train_request uid day) text old heard days does hears is =
       nothing_heard old heard _ _ hears (ap (λ (m : Moment). m.desk.state) does.1) is
   known_done files_request text old heard days does hears is = nothing_heard old heard _ _ hears (ap (λ (m : Moment). m.desk.state) does.1) is
@@ -133,6 +135,7 @@ module _ (setting : Setting) (before after : Moment) where
   same_refused : (request : RequestView) (fault : OfficeFault) → DoesRequest setting request before (refused_for fault) after
       → after.desk.state ≡ before.desk.state
   same_refused (print_request place day) fault does = ap (λ (m : Moment). m.desk.state) does.1
+  same_refused (permanent_request place day) fault does = ap (λ (m : Moment). m.desk.state) does.1
   same_refused (train_request uid day) fault does = ap (λ (m : Moment). m.desk.state) does.1
   same_refused files_request fault does = ap (λ (m : Moment). m.desk.state) does.1
   same_refused places_request fault does = ap (λ (m : Moment). m.desk.state) does.1
@@ -146,6 +149,7 @@ module _ (setting : Setting) (before after : Moment) where
   -- a request never gets the answer to a line that asks for nothing
   never_unasked : (request : RequestView) → ¬ DoesRequest setting request before no_request after
   never_unasked (print_request place day) does = does.0
+  never_unasked (permanent_request place day) does = does.0
   never_unasked (train_request uid day) does = does.0
   never_unasked files_request does = does.0
   never_unasked places_request does = does.0

@@ -14,3 +14,4 @@ mod ServeLemmas
 mod LookLemmas
 mod HeardLemmas
 mod WitnessLemmas
+mod PermanentLemmas

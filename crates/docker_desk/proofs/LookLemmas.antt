@@ -7,7 +7,7 @@ use Rattle.docker_model.specs.state.StateText.{dks_2, state_text}
 use Rattle.docker_host.specs.History.{Bytes, Event, Text, drafted, dropped, looked, named_if, opened, placed, undrafted, unplaced}
 use Rattle.docker_host.specs.Asked.{FailsToStore}
 use Rattle.docker_desk.specs.Desk.{DeskView, EndsRenewing, EndsSaving, look_by, opening_of}
-use Rattle.docker_desk.specs.Requests.{RequestView, print_request, train_request, files_request, places_request, known_request, renew_request, take_request, merge_request, horizon_request, save_request}
+use Rattle.docker_desk.specs.Requests.{RequestView, print_request, permanent_request, train_request, files_request, places_request, known_request, renew_request, take_request, merge_request, horizon_request, save_request}
 use Rattle.docker_desk.specs.Replies.{AnswerView}
 use Rattle.docker_desk.specs.Moments.{Moment, Setting, Step}
 use Rattle.docker_desk.specs.Doing.{AreSteps, DoesAsked, DoesRequest}
@@ -100,6 +100,7 @@ module _ (setting : Setting) where
   good_request : (request : RequestView) (before after : Moment) (answer : AnswerView) → DoesRequest setting request before answer after → LooksWell before
       → LooksWell after
   good_request (print_request place day) before after answer does good = good_kept before after does.1 good
+  good_request (permanent_request place day) before after answer does good = good_kept before after does.1 good
   good_request (train_request uid day) before after answer does good = good_kept before after does.1 good
   good_request files_request before after answer does good = good_kept before after does.1 good
   good_request places_request before after answer does good = good_kept before after does.1 good

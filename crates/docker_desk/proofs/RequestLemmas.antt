@@ -5,7 +5,7 @@ use Rattle.std.specs.Str.{bytes_eq}
 use Rattle.std.proofs.lemmas.Slice.Eq.{bytes_eq-Decides}
 use Rattle.docker_cmd.specs.Words.{NamesDay, OfTwo, Text}
 use Rattle.docker_cmd.specs.JobLine.{words_in}
-use Rattle.docker_desk.specs.Requests.{AsksFor, HasRest, IsRequestOf, RequestView, behind_word, first_word, is_writing, name_of, verb_named, verb_of, verbs, FitsRest, NamesTrain, print_request, train_request, files_request, places_request, known_request, renew_request, take_request, merge_request, horizon_request, save_request}
+use Rattle.docker_desk.specs.Requests.{AsksFor, HasRest, IsRequestOf, RequestView, behind_word, first_word, is_writing, name_of, verb_named, verb_of, verbs, FitsRest, NamesTrain, print_request, permanent_request, train_request, files_request, places_request, known_request, renew_request, take_request, merge_request, horizon_request, save_request}
 use Rattle.docker_desk.specs.declared.requests.Verb.{Verb}
 use Rattle.docker_desk.specs.declared.requests.Verb.TheVariants as verb
 
@@ -15,6 +15,7 @@ pub no_train : (rest : List ℕ) (word date : Text) → words_in rest ≡ word �
 no_train rest word date two none (train_request uid day) same has =
     let both = subst (OfTwo (λ word date. NamesTrain word uid × NamesDay date day)) two has in none uid day both.0 both.1
 no_train rest word date two none (print_request place day) same has = cc
+no_train rest word date two none (permanent_request place day) same has = cc
 no_train rest word date two none files_request same has = cc
 no_train rest word date two none places_request same has = cc
 no_train rest word date two none known_request same has = cc
@@ -30,6 +31,7 @@ no_train rest word date two none save_request same has = cc
 named_back : (v : Verb) → verb_named (name_of v) ≡ Some v
 unfolding verb_named
 named_back verb.Print = refl
+named_back verb.Permanent = refl
 named_back verb.Train = refl
 named_back verb.Files = refl
 named_back verb.Places = refl

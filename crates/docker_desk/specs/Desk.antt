@@ -4,6 +4,8 @@ use Rattle.docker_model.specs.file.File.{most_records}
 use Rattle.docker_model.specs.state.State.{State, live_table}
 use Rattle.docker_model.specs.state.StateText.{dks_2, state_text}
 use Rattle.docker_model.specs.state.Lapse.{IsDayRefused}
+use Rattle.docker_model.specs.docker.Permanent.{permanent_table}
+use Rattle.docker_model.specs.state.Table.{Table}
 use Rattle.docker_model.specs.docker.DockerText.{IsDockerText, files_text}
 use Rattle.cif_file.specs.SourceRead.{RefusesText}
 use Rattle.docker_train.specs.TrainText.{IsTrainText}
@@ -44,6 +46,19 @@ IsDockerAnswer state place day (done_with text) =
     IsDockerText (live_table state) place day text × (¬ IsDayRefused state.horizon day)
 IsDockerAnswer state place day (refused_for fault) = IsDockerRefused state day fault
 IsDockerAnswer state place day no_request = ⊥
+
+-- the answer has the docker of this table, or says that there was no memory for its text
+abbrev pub TellsDocker : Table → List ℕ → ℕ → AnswerView → Type 0
+TellsDocker live place day (done_with text) = IsDockerText live place day text
+TellsDocker live place day (refused_for fault) = fault ≡ office.Memory
+TellsDocker live place day no_request = ⊥
+
+-- the answer to a request for a docker without the short-term plan. It is refused as a docker is
+abbrev pub IsPermanentAnswer : State → List ℕ → ℕ → AnswerView → Type 0
+IsPermanentAnswer state place day (done_with text) =
+    IsDockerText (permanent_table (live_table state)) place day text × (¬ IsDayRefused state.horizon day)
+IsPermanentAnswer state place day (refused_for fault) = IsDockerRefused state day fault
+IsPermanentAnswer state place day no_request = ⊥
 
 -- why a train is refused: `Lapsed` if its day is before the horizon, otherwise `Memory`
 abbrev pub IsTrainRefused : State → ℕ → OfficeFault → Type 0

@@ -6,8 +6,8 @@ use Rattle.docker_cmd.specs.JobLine.{IsLineText}
 use Rattle.docker_cmd.specs.OfficeFault.{OfficeFault}
 use Rattle.docker_host.specs.History.{Bytes, Text}
 use Rattle.docker_desk.specs.Lines.{LineView, whole_line, bad_line, cut_line}
-use Rattle.docker_desk.specs.Requests.{AsksFor, RequestView, print_request, train_request, files_request, places_request, known_request, renew_request, take_request, merge_request, horizon_request, save_request}
-use Rattle.docker_desk.specs.Desk.{DeskView, EndsReceiving, EndsRenewing, EndsSaving, EndsTaking, IsCounted, IsDockerAnswer, IsFilesAnswer, IsKnownAnswer, IsPlacesAnswer, IsTrainAnswer, LooksAndOpens, OpensOnce, look_by, unsaved_by}
+use Rattle.docker_desk.specs.Requests.{AsksFor, RequestView, print_request, permanent_request, train_request, files_request, places_request, known_request, renew_request, take_request, merge_request, horizon_request, save_request}
+use Rattle.docker_desk.specs.Desk.{DeskView, EndsReceiving, EndsRenewing, EndsSaving, EndsTaking, IsCounted, IsDockerAnswer, IsFilesAnswer, IsKnownAnswer, IsPermanentAnswer, IsPlacesAnswer, IsTrainAnswer, LooksAndOpens, OpensOnce, look_by, unsaved_by}
 use Rattle.docker_desk.specs.Replies.{AnswerView, done_with, no_request, refused_for, status_told}
 use Rattle.docker_desk.specs.Moments.{Moment, Setting, Step}
 
@@ -64,6 +64,8 @@ with_horizon day before =
 abbrev pub DoesRequest : Setting → RequestView → Moment → AnswerView → Moment → Type 0
 DoesRequest setting (print_request place day) before answer after =
     IsDockerAnswer before.desk.state place day answer × (after ≡ before)
+DoesRequest setting (permanent_request place day) before answer after =
+    IsPermanentAnswer before.desk.state place day answer × (after ≡ before)
 DoesRequest setting (train_request uid day) before answer after =
     IsTrainAnswer before.desk.state uid day answer × (after ≡ before)
 DoesRequest setting files_request before answer after =

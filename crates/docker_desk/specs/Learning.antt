@@ -1,11 +1,14 @@
 -- What is known in a session: the files that the state of each moment is the summary of, and its
 -- horizon.
-use Rattle.std.specs.Prelude.{◌≡◌, ℕ, List, [], ◌∷◌, ◌++◌, Option, Some, None, option_map, ⊤}
+use Rattle.std.specs.Prelude.{◌≡◌, ◌↔◌, ℕ, List, [], ◌∷◌, ◌++◌, Option, Some, None, option_map, ⊤}
 use Rattle.docker_model.specs.file.File.{most_records}
-use Rattle.docker_model.specs.state.State.{State}
+use Rattle.docker_model.specs.state.State.{State, live_table}
+use Rattle.docker_model.specs.state.Lapse.{IsDayRefused}
 use Rattle.docker_model.specs.state.StateText.{dks_2}
 use Rattle.docker_model.specs.state.Table.{Table, IsPlainTable}
 use Rattle.docker_model.specs.docker.Choice.{IsChosenOn}
+use Rattle.docker_model.specs.docker.DockerText.{IsDockerText}
+use Rattle.docker_model.specs.docker.Permanent.{permanent_table}
 use Rattle.docker_model.specs.run.Run.{IsMessageOf, IsStateOf, Known, nothing, united}
 use Rattle.docker_model.specs.run.Knowledge.{IsGoodKnown}
 use Rattle.docker_train.specs.TrainText.{Stamped, train_text}
@@ -14,7 +17,7 @@ use Rattle.docker_cmd.specs.Office.{HoldsState, TakesFile}
 use Rattle.docker_cmd.specs.SourceRead.{JoinsState}
 use Rattle.docker_cmd.specs.Prepared.{most_bytes}
 use Rattle.docker_host.specs.History.{Bytes, Event, Text, drafted, looked, named_if, opened, placed}
-use Rattle.docker_desk.specs.Requests.{RequestView, print_request, train_request, files_request, places_request, known_request, renew_request, take_request, merge_request, horizon_request, save_request}
+use Rattle.docker_desk.specs.Requests.{RequestView, print_request, permanent_request, train_request, files_request, places_request, known_request, renew_request, take_request, merge_request, horizon_request, save_request}
 use Rattle.docker_desk.specs.Replies.{AnswerView, done_with, no_request, refused_for}
 use Rattle.docker_desk.specs.Moments.{Moment, Setting, Step}
 use Rattle.docker_desk.specs.Doing.{AreSteps}
@@ -23,6 +26,12 @@ use Rattle.docker_desk.specs.Doing.{AreSteps}
 pub record IsKnown (known : Known) (state : State) : Type 0 where
   pub good : IsGoodKnown dks_2 known
   pub is : IsStateOf known state
+
+-- without the short-term plan the state and this table have the same dockers, on each day that the
+-- horizon doesn't refuse
+abbrev pub KeepsAs : State → Table → Type 0
+KeepsAs state table = (place : List ℕ) (day : ℕ) (text : List ℕ) → ¬ IsDayRefused state.horizon day
+    → IsDockerText (permanent_table (live_table state)) place day text ↔ IsDockerText (permanent_table table) place day text
 
 -- the named file was opened and held an extract that was taken. This extract is what was heard,
 -- without a horizon
@@ -52,6 +61,7 @@ renewing name held = looked name ∷ opened name held ∷ []
 -- what is heard by a request that was done
 abbrev pub Hears : Setting → RequestView → Moment → Moment → Known → Type 0
 Hears setting (print_request place day) before after heard = heard ≡ nothing
+Hears setting (permanent_request place day) before after heard = heard ≡ nothing
 Hears setting (train_request uid day) before after heard = heard ≡ nothing
 Hears setting files_request before after heard = heard ≡ nothing
 Hears setting places_request before after heard = heard ≡ nothing
@@ -93,6 +103,7 @@ pub record HoldsKnown (events : Bytes → List Event) (before after : Moment) (k
 -- if the request receives a state, the file held the text of a summary
 abbrev pub ReceivesKnown : Setting → RequestView → Moment → Moment → Type 0
 ReceivesKnown setting (print_request place day) before after = ⊤
+ReceivesKnown setting (permanent_request place day) before after = ⊤
 ReceivesKnown setting (train_request uid day) before after = ⊤
 ReceivesKnown setting files_request before after = ⊤
 ReceivesKnown setting places_request before after = ⊤

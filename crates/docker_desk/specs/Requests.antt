@@ -14,6 +14,7 @@ use Rattle.docker_desk.specs.declared.requests.Request.TheVariants as code
 -- a request, with the timing point, the train, the day or the file that it names
 pub data RequestView : Type 0 where
   print_request : (place : List ℕ) (day : ℕ) → RequestView
+  permanent_request : (place : List ℕ) (day : ℕ) → RequestView
   train_request : (uid : List ℕ) (day : ℕ) → RequestView
   files_request : RequestView
   places_request : RequestView
@@ -27,6 +28,7 @@ pub data RequestView : Type 0 where
 -- the request that a request of the code's type means
 abbrev pub request_meant : Request → RequestView
 request_meant (code.Print place day) = print_request place day
+request_meant (code.Permanent place day) = permanent_request place day
 request_meant (code.Train uid day) = train_request uid day
 request_meant code.Files = files_request
 request_meant code.Places = places_request
@@ -40,6 +42,7 @@ request_meant code.Save = save_request
 -- the word that names a request
 abbrev pub verb_of : RequestView → Verb
 verb_of (print_request place day) = verb.Print
+verb_of (permanent_request place day) = verb.Permanent
 verb_of (train_request uid day) = verb.Train
 verb_of files_request = verb.Files
 verb_of places_request = verb.Places
@@ -68,6 +71,7 @@ row_meant it = row it.name.now (map (λ id. id.now) it.ids.now) it.writes
 -- the table
 abbrev pub row_of : Verb → RequestRow
 row_of verb.Print = row (codes "print") (codes "TIPLOC" ∷ codes "DATE" ∷ []) false
+row_of verb.Permanent = row (codes "permanent") (codes "TIPLOC" ∷ codes "DATE" ∷ []) false
 row_of verb.Train = row (codes "train") (codes "UID" ∷ codes "DATE" ∷ []) false
 row_of verb.Files = row (codes "files") [] false
 row_of verb.Places = row (codes "places") [] false
@@ -80,7 +84,9 @@ row_of verb.Save = row (codes "save") [] true
 
 -- all words that name requests, in the order of the usage line
 abbrev pub verbs : List Verb
-verbs = verb.Print ∷ verb.Train ∷ verb.Files ∷ verb.Places ∷ verb.Known ∷ verb.Renew ∷ verb.Take ∷ verb.Merge ∷ verb.Horizon ∷ verb.Save ∷ []
+verbs =
+    verb.Print ∷ verb.Permanent ∷ verb.Train ∷ verb.Files ∷ verb.Places ∷ verb.Known ∷ verb.Renew ∷ verb.Take ∷ verb.Merge ∷ verb.Horizon
+    ∷ verb.Save ∷ []
 
 -- the bytes of the word
 abbrev pub name_of : Verb → Text
@@ -138,6 +144,7 @@ pub record ArePlaceAndDay (place : List ℕ) (day : ℕ) (tiploc date : Text) : 
 -- what has to come after the word that names a request: its words or its file, and nothing else
 abbrev pub HasRest : RequestView → List ℕ → Type 0
 HasRest (print_request place day) rest = OfTwo (ArePlaceAndDay place day) (words_in rest)
+HasRest (permanent_request place day) rest = OfTwo (ArePlaceAndDay place day) (words_in rest)
 HasRest (train_request uid day) rest =
     OfTwo (λ word date. NamesTrain word uid × NamesDay date day) (words_in rest)
 HasRest files_request rest = words_in rest ≡ []

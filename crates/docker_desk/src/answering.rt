@@ -58,6 +58,7 @@ fn answer_request<D: Folder>(
 {
     match request {
         Request::Print { place, day } => session.desk.print(&place, day),
+        Request::Permanent { place, day } => session.desk.permanent(&place, day),
         Request::Train { uid, day } => session.desk.train(&uid, day),
         Request::Files => session.desk.files(),
         Request::Places => session.desk.places(),

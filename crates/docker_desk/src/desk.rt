@@ -1,11 +1,13 @@
 //! A desk, and what it can be asked for.
-ghost use Rattle.std.specs.Prelude.{◌≡◌, ◌+◌, ◌-◌, ◌^◌, ◌<◌, false, true, length, IsErr, IsOk};
+ghost use Rattle.std.specs.Prelude.{◌≡◌, ℕ, List, ◌+◌, ◌-◌, ◌^◌, ◌<◌, false, true, length, IsErr, IsOk};
 ghost use Rattle.docker_model.specs.state.State.{raise_horizon};
 ghost use Rattle.docker_model.specs.state.StateText.{dks_2, state_text};
 ghost use Rattle.docker_cmd.specs.OfficeFault.TheVariants as office;
-ghost use Rattle.docker_desk.specs.Desk.{EndsReceiving, EndsRenewing, EndsSaving, EndsTaking, IsCounted, IsDockerAnswer, IsFilesAnswer, IsKnownAnswer, IsPlacesAnswer, IsTrainAnswer, LooksAndOpens, OpensOnce, look_by, result_status, unsaved_by};
+ghost use Rattle.docker_desk.specs.Desk.{EndsReceiving, EndsRenewing, EndsSaving, EndsTaking, IsCounted, IsDockerAnswer, IsFilesAnswer, IsKnownAnswer, IsPermanentAnswer, IsPlacesAnswer, IsTrainAnswer, LooksAndOpens, OpensOnce, TellsDocker, look_by, result_status, unsaved_by};
 ghost use Rattle.docker_desk.specs.Doing.{desk_by};
 ghost use Rattle.docker_desk.specs.Replies.{answer_meant, done_with, refused_for};
+ghost use Rattle.docker_model.specs.state.Table.{Table};
+ghost use Rattle.docker_train.specs.Dockers.{IsDockerOf};
 
 use crate::page::Page;
 use crate::reading::{receive_state, renew_state, take_file};
@@ -14,7 +16,7 @@ use crate::saving::store_office;
 use cif_line::{Day, Failed, Tiploc, Uid};
 use docker_cmd::{Office, OfficeFault};
 use docker_host::Folder;
-use docker_train::{TrainFault, print_train};
+use docker_train::{Docker, DockerFault, TrainFault, permanent_docker, print_train, write_docker};
 use state_lists::{print_known, print_places};
 use std::alloc::Global;
 use std::marker::Model;
@@ -66,6 +68,18 @@ impl Desk {
             Ok(()) => Answer::Text(page),
             Err(OfficeFault::Sink) => Answer::Refused(OfficeFault::Memory),
             Err(fault) => Answer::Refused(fault),
+        }
+    }
+
+    /// The docker of a timing point on a day without the short-term plan, as a whole text. Refused as
+    /// `print` is.
+    pub fn permanent(&self, place: &Tiploc, day: Day) -> Answer
+        ensures { IsPermanentAnswer self.now.state place.now day (answer_meant result) }
+    {
+        match permanent_docker(self.alloc, self.office.state(), place, day) {
+            Ok(docker) => answer_with(self.alloc, &docker),
+            Err(DockerFault::Lapsed) => Answer::Refused(OfficeFault::Lapsed),
+            Err(DockerFault::Memory) => Answer::Refused(OfficeFault::Memory),
         }
     }
 
@@ -242,5 +256,17 @@ fn answer_on(page: Page, printed: Result<(), Failed>) -> Answer
     match printed {
         Ok(()) => Answer::Text(page),
         Err(Failed) => Answer::Refused(OfficeFault::Memory),
+    }
+}
+
+/// The answer that has the text of a docker. Refused if there is no memory for the text.
+fn answer_with(alloc: Global, docker: &Docker<'_>) -> Answer
+    ensures { (live : Table) (place : List ℕ) (day : ℕ) → IsDockerOf live place day docker.now
+        → TellsDocker live place day (answer_meant result) }
+{
+    let mut page = Page::new(alloc);
+    match write_docker(docker, &mut page) {
+        Ok(()) => Answer::Text(page),
+        Err(_) => Answer::Refused(OfficeFault::Memory),
     }
 }

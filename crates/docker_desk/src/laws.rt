@@ -7,6 +7,7 @@ ghost use Rattle.docker_model.specs.state.StateText.{dks_2, state_text};
 ghost use Rattle.docker_model.specs.state.Summary.{HaveDistinctMoments};
 ghost use Rattle.docker_model.specs.state.Table.{Table, IsPlainTable};
 ghost use Rattle.docker_model.specs.docker.DockerText.{IsDockerText};
+ghost use Rattle.docker_model.specs.docker.Permanent.{permanent_table};
 ghost use Rattle.docker_model.specs.run.Run.{Known};
 ghost use Rattle.docker_model.specs.run.Knowledge.{AreOneKnowledge, HaveSameFiles};
 ghost use Rattle.docker_cmd.specs.Office.{HoldsState};
@@ -19,7 +20,7 @@ ghost use Rattle.state_lists.specs.Known.{IsKnownText};
 ghost use Rattle.state_lists.specs.Places.{IsPlacesText};
 ghost use Rattle.docker_desk.specs.Answering.{EndsSession, answers_of, lines_of};
 ghost use Rattle.docker_desk.specs.Doing.{AreSteps, DoesRequest};
-ghost use Rattle.docker_desk.specs.Learning.{AllHearKnown, AreLearned, HearsState, HoldsKnown, IsKnown, IsTrainOf, KnowsAt, PlacesKnown, merging, renewing};
+ghost use Rattle.docker_desk.specs.Learning.{AllHearKnown, AreLearned, HearsState, HoldsKnown, IsKnown, IsTrainOf, KeepsAs, KnowsAt, PlacesKnown, merging, renewing};
 ghost use Rattle.docker_desk.specs.Moments.{Moment, Setting, Step};
 ghost use Rattle.docker_desk.specs.Replies.{done_with};
 ghost use Rattle.docker_desk.specs.Requests.{merge_request, renew_request, save_request};
@@ -117,6 +118,21 @@ pub fn dockers_are_of_the_plain_table()
     ensures { (known : Known) (state : State) → IsKnown known state
         → HaveDistinctMoments known.files
         → (plain : Table) × IsPlainTable known.files plain × PrintsAs state plain }
+{}
+
+/// Two sessions, or a session and an office of a run, that know the same files have the same dockers
+/// without the short-term plan. This holds for each timing point and each day that neither refuses,
+/// even if their horizons differ. If no two of these files have the same moment, they are the dockers
+/// of the plain table without its short-term entries.
+pub fn known_files_fix_permanent_answers()
+    ensures docker { (first second : Known) (one two : State) → IsKnown first one
+        → IsKnown second two → HaveSameFiles first.files second.files → (place : List ℕ) (day : ℕ)
+        → ¬ IsDayRefused one.horizon day → ¬ IsDayRefused two.horizon day → (text other : List ℕ)
+        → IsDockerText (permanent_table (live_table one)) place day text
+        → IsDockerText (permanent_table (live_table two)) place day other → text ≡ other }
+    ensures plain { (known : Known) (state : State) → IsKnown known state
+        → HaveDistinctMoments known.files
+        → (plain : Table) × IsPlainTable known.files plain × KeepsAs state plain }
 {}
 
 /// Each schedule that `train` shows came from a known file. If no two known files have the same

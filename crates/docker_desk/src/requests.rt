@@ -3,8 +3,8 @@ ghost use Rattle.std.specs.Prelude.{◌≡◌, ◌≢◌, ◌↔◌, ℕ, List, 
 ghost use Rattle.std.specs.Option.{option_copied};
 ghost use Rattle.std.specs.Str.{bytes_eq};
 ghost use Rattle.docker_cmd.specs.JobLine.{IsLineText, words_in};
-ghost use Rattle.docker_desk.specs.Requests.{AsksFor, FitsRest, NamesFile, NamesTrain, is_writing, name_of, request_meant, row_meant, row_of, usage_line, verb_named, verbs};
-ghost use Rattle.docker_cmd.specs.Words.{is_plain_word};
+ghost use Rattle.docker_desk.specs.Requests.{ArePlaceAndDay, AsksFor, FitsRest, NamesFile, NamesTrain, is_writing, name_of, request_meant, row_meant, row_of, usage_line, verb_named, verbs};
+ghost use Rattle.docker_cmd.specs.Words.{OfTwo, is_plain_word};
 ghost use Rattle.docker_desk.specs.declared.requests.Verb.TheVariants as verb;
 
 use crate::words::{has_word, next_word, one_word, two_words};
@@ -16,6 +16,8 @@ use docker_cmd::text_of;
 pub enum Verb {
     /// The docker of a timing point on a day.
     Print,
+    /// That docker without the short-term plan.
+    Permanent,
     /// The schedule that is chosen for a train on a day.
     Train,
     /// The files that are known.
@@ -65,6 +67,7 @@ impl Verb {
     {
         &[
             Verb::Print,
+            Verb::Permanent,
             Verb::Train,
             Verb::Files,
             Verb::Places,
@@ -83,6 +86,7 @@ impl Verb {
     {
         match self {
             Verb::Print => RequestRow::of("print", &["TIPLOC", "DATE"], false),
+            Verb::Permanent => RequestRow::of("permanent", &["TIPLOC", "DATE"], false),
             Verb::Train => RequestRow::of("train", &["UID", "DATE"], false),
             Verb::Files => RequestRow::of("files", &[], false),
             Verb::Places => RequestRow::of("places", &[], false),
@@ -129,7 +133,7 @@ impl Verb {
 pub(crate) fn usage<'a>() -> &'a [u8]
     ensures { result.now ≡ usage_line }
 {
-    b"desk: usage: [--write] STATE, and then a line for each request: print TIPLOC DATE | train UID DATE | files | places | known | renew | with --write take FILE | merge OTHER | horizon DATE | save\n"
+    b"desk: usage: [--write] STATE, and then a line for each request: print TIPLOC DATE | permanent TIPLOC DATE | train UID DATE | files | places | known | renew | with --write take FILE | merge OTHER | horizon DATE | save\n"
 }
 
 /// The first of some verbs that has this name.
@@ -144,6 +148,13 @@ fn first_named<'a>(verbs: &'a [Verb], name: &str) -> Option<&'a Verb>
 pub enum Request<'a> {
     /// `print`.
     Print {
+        /// The timing point.
+        place: Tiploc,
+        /// The day.
+        day: Day,
+    },
+    /// `permanent`.
+    Permanent {
         /// The timing point.
         place: Tiploc,
         /// The day.
@@ -197,6 +208,7 @@ fn request_of(verb: Verb, rest: &str) -> Option<Request<'_>>
 {
     match verb {
         Verb::Print => print_request(rest),
+        Verb::Permanent => permanent_request(rest),
         Verb::Train => train_request(rest),
         Verb::Files => {
             alone(rest)?;
@@ -228,13 +240,31 @@ fn request_of(verb: Verb, rest: &str) -> Option<Request<'_>>
 fn print_request(rest: &str) -> Option<Request<'_>>
     ensures { FitsRest verb.Print rest.now (option_map request_meant result) }
 {
+    let (place, day) = place_and_day(rest)?;
+    Some(Request::Print { place, day })
+}
+
+/// The request for a docker without the short-term plan.
+fn permanent_request(rest: &str) -> Option<Request<'_>>
+    ensures { FitsRest verb.Permanent rest.now (option_map request_meant result) }
+{
+    let (place, day) = place_and_day(rest)?;
+    Some(Request::Permanent { place, day })
+}
+
+/// The timing point and the day that the rest of the line names, if it names these and nothing more.
+fn place_and_day(rest: &str) -> Option<(Tiploc, Day)>
+    ensures some { IfSome result (λ it. OfTwo (ArePlaceAndDay it.0 it.1) (words_in rest.now)) }
+    ensures none { IsNone result → (place : List ℕ) (day : ℕ)
+        → ¬ OfTwo (ArePlaceAndDay place day) (words_in rest.now) }
+{
     let (tiploc, date) = two_words(rest)?;
     if !is_plain(tiploc) {
         return None;
     }
     let place = Tiploc::from_text(tiploc)?;
     let day = Day::from_iso(date)?;
-    Some(Request::Print { place, day })
+    Some((place, day))
 }
 
 /// The request for a train.

@@ -35,3 +35,5 @@ pub mod ThinState
 pub mod FileSummary
 pub mod NoLinesElsewhere
 pub mod Sublists
+pub mod CountedRows
+pub mod PermanentDocker

@@ -10,5 +10,6 @@ pub mod ExcerptWalk
 pub mod NearDay
 pub mod StandIn
 pub mod Thinning
+pub mod CountedRows
 pub use Rattle.state_laws.specs.Index
 pub use Rattle.state_laws.specs.Row

@@ -1,4 +1,4 @@
--- Dockers: events, choice, associations, lines, lists and texts.
+-- Dockers: events, choice, associations, lines, lists and texts. The permanent entries.
 
 pub mod Event
 pub mod Choice
@@ -6,3 +6,4 @@ pub mod DockerLine
 pub mod Association
 pub mod DockerList
 pub mod DockerText
+pub mod Permanent

@@ -17,3 +17,4 @@ pub mod LedgerSearch
 pub mod UidRows
 pub mod Newest
 pub mod NothingToStage
+pub mod Timetables

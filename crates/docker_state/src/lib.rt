@@ -12,6 +12,8 @@ mod parts;
 mod rows;
 mod staging;
 mod state;
+mod timetable;
+mod timetable_rows;
 mod uid_rows;
 
 pub use docker_join::{Merge, Op};
@@ -20,4 +22,6 @@ pub use live::Live;
 pub use parts::Parts;
 pub use staging::Staging;
 pub use state::State;
-pub use state_index::{Numbered, Standing};
+pub use state_index::{Numbered, PlaceRows};
+pub use timetable::Timetable;
+pub use timetable_rows::{TimetableRows, UidSchedules};

@@ -35,7 +35,7 @@ use crate::uid_rows::rows_of_uid;
 use cif_file::{CifFile, FileParts, Key, ThinFile};
 use cif_line::{Day, Memory, Tiploc, Uid};
 use docker_join::{Entry, FileStamp, Merge, Table, join_rows, lapse_rows};
-use state_index::{Index, Moves, Notes, Room, Standing};
+use state_index::{Index, Moves, Notes, PlaceRows, Room};
 use std::alloc::Global;
 use std::marker::Model;
 
@@ -267,7 +267,7 @@ impl State {
 
     /// The live schedules that call at a TIPLOC, by an LO, an LI or an LT: each once, with its
     /// lines, in the order of the keys. They are found by a binary search, without memory.
-    pub fn calling(&self, tiploc: &Tiploc) -> Standing<'_>
+    pub fn calling(&self, tiploc: &Tiploc) -> PlaceRows<'_>
         ensures { AreCalling (live_table self.now) tiploc.now result }
     {
         self.index.calling(self.entries.as_slice(), tiploc)
@@ -283,7 +283,7 @@ impl State {
 
     /// The live associations at a location: each with its line, in the order of the keys. They are
     /// found by a binary search, without memory.
-    pub fn linked(&self, tiploc: &Tiploc) -> Standing<'_>
+    pub fn linked(&self, tiploc: &Tiploc) -> PlaceRows<'_>
         ensures { AreLinked (live_table self.now) tiploc.now result }
     {
         self.index.linked(self.entries.as_slice(), tiploc)
@@ -297,7 +297,7 @@ impl State {
         self.of_uid_near(uid, 0)
     }
 
-    /// Like `of_uid`, but the row with this index is looked at first; `Standing::numbered` gives
+    /// Like `of_uid`, but the row with this index is looked at first; `PlaceRows::numbered` gives
     /// such an index. If that row is of the UID, a few rows beside it are looked at, and nothing is
     /// searched.
     pub fn of_uid_near(&self, uid: &Uid, near: usize) -> Live<'_>

@@ -11,7 +11,7 @@ mod stamped;
 mod word;
 
 pub use chosen_train::ChosenTrain;
-pub use docker_day::DockerFault;
+pub use docker_day::{Docker, DockerFault, permanent_docker, write_docker};
 pub use fault::TrainFault;
 pub use finding::find_train;
 pub use print::{print_train, write_train};

@@ -8,6 +8,6 @@ pub mod WalkOn
 pub mod RunFields
 pub mod NoEvents
 pub mod Late
-pub mod LatelyRuns
+pub mod RecentDays
 pub mod UpTo
 pub mod Known

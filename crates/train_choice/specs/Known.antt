@@ -10,18 +10,18 @@ use Rattle.docker_laws.specs.Gathering.{identity_of}
 use Rattle.docker_laws.specs.LiveRows.{Link, is_linked, link_in, train_in}
 use Rattle.docker_model.specs.state.Order.{bytes_cmp}
 use Rattle.docker_laws.specs.Row.{Row, AreRowsOf}
-use Rattle.docker_model.specs.state.State.{State}
 use Rattle.docker_model.specs.state.Table.{Table}
+use Rattle.docker_state.specs.Timetables.{Timetable}
 use Rattle.train_choice.specs.declared.uid_train.UidTrain.{UidTrain}
 
--- a state and a start day
+-- a timetable and a start day
 pub record StartDay : Type 0 where
-  pub state : State
+  pub timetable : Timetable
   pub day : ℕ
 
--- a state, a place and a start day
+-- a timetable, a place and a start day
 pub record PlaceDay : Type 0 where
-  pub state : State
+  pub timetable : Timetable
   pub place : List ℕ
   pub day : ℕ
 

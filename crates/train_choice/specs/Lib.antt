@@ -7,6 +7,6 @@ pub mod Along
 pub mod Ranked
 pub mod Runs
 pub mod Midnights
-pub mod Lately
+pub mod RecentRuns
 pub mod UpTo
 pub mod Known

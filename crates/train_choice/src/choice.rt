@@ -12,15 +12,16 @@ ghost use Rattle.docker_laws.specs.LiveRows.{is_running, train_in, unless_cancel
 ghost use Rattle.cif_line.specs.Letter.{stp_letter};
 ghost use Rattle.train_choice.specs.Along.{chosen_along, AreGoodRows, IsLiveTrain};
 ghost use Rattle.train_choice.specs.Ranked.{is_cancellation};
+ghost use Rattle.docker_state.specs.Timetables.{live_in};
 
-use crate::near::Near;
 use crate::ranked::is_better;
 use crate::rows::schedule_of;
 use crate::schedule_view::ScheduleView;
+use crate::uid_search::UidSearch;
 use crate::walks::schedules_of;
 use cif_change::{Body, Key};
 use cif_line::{Day, Stp, Uid};
-use docker_state::{Live, State};
+use docker_state::{State, Timetable, UidSchedules};
 
 /// The schedule chosen for a UID on a day. Of the live schedules of the UID that run on the day, it
 /// has the lowest STP indicator; of several of these, it has the latest first date. It may be a
@@ -28,16 +29,24 @@ use docker_state::{Live, State};
 pub fn chosen<'a>(state: &'a State, uid: &Uid, day: Day) -> Option<ScheduleView<'a>>
     ensures { IsChosenOn (live_table state.now) uid.now day result }
 {
-    best_of(None, schedules_of(&Near::none(state), uid), uid, day)
+    chosen_in(&Timetable::of(state), uid, day)
 }
 
-/// The train of a UID that starts on a day: the chosen schedule, unless it is a cancellation.
+/// Like `chosen`, of the schedules that count in a timetable.
+fn chosen_in<'a>(timetable: &Timetable<'a>, uid: &Uid, day: Day) -> Option<ScheduleView<'a>>
+    ensures { IsChosenOn (live_in timetable.now) uid.now day result }
+{
+    let from = UidSearch::without_hint(timetable);
+    best_of(None, schedules_of(&from, uid), uid, day)
+}
+
+/// The train of a UID that starts on a day, in a timetable: the chosen schedule, unless it is a cancellation.
 /// `None` if the train doesn't run.
-pub fn train_on<'a>(state: &'a State, uid: &Uid, day: Day) -> Option<ScheduleView<'a>>
-    ensures { (rows : List Row) → AreRowsOf (live_table state.now) rows
+pub fn train_on<'a>(timetable: &Timetable<'a>, uid: &Uid, day: Day) -> Option<ScheduleView<'a>>
+    ensures { (rows : List Row) → AreRowsOf (live_in timetable.now) rows
         → result ≡ train_in rows uid.now day }
 {
-    unless_cancelled(chosen(state, uid, day))
+    unless_cancelled(chosen_in(timetable, uid, day))
 }
 
 /// The schedule, unless it is a cancellation.
@@ -62,23 +71,23 @@ pub fn is_cancellation(stp: Stp) -> bool
 /// Like `train_on`, for the UID of a schedule that runs on the day. That schedule is the best so
 /// far when the walk over the rows begins.
 pub(crate) fn train_from<'a>(
-    near: &Near<'a>,
+    from: &UidSearch<'a>,
     train: &ScheduleView<'a>,
     day: Day,
 ) -> Option<ScheduleView<'a>>
-    requires live { IsLiveTrain (live_table near.now) train.now }
+    requires live { IsLiveTrain (live_in from.now) train.now }
     requires runs { schedule_runs (first_record train.now.lines) day ≡ true }
-    ensures { (rows : List Row) → AreRowsOf (live_table near.now) rows
+    ensures { (rows : List Row) → AreRowsOf (live_in from.now) rows
         → result ≡ train_in rows train.now.key.uid day }
 {
     let uid = &train.key().uid;
-    unless_cancelled(best_of(Some(train.again()), schedules_of(near, uid), uid, day))
+    unless_cancelled(best_of(Some(train.again()), schedules_of(from, uid), uid, day))
 }
 
 /// The best so far, after all these rows.
 fn best_of<'a>(
     so_far: Option<ScheduleView<'a>>,
-    rows: Live<'a>,
+    rows: UidSchedules<'a>,
     uid: &Uid,
     day: Day,
 ) -> Option<ScheduleView<'a>>

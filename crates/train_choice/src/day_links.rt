@@ -7,10 +7,11 @@ ghost use Rattle.docker_laws.specs.ChoiceWalk.{next_link};
 ghost use Rattle.docker_laws.specs.Gathering.{counts_as};
 ghost use Rattle.docker_laws.specs.LiveRows.{link_in};
 ghost use Rattle.docker_laws.specs.Row.{Row, AreRowsOf};
-ghost use Rattle.docker_model.specs.state.State.{IsBodyOf, live_table};
+ghost use Rattle.docker_model.specs.state.State.{IsBodyOf};
 ghost use Rattle.train_choice.specs.Along.{link_along, AreGoodRows};
 ghost use Rattle.train_choice.specs.Keys.{association_key_meant};
 ghost use Rattle.train_choice.specs.Known.{group_cmp, HasOneMore};
+ghost use Rattle.docker_state.specs.Timetables.{live_in};
 
 use crate::link_group::LinkGroup;
 use crate::link_view::LinkView;
@@ -19,7 +20,7 @@ use crate::rows::association_of;
 use crate::walks::associations_at;
 use cif_change::{AssocKey, Body, Key};
 use cif_line::{Day, Memory, Tiploc};
-use docker_state::{Standing, State};
+use docker_state::{Timetable, TimetableRows};
 use std::alloc::Global;
 use std::collections::BTreeMap;
 use std::marker::Model;
@@ -29,42 +30,42 @@ use std::marker::Model;
 /// these, it has the latest first date. One walk over the associations at the place finds them all.
 #[derive(Debug, Drop)]
 pub struct DayLinks<'a> {
-    state: &'a State,
+    timetable: Timetable<'a>,
     place: Tiploc,
     day: Day,
     best: BTreeMap<LinkGroup, LinkView<'a>>,
 }
 
 impl<'a> Model for DayLinks<'a> {
-    ghost use Rattle.docker_model.specs.state.State.{live_table};
+    ghost use Rattle.docker_state.specs.Timetables.{live_in};
     ghost use Rattle.train_choice.specs.Known.{PlaceDay, AreDayLinks};
 
     ghost Value = { PlaceDay };
 
     ghost view = { λ links. record {
-      state = links.state.now;
+      timetable = links.timetable;
       place = links.place;
       day = links.day;
     } };
 
     ghost invariant = { λ links.
-        AreDayLinks (live_table links.state.now) links.place links.day links.best };
+        AreDayLinks (live_in links.timetable) links.place links.day links.best };
 }
 
 impl<'a> DayLinks<'a> {
     /// The associations chosen at a place on a start day. `Memory` if there is no room for them.
     pub fn at(
         alloc: Global,
-        state: &'a State,
+        timetable: &Timetable<'a>,
         place: &Tiploc,
         day: Day,
     ) -> Result<DayLinks<'a>, Memory>
         ensures { IfOk result (λ links. links
-            ≡ record { state = state.entry.now; place = place.now; day = day }) }
+            ≡ record { timetable = timetable.entry.now; place = place.now; day = day }) }
     {
-        let best = best_of(alloc, associations_at(state, place), day)?;
+        let best = best_of(alloc, associations_at(timetable, place), day)?;
         Ok(DayLinks {
-            state,
+            timetable: timetable.again(),
             place: *place,
             day,
             best,
@@ -74,7 +75,7 @@ impl<'a> DayLinks<'a> {
     /// Whether this association at the place is the one chosen in its group.
     pub fn counts(&self, key: &AssocKey) -> bool
         requires { key.now.location ≡ self.now.place }
-        ensures { (rows : List Row) → AreRowsOf (live_table self.now.state) rows → result
+        ensures { (rows : List Row) → AreRowsOf (live_in self.now.timetable) rows → result
             ≡ counts_as (link_in rows (group_of (association_key_meant key.now)) self.now.day)
             (association_key_meant key.now) }
     {
@@ -88,7 +89,7 @@ impl<'a> DayLinks<'a> {
 /// The best association of each group in these rows.
 fn best_of<'a>(
     alloc: Global,
-    rows: Standing<'a>,
+    rows: TimetableRows<'a>,
     day: Day,
 ) -> Result<BTreeMap<LinkGroup, LinkView<'a>>, Memory>
     requires { AreGoodRows rows }
@@ -96,7 +97,7 @@ fn best_of<'a>(
         ≡ link_along group day None rows.entry) }
 {
     let mut best = BTreeMap::new(alloc);
-    for (key, body) in rows {
+    for (_, key, body) in rows {
         add_row(&mut best, key, body, day)?;
     }
     Ok(best)

@@ -1,51 +1,54 @@
 //! The trains that start on a day. The last train that was looked up is kept.
 ghost use Rattle.std.specs.Prelude.{◌≡◌, true, List, IfSome};
 ghost use Rattle.docker_model.specs.file.File.{first_record};
-ghost use Rattle.docker_model.specs.state.State.{live_table};
 ghost use Rattle.docker_laws.specs.Row.{Row, AreRowsOf};
 ghost use Rattle.docker_model.specs.docker.Choice.{schedule_runs};
 ghost use Rattle.docker_laws.specs.Gathering.{runs_by};
 ghost use Rattle.docker_laws.specs.LiveRows.{train_in};
 ghost use Rattle.train_choice.specs.Along.{IsLiveTrain};
 ghost use Rattle.train_choice.specs.Keys.{schedule_key_meant};
+ghost use Rattle.docker_state.specs.Timetables.{live_in};
 
 use crate::choice::train_from;
-use crate::near::Near;
 use crate::schedule_view::ScheduleView;
+use crate::uid_search::UidSearch;
 use crate::uid_train::UidTrain;
 use cif_change::ScheduleKey;
 use cif_line::Day;
-use docker_state::State;
+use docker_state::Timetable;
 use std::marker::Model;
 
 /// The trains that start on a day. The train of the last UID that was looked up is kept. A walk
 /// meets all schedules of a UID one after the other, so a UID is searched for only once.
 #[derive(Debug, Drop)]
 pub struct DayTrains<'a> {
-    state: &'a State,
+    timetable: Timetable<'a>,
     day: Day,
     last: Option<UidTrain<'a>>,
 }
 
 impl<'a> Model for DayTrains<'a> {
-    ghost use Rattle.docker_model.specs.state.State.{live_table};
+    ghost use Rattle.docker_state.specs.Timetables.{live_in};
     ghost use Rattle.train_choice.specs.Known.{StartDay, IsKnownTrain};
 
     ghost Value = { StartDay };
 
-    ghost view = { λ trains. record { state = trains.state.now; day = trains.day } };
+    ghost view = { λ trains. record {
+      timetable = trains.timetable;
+      day = trains.day;
+    } };
 
     ghost invariant = { λ trains.
-        IsKnownTrain (live_table trains.state.now) trains.day trains.last };
+        IsKnownTrain (live_in trains.timetable) trains.day trains.last };
 }
 
 impl<'a> DayTrains<'a> {
-    /// The trains of a state that start on a day, before any is looked up.
-    pub fn of(state: &'a State, day: Day) -> DayTrains<'a>
-        ensures { result ≡ record { state = state.entry.now; day = day } }
+    /// The trains of a timetable that start on a day, before any is looked up.
+    pub fn of(timetable: &Timetable<'a>, day: Day) -> DayTrains<'a>
+        ensures { result ≡ record { timetable = timetable.entry.now; day = day } }
     {
         DayTrains {
-            state,
+            timetable: timetable.again(),
             day,
             last: None,
         }
@@ -56,10 +59,10 @@ impl<'a> DayTrains<'a> {
     /// this index. The index is only a hint: a wrong one makes the search longer and changes no
     /// answer.
     pub fn runs_by(&mut self, row: usize, train: &ScheduleView<'a>) -> bool
-        requires live { IsLiveTrain (live_table self.old.state) train.now }
+        requires live { IsLiveTrain (live_in self.old.timetable) train.now }
         requires runs { schedule_runs (first_record train.now.lines) self.old.day ≡ true }
         ensures same { self.new ≡ self.old }
-        ensures answer { (rows : List Row) → AreRowsOf (live_table self.old.state) rows
+        ensures answer { (rows : List Row) → AreRowsOf (live_in self.old.timetable) rows
             → result ≡ runs_by (train_in rows train.now.key.uid self.old.day) train.now.key }
     {
         match self.known(train.key()) {
@@ -71,7 +74,7 @@ impl<'a> DayTrains<'a> {
     /// Whether the kept train runs by the schedule. `None` if no train is kept, or another UID's.
     fn known(&self, key: &ScheduleKey) -> Option<bool>
         ensures { IfSome result (λ answer. (rows : List Row)
-            → AreRowsOf (live_table self.now.state) rows
+            → AreRowsOf (live_in self.now.timetable) rows
             → answer ≡ runs_by (train_in rows key.now.uid self.now.day)
             (schedule_key_meant key.now)) }
     {
@@ -83,16 +86,16 @@ impl<'a> DayTrains<'a> {
 
     /// Like `runs_by`, by a walk over the schedules of the UID. It keeps the train that it finds.
     fn look_up(&mut self, row: usize, train: &ScheduleView<'a>) -> bool
-        requires live { IsLiveTrain (live_table self.old.state) train.now }
+        requires live { IsLiveTrain (live_in self.old.timetable) train.now }
         requires runs { schedule_runs (first_record train.now.lines) self.old.day ≡ true }
         ensures same { self.new ≡ self.old }
-        ensures answer { (rows : List Row) → AreRowsOf (live_table self.old.state) rows
+        ensures answer { (rows : List Row) → AreRowsOf (live_in self.old.timetable) rows
             → result ≡ runs_by (train_in rows train.now.key.uid self.old.day) train.now.key }
     {
         let key = train.key();
         let found = UidTrain {
             uid: key.uid,
-            train: train_from(&Near::row(self.state, row), train, self.day),
+            train: train_from(&UidSearch::at_row(&self.timetable, row), train, self.day),
         };
         let answer = found.runs_by(key);
         self.last = Some(found);

@@ -1,14 +1,14 @@
 //! Train identities. Each is kept once it is looked up.
 ghost use Rattle.std.specs.Prelude.{◌≡◌, List, IfOk};
-ghost use Rattle.docker_model.specs.state.State.{live_table};
 ghost use Rattle.docker_laws.specs.Row.{Row, AreRowsOf};
 ghost use Rattle.docker_laws.specs.Gathering.{identity_of};
 ghost use Rattle.docker_laws.specs.LiveRows.{train_in};
+ghost use Rattle.docker_state.specs.Timetables.{live_in};
 
 use crate::choice::train_on;
 use crate::schedule_view::ScheduleView;
 use cif_line::{Day, Memory, Uid};
-use docker_state::State;
+use docker_state::Timetable;
 use std::alloc::Global;
 use std::collections::BTreeMap;
 use std::marker::Model;
@@ -17,29 +17,30 @@ use std::marker::Model;
 /// UID are searched only once for each day.
 #[derive(Debug, Drop)]
 pub struct Identities<'a> {
-    state: &'a State,
+    timetable: Timetable<'a>,
     known: BTreeMap<(Uid, Day), [u8; 4]>,
 }
 
 impl<'a> Model for Identities<'a> {
-    ghost use Rattle.docker_model.specs.state.State as states;
+    ghost use Rattle.docker_state.specs.Timetables as timetables;
+    ghost use Rattle.docker_state.specs.Timetables.{live_in};
     ghost use Rattle.train_choice.specs.Known.{AreIdentities};
 
-    ghost Value = { states.State };
+    ghost Value = { timetables.Timetable };
 
-    ghost view = { λ identities. identities.state.now };
+    ghost view = { λ identities. identities.timetable };
 
     ghost invariant = { λ identities.
-        AreIdentities (states.live_table identities.state.now) identities.known };
+        AreIdentities (live_in identities.timetable) identities.known };
 }
 
 impl<'a> Identities<'a> {
-    /// The train identities of a state, before any is looked up.
-    pub fn of(alloc: Global, state: &'a State) -> Identities<'a>
-        ensures { result ≡ state.entry.now }
+    /// The train identities of a timetable, before any is looked up.
+    pub fn of(alloc: Global, timetable: &Timetable<'a>) -> Identities<'a>
+        ensures { result ≡ timetable.entry.now }
     {
         Identities {
-            state,
+            timetable: timetable.again(),
             known: BTreeMap::new(alloc),
         }
     }
@@ -49,7 +50,7 @@ impl<'a> Identities<'a> {
     pub fn identity(&mut self, uid: &Uid, day: Day) -> Result<[u8; 4], Memory>
         ensures same { self.new ≡ self.old }
         ensures identity { IfOk result (λ identity. (rows : List Row)
-            → AreRowsOf (live_table self.old) rows
+            → AreRowsOf (live_in self.old) rows
             → identity ≡ identity_of (train_in rows uid.now day)) }
     {
         let known = self.known.get(&(*uid, day)).copied();
@@ -64,10 +65,10 @@ impl<'a> Identities<'a> {
     fn look_up(&mut self, uid: &Uid, day: Day) -> Result<[u8; 4], Memory>
         ensures same { self.new ≡ self.old }
         ensures identity { IfOk result (λ identity. (rows : List Row)
-            → AreRowsOf (live_table self.old) rows
+            → AreRowsOf (live_in self.old) rows
             → identity ≡ identity_of (train_in rows uid.now day)) }
     {
-        let identity = identity_of(train_on(self.state, uid, day));
+        let identity = identity_of(train_on(&self.timetable, uid, day));
         self.known.insert((*uid, day), identity)?;
         Ok(identity)
     }

@@ -7,14 +7,14 @@ ghost use Rattle.docker_model.specs.state.State.{IsScheduleOf};
 ghost use Rattle.docker_model.specs.docker.Choice.{schedule_runs};
 ghost use Rattle.docker_model.specs.docker.Event.{falls_to};
 ghost use Rattle.train_choice.specs.Keys.{schedule_key_meant};
-ghost use Rattle.train_choice.specs.Lately.{AreLately, may_run_lately, runs_back};
+ghost use Rattle.train_choice.specs.RecentRuns.{AreRecentRuns, may_run_recently, runs_back};
 ghost use Rattle.train_choice.specs.Occurrences.{occurrences};
 ghost use Rattle.train_choice.specs.UpTo.{occurrences_to, up_to_last};
 
 use crate::days_run::schedule_runs_on;
 use crate::events::Events;
-use crate::lately::{Lately, days_lately, is_marked_lately};
 use crate::ranked::Ranked;
+use crate::recent_runs::{RecentRuns, is_marked_recently, recent_runs_of};
 use crate::up_to::up_to_last;
 use cif_change::{Lines, ScheduleKey};
 use cif_line::{Day, Line, Stp, Tiploc};
@@ -100,22 +100,22 @@ impl<'a> ScheduleView<'a> {
 
     /// Whether the schedule runs on a day, on the day before and two days before. If the day is
     /// before its runs-from date, its lines aren't read.
-    pub fn runs_lately(&self, day: Day) -> Lately
-        ensures { AreLately (runs_back self.now.lines day) result }
+    pub fn recent_runs(&self, day: Day) -> RecentRuns
+        ensures { AreRecentRuns (runs_back self.now.lines day) result }
     {
         if begins_behind(self.key, day) {
-            return Lately::never();
+            return RecentRuns::never();
         }
-        days_lately(self.first(), self.key.runs_from, day)
+        recent_runs_of(self.first(), self.key.runs_from, day)
     }
 
     /// Whether the schedule has begun by a day, and marks that weekday or one of the two before. If
     /// not, it doesn't run on any of these days. This reads the key and three marks, which costs
-    /// less than `runs_lately`.
-    pub fn may_run_lately(&self, day: Day) -> bool
-        ensures { result ≡ may_run_lately self.now.key self.now.lines day }
+    /// less than `recent_runs`.
+    pub fn may_run_recently(&self, day: Day) -> bool
+        ensures { result ≡ may_run_recently self.now.key self.now.lines day }
     {
-        !begins_behind(self.key, day) && is_marked_lately(self.first(), day)
+        !begins_behind(self.key, day) && is_marked_recently(self.first(), day)
     }
 
     /// The train identity in the basic schedule.

@@ -12,7 +12,7 @@ from programs import DAY_LINE, DESK, DEVICE_LINE, DOCKER, MEMORY_LINE, Ended, ru
 # The lines that docs/FORMATS.md gives.
 USAGE = (
     b"desk: usage: [--write] STATE, and then a line for each request: print TIPLOC DATE"
-    b" | train UID DATE | files | places | known | renew | with --write take FILE"
+    b" | permanent TIPLOC DATE | train UID DATE | files | places | known | renew | with --write take FILE"
     b" | merge OTHER | horizon DATE | save\n"
 )
 NOT_SAVED = b"desk: changes not saved\n"

@@ -41,7 +41,7 @@ run_holds format offices events exchange each run =
 -- ---- dockers of one set of files
 
 -- if neither of two horizons refuses a day, the greater doesn't either
-greater_prints : (a b day : ℕ) → ¬ IsDayRefused a day → ¬ IsDayRefused b day → ¬ IsDayRefused (max a b) day
+pub greater_prints : (a b day : ℕ) → ¬ IsDayRefused a day → ¬ IsDayRefused b day → ¬ IsDayRefused (max a b) day
 greater_prints a b day first second = by (nat_lt a b) refl
   where
     by : (t : Bool) → nat_lt a b ≡ t → ¬ IsDayRefused (max a b) day
@@ -63,7 +63,7 @@ docker_stays horizon state place day text is_day valid printed is = by (nat_lt 0
         (subst (λ (s : State). IsDockerText (live_table s) place day text) (sym (lapsed_already 0 state (none_to_lapse state.entries))) is)
 
 -- a table has only one docker text for a place and a day
-one_text : (live : Table) (place : List ℕ) (day : ℕ) (text other : List ℕ) → IsDockerText live place day text → IsDockerText live place day other → text ≡ other
+pub one_text : (live : Table) (place : List ℕ) (day : ℕ) (text other : List ℕ) → IsDockerText live place day text → IsDockerText live place day other → text ≡ other
 one_text live place day text other is that = is.2 ∙ ap (docker_text live place day) (docker_unique _ is.0 that.0 is.1 that.1) ∙ sym that.2
 
 -- two states of the same files give the same docker for a place and a day that neither horizon

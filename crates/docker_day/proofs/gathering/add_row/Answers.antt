@@ -1,17 +1,17 @@
 use Rattle.std.proofs.Common.{ap, sym, ◌∙◌}
 use Rattle.std.proofs.lemmas.Result.{on_ok_weaker}
-use Rattle.docker_model.specs.state.State.{live_table}
+use Rattle.docker_state.specs.Timetables.{live_in}
 use Rattle.train_choice.specs.Known.{PlaceDay}
-use Rattle.docker_day.specs.RowViews.{row_lately, row_under_way}
+use Rattle.docker_day.specs.RowViews.{row_runs_recently, row_under_way}
 use Rattle.docker_day.specs.Visits.{Visit}
 use Rattle.docker_day.proofs.OnVisits.{adds_on_visits, adds_today_alone}
-use Rattle.docker_day.proofs.PassedOver.{not_lately}
+use Rattle.docker_day.proofs.PassedOver.{not_recently}
 use Rattle.docker_day.proofs.gathering.add_row.Goals as goal
 
-pub returns-then-not-is_row_lately-clause-added : goal.returns-then-not-is_row_lately-clause-added
-returns-then-not-is_row_lately-clause-added c =
-    not_lately c.args.visits.now.place c.args.visits.now.day c.args.view.now (live_table c.args.visits.now.state) c.args.lines.now.items c.requires
-    (sym (c.is_row_lately.ensures ∙ ap (row_lately c.args.view.now) c.day.ensures) ∙ c.if-not-is_row_lately.true)
+pub returns-then-not-row_runs_recently-clause-added : goal.returns-then-not-row_runs_recently-clause-added
+returns-then-not-row_runs_recently-clause-added c =
+    not_recently c.args.visits.now.place c.args.visits.now.day c.args.view.now (live_in c.args.visits.now.timetable) c.args.lines.now.items c.requires
+    (sym (c.row_runs_recently.ensures ∙ ap (row_runs_recently c.args.view.now) c.day.ensures) ∙ c.if-not-row_runs_recently.true)
 
 pub returns-then-not-is_row_under_way-clause-added : goal.returns-then-not-is_row_under_way-clause-added
 returns-then-not-is_row_under_way-clause-added c =

@@ -1,6 +1,6 @@
 use Rattle.std.proofs.Common.{◌∙◌}
 use Rattle.std.proofs.lemmas.Result.{on_ok_weaker}
-use Rattle.docker_model.specs.state.State.{live_table}
+use Rattle.docker_state.specs.Timetables.{live_in}
 use Rattle.train_choice.specs.Known.{PlaceDay}
 use Rattle.docker_day.proofs.Gathered.{both_gathered}
 use Rattle.docker_day.proofs.OnVisits.{gathered_at}
@@ -8,9 +8,9 @@ use Rattle.docker_day.proofs.making.add_all.Goals as goal
 
 pub returns : goal.returns
 returns c =
-    let there : PlaceDay = record { state = c.args.state.now; place = c.args.place.now; day = c.args.day } in
+    let there : PlaceDay = record { timetable = c.args.timetable.now; place = c.args.place.now; day = c.args.day } in
     on_ok_weaker c.add_rows-2.result
-    (λ adds. both_gathered (live_table c.args.state.now) c.args.place.now c.args.day c.associations_at.result c.schedules_at.result
+    (λ adds. both_gathered (live_in c.args.timetable.now) c.args.place.now c.args.day c.associations_at.result c.schedules_at.result
     c.args.lines.now.items c.add_rows.new.lines.items c.add_rows-2.new.lines.items c.associations_at.ensures.linked c.schedules_at.ensures.calling
     (gathered_at there c.in_ok-visits.visits c.associations_at.result c.args.lines.now.items c.add_rows.new.lines.items c.in_ok-visits.ensures
     c.in_ok-add_rows.ensures.added)

@@ -1,5 +1,5 @@
 use Rattle.std.proofs.Common.{◌≡◌, length}
-use Rattle.docker_model.specs.state.State.{live_table}
+use Rattle.docker_state.specs.Timetables.{live_in}
 use Rattle.train_choice.specs.Along.{AreGoodRows, AreLive}
 use Rattle.docker_day.specs.Portions.{HaveMoved}
 use Rattle.docker_day.proofs.portions.add_rows.Given as goal
@@ -7,11 +7,11 @@ use Rattle.docker_day.proofs.portions.add_rows.Given as goal
 -- the lines so far and the lines of the rows still to come are all lines
 abbrev pub invariant-portions : goal.invariant-portions
 invariant-portions l = record {
-  good : AreGoodRows l.rest;
-  live : AreLive (live_table l.visits.state) l.rest;
+  good : AreGoodRows l.rows;
+  live : AreLive (live_in l.visits.timetable) l.rows;
   same : l.visits ≡ l.fn.visits;
-  all : HaveMoved l.fn.visits l.fn.rows l.rest l.fn.lines.items l.lines.items;
+  all : HaveMoved l.fn.visits l.fn.rows l.rows l.fn.lines.items l.lines.items;
 }
 
 abbrev pub decreases-portions : goal.decreases-portions
-decreases-portions l = length l.rest
+decreases-portions l = length l.rows

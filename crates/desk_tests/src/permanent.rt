@@ -1,0 +1,30 @@
+//! Dockers without the short-term plan, as a desk answers them.
+
+use crate::answers::answers;
+use crate::desks::{day_of, desk_of, prints};
+use crate::expected::{ANSWER_18_JUNE, ANSWER_0900, ANSWER_OVERLAID, DAY_REFUSED};
+use crate::records::*;
+use cif_line::Tiploc;
+use docker_desk::Desk;
+use std::alloc::Global;
+use std::process::Abort;
+
+/// Asserts the bytes of a desk's answer to a request for the permanent docker of Ashfeld on a day.
+fn keeps(rt: &impl Abort, alloc: Global, desk: &Desk, date: &str, wanted: &str) {
+    let place = Tiploc::from_text("ASHFELD").expect(rt, "a TIPLOC");
+    answers(rt, alloc, &desk.permanent(&place, day_of(rt, date)), wanted);
+}
+
+/// An overlay is on the docker, and on the permanent docker the train that it replaces. Both are
+/// refused on the same days.
+#[test]
+fn answers_without_the_short_term_plan(rt: HostRuntime) {
+    let alloc = rt.alloc();
+    let mut desk = desk_of(&rt, alloc, OVERLAID_STATE);
+    prints(&rt, alloc, &desk, "2024-06-10", ANSWER_OVERLAID);
+    keeps(&rt, alloc, &desk, "2024-06-10", ANSWER_0900);
+    keeps(&rt, alloc, &desk, "2024-06-18", ANSWER_18_JUNE);
+    desk.set_horizon(day_of(&rt, "2024-06-15"));
+    keeps(&rt, alloc, &desk, "2024-06-17", DAY_REFUSED);
+    keeps(&rt, alloc, &desk, "2024-06-18", ANSWER_18_JUNE);
+}

@@ -1,0 +1,45 @@
+-- What the files that are known fix of dockers without the short-term plan.
+use Rattle.std.proofs.Common.{◌≡◌, ℕ, List, subst, sym}
+use Rattle.docker_model.specs.docker.DockerText.{IsDockerText}
+use Rattle.docker_model.specs.docker.Permanent.{permanent_table}
+use Rattle.docker_model.specs.run.Run.{Known}
+use Rattle.docker_model.specs.run.Knowledge.{HaveSameFiles}
+use Rattle.docker_model.specs.state.Lapse.{IsDayRefused}
+use Rattle.docker_model.specs.state.State.{State, live_table}
+use Rattle.docker_model.specs.state.Summary.{HaveDistinctMoments}
+use Rattle.docker_model.specs.state.Table.{Table, IsPlainTable}
+use Rattle.docker_laws.proofs.dockers.PermanentDocker.{permanent_is_plain, permanent_of_files}
+use Rattle.state_laws.proofs.states.OnePlainTable.{some_plain_table}
+use Rattle.docker_desk.specs.Desk.{IsDockerRefused, IsPermanentAnswer, TellsDocker}
+use Rattle.docker_desk.specs.Replies.{AnswerView, done_with, no_request, refused_for}
+use Rattle.docker_desk.specs.Learning.{IsKnown, KeepsAs}
+
+-- the answer has the docker, and its day isn't refused
+pub told_docker : (state : State) (place : List ℕ) (day : ℕ) (answer : AnswerView) → ¬ IsDayRefused state.horizon day
+    → TellsDocker (permanent_table (live_table state)) place day answer → IsPermanentAnswer state place day answer
+told_docker state place day (done_with text) allowed told = (told, allowed)
+told_docker state place day (refused_for fault) allowed same = subst (IsDockerRefused state day) (sym same) allowed
+told_docker state place day no_request allowed never = never
+
+-- the same files have one permanent docker for each place and each day that isn't refused
+pub one_permanent : (first second : Known) (one two : State) → IsKnown first one → IsKnown second two → HaveSameFiles first.files second.files
+    → (place : List ℕ) (day : ℕ) → ¬ IsDayRefused one.horizon day → ¬ IsDayRefused two.horizon day → (text other : List ℕ)
+    → IsDockerText (permanent_table (live_table one)) place day text → IsDockerText (permanent_table (live_table two)) place day other → text ≡ other
+one_permanent first second one two left right same place day prints prints_too =
+    permanent_of_files first.files second.files first.horizon second.horizon one two left.good.0 right.good.0 same left.good.1 right.good.1
+    left.is right.is place day (subst (λ h. ¬ IsDayRefused h day) left.is.horizon_is prints)
+    (subst (λ h. ¬ IsDayRefused h day) right.is.horizon_is prints_too)
+
+-- each permanent docker is the plain table's
+pub plain_permanent : (known : Known) (state : State) → IsKnown known state → HaveDistinctMoments known.files
+    → (plain : Table) × (IsPlainTable known.files plain × KeepsAs state plain)
+plain_permanent known state is distinct =
+    let plain = some_plain_table known.files distinct in (
+      plain.0,
+      (
+        plain.1,
+        λ place day text prints.
+            permanent_is_plain known.files known.horizon state plain.0 place day text is.good.0 is.good.1 is.is plain.1
+            (subst (λ h. ¬ IsDayRefused h day) is.is.horizon_is prints),
+      ),
+    )

@@ -1,0 +1,50 @@
+//! Laws of permanent dockers: the dockers of a table without the short-term plan. Each is the
+//! contract of a function with an empty body, so it holds for all values of its variables.
+ghost use Rattle.std.specs.Prelude.{◌≡◌, ℕ, List, ◌↔◌, filter, fold};
+ghost use Rattle.docker_model.specs.file.Change.{Change};
+ghost use Rattle.docker_model.specs.records.Date.{IsDay};
+ghost use Rattle.docker_model.specs.state.Lapse.{IsDayRefused};
+ghost use Rattle.docker_model.specs.state.State.{State, live_table};
+ghost use Rattle.docker_model.specs.state.Summary.{IsSummary};
+ghost use Rattle.docker_model.specs.state.Table.{Table, IsPlainTable, after_change};
+ghost use Rattle.docker_model.specs.docker.DockerLine.{DockerLine};
+ghost use Rattle.docker_model.specs.docker.DockerText.{IsDockerText};
+ghost use Rattle.docker_model.specs.docker.Permanent.{is_permanent, permanent_table};
+ghost use Rattle.docker_model.specs.run.Knowledge.{AreFiles, HaveSameFiles};
+ghost use Rattle.docker_laws.specs.Gathering.{IsDockerLine};
+
+/// The table that some changes leave, without its short-term entries, is the one that only the
+/// changes of permanent entries leave.
+pub fn permanent_table_of_changes()
+    ensures { (table : Table) (changes : List Change)
+        → permanent_table (fold after_change table changes) ≡ fold after_change
+        (permanent_table table) (filter (λ (it : Change). is_permanent it.key) changes) }
+{}
+
+/// Each line of a permanent docker has the STP indicator `P`, whether it is of an event or of an
+/// association.
+pub fn permanent_lines_are_permanent()
+    ensures { (live : Table) (place : List ℕ) (day : ℕ) (line : DockerLine)
+        → IsDockerLine (permanent_table live) place day line → line.indicator ≡ 80 }
+{}
+
+/// Two summaries of the same files have one permanent docker for each place and each day that
+/// neither refuses, even if their horizons differ.
+pub fn known_files_fix_permanent_dockers()
+    ensures { (files others : List (List (List ℕ))) (horizon theirs : ℕ) (one two : State)
+        → AreFiles files → AreFiles others → HaveSameFiles files others → IsDay horizon
+        → IsDay theirs → IsSummary files horizon one → IsSummary others theirs two
+        → (place : List ℕ) (day : ℕ) → ¬ IsDayRefused horizon day → ¬ IsDayRefused theirs day
+        → (text other : List ℕ) → IsDockerText (permanent_table (live_table one)) place day text
+        → IsDockerText (permanent_table (live_table two)) place day other → text ≡ other }
+{}
+
+/// If the files of a set have distinct moments, every permanent docker printed from their summary is
+/// the permanent docker of their plain table, whatever the horizon.
+pub fn permanent_docker_is_plain()
+    ensures { (files : List (List (List ℕ))) (horizon : ℕ) (state : State) (table : Table)
+        (place : List ℕ) (day : ℕ) (text : List ℕ) → AreFiles files → IsDay horizon
+        → IsSummary files horizon state → IsPlainTable files table → ¬ IsDayRefused horizon day
+        → IsDockerText (permanent_table (live_table state)) place day text
+        ↔ IsDockerText (permanent_table table) place day text }
+{}

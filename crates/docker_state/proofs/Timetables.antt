@@ -1,0 +1,25 @@
+-- What a walk over a timetable gives, from what the walk over its state gives.
+use Rattle.std.proofs.Common.{◌≡◌, List, refl, ap, sym, ◌∙◌, subst, Bool, true, false}
+use Rattle.docker_model.specs.file.Change.{Key}
+use Rattle.docker_model.specs.state.State.{State, IsValid, live_table}
+use Rattle.docker_laws.specs.CountedRows.{IsOfGoodRows}
+use Rattle.docker_laws.proofs.dockers.CountedRows.{counted_good}
+use Rattle.docker_laws.proofs.dockers.GoodBodies.{good_bodies}
+use Rattle.docker_state.specs.Live.{live_rows}
+use Rattle.docker_state.specs.Timetables.{Timetable, counts, live_in}
+use Rattle.docker_state.proofs.LiveTable.{live_ascends, live_walks}
+
+-- good rows have the live table of a valid state
+of_good_rows : (state : State) → IsValid state → IsOfGoodRows (live_table state)
+of_good_rows state valid = record {
+  rows = live_rows state.entries;
+  are = record {
+    ascending = live_ascends state valid (live_rows state.entries) refl;
+    members = live_walks state valid (live_rows state.entries) refl;
+  };
+  bodies = good_bodies state valid;
+}
+
+-- so is the table of a timetable
+pub timetable_good : (timetable : Timetable) → IsValid timetable.state → IsOfGoodRows (live_in timetable)
+timetable_good timetable valid = counted_good (counts timetable.permanent) (live_table timetable.state) (of_good_rows timetable.state valid)

@@ -1,0 +1,134 @@
+//! A timetable: the live entries of a state from which dockers are made. They are all of them, or
+//! only the permanent ones.
+ghost use Rattle.std.specs.Prelude.{◌≡◌, true, false, option_map};
+ghost use Rattle.std.specs.Option.{option_copied};
+ghost use Rattle.cif_file.specs.Meaning.{body_meant};
+ghost use Rattle.docker_model.specs.file.Change.{tiploc_key};
+ghost use Rattle.docker_model.specs.records.Date.{IsDay};
+ghost use Rattle.docker_model.specs.state.Op.{body_of};
+ghost use Rattle.docker_laws.specs.CountedRows.{IsOfGoodRows};
+ghost use Rattle.docker_state.specs.Meaning.{op_meant};
+ghost use Rattle.docker_state.specs.Timetables.{live_in};
+ghost use Rattle.state_laws.specs.Index.{AreCalling, AreLinked, AreOfUid};
+
+use crate::state::State;
+use crate::timetable_rows::{TimetableRows, UidSchedules};
+use cif_file::{Body, Key};
+use cif_line::{Tiploc, Uid};
+use docker_join::Op;
+use std::marker::Model;
+
+/// The live entries of a state from which dockers are made: all of them, or only the timing points
+/// and what is permanent. Whoever walks over it passes over the others, so no second state is made.
+#[derive(Debug, Drop)]
+pub struct Timetable<'a> {
+    state: &'a State,
+    permanent: bool,
+}
+
+impl<'a> Model for Timetable<'a> {
+    ghost use Rattle.docker_model.specs.state.State.{IsValid};
+    ghost use Rattle.docker_state.specs.Timetables as timetables;
+
+    ghost Value = { timetables.Timetable };
+
+    ghost view = { λ timetable. record {
+      state = timetable.state.now;
+      permanent = timetable.permanent;
+    } };
+
+    ghost invariant = { λ timetable. IsValid timetable.state.now };
+}
+
+impl<'a> Timetable<'a> {
+    /// All live entries of a state.
+    pub fn of(state: &'a State) -> Timetable<'a>
+        ensures { result ≡ record { state = state.entry.now; permanent = false } }
+    {
+        Timetable::counting(state, false)
+    }
+
+    /// The live entries of a state without the short-term ones: its timing points, and the schedules
+    /// and associations with the STP indicator `P`.
+    pub fn permanent(state: &'a State) -> Timetable<'a>
+        ensures { result ≡ record { state = state.entry.now; permanent = true } }
+    {
+        Timetable::counting(state, true)
+    }
+
+    /// The live entries that count.
+    fn counting(state: &'a State, permanent: bool) -> Timetable<'a>
+        ensures { result ≡ record { state = state.entry.now; permanent = permanent } }
+    {
+        // Called for its contract: the state is valid.
+        let _entries = state.entries();
+        Timetable { state, permanent }
+    }
+
+    /// The same timetable once more.
+    pub fn again(&self) -> Timetable<'a>
+        ensures { result ≡ self.now }
+    {
+        Timetable {
+            state: self.state,
+            permanent: self.permanent,
+        }
+    }
+
+    /// The horizon of the state: a day number, 0 if none was set.
+    pub fn horizon(&self) -> u16
+        ensures horizon { result ≡ self.now.state.horizon }
+        ensures day { IsDay result }
+    {
+        self.state.horizon()
+    }
+
+    /// The body of a timing point, if it is live. A timing point always counts.
+    pub fn tiploc(&self, tiploc: &Tiploc) -> Option<&'a Body>
+        ensures body { option_map body_meant (option_copied result)
+            ≡ live_in self.now (tiploc_key tiploc.now) }
+        ensures good { IsOfGoodRows (live_in self.now) }
+    {
+        match self.state.get(&Key::Tiploc(*tiploc)) {
+            Some(entry) => put_in(&entry.op),
+            None => None,
+        }
+    }
+
+    /// The schedules that count and call at a TIPLOC, by an LO, an LI or an LT: each once, with its
+    /// lines, in the order of the keys.
+    pub fn calling(&self, tiploc: &Tiploc) -> TimetableRows<'a>
+        ensures rows { AreCalling (live_in self.now) tiploc.now result }
+        ensures good { IsOfGoodRows (live_in self.now) }
+    {
+        TimetableRows::of(self.state.calling(tiploc).numbered(), self.permanent)
+    }
+
+    /// The associations that count at a location: each with its line, in the order of the keys.
+    pub fn linked(&self, tiploc: &Tiploc) -> TimetableRows<'a>
+        ensures rows { AreLinked (live_in self.now) tiploc.now result }
+        ensures good { IsOfGoodRows (live_in self.now) }
+    {
+        TimetableRows::of(self.state.linked(tiploc).numbered(), self.permanent)
+    }
+
+    /// The schedules of a UID that count: each with its lines, in the order of the keys. The row
+    /// with this index is looked at first; `TimetableRows` gives such an index. If that row is of
+    /// the UID, nothing is searched.
+    pub fn of_uid_near(&self, uid: &Uid, near: usize) -> UidSchedules<'a>
+        ensures rows { AreOfUid (live_in self.now) uid.now result }
+        ensures good { IsOfGoodRows (live_in self.now) }
+    {
+        UidSchedules::of(self.state.of_uid_near(uid, near), self.permanent)
+    }
+}
+
+/// The body that an op puts. None if it puts none.
+fn put_in(op: &Op) -> Option<&Body>
+    ensures { option_map body_meant (option_copied result) ≡ body_of (op_meant op.entry.now) }
+{
+    match op {
+        Op::Put(body) => Some(body),
+        Op::Deleted | Op::Lapsed => None,
+    }
+}

@@ -1,0 +1,123 @@
+//! Walks over the rows that count in a timetable.
+ghost use Rattle.std.specs.Prelude.{◌≡◌};
+ghost use Rattle.std.specs.Iterator.{YieldsFirstBy, item_count};
+ghost use Rattle.cif_file.specs.Meaning.{key_meant, body_meant};
+ghost use Rattle.docker_model.specs.docker.Permanent.{is_permanent};
+ghost use Rattle.docker_laws.specs.CountedRows.{counted_rows};
+ghost use Rattle.docker_state.specs.Timetables.{counts};
+
+use crate::live::Live;
+use cif_file::{Body, Key};
+use cif_line::Stp;
+use state_index::Numbered;
+use std::marker::Model;
+
+/// Walks over the rows at a place that count, in key order. It gives each row's index, key and body.
+/// No clause says that the index is right: it only says where to look first.
+#[derive(Clone, Debug, Drop)]
+pub struct TimetableRows<'a> {
+    rows: Numbered<'a>,
+    permanent: bool,
+}
+
+impl<'a> Model for TimetableRows<'a> {
+    ghost use Rattle.std.specs.Prelude.{List};
+    ghost use Rattle.state_laws.specs.Row.{Row};
+    ghost use Rattle.docker_laws.specs.CountedRows.{counted_rows};
+    ghost use Rattle.docker_state.specs.Timetables.{counts};
+
+    ghost Value = { List Row };
+
+    ghost view = { λ walk. counted_rows (counts walk.permanent) walk.rows };
+}
+
+impl<'a> TimetableRows<'a> {
+    /// The rows of a walk that count: all of them, or only the permanent ones.
+    pub(crate) fn of(rows: Numbered<'a>, permanent: bool) -> TimetableRows<'a>
+        ensures { result ≡ counted_rows (counts permanent) rows.entry }
+    {
+        TimetableRows { rows, permanent }
+    }
+}
+
+impl<'a> Iterator for TimetableRows<'a> {
+    type Item = (usize, &'a Key, &'a Body);
+
+    ghost next_gives = { YieldsFirstBy
+        (λ row. (key_meant row.1.now, body_meant row.2.now)) (λ walk. walk) };
+
+    ghost remaining = { item_count (λ walk. walk) };
+
+    fn next(&mut self) -> Option<(usize, &'a Key, &'a Body)> {
+        while let Some((row, key, body)) = self.rows.next() {
+            if is_counted(self.permanent, key) {
+                return Some((row, key, body));
+            }
+        }
+        None
+    }
+}
+
+/// Walks over the schedules of a UID that count, in key order. It gives each row's key and body.
+#[derive(Clone, Debug, Drop)]
+pub struct UidSchedules<'a> {
+    rows: Live<'a>,
+    permanent: bool,
+}
+
+impl<'a> Model for UidSchedules<'a> {
+    ghost use Rattle.std.specs.Prelude.{List};
+    ghost use Rattle.state_laws.specs.Row.{Row};
+    ghost use Rattle.docker_laws.specs.CountedRows.{counted_rows};
+    ghost use Rattle.docker_state.specs.Timetables.{counts};
+
+    ghost Value = { List Row };
+
+    ghost view = { λ walk. counted_rows (counts walk.permanent) walk.rows };
+}
+
+impl<'a> UidSchedules<'a> {
+    /// The rows of a walk that count: all of them, or only the permanent ones.
+    pub(crate) fn of(rows: Live<'a>, permanent: bool) -> UidSchedules<'a>
+        ensures { result ≡ counted_rows (counts permanent) rows.entry }
+    {
+        UidSchedules { rows, permanent }
+    }
+}
+
+impl<'a> Iterator for UidSchedules<'a> {
+    type Item = (&'a Key, &'a Body);
+
+    ghost next_gives = { YieldsFirstBy
+        (λ row. (key_meant row.0.now, body_meant row.1.now)) (λ walk. walk) };
+
+    ghost remaining = { item_count (λ walk. walk) };
+
+    fn next(&mut self) -> Option<(&'a Key, &'a Body)> {
+        while let Some((key, body)) = self.rows.next() {
+            if is_counted(self.permanent, key) {
+                return Some((key, body));
+            }
+        }
+        None
+    }
+}
+
+/// Whether a row with this key counts: each does, or each that is permanent.
+fn is_counted(permanent: bool, key: &Key) -> bool
+    ensures { result ≡ counts permanent (key_meant key.now) }
+{
+    !permanent || is_permanent(key)
+}
+
+/// Whether the key is of a timing point, or of a schedule or an association with the STP indicator
+/// `P`.
+fn is_permanent(key: &Key) -> bool
+    ensures { result ≡ is_permanent (key_meant key.now) }
+{
+    match key {
+        Key::Tiploc(_) => true,
+        Key::Assoc(key) => key.stp == Stp::Permanent,
+        Key::Schedule(key) => key.stp == Stp::Permanent,
+    }
+}

@@ -1,0 +1,70 @@
+-- The live rows that spots and marks name.
+use Rattle.std.specs.Prelude.{◌≡◌, ℕ, Bool, false, List, ◌++◌, map, Contains, Option, Some, None, slice_get, option_and_then}
+use Rattle.std.specs.List.{filter_map}
+use Rattle.std.specs.Option.{is_some}
+use Rattle.docker_model.specs.file.Change.{Key}
+use Rattle.docker_model.specs.state.Op.{Entry, body_of}
+use Rattle.state_laws.specs.Row.{Row}
+use Rattle.state_index.specs.SpotOrder.{Spot}
+use Rattle.state_index.specs.Turns.{is_put}
+use Rattle.state_index.specs.declared.mark.Mark.{Mark}
+
+-- a row's key with its body, if the row is put
+abbrev pub live_row : Key × Entry → Option Row
+live_row row = option_and_then (λ body. Some (row.0, body)) (body_of row.1.op)
+
+-- the live row that a spot names
+abbrev pub live_at : List (Key × Entry) → Spot → Option Row
+live_at rows spot = option_and_then live_row (slice_get rows spot.at)
+
+-- the live rows that spots name, in the order of the spots
+abbrev pub rows_at_spots : List (Key × Entry) → List Spot → List Row
+rows_at_spots rows spots = filter_map (live_at rows) spots
+
+-- the live row that a mark names
+abbrev pub live_at_mark : List (Key × Entry) → Mark → Option Row
+live_at_mark rows mark = option_and_then live_row (slice_get rows mark.at)
+
+-- the live rows that marks name, in the order of the marks
+abbrev pub rows_at_marks : List (Key × Entry) → List Mark → List Row
+rows_at_marks rows marks = filter_map (live_at_mark rows) marks
+
+-- the piece is the marks of one place, by the place's index; no mark before or after it has that
+-- place
+pub record IsPieceOf (rank : ℕ) (marks piece : List Mark) : Type 0 where
+  pub before : List Mark
+  pub behind : List Mark
+  pub whole : marks ≡ (before ++ piece) ++ behind
+  pub none_before : (mark : Mark) → Contains before mark → ¬ (mark.place ≡ rank)
+  pub here : (mark : Mark) → Contains piece mark → mark.place ≡ rank
+  pub none_behind : (mark : Mark) → Contains behind mark → ¬ (mark.place ≡ rank)
+
+-- the piece is the spots of one place; no spot before or after it has that place
+pub record IsPieceAt (place : List ℕ) (spots piece : List Spot) : Type 0 where
+  pub before : List Spot
+  pub behind : List Spot
+  pub whole : spots ≡ (before ++ piece) ++ behind
+  pub none_before : (spot : Spot) → Contains before spot → ¬ (spot.place ≡ place)
+  pub here : (spot : Spot) → Contains piece spot → spot.place ≡ place
+  pub none_behind : (spot : Spot) → Contains behind spot → ¬ (spot.place ≡ place)
+
+-- the row that a spot names is put
+abbrev pub is_put_at : List (Key × Entry) → Spot → Bool
+is_put_at rows spot = is_some (live_at rows spot)
+
+-- the row that a mark names is put
+abbrev pub is_put_at_mark : List (Key × Entry) → Mark → Bool
+is_put_at_mark rows mark = is_some (live_at_mark rows mark)
+
+-- for each row, whether it is put
+abbrev pub puts_in : List (Key × Entry) → List Bool
+puts_in rows = map (λ (row : Key × Entry). is_put row.1.op) rows
+
+-- a row's flag, or false if it has none
+abbrev pub or_not : Option Bool → Bool
+or_not None = false
+or_not (Some put) = put
+
+-- the row that a mark names is put, according to these flags
+abbrev pub put_among : List Bool → Mark → Bool
+put_among puts mark = or_not (slice_get puts mark.at)

@@ -1,0 +1,17 @@
+use Rattle.std.proofs.Common.{ap, sym, ◌∙◌, subst}
+use Rattle.docker_model.specs.docker.Choice.{Train}
+use Rattle.docker_model.specs.state.State.{IsScheduleOf}
+use Rattle.train_choice.proofs.RecentDays.{recent_runs_told, never_told}
+use Rattle.train_choice.proofs.schedule_view.ScheduleView.recent_runs.Goals as goal
+
+pub returns : goal.returns
+returns c =
+    recent_runs_told c.args.self.now.key c.args.self.now.lines c.first.result.now c.self.inside.key.now.runs_from c.args.day c.recent_runs_of.result
+    (subst (λ (view : Train). IsScheduleOf view.key view.lines) c.self.view_is c.self.invariant) c.first.ensures.line
+    (ap (λ (view : Train). view.key.runs_from) c.self.view_is) c.recent_runs_of.ensures
+
+pub returns-then-begins_behind : goal.returns-then-begins_behind
+returns-then-begins_behind c =
+    never_told c.args.self.now.key c.args.self.now.lines c.self.inside.key.now.runs_from c.args.day c.never.result
+    (subst (λ (view : Train). IsScheduleOf view.key view.lines) c.self.view_is c.self.invariant)
+    (ap (λ (view : Train). view.key.runs_from) c.self.view_is) (sym c.begins_behind.ensures ∙ c.if-begins_behind.true) c.never.ensures

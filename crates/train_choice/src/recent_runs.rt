@@ -1,0 +1,118 @@
+//! Whether a schedule runs on a day, on the day before and two days before. A train that starts on
+//! any of these can be somewhere on the day.
+ghost use Rattle.std.specs.Prelude.{◌≡◌, ◌≤◌, ◌||◌, ◌-◌, false};
+ghost use Rattle.std.specs.Option.{SomeIff};
+ghost use Rattle.docker_model.specs.records.Record.{HasKind, basic_schedule, columns};
+ghost use Rattle.docker_model.specs.records.Field.{HasGoodFields, is_deletion};
+ghost use Rattle.train_choice.specs.RecentRuns.{AreRecentRuns, begun_back, lasts_back, runs_back_by_fields, marked_back};
+
+use cif_line::{Day, Days, Line};
+
+/// Whether a schedule runs on a day, on the day before and two days before.
+#[derive(Clone, Copy, Debug)]
+pub struct RecentRuns {
+    /// Whether it runs on the day.
+    pub today: bool,
+    /// Whether it runs on the day before.
+    pub day_before: bool,
+    /// Whether it runs two days before.
+    pub two_before: bool,
+}
+
+impl RecentRuns {
+    /// The schedule doesn't run on any of the three days.
+    pub(crate) fn never() -> RecentRuns
+        ensures { AreRecentRuns (λ back. false) result }
+    {
+        RecentRuns {
+            today: false,
+            day_before: false,
+            two_before: false,
+        }
+    }
+
+    /// Whether it runs on any of the three days.
+    pub fn is_some(&self) -> bool
+        ensures { result ≡ (self.now.today || self.now.day_before || self.now.two_before) }
+    {
+        self.today | self.day_before | self.two_before
+    }
+}
+
+/// The day `back` days before. `None` if that is before day 0.
+pub fn day_back(day: Day, back: u16) -> Option<Day>
+    ensures { SomeIff result (back ≤ day) (day - back) }
+{
+    let number = day.number().checked_sub(back)?;
+    Day::from_number(number)
+}
+
+/// Whether a schedule that begins on `first` runs on a day, on the day before and two days before.
+/// All but `first` is read from its basic schedule. The end date is read only if it can matter.
+#[tactic(auto, using(crate::proofs::RunFields::schedule_fields))]
+pub(crate) fn recent_runs_of(line: &Line, first: Day, day: Day) -> RecentRuns
+    requires kind { HasKind basic_schedule line.now }
+    requires good { HasGoodFields line.now }
+    requires no_deletion { is_deletion line.now ≡ false }
+    ensures { AreRecentRuns (runs_back_by_fields line.now first day) result }
+{
+    let days = match line.days_unless_deleted(22) {
+        Some(days) => days,
+        None => unreachable!(),
+    };
+    let begun = RecentRuns {
+        today: begun_back(&days, first, day, 0),
+        day_before: begun_back(&days, first, day, 1),
+        two_before: begun_back(&days, first, day, 2),
+    };
+    if !begun.is_some() {
+        return begun;
+    }
+    match line.end_unless_deleted(16) {
+        Some(last) => RecentRuns {
+            today: begun.today & lasts_back(last.number(), day, 0),
+            day_before: begun.day_before & lasts_back(last.number(), day, 1),
+            two_before: begun.two_before & lasts_back(last.number(), day, 2),
+        },
+        None => unreachable!(),
+    }
+}
+
+/// Whether the day `back` days before exists, isn't before the first date, and has its weekday
+/// marked.
+fn begun_back(days: &Days, first: Day, day: Day, back: u16) -> bool
+    ensures { result ≡ begun_back days.now first day back }
+{
+    match day_back(day, back) {
+        Some(start) => (first.number() <= start.number()) & days.on(start.weekday()),
+        None => false,
+    }
+}
+
+/// Whether the day `back` days before isn't after the last date.
+fn lasts_back(last: u16, day: Day, back: u16) -> bool
+    ensures { result ≡ lasts_back last day back }
+{
+    day.number().saturating_sub(back) <= last
+}
+
+/// Whether a basic schedule marks one of three weekdays: the day's and the two before.
+pub(crate) fn is_marked_recently(line: &Line, day: Day) -> bool
+    ensures { result ≡ (marked_back (columns 22 28 line.now) day 0
+        || marked_back (columns 22 28 line.now) day 1 || marked_back (columns 22 28 line.now) day 2) }
+{
+    is_marked_back(line, day, 0) | is_marked_back(line, day, 1) | is_marked_back(line, day, 2)
+}
+
+/// Whether a basic schedule marks the weekday of the day `back` days before.
+fn is_marked_back(line: &Line, day: Day, back: u16) -> bool
+    ensures { result ≡ marked_back (columns 22 28 line.now) day back }
+{
+    match day_back(day, back) {
+        Some(start) => {
+            let marks: &[u8; 7] = line.field(22);
+            marks[start.weekday() as usize] == b'1'
+        }
+        None => false,
+    }
+}
