@@ -4,7 +4,7 @@ pub mod RequestLemmas
 pub mod WritingLemmas
 pub mod ReadFiles
 pub mod HistoryLemmas
-mod TermsLemmas
+mod SessionWordsLemmas
 mod KnownLemmas
 mod FixedLemmas
 mod TrainLemmas

@@ -13,11 +13,12 @@ use Rattle.docker_train.specs.Origin.{CameFrom}
 use Rattle.docker_cmd.specs.Office.{HoldsState, TakesFile}
 use Rattle.docker_cmd.specs.SourceRead.{JoinsState}
 use Rattle.docker_cmd.specs.Prepared.{most_bytes}
-use Rattle.docker_host.specs.History.{Bytes, Event, Text, drafted, looked, named_if, opened, placed}
+use Rattle.docker_host.specs.History.{Event, Text, drafted, looked, named_if, placed}
 use Rattle.docker_desk.specs.Requests.{RequestView, print_request, train_request, files_request, places_request, known_request, renew_request, take_request, merge_request, horizon_request, save_request}
 use Rattle.docker_desk.specs.Replies.{AnswerView, done_with, no_request, refused_for}
 use Rattle.docker_desk.specs.Moments.{Moment, Setting, Step}
 use Rattle.docker_desk.specs.Doing.{AreSteps}
+use Rattle.docker_desk.specs.Reading.{Reading, events_of}
 
 -- the state is the summary of what is known: of files, under a horizon
 pub record IsKnown (known : Known) (state : State) : Type 0 where
@@ -26,27 +27,23 @@ pub record IsKnown (known : Known) (state : State) : Type 0 where
 
 -- the file of this name was opened and held the text of a file, and this is the file
 pub record HearsFile (name : Text) (before after : Moment) (heard : Known) : Type 0 where
-  pub held : Bytes
-  pub asked : after.history ≡ before.history ++ opened name held ∷ []
-  pub takes : TakesFile most_records held before.desk.state after.desk.state
+  pub read : Reading
+  pub asked : after.history ≡ before.history ++ events_of name read
+  pub takes : TakesFile most_records read.held before.desk.state after.desk.state
   pub heard_is : heard ≡ record { files = takes.file ∷ []; horizon = 0 }
 
 -- a file was opened by these events and held the text of a state, and the state is the summary of
 -- what was heard
-pub record HearsState (events : Bytes → List Event) (before after : Moment) (heard : Known)
+pub record HearsState (events : Reading → List Event) (before after : Moment) (heard : Known)
     : Type 0 where
-  pub held : Bytes
-  pub asked : after.history ≡ before.history ++ events held
-  pub joins : JoinsState dks_2 most_bytes held before.desk.state after.desk.state
+  pub read : Reading
+  pub asked : after.history ≡ before.history ++ events read
+  pub joins : JoinsState dks_2 most_bytes read.held before.desk.state after.desk.state
   pub of : IsKnown heard joins.received
 
--- the events of a merge with the file of this name, which held this
-abbrev pub merging : Text → Bytes → List Event
-merging name held = opened name held ∷ []
-
--- the events of a renewal from the file of this name, which held this
-abbrev pub renewing : Text → Bytes → List Event
-renewing name held = looked name ∷ opened name held ∷ []
+-- the events of a renewal from the file of this name, of which this was read
+abbrev pub renewing : Text → Reading → List Event
+renewing name read = looked name ∷ events_of name read
 
 -- what is heard by a request that was done
 abbrev pub Hears : Setting → RequestView → Moment → Moment → Known → Type 0
@@ -59,7 +56,7 @@ Hears setting renew_request before after heard =
     HearsState (renewing setting.name) before after heard
 Hears setting (take_request file) before after heard = HearsFile file before after heard
 Hears setting (merge_request other) before after heard =
-    HearsState (merging other) before after heard
+    HearsState (events_of other) before after heard
 Hears setting (horizon_request day) before after heard =
     heard ≡ record { files = []; horizon = day }
 Hears setting save_request before after heard = heard ≡ nothing
@@ -81,12 +78,12 @@ AreLearned setting old (step ∷ steps) new =
     × AreLearned setting now steps new)
 
 -- a file was opened by these events, and held the text of the summary of this
-pub record HoldsKnown (events : Bytes → List Event) (before after : Moment) (known : Known)
+pub record HoldsKnown (events : Reading → List Event) (before after : Moment) (known : Known)
     : Type 0 where
-  pub held : Bytes
-  pub asked : after.history ≡ before.history ++ events held
+  pub read : Reading
+  pub asked : after.history ≡ before.history ++ events read
   pub sent : State
-  pub holds : HoldsState dks_2 most_bytes held sent
+  pub holds : HoldsState dks_2 most_bytes read.held sent
   pub of : IsKnown known sent
 
 -- if the request receives a state, the file held the text of a summary
@@ -100,7 +97,7 @@ ReceivesKnown setting renew_request before after =
     (known : Known) × HoldsKnown (renewing setting.name) before after known
 ReceivesKnown setting (take_request file) before after = ⊤
 ReceivesKnown setting (merge_request other) before after =
-    (known : Known) × HoldsKnown (merging other) before after known
+    (known : Known) × HoldsKnown (events_of other) before after known
 ReceivesKnown setting (horizon_request day) before after = ⊤
 ReceivesKnown setting save_request before after = ⊤
 

@@ -3,10 +3,12 @@ ghost use Rattle.std.specs.Prelude.{◌≡◌, ◌+◌, ◌-◌, ◌^◌, ◌<�
 ghost use Rattle.docker_model.specs.state.State.{raise_horizon};
 ghost use Rattle.docker_model.specs.state.StateText.{dks_2, state_text};
 ghost use Rattle.docker_cmd.specs.OfficeFault.TheVariants as office;
-ghost use Rattle.docker_desk.specs.Desk.{EndsReceiving, EndsRenewing, EndsSaving, EndsTaking, IsCounted, IsDockerAnswer, IsFilesAnswer, IsKnownAnswer, IsPlacesAnswer, IsTrainAnswer, LooksAndOpens, OpensOnce, look_by, result_status, unsaved_by};
+ghost use Rattle.docker_desk.specs.Desk.{EndsReceiving, EndsRenewing, EndsSaving, EndsTaking, IsCounted, IsDockerAnswer, IsFilesAnswer, IsKnownAnswer, IsPlacesAnswer, IsTrainAnswer, look_by, result_status, unsaved_by};
+ghost use Rattle.docker_desk.specs.Reading.{LooksAndOpens, OpensOnce, StopsInFile, StopsInState};
 ghost use Rattle.docker_desk.specs.Doing.{desk_by};
 ghost use Rattle.docker_desk.specs.Replies.{answer_meant, done_with, refused_for};
 
+use crate::compared::Compared;
 use crate::page::Page;
 use crate::reading::{receive_state, renew_state, take_file};
 use crate::reply::Answer;
@@ -115,7 +117,7 @@ impl Desk {
     /// Takes a file, which is opened once.
     pub fn take<D: Folder>(&mut self, name: &str, folder: &mut D) -> Result<(), OfficeFault>
         requires { D.failures folder.old < 2 ^ 64 - 1 }
-        ensures opens { OpensOnce name.now (EndsTaking self.old.state self.new.state result)
+        ensures opens { OpensOnce name.now StopsInFile (EndsTaking self.old.state self.new.state result)
             (D.history folder.old) (D.history folder.new) }
         ensures unsaved { self.new.unsaved ≡ unsaved_by result self.old.unsaved }
         ensures counted { IsCounted (result_status result)
@@ -133,7 +135,7 @@ impl Desk {
     /// Joins what the desk knows with the state that a file holds, which is opened once.
     pub fn receive<D: Folder>(&mut self, name: &str, folder: &mut D) -> Result<(), OfficeFault>
         requires { D.failures folder.old < 2 ^ 64 - 1 }
-        ensures opens { OpensOnce name.now (EndsReceiving self.old.state self.new.state result)
+        ensures opens { OpensOnce name.now StopsInState (EndsReceiving self.old.state self.new.state result)
             (D.history folder.old) (D.history folder.new) }
         ensures unsaved { self.new.unsaved ≡ unsaved_by result self.old.unsaved }
         ensures counted { IsCounted (result_status result)
@@ -165,16 +167,17 @@ impl Desk {
     }
 
     /// Looks at a file, then opens it once and joins what the desk knows with the state that it
-    /// holds. If that is done, notes what was seen of the file before it was opened. Then nothing
-    /// is unsaved only if the file held the text of the state that the desk has now. It is found
-    /// out only if `compares`, for which the file's text is kept until it is compared.
+    /// holds. If that is done, notes what was seen of the file before it was opened, and returns
+    /// whether the file held the text of the state that the desk has now. There is nothing unsaved
+    /// exactly if it was found to hold it. It is found out only if `compares`, for which the file's
+    /// text is kept until it is compared, as far as there is memory for it.
     pub fn renew<D: Folder>(
         &mut self,
         name: &str,
         compares: bool,
         seen: &mut D::Seen,
         folder: &mut D,
-    ) -> Result<(), OfficeFault>
+    ) -> Result<Compared, OfficeFault>
         requires { D.failures folder.old < 2 ^ 64 - 1 }
         ensures opens { LooksAndOpens name.now (EndsRenewing self.old self.new result)
             (D.history folder.old) (D.history folder.new) }
@@ -183,14 +186,12 @@ impl Desk {
         ensures counted { IsCounted (result_status result)
             (D.failures folder.old) (D.failures folder.new) }
     {
-        let compares = compares & !self.unsaved;
         let sight = folder.look(name);
-        let (renewed, same) = renew_state(self.alloc, &mut self.office, name, compares, folder);
-        match renewed {
-            Ok(()) => {
+        match renew_state(self.alloc, &mut self.office, name, compares, folder) {
+            Ok(found) => {
                 *seen = sight;
-                self.unsaved = !same;
-                Ok(())
+                self.unsaved = found != Compared::Same;
+                Ok(found)
             }
             Err(fault) => Err(fault),
         }
