@@ -2,8 +2,8 @@
 //! With it, all devices of a program in one value.
 #![tactic(auto)]
 
-mod beside;
 mod draft_file;
+mod draft_place;
 mod folder;
 mod history;
 mod host;

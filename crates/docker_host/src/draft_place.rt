@@ -7,7 +7,7 @@ use std::os::unix::fs::{MetadataExt, OpenOptionsExt, PermissionsExt};
 use std::{fs, io};
 
 /// What a draft's name has after the name of its file.
-const BESIDE: &str = ".new";
+const SUFFIX: &str = ".new";
 
 /// The permission bit that marks a draft: the sticky bit. On a regular file it means nothing else.
 const MARK: u32 = 0o1000;
@@ -17,13 +17,13 @@ const NEW_FILE: u32 = 0o666;
 
 /// Where a draft is, the file whose place it is to take, and the permissions that it then has.
 #[derive(Drop)]
-pub(crate) struct Beside {
+pub(crate) struct DraftPlace {
     draft: String,
     file: String,
     permissions: u32,
 }
 
-impl Beside {
+impl DraftPlace {
     /// Makes an empty draft beside the file of this path, held only by this command, with the old
     /// file's permissions if there is an old file. A draft that can't be given them is removed
     /// again. If that fails too, the device failed.
@@ -31,11 +31,11 @@ impl Beside {
         rt: &HostRuntime,
         file: String,
         old: Option<Metadata>,
-    ) -> Result<(File, Beside), OpenFault> {
+    ) -> Result<(File, DraftPlace), OpenFault> {
         let mut draft = String::from_str(rt.alloc(), file.as_str())?;
-        draft.push_str(BESIDE)?;
+        draft.push_str(SUFFIX)?;
         remove_left_over(rt, draft.as_str());
-        let mark = mark_beside(file.as_str());
+        let mark = mark_for(file.as_str());
         let made = File::options()
             .write(true)
             .create_new(true)
@@ -44,12 +44,12 @@ impl Beside {
         hold(rt, &made, draft.as_str())?;
         match give_permissions(&made, old, mark) {
             Ok(permissions) => {
-                let beside = Beside {
+                let place = DraftPlace {
                     draft,
                     file,
                     permissions,
                 };
-                Ok((made, beside))
+                Ok((made, place))
             }
             Err(error) => {
                 if fs::remove_file(rt, draft.as_str()).is_err() {
@@ -76,8 +76,8 @@ impl Beside {
 
 /// The mark of a draft beside the file of this path. If the file is itself named like a draft, its
 /// draft has no mark. Otherwise, once in its place, it could be taken for a draft of another file.
-fn mark_beside(file: &str) -> u32 {
-    if file.ends_with(BESIDE) { 0 } else { MARK }
+fn mark_for(file: &str) -> u32 {
+    if file.ends_with(SUFFIX) { 0 } else { MARK }
 }
 
 /// Whether a file is regular and marked as a draft.
