@@ -17,6 +17,22 @@ pub enum OpenFault {
     Memory,
 }
 
+impl OpenFault {
+    ghost use Rattle.docker_host.specs.Opening.{one_of};
+    ghost use Rattle.std.specs.Prelude.{◌≡◌};
+
+    /// One of two values, by the fault: the first if the device failed, the second if memory ran
+    /// out.
+    pub fn one_of<T: Copy>(self, failed: T, memory: T) -> T
+        ensures { result ≡ one_of failed memory self }
+    {
+        match self {
+            OpenFault::Failed => failed,
+            OpenFault::Memory => memory,
+        }
+    }
+}
+
 impl From<io::Error> for OpenFault {
     ghost use Rattle.docker_host.specs.declared.folder.OpenFault.TheVariants.{Memory};
     ghost use Rattle.std.specs.IoError.{error_kind};
