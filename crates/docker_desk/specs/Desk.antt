@@ -26,13 +26,13 @@ use Rattle.docker_desk.specs.declared.compared.Compared.{Compared}
 use Rattle.docker_desk.specs.declared.compared.Compared.TheVariants as compared
 use Rattle.docker_desk.specs.Replies.{AnswerView, done_with, refused_for, no_request}
 
--- the state that a desk knows, and whether it may be another than the one whose text the state's
--- file was last seen to hold
+-- the state that a desk knows, and whether it may differ from the one that the state's file was
+-- last seen to hold
 pub record DeskView : Type 0 where
   pub state : State
   pub unsaved : Bool
 
--- a docker is refused for its day or, if not for its day, because memory ran out
+-- why a docker is refused: `Lapsed` if the horizon refuses its day, otherwise `Memory`
 abbrev pub IsDockerRefused : State → ℕ → OfficeFault → Type 0
 IsDockerRefused state day office.Lapsed = IsDayRefused state.horizon day
 IsDockerRefused state day office.Memory = ¬ IsDayRefused state.horizon day
@@ -48,7 +48,7 @@ IsDockerAnswer state place day (done_with text) =
 IsDockerAnswer state place day (refused_for fault) = IsDockerRefused state day fault
 IsDockerAnswer state place day no_request = ⊥
 
--- a train is refused for its day or, if not for its day, because memory ran out
+-- why a train is refused: `Lapsed` if its day is before the horizon, otherwise `Memory`
 abbrev pub IsTrainRefused : State → ℕ → OfficeFault → Type 0
 IsTrainRefused state day office.Lapsed = day < state.horizon
 IsTrainRefused state day office.Memory = ¬ (day < state.horizon)
@@ -180,8 +180,8 @@ EndsRenewing old new (Err fault) read = IsWhyNot RefusesToReceive fault read × 
 
 -- ---- what is unsaved
 
--- whether there are unsaved changes after a request that may change what is known: there are if it
--- was done, and if it was refused, all is as it was
+-- the unsaved flag after a request that may change what is known: set if it was done, unchanged if
+-- it was refused
 abbrev pub unsaved_by : Result ⊤ OfficeFault → Bool → Bool
 unsaved_by (Ok done) unsaved = true
 unsaved_by (Err fault) unsaved = unsaved
@@ -193,8 +193,8 @@ look_by (Err fault) look before = before
 
 -- ---- what is written
 
--- how the storing of a text in a file ends, by a draft from the look of this number. The draft took
--- its place, or a device failed, or there was no memory for a draft
+-- how storing a text in a file ends, by a draft from the look with this number. The draft took the
+-- file's place, or a device failed, or there was no memory for a draft
 abbrev pub EndsStoring : (names_bytes : Bool) (name : Text) (look : ℕ) (text : List ℕ)
     (old new : List Event) → Result ⊤ OfficeFault → Type 0
 EndsStoring names_bytes name look text old new (Ok done) = IsStored names_bytes name look text old new
@@ -206,7 +206,7 @@ EndsStoring names_bytes name look text old new (Err office.Lapsed) = ⊥
 EndsStoring names_bytes name look text old new (Err (office.File fault)) = ⊥
 EndsStoring names_bytes name look text old new (Err (office.State fault)) = ⊥
 
--- how the saving of a text ends: like its storing, and once the draft took its place, the file is
+-- how saving a text ends: like storing it, and once the draft took the file's place, the file is
 -- looked at
 abbrev pub EndsSaving : (names_bytes : Bool) (name : Text) (look : ℕ) (text : List ℕ)
     (old new : List Event) → Result ⊤ OfficeFault → Type 0

@@ -77,7 +77,7 @@ pub record BeginsAt (name : Text) (old : List Event) (first : Moment) : Type 0 w
 
 -- ---- the end
 
--- the line on the sink of faults where changes weren't saved
+-- the line on the sink of faults if changes weren't saved
 abbrev pub unsaved_line : List ℕ
 unsaved_line = codes "desk: changes not saved\n"
 
@@ -161,7 +161,7 @@ pub record IsServed (words : List Text) (names_bytes : Bool) (old new : HostView
   pub ends : EndsWithStatus ending (may_write && last.desk.unsaved) status (faults_of old)
       (faults_of new)
 
--- a session
+-- a whole session: its words name none, its start is refused, or it is served
 abbrev pub Serves : List Text → Bool → HostView → HostView → ℕ → Type 0
 Serves words names_bytes old new status =
     IsMisused words old new status

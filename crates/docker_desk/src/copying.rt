@@ -7,8 +7,8 @@ use cif_line::{Failed, Source};
 use std::alloc::Global;
 use std::marker::{Brand, Model, PhantomData};
 
-/// Names the bytes that a source had left when its copy was begun. A type bound by it holds them,
-/// whatever is called on it.
+/// Says, for clauses only, which bytes a source had left when its copy was begun. They are part of
+/// the copy's type, so no call on it can change them.
 pub(crate) trait Begun {
     ghost use Rattle.std.specs.Prelude.{List, Option, ℕ};
 
