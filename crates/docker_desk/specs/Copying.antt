@@ -1,4 +1,4 @@
--- What is read and copied, and what is written and compared.
+-- The view of a source that copies what is read, and of a sink that compares what is written.
 use Rattle.std.specs.Prelude.{◌≡◌, ◌≢◌, ℕ, Bool, List, [], ◌∷◌, ◌++◌, Option, Some, None, ⊤}
 use Rattle.docker_host.specs.History.{Bytes, Text}
 use Rattle.docker_desk.specs.declared.compared.Compared.{Compared}

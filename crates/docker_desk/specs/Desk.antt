@@ -14,11 +14,7 @@ use Rattle.docker_cmd.specs.Office.{TakesFile, WantsForFile}
 use Rattle.docker_cmd.specs.OfficeFault.{OfficeFault}
 use Rattle.docker_cmd.specs.OfficeFault.TheVariants as office
 use Rattle.docker_cmd.specs.Prepared.{WantsForState, most_bytes}
-use Rattle.docker_cmd.specs.FaultLine.{status_of}
-use Rattle.docker_cmd.specs.declared.fault.Fault.TheVariants.{Office}
-use Rattle.cif_line.specs.Device.{CountsFailure, IsEnd}
-use Rattle.docker_host.specs.declared.folder.OpenFault.{OpenFault}
-use Rattle.docker_host.specs.declared.folder.OpenFault.TheVariants as opening
+use Rattle.cif_line.specs.Device.{IsEnd}
 use Rattle.docker_host.specs.History.{Bytes, Event, IsText, Text, drafted, looked, named_if, placed}
 use Rattle.docker_host.specs.Asked.{FailsToStore, IsStored, IsUndrafted}
 use Rattle.docker_desk.specs.Reading.{HasOpened, Reading}
@@ -93,8 +89,8 @@ IsWhyUnopened (office.State fault) = ⊥
 IsWhyUnopened office.Lapsed = ⊥
 IsWhyUnopened office.Sink = ⊥
 
--- why a file isn't taken of which this was read: it is no file, its device failed, or memory ran
--- out. No record that was read by then is at fault
+-- why a file of which this was read isn't taken: its text is refused, its device failed, or memory
+-- ran out. Then no record up to there is at fault
 abbrev pub RefusesToTake : Reading → OfficeFault → Type 0
 RefusesToTake read (office.File fault) = RefusesText most_records read.held fault
 RefusesToTake read office.Source = ⊤
@@ -103,8 +99,8 @@ RefusesToTake read (office.State fault) = ⊥
 RefusesToTake read office.Lapsed = ⊥
 RefusesToTake read office.Sink = ⊥
 
--- why no state is received from a file of which this was read: it is no state, its device failed,
--- or memory ran out. No part of the state that was read by then is bad
+-- why no state is received from a file of which this was read: its text is refused, its device
+-- failed, or memory ran out. Then no part up to there is bad
 abbrev pub RefusesToReceive : Reading → OfficeFault → Type 0
 RefusesToReceive read (office.State fault) = RefusesState dks_2 most_bytes read.held fault
 RefusesToReceive read office.Source = ⊤
@@ -113,7 +109,8 @@ RefusesToReceive read (office.File fault) = ⊥
 RefusesToReceive read office.Lapsed = ⊥
 RefusesToReceive read office.Sink = ⊥
 
--- why a file isn't read: it wasn't opened, or this is said of what was read of it and of the fault
+-- why a file isn't read: it wasn't opened; or it was, and `Refuses` holds of what was read of it and
+-- of the fault
 abbrev pub IsWhyNot : (Reading → OfficeFault → Type 0) → OfficeFault → Option Reading → Type 0
 IsWhyNot Refuses fault (Some read) = Refuses read fault
 IsWhyNot Refuses fault None = IsWhyUnopened fault
@@ -123,21 +120,21 @@ pub record TakesReading (old new : State) (read : Reading) : Type 0 where
   pub takes : TakesFile most_records read.held old new
   pub end : IsEnd read.left
 
--- the state after taking a file, from what was read of the file if it was opened; the same state if
--- that was refused
+-- how taking a file ends, by what was read of the file if it was opened. If it was refused, the
+-- state is unchanged
 abbrev pub EndsTaking : State → State → Result ⊤ OfficeFault → Option Reading → Type 0
 EndsTaking old new (Ok done) read = HasOpened (TakesReading old new) read
 EndsTaking old new (Err fault) read = IsWhyNot RefusesToTake fault read × (new ≡ old)
 
--- the state after receiving the state of a file, from what was read of the file if it was opened;
--- the same state if that was refused
+-- how receiving the state of a file ends, by what was read of the file if it was opened. If it was
+-- refused, the state is unchanged
 abbrev pub EndsReceiving : {A : Type 0} → State → State → Result A OfficeFault → Option Reading
     → Type 0
 EndsReceiving old new (Ok done) read =
     HasOpened (λ it. JoinsState dks_2 most_bytes it.held old new) read
 EndsReceiving old new (Err fault) read = IsWhyNot RefusesToReceive fault read × (new ≡ old)
 
--- the state after reading the state of a file, from what was read of the file if it was opened
+-- how reading the state of a file ends, by what was read of the file if it was opened
 abbrev pub EndsReloading : State → Result ⊤ OfficeFault → Option Reading → Type 0
 EndsReloading new (Ok done) read = HasOpened (λ it. ReadsState dks_2 most_bytes it.held new) read
 EndsReloading new (Err fault) read = IsWhyNot RefusesToReceive fault read
@@ -149,29 +146,29 @@ abbrev pub IsOtherText : Bytes → Text → Type 0
 IsOtherText None text = ⊤
 IsOtherText (Some bytes) text = bytes ≢ text
 
--- what was found out of a file: it held the text of this state, or another, as far as the device
--- can name what it held; or it isn't known
+-- what was found out of a file: it held the text of this state, or another text, if its bytes can
+-- be named; or nothing was found out
 abbrev pub IsFound : Compared → State → Reading → Type 0
 IsFound compared.Same state read = IsText read.held (state_text dks_2 state)
 IsFound compared.Other state read = IsOtherText read.held (state_text dks_2 state)
 IsFound compared.Unknown state read = ⊤
 
--- the state after receiving the state of a file, and whether the file held the text of the state
--- that there is then, if it was found out
+-- how receiving the state of a file ends, and whether the file held the text of the state that the
+-- office has after that, if it was found out
 abbrev pub EndsComparing : State → State → Result Compared OfficeFault → Option Reading → Type 0
 EndsComparing old new (Ok found) read =
     EndsReceiving old new (Ok found) read × HasOpened (IsFound found new) read
 EndsComparing old new (Err fault) read = EndsReceiving {A = Compared} old new (Err fault) read
 
--- whether there are unsaved changes after a renewal: there are none exactly if the file was found
--- to hold the text of the state
+-- the unsaved flag after a renewal: not set exactly if the file was found to hold the text of the
+-- state
 abbrev pub unsaved_if : Compared → Bool
 unsaved_if compared.Same = false
 unsaved_if compared.Other = true
 unsaved_if compared.Unknown = true
 
--- what a desk knows after renewing from its state's file, and whether there are unsaved changes. If
--- it was refused, all is as it was
+-- what a desk knows after renewing from its state's file. Something is unsaved exactly if the file
+-- wasn't found to hold the text of the state that the desk has then. A refusal changes nothing
 abbrev pub EndsRenewing : DeskView → DeskView → Result Compared OfficeFault → Option Reading
     → Type 0
 EndsRenewing old new (Ok found) read =
@@ -186,7 +183,7 @@ abbrev pub unsaved_by : Result ⊤ OfficeFault → Bool → Bool
 unsaved_by (Ok done) unsaved = true
 unsaved_by (Err fault) unsaved = unsaved
 
--- the look of this number if a request was done, otherwise the one before
+-- the number of the look after a request: `look` if it was done, otherwise the one before
 abbrev pub look_by : {A : Type 0} → Result A OfficeFault → ℕ → ℕ → ℕ
 look_by (Ok done) look before = look
 look_by (Err fault) look before = before
@@ -214,19 +211,3 @@ EndsSaving names_bytes name look text old new (Ok done) =
     new ≡ old ++ drafted name look ∷ placed name (named_if names_bytes text) ∷ looked name ∷ []
 EndsSaving names_bytes name look text old new (Err fault) =
     EndsStoring names_bytes name look text old new (Err fault)
-
--- ---- faults
-
--- how often a device failed, before and after: once more exactly if the status is 4
-abbrev pub IsCounted : (status before after : ℕ) → Type 0
-IsCounted status before after = CountsFailure (status ≡ 4) before after
-
--- the exit status for an office's result: 0, or the fault's status
-abbrev pub result_status : {A : Type 0} → Result A OfficeFault → ℕ
-result_status (Ok answer) = 0
-result_status (Err fault) = status_of (Office fault)
-
--- the office's fault for a file that wasn't opened
-abbrev pub fault_of_opening : OpenFault → OfficeFault
-fault_of_opening opening.Failed = office.Source
-fault_of_opening opening.Memory = office.Memory

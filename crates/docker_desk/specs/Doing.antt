@@ -2,12 +2,13 @@
 use Rattle.std.specs.Prelude.{◌≡◌, ℕ, ◌+◌, Bool, true, false, List, [], ◌∷◌, length, Option, Some, None, Result, Ok, Err, ⊤}
 use Rattle.docker_model.specs.state.State.{State, raise_horizon}
 use Rattle.docker_model.specs.state.StateText.{dks_2, state_text}
+use Rattle.docker_cmd.specs.FaultLine.{IsCounted}
 use Rattle.docker_cmd.specs.JobLine.{IsLineText}
 use Rattle.docker_cmd.specs.OfficeFault.{OfficeFault}
 use Rattle.docker_host.specs.History.{Text}
 use Rattle.docker_desk.specs.Lines.{LineView, whole_line, bad_line, cut_line}
 use Rattle.docker_desk.specs.Requests.{AsksFor, RequestView, print_request, train_request, files_request, places_request, known_request, renew_request, take_request, merge_request, horizon_request, save_request}
-use Rattle.docker_desk.specs.Desk.{DeskView, EndsReceiving, EndsRenewing, EndsSaving, EndsTaking, IsCounted, IsDockerAnswer, IsFilesAnswer, IsKnownAnswer, IsPlacesAnswer, IsTrainAnswer, look_by, unsaved_by}
+use Rattle.docker_desk.specs.Desk.{DeskView, EndsReceiving, EndsRenewing, EndsSaving, EndsTaking, IsDockerAnswer, IsFilesAnswer, IsKnownAnswer, IsPlacesAnswer, IsTrainAnswer, look_by, unsaved_by}
 use Rattle.docker_desk.specs.Reading.{LooksAndOpens, OpensOnce, Reading, StopsInFile, StopsInState}
 use Rattle.docker_desk.specs.declared.compared.Compared.{Compared}
 use Rattle.docker_desk.specs.Replies.{AnswerView, done_with, no_request, refused_for, status_told}
@@ -18,8 +19,8 @@ abbrev pub answer_of : {A : Type 0} → Result A OfficeFault → AnswerView
 answer_of (Ok done) = done_with []
 answer_of (Err fault) = refused_for fault
 
--- a request to take a file or to receive a state. The file of that name is opened once, and how the
--- request ends follows from what the file held then
+-- a request to take a file or to receive a state. The named file is opened once, and what it held
+-- then decides how the request ends
 pub record Joins (name : Text) (Stops : Reading → Type 0)
     (Ends : State → State → Result ⊤ OfficeFault → Option Reading → Type 0)
     (before : Moment) (answer : AnswerView) (after : Moment) : Type 0 where
@@ -31,8 +32,8 @@ pub record Joins (name : Text) (Stops : Reading → Type 0)
   pub look : after.look ≡ before.look
 
 -- a request to renew: the state's file is looked at and then opened once, and the state is joined
--- with the one whose text the file held then. If that is done, the look is the one before this
--- opening, and if the desk may write, the two texts are compared as far as there is memory for it
+-- with the one whose text the file held then. If that is done, the moment's look is the one right
+-- before this opening
 pub record Renews (setting : Setting) (before : Moment) (answer : AnswerView) (after : Moment)
     : Type 0 where
   pub result : Result Compared OfficeFault

@@ -2,7 +2,8 @@
 use Rattle.std.specs.Prelude.{◌≡◌, ℕ, ◌+◌, List, ◌∷◌, ◌++◌, length, ◌⊎◌}
 use Rattle.docker_host.specs.History.{Bytes, Event, Text, closed, looked, opened, placed}
 
--- the look of this number is a look at the file of this name, and the file was opened and read next
+-- the event with this number is a look at the named file, and in the next events the file was opened
+-- and closed
 pub record IsBeforeOpening (name : Text) (history : List Event) (look : ℕ) : Type 0 where
   pub earlier : List Event
   pub held : Bytes

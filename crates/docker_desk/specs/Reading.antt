@@ -13,11 +13,11 @@ pub record Reading : Type 0 where
 abbrev pub reading : Bytes → Bytes → Reading
 reading held left = record { held = held; left = left }
 
--- the events of a reading of the file of this name: it was opened, and then closed
+-- the events of reading the named file: it was opened, and then closed
 abbrev pub events_of : Text → Reading → List Event
 events_of name read = opened name read.held ∷ closed read.left ∷ []
 
--- the events of such a reading, or of an opening that failed
+-- the events of opening the named file: those of a reading, or it couldn't be opened
 abbrev pub opening_of : Text → Option Reading → List Event
 opening_of name (Some read) = events_of name read
 opening_of name None = unopened name ∷ []
@@ -30,8 +30,9 @@ StopsInFile read = ReadsFewOfFile read.held read.left
 abbrev pub StopsInState : Reading → Type 0
 StopsInState read = ReadsFewOfState dks_2 read.held read.left
 
--- The file of this name was opened once and then closed, or it couldn't be opened. If it was
--- opened, the first property says how far it was read. The second says how the request ends
+-- The named file was opened once and then closed, or it couldn't be opened. `Stops` holds of what was
+-- read of it, and says how far that is. `Ends` holds of what was read, or of `None` if it couldn't be
+-- opened
 pub record OpensOnce (name : Text) (Stops : Reading → Type 0) (Ends : Option Reading → Type 0)
     (old new : List Event) : Type 0 where
   pub read : Option Reading
@@ -39,9 +40,9 @@ pub record OpensOnce (name : Text) (Stops : Reading → Type 0) (Ends : Option R
   pub stops : IfSome read Stops
   pub ends : Ends read
 
--- A state's file was looked at. Then it was opened once and closed, or it couldn't be opened. If it
--- was opened, it was read no further than decides the result. The property says how the request
--- ends
+-- The named file of a state was looked at. Then it was opened once and closed, or it couldn't be
+-- opened. It was read no further than decides the result. `Ends` holds of what was read, or of `None`
+-- if it couldn't be opened
 pub record LooksAndOpens (name : Text) (Ends : Option Reading → Type 0) (old new : List Event)
     : Type 0 where
   pub read : Option Reading

@@ -1,10 +1,10 @@
 //! How a line is answered.
 ghost use Rattle.std.specs.Prelude.{◌≡◌, ◌-◌, ◌^◌, ◌<◌};
+ghost use Rattle.docker_cmd.specs.FaultLine.{IsCounted};
 ghost use Rattle.docker_cmd.specs.JobLine.{IsLineText};
 ghost use Rattle.docker_desk.specs.Lines.{whole_line};
 ghost use Rattle.docker_desk.specs.Requests.{request_meant};
 ghost use Rattle.docker_desk.specs.Replies.{answer_meant, status_told};
-ghost use Rattle.docker_desk.specs.Desk.{IsCounted};
 ghost use Rattle.docker_desk.specs.Doing.{DoesLine, DoesRequest, answer_of};
 ghost use Rattle.docker_desk.specs.Moments.{moment, setting};
 

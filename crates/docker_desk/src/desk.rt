@@ -2,8 +2,9 @@
 ghost use Rattle.std.specs.Prelude.{◌≡◌, ◌+◌, ◌-◌, ◌^◌, ◌<◌, false, true, length, IsErr, IsOk};
 ghost use Rattle.docker_model.specs.state.State.{raise_horizon};
 ghost use Rattle.docker_model.specs.state.StateText.{dks_2, state_text};
+ghost use Rattle.docker_cmd.specs.FaultLine.{IsCounted, result_status};
 ghost use Rattle.docker_cmd.specs.OfficeFault.TheVariants as office;
-ghost use Rattle.docker_desk.specs.Desk.{EndsReceiving, EndsRenewing, EndsSaving, EndsTaking, IsCounted, IsDockerAnswer, IsFilesAnswer, IsKnownAnswer, IsPlacesAnswer, IsTrainAnswer, look_by, result_status, unsaved_by};
+ghost use Rattle.docker_desk.specs.Desk.{EndsReceiving, EndsRenewing, EndsSaving, EndsTaking, IsDockerAnswer, IsFilesAnswer, IsKnownAnswer, IsPlacesAnswer, IsTrainAnswer, look_by, unsaved_by};
 ghost use Rattle.docker_desk.specs.Reading.{LooksAndOpens, OpensOnce, StopsInFile, StopsInState};
 ghost use Rattle.docker_desk.specs.Doing.{desk_by};
 ghost use Rattle.docker_desk.specs.Replies.{answer_meant, done_with, refused_for};
@@ -170,11 +171,11 @@ impl Desk {
         self.unsaved = true;
     }
 
-    /// Looks at a file, then opens it once and joins what the desk knows with the state that it
-    /// holds. If that is done, notes what was seen of the file before it was opened, and returns
-    /// whether the file held the text of the state that the desk has now. There is nothing unsaved
-    /// exactly if it was found to hold it. It is found out only if `compares`, for which the file's
-    /// text is kept until it is compared, as far as there is memory for it.
+    /// Looks at the named file, then opens it once and joins what the desk knows with the state
+    /// that it holds. If that is done, `seen` is what this look saw, and the result is whether the
+    /// file held the text of the state that the desk has now. It is found out only if `compares`.
+    /// For this the file's text is kept until it is compared; if there is no memory for it, nothing
+    /// is found out. Nothing is unsaved exactly if the file was found to hold that text.
     pub fn renew<D: Folder>(
         &mut self,
         name: &str,

@@ -19,8 +19,9 @@ ghost use Rattle.state_lists.specs.Known.{IsKnownText};
 ghost use Rattle.state_lists.specs.Places.{IsPlacesText};
 ghost use Rattle.docker_desk.specs.Answering.{EndsSession, answers_of, lines_of};
 ghost use Rattle.docker_desk.specs.Doing.{AreSteps, DoesRequest};
-ghost use Rattle.docker_desk.specs.Learning.{AllHearKnown, AreLearned, HearsState, HoldsKnown, IsKnown, IsTrainOf, KnowsAt, PlacesKnown, merging, renewing};
+ghost use Rattle.docker_desk.specs.Learning.{AllHearKnown, AreLearned, HearsState, HoldsKnown, IsKnown, IsTrainOf, KnowsAt, PlacesKnown, renewing};
 ghost use Rattle.docker_desk.specs.Moments.{Moment, Setting, Step};
+ghost use Rattle.docker_desk.specs.Reading.{events_of};
 ghost use Rattle.docker_desk.specs.Replies.{done_with};
 ghost use Rattle.docker_desk.specs.Requests.{merge_request, renew_request, save_request};
 ghost use Rattle.docker_desk.specs.Looking.{IsGoodLook};
@@ -62,8 +63,8 @@ pub fn looks_come_before_readings()
 pub fn known_texts_are_heard()
     ensures merged { (setting : Setting) (other text : List ℕ) (before after : Moment)
         (known : Known) → DoesRequest setting (merge_request other) before (done_with text) after
-        → HoldsKnown (merging other) before after known
-        → HearsState (merging other) before after known }
+        → HoldsKnown (events_of other) before after known
+        → HearsState (events_of other) before after known }
     ensures renewed { (setting : Setting) (text : List ℕ) (before after : Moment) (known : Known)
         → DoesRequest setting renew_request before (done_with text) after
         → HoldsKnown (renewing setting.name) before after known

@@ -19,7 +19,7 @@ pub(crate) struct Matching<'a> {
 }
 
 impl<'a> Model for Matching<'a> {
-    ghost use Rattle.std.specs.Prelude.{◌×◌, ◌<◌, ◌≤◌, length, take, IfSome, IsSome};
+    ghost use Rattle.std.specs.Prelude.{◌<◌, ◌≤◌, length, take, IfSome, IsSome};
     ghost use Rattle.docker_desk.specs.Copying.{IsNoFront, MatchView, with_other};
 
     ghost Value = { MatchView };

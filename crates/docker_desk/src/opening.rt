@@ -1,6 +1,6 @@
 //! How a session begins.
 ghost use Rattle.std.specs.Prelude.{◌≡◌, ◌-◌, ◌^◌, ◌<◌, IfOk, length};
-ghost use Rattle.docker_desk.specs.Desk.{IsCounted, result_status};
+ghost use Rattle.docker_cmd.specs.FaultLine.{IsCounted, result_status};
 ghost use Rattle.docker_desk.specs.Reading.{LooksAndOpens};
 ghost use Rattle.docker_desk.specs.Serving.{EndsOpening};
 

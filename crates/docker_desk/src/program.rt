@@ -4,14 +4,14 @@ ghost use Rattle.docker_cmd.specs.Words.{texts};
 ghost use Rattle.docker_host.specs.Host.{AreFew};
 ghost use Rattle.docker_desk.specs.Serving.{Serves};
 
-use crate::ending::{end_session, tell, tell_text};
+use crate::ending::{end_session, tell};
 use crate::opening::open_session;
 use crate::requests::usage;
 use crate::serving::serve_lines;
 use crate::session_words::session_words_in;
 use cif_line::{Sink, Source};
 use docker_cmd::Fault;
-use docker_host::{Folder, Host};
+use docker_host::{Folder, Host, tell_text};
 use std::alloc::Global;
 use std::mem;
 

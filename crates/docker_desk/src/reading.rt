@@ -1,6 +1,7 @@
 //! How a file is opened and read by an office.
 ghost use Rattle.std.specs.Prelude.{◌≡◌, ◌-◌, ◌^◌, ◌<◌, Some};
-ghost use Rattle.docker_desk.specs.Desk.{EndsComparing, EndsReceiving, EndsReloading, EndsTaking, IsCounted, fault_of_opening, result_status};
+ghost use Rattle.docker_cmd.specs.FaultLine.{IsCounted, result_status};
+ghost use Rattle.docker_desk.specs.Desk.{EndsComparing, EndsReceiving, EndsReloading, EndsTaking};
 ghost use Rattle.docker_desk.specs.Reading.{OpensOnce, StopsInFile, StopsInState, reading};
 
 use crate::compared::Compared;
@@ -9,7 +10,7 @@ use crate::matching::compared_with;
 use cif_file::MOST_RECORDS;
 use cif_line::Source;
 use docker_cmd::{MOST_BYTES, Office, OfficeFault};
-use docker_host::{Folder, OpenFault};
+use docker_host::Folder;
 use std::alloc::Global;
 use std::marker::Brand;
 
@@ -27,7 +28,7 @@ pub(crate) fn take_file<D: Folder>(
 {
     let mut file = match folder.open(name) {
         Ok(file) => file,
-        Err(fault) => return Err(fault_of_opening(fault)),
+        Err(cause) => return Err(cause.one_of(OfficeFault::Source, OfficeFault::Memory)),
     };
     let taken = office.take(&mut file, MOST_RECORDS);
     folder.close(file);
@@ -48,16 +49,16 @@ pub(crate) fn receive_state<D: Folder>(
 {
     let mut file = match folder.open(name) {
         Ok(file) => file,
-        Err(fault) => return Err(fault_of_opening(fault)),
+        Err(cause) => return Err(cause.one_of(OfficeFault::Source, OfficeFault::Memory)),
     };
     let received = office.receive(&mut file, MOST_BYTES);
     folder.close(file);
     received
 }
 
-/// Like `receive_state`. Returns also whether the file held the text of the state that the office
-/// has then. It is found out only if that is asked for, and if there is memory to keep the text for
-/// so long.
+/// Like `receive_state`, but returns whether the file held the text of the state that the office has
+/// now. It is found out only if `compares`, and if there is memory to keep the text until it is
+/// compared.
 pub(crate) fn renew_state<D: Folder>(
     alloc: Global,
     office: &mut Office,
@@ -83,12 +84,12 @@ pub(crate) fn renew_state<D: Folder>(
             folder.close(file);
             found
         }
-        Err(fault) => Err(fault_of_opening(fault)),
+        Err(cause) => Err(cause.one_of(OfficeFault::Source, OfficeFault::Memory)),
     }
 }
 
-/// Has an office receive the state that a source holds, and returns the source. Returns also
-/// whether the source held the text of the state that the office has then.
+/// Has an office receive the state that a source holds, and returns the source. Also returns whether
+/// the source held the text of the state that the office has now.
 fn receive_copied<B: Begun, S: Source>(
     alloc: Global,
     office: &mut Office,
@@ -128,19 +129,9 @@ pub(crate) fn reload_state<D: Folder>(
 {
     let mut file = match folder.open(name) {
         Ok(file) => file,
-        Err(fault) => return Err(fault_of_opening(fault)),
+        Err(cause) => return Err(cause.one_of(OfficeFault::Source, OfficeFault::Memory)),
     };
     let read = office.reload(&mut file, MOST_BYTES);
     folder.close(file);
     read
-}
-
-/// The office's fault for a file that wasn't opened.
-fn fault_of_opening(cause: OpenFault) -> OfficeFault
-    ensures { result ≡ fault_of_opening cause }
-{
-    match cause {
-        OpenFault::Failed => OfficeFault::Source,
-        OpenFault::Memory => OfficeFault::Memory,
-    }
 }
