@@ -25,12 +25,12 @@ one_more [] first second same = same
 one_more (event ∷ old) first second same = let rest : old ++ first ≡ old ++ second = cc in one_more old first second rest
 
 -- the bytes of the last opening
-held_once : (name : Text) (old new : List Event) (first second : Reading) → new ≡ old ++ events_of name first → new ≡ old ++ events_of name second
+pub held_once : (name : Text) (old new : List Event) (first second : Reading) → new ≡ old ++ events_of name first → new ≡ old ++ events_of name second
     → first.held ≡ second.held
 held_once name old new first second one two =
     let same = one_more old (events_of name first) (events_of name second) (sym one ∙ two) in cc
 
-held_after_look : (name : Text) (old new : List Event) (first second : Reading) → new ≡ old ++ looked name ∷ events_of name first
+pub held_after_look : (name : Text) (old new : List Event) (first second : Reading) → new ≡ old ++ looked name ∷ events_of name first
     → new ≡ old ++ looked name ∷ events_of name second → first.held ≡ second.held
 held_after_look name old new first second one two =
     let same = one_more old (looked name ∷ events_of name first) (looked name ∷ events_of name second) (sym one ∙ two) in cc

@@ -87,7 +87,7 @@ module _ (setting : Setting) (before after : Moment) where
       known_joined old heard before.desk.state hears.joins.received after.desk.state is hears.of hears.joins.join
 
   -- a saving leaves the state
-  same_saved : (result : Result ⊤ OfficeFault) → after.desk ≡ desk_by result before.desk → after.desk.state ≡ before.desk.state
+  pub same_saved : (result : Result ⊤ OfficeFault) → after.desk ≡ desk_by result before.desk → after.desk.state ≡ before.desk.state
   same_saved (Ok done) same = ap (λ (desk : DeskView). desk.state) same
   same_saved (Err fault) same = ap (λ (desk : DeskView). desk.state) same
 
@@ -132,7 +132,7 @@ module _ (setting : Setting) (before after : Moment) where
   known_done save_request text old heard days does hears is = nothing_heard old heard _ _ hears (same_saved does.result does.desk) is
 
   -- a refused request leaves the state
-  same_refused : (request : RequestView) (fault : OfficeFault) → DoesRequest setting request before (refused_for fault) after
+  pub same_refused : (request : RequestView) (fault : OfficeFault) → DoesRequest setting request before (refused_for fault) after
       → after.desk.state ≡ before.desk.state
   same_refused (print_request place day) fault does = ap (λ (m : Moment). m.desk.state) does.1
   same_refused (train_request uid day) fault does = ap (λ (m : Moment). m.desk.state) does.1
@@ -146,7 +146,7 @@ module _ (setting : Setting) (before after : Moment) where
   same_refused save_request fault does = same_saved does.result does.desk
 
   -- a request is never answered as if it were none
-  never_unasked : (request : RequestView) → ¬ DoesRequest setting request before no_request after
+  pub never_unasked : (request : RequestView) → ¬ DoesRequest setting request before no_request after
   never_unasked (print_request place day) does = does.0
   never_unasked (train_request uid day) does = does.0
   never_unasked files_request does = does.0
@@ -179,7 +179,7 @@ one_day [] day of = absurd of
 one_day (word ∷ []) day of = of.within
 one_day (word ∷ second ∷ more) day of = absurd of
 
-day_asked : (may_write : Bool) (line : LineView) (request : Option RequestView) (day : ℕ) → AsksOf may_write line request → request ≡ Some (horizon_request day)
+pub day_asked : (may_write : Bool) (line : LineView) (request : Option RequestView) (day : ℕ) → AsksOf may_write line request → request ≡ Some (horizon_request day)
     → IsDay day
 day_asked may_write (whole_line line) request day asks same =
     let asked = subst (λ r. AsksOf may_write (whole_line line) r) same asks in one_day (words_in (behind_word line)) day asked.1.rest

@@ -2,6 +2,7 @@ pub mod LineLemmas
 pub mod WordLemmas
 pub mod RequestLemmas
 pub mod WritingLemmas
+pub mod MatchLemmas
 pub mod ReadFiles
 pub mod HistoryLemmas
 mod SessionWordsLemmas
@@ -13,4 +14,5 @@ mod StepLemmas
 mod ServeLemmas
 mod LookLemmas
 mod HeardLemmas
+mod GainLemmas
 mod WitnessLemmas

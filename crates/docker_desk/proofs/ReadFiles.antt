@@ -9,14 +9,14 @@ use Rattle.docker_cmd.specs.Office.{TakesFile}
 use Rattle.docker_cmd.specs.OfficeFault.{OfficeFault}
 use Rattle.docker_cmd.specs.OfficeFault.TheVariants as office
 use Rattle.docker_cmd.specs.OfficeReads.{CountsTaking, IsTakingOutcome, why_unread}
-use Rattle.docker_cmd.specs.Prepared.{most_bytes}
+use Rattle.docker_cmd.specs.Prepared.{ReadsFewOfState, most_bytes}
 use Rattle.docker_cmd.specs.ReadEnds.{CountsOutcome, CountsWhy, IsOutcome, IsWhyUnread}
 use Rattle.docker_cmd.specs.SourceRead.{JoinsState, ReadsState, WantsMemory}
 use Rattle.docker_host.specs.History.{Bytes, IsText, Text}
 use Rattle.docker_cmd.specs.FaultLine.{IsCounted, result_status}
 use Rattle.docker_desk.specs.Copying.{ComparesCopy}
 use Rattle.docker_desk.specs.Desk.{EndsComparing, EndsReceiving, EndsReloading, EndsTaking, IsFound, RefusesToReceive}
-use Rattle.docker_desk.specs.Reading.{reading}
+use Rattle.docker_desk.specs.Reading.{StopsInState, reading}
 use Rattle.docker_desk.specs.declared.compared.Compared.{Compared}
 use Rattle.docker_desk.specs.declared.compared.Compared.TheVariants as compared
 
@@ -117,6 +117,23 @@ found_held (Some text) (Some it) compared.Same state left held is = let same : i
 found_held (Some text) None compared.Same state left held is = let never : ⊥ = cc in absurd never
 found_held (Some text) (Some it) compared.Other state left held is = λ same. is (sym held ∙ same)
 found_held (Some text) None compared.Other state left held is = absurd is
+
+-- a source that was copied was read no further than decides
+pub stops_as : (held left seen seen_left : Bytes) → ReadsFewOfState dks_2 seen seen_left → seen ≡ held → left ≡ seen_left
+    → StopsInState (reading held left)
+stops_as held left seen seen_left stops same same_left =
+    subst (λ (bytes : Bytes). ReadsFewOfState dks_2 bytes left) same (subst (ReadsFewOfState dks_2 seen) (sym same_left) stops)
+
+-- and is refused as it is
+pub refuses_as : (held left seen seen_left : Bytes) (old new : State) (fault : OfficeFault)
+    → IsWhyUnread WantsMemory dks_2 most_bytes seen seen_left (why_unread fault) → new ≡ old → seen ≡ held → left ≡ seen_left
+    → EndsComparing old new (Err fault) (Some (reading held left))
+refuses_as held left seen seen_left old new fault why kept same same_left = (
+  refuses_to_receive held left fault
+      (subst (λ (bytes : Bytes). IsWhyUnread WantsMemory dks_2 most_bytes bytes left (why_unread fault)) same
+      (subst (λ (bytes : Bytes). IsWhyUnread WantsMemory dks_2 most_bytes seen bytes (why_unread fault)) (sym same_left) why)),
+  kept,
+)
 
 -- the copy, as its bytes
 copied : {Z : Type 0} (bytes : Bytes) (copy : Option (Vec ℕ Z)) → IfSome copy (λ it. IsText bytes it.items)

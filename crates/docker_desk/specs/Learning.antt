@@ -11,6 +11,7 @@ use Rattle.docker_model.specs.run.Knowledge.{IsGoodKnown}
 use Rattle.docker_train.specs.TrainText.{Stamped, train_text}
 use Rattle.docker_train.specs.Origin.{CameFrom}
 use Rattle.docker_cmd.specs.Office.{HoldsState, TakesFile}
+use Rattle.docker_cmd.specs.Saved.{Gain, HoldsFile, HoldsVersion, IsSaved, file_gained, horizon_gained, version_gained}
 use Rattle.docker_cmd.specs.SourceRead.{JoinsState}
 use Rattle.docker_cmd.specs.Prepared.{most_bytes}
 use Rattle.docker_host.specs.History.{Event, Text, drafted, looked, named_if, placed}
@@ -121,6 +122,67 @@ pub record PlacesKnown (setting : Setting) (before after : Moment) (known : Know
   pub text : List ℕ
   pub good : IsGoodKnown dks_2 known
   pub is : IsMessageOf dks_2 known text
+  pub asked : after.history ≡ before.history ++ drafted setting.name before.look
+      ∷ placed setting.name (named_if setting.names_bytes text) ∷ looked setting.name ∷ []
+
+-- a file was opened and held the text of this file, which is all that was gained
+pub record GainsFile (name : Text) (before after : Moment) (gains : List Gain) : Type 0 where
+  pub read : Reading
+  pub asked : after.history ≡ before.history ++ events_of name read
+  pub file : List (List ℕ)
+  pub holds : HoldsFile read.held file
+  pub gains_are : gains ≡ file_gained file ∷ []
+
+-- these events opened a file that held this earlier version of a state's file, which is all that was
+-- gained
+pub record GainsVersion (events : Reading → List Event) (earlier : List Text) (before after : Moment)
+    (gains : List Gain) : Type 0 where
+  pub read : Reading
+  pub asked : after.history ≡ before.history ++ events read
+  pub number : ℕ
+  pub holds : HoldsVersion earlier read.held number
+  pub gains_are : gains ≡ version_gained number ∷ []
+
+-- what a request that was done gained: a file, an earlier version of a state's file, or a horizon
+abbrev pub GainsDone : Setting → List Text → RequestView → Moment → Moment → List Gain → Type 0
+GainsDone setting earlier (print_request place day) before after gains = gains ≡ []
+GainsDone setting earlier (train_request uid day) before after gains = gains ≡ []
+GainsDone setting earlier files_request before after gains = gains ≡ []
+GainsDone setting earlier places_request before after gains = gains ≡ []
+GainsDone setting earlier known_request before after gains = gains ≡ []
+GainsDone setting earlier renew_request before after gains =
+    GainsVersion (renewing setting.name) earlier before after gains
+GainsDone setting earlier (take_request file) before after gains =
+    GainsFile file before after gains
+GainsDone setting earlier (merge_request other) before after gains =
+    GainsVersion (events_of other) earlier before after gains
+GainsDone setting earlier (horizon_request day) before after gains =
+    gains ≡ horizon_gained day ∷ []
+GainsDone setting earlier save_request before after gains = gains ≡ []
+
+-- what a line gained: something only if it asked for a request that was done
+abbrev pub GainsAsked : Setting → List Text → Option RequestView → Moment → AnswerView → Moment
+    → List Gain → Type 0
+GainsAsked setting earlier (Some request) before (done_with text) after gains =
+    GainsDone setting earlier request before after gains
+GainsAsked setting earlier (Some request) before (refused_for fault) after gains = gains ≡ []
+GainsAsked setting earlier (Some request) before no_request after gains = gains ≡ []
+GainsAsked setting earlier None before answer after gains = gains ≡ []
+
+-- what steps gained, in their order, if each file that was taken, merged or renewed was named, and
+-- each that was merged or renewed held an earlier version of a state's file
+abbrev pub GainedBy : Setting → List Text → List Step → List Gain → Type 0
+GainedBy setting earlier [] gains = gains ≡ []
+GainedBy setting earlier (step ∷ steps) gains = (now : List Gain) × ((more : List Gain)
+    × (GainsAsked setting earlier step.request step.before step.answer step.after now
+    × (GainedBy setting earlier steps more × (gains ≡ now ++ more))))
+
+-- A draft took the place of the state's file. Its text was saved of a state that was read from an
+-- earlier version of such a file, and then gained this
+pub record IsPlaced (setting : Setting) (earlier : List Text) (own : ℕ) (gains : List Gain)
+    (before after : Moment) : Type 0 where
+  pub text : Text
+  pub saved : IsSaved earlier own gains text
   pub asked : after.history ≡ before.history ++ drafted setting.name before.look
       ∷ placed setting.name (named_if setting.names_bytes text) ∷ looked setting.name ∷ []
 

@@ -12,6 +12,7 @@ ghost use Rattle.docker_model.specs.run.Knowledge.{AreOneKnowledge, HaveSameFile
 ghost use Rattle.docker_cmd.specs.Office.{HoldsState};
 ghost use Rattle.docker_cmd.specs.RunEnds.{EndsWith, PrintsAs};
 ghost use Rattle.docker_cmd.specs.Prepared.{DeviceBytes, most_bytes};
+ghost use Rattle.docker_cmd.specs.Saved.{Gain, HoldsVersion};
 ghost use Rattle.docker_host.specs.History.{Event};
 ghost use Rattle.docker_desk.specs.Lines.{AreLines, LineView};
 ghost use Rattle.docker_train.specs.TrainText.{IsTrainText};
@@ -19,7 +20,7 @@ ghost use Rattle.state_lists.specs.Known.{IsKnownText};
 ghost use Rattle.state_lists.specs.Places.{IsPlacesText};
 ghost use Rattle.docker_desk.specs.Answering.{EndsSession, answers_of, lines_of};
 ghost use Rattle.docker_desk.specs.Doing.{AreSteps, DoesRequest};
-ghost use Rattle.docker_desk.specs.Learning.{AllHearKnown, AreLearned, HearsState, HoldsKnown, IsKnown, IsTrainOf, KnowsAt, PlacesKnown, renewing};
+ghost use Rattle.docker_desk.specs.Learning.{AllHearKnown, AreLearned, GainedBy, HearsState, HoldsKnown, IsKnown, IsPlaced, IsTrainOf, KnowsAt, PlacesKnown, renewing};
 ghost use Rattle.docker_desk.specs.Moments.{Moment, Setting, Step};
 ghost use Rattle.docker_desk.specs.Reading.{events_of};
 ghost use Rattle.docker_desk.specs.Replies.{done_with};
@@ -81,6 +82,19 @@ pub fn saves_tell_what_is_known()
         → IsKnown known before.desk.state
         → DoesRequest setting save_request before (done_with text) after
         → PlacesKnown setting before after known }
+{}
+
+/// What a desk saves is a version of its state's file: the text of a state that was read from an
+/// earlier version, and then gained what the steps up to there gained. `earlier` are the texts of
+/// all earlier versions of any state's file, and `own` is the number of the one that was read first.
+pub fn saves_are_versions()
+    ensures { (setting : Setting) (first before after : Moment) (steps : List Step)
+        (old : List Event) (earlier : List (List ℕ)) (own : ℕ) (gains : List Gain)
+        (answer : List ℕ) → (begins : BeginsAt setting.name old first)
+        → HoldsVersion earlier begins.held own → AreSteps setting first steps before
+        → GainedBy setting earlier steps gains
+        → DoesRequest setting save_request before (done_with answer) after
+        → IsPlaced setting earlier own gains before after }
 {}
 
 /// The first steps of a session lead to a moment, and the others lead on from there. So what a law

@@ -4,22 +4,24 @@ ghost use Rattle.docker_model.specs.state.StateText.{dks_2, state_text};
 ghost use Rattle.docker_desk.specs.Copying.{ComparesCopy, IsNoFront};
 
 use crate::compared::Compared;
+use crate::copying::Begun;
 use cif_line::{Failed, Sink};
 use docker_cmd::Office;
-use std::marker::Model;
+use std::marker::{Brand, Model, PhantomData};
 
-/// A sink that takes the bytes of a text, one piece after the other. It takes the first byte that
-/// isn't the text's too, and then fails. It takes no memory.
-#[derive(Debug, Drop)]
-pub(crate) struct Matching<'a> {
+/// A sink that takes the bytes of the text that its brand names, one piece after the other. It takes
+/// the first byte that isn't the text's too, and then fails. It takes no memory.
+#[derive(Drop)]
+pub(crate) struct Matching<'a, B: Begun> {
     text: &'a [u8],
     at: usize,
     other: Option<u8>,
     failures: u64,
+    of: PhantomData<B>,
 }
 
-impl<'a> Model for Matching<'a> {
-    ghost use Rattle.std.specs.Prelude.{◌<◌, ◌≤◌, length, take, IfSome, IsSome};
+impl<'a, B: Begun> Model for Matching<'a, B> {
+    ghost use Rattle.std.specs.Prelude.{◌≡◌, ◌<◌, ◌≤◌, length, take, IfSome, IsSome, Some};
     ghost use Rattle.docker_desk.specs.Copying.{IsNoFront, MatchView, with_other};
 
     ghost Value = { MatchView };
@@ -30,16 +32,18 @@ impl<'a> Model for Matching<'a> {
       failures = matching.failures;
     } };
 
-    ghost invariant = { λ matching. (matching.at ≤ length matching.text.now)
+    ghost invariant = { λ matching. (B.bytes ≡ Some matching.text.now)
+        × (matching.at ≤ length matching.text.now)
         × (IfSome matching.other (λ _.
         IsNoFront (with_other (take matching.at matching.text.now) matching.other)
-        matching.text.now)
-        × (0 < matching.failures → IsSome matching.other)) };
+        matching.text.now))
+        × (0 < matching.failures → IsSome matching.other) };
 }
 
-impl<'a> Matching<'a> {
+impl<'a, B: Begun> Matching<'a, B> {
     /// A sink that takes this text.
-    pub(crate) fn new(text: &'a [u8]) -> Matching<'a>
+    pub(crate) fn new(text: &'a [u8]) -> Matching<'a, B>
+        requires { B.bytes ≡ Some text.now }
         ensures text { result.text ≡ text.now }
         ensures taken { result.taken ≡ [] }
         ensures no_failure { result.failures ≡ 0 }
@@ -49,12 +53,14 @@ impl<'a> Matching<'a> {
             at: 0,
             other: None,
             failures: 0,
+            of: PhantomData,
         }
     }
 
     /// Whether it took the whole text, and nothing else. It has failed only if what it took isn't
     /// how the text begins.
     pub(crate) fn is_whole(&self) -> bool
+        ensures text { B.bytes ≡ Some self.now.text }
         ensures whole { IsTrue result ↔ (self.now.taken ≡ self.now.text) }
         ensures parted { 0 < self.now.failures → IsNoFront self.now.taken self.now.text }
     {
@@ -62,7 +68,7 @@ impl<'a> Matching<'a> {
     }
 }
 
-impl Sink for Matching<'_> {
+impl<B: Begun> Sink for Matching<'_, B> {
     ghost taken = { λ matching. Some matching.taken };
 
     ghost failures = { λ matching. matching.failures };
@@ -112,10 +118,11 @@ fn begins_with(text: &[u8], front: &[u8]) -> bool
 }
 
 /// Whether a text is the one of an office's state.
-fn is_text_of(text: &[u8], office: &Office) -> bool
+fn is_text_of<B: Begun>(text: &[u8], office: &Office) -> bool
+    requires { B.bytes ≡ Some text.now }
     ensures { IsTrue result ↔ (text.now ≡ state_text dks_2 office.now) }
 {
-    let mut sink = Matching::new(text);
+    let mut sink: Matching<'_, B> = Matching::new(text);
     let sent = office.send(&mut sink);
     sent.is_ok() & sink.is_whole()
 }
@@ -127,7 +134,7 @@ pub(crate) fn compared_with(copy: &Option<Vec<u8>>, office: &Office) -> Compared
 {
     match copy {
         Some(copy) => {
-            if is_text_of(copy.as_slice(), office) {
+            if is_text_of::<Brand>(copy.as_slice(), office) {
                 Compared::Same
             } else {
                 Compared::Other
