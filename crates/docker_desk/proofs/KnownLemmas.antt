@@ -22,10 +22,12 @@ use Rattle.docker_desk.specs.Lines.{LineView, whole_line, bad_line, cut_line}
 use Rattle.docker_cmd.specs.JobLine.{words_in}
 use Rattle.docker_desk.specs.Requests.{RequestView, behind_word, print_request, permanent_request, train_request, files_request, places_request, known_request, renew_request, take_request, merge_request, horizon_request, save_request}
 use Rattle.docker_desk.specs.Desk.{DeskView, EndsReceiving, EndsRenewing, EndsTaking}
+use Rattle.docker_desk.specs.Reading.{Reading, events_of}
+use Rattle.docker_desk.specs.declared.compared.Compared.{Compared}
 use Rattle.docker_desk.specs.Replies.{AnswerView, done_with, no_request, refused_for}
 use Rattle.docker_desk.specs.Moments.{Moment, Setting, Step}
 use Rattle.docker_desk.specs.Doing.{AreSteps, AsksOf, DoesAsked, DoesRequest, IsStep, answer_of, desk_by}
-use Rattle.docker_desk.specs.Learning.{AreLearned, Hears, HearsFile, HearsState, IsKnown, KnowsAt, Learns, merging, renewing}
+use Rattle.docker_desk.specs.Learning.{AreLearned, Hears, HearsFile, HearsState, IsKnown, KnowsAt, Learns, renewing}
 
 -- ---- what is known
 
@@ -79,34 +81,34 @@ module _ (setting : Setting) (before after : Moment) where
       (known_file takes.file takes.own takes.is_text.is takes.is_text.within takes.of_file) takes.joined)
 
   -- after a state was received
-  state_known : (events : Bytes → List Event) (old heard : Known) → HearsState events before after heard → IsKnown old before.desk.state
+  state_known : (events : Reading → List Event) (old heard : Known) → HearsState events before after heard → IsKnown old before.desk.state
       → IsKnown (united old heard) after.desk.state
   state_known events old heard hears is =
       known_joined old heard before.desk.state hears.joins.received after.desk.state is hears.of hears.joins.join
 
   -- a saving leaves the state
-  same_saved : (result : Result ⊤ OfficeFault) → after.desk ≡ desk_by result before.desk → after.desk.state ≡ before.desk.state
+  pub same_saved : (result : Result ⊤ OfficeFault) → after.desk ≡ desk_by result before.desk → after.desk.state ≡ before.desk.state
   same_saved (Ok done) same = ap (λ (desk : DeskView). desk.state) same
   same_saved (Err fault) same = ap (λ (desk : DeskView). desk.state) same
 
   -- a request that was refused leaves the state
-  refused_take : (fault : OfficeFault) (result : Result ⊤ OfficeFault) (held : Option Bytes) → refused_for fault ≡ answer_of result
+  refused_take : (fault : OfficeFault) (result : Result ⊤ OfficeFault) (held : Option Reading) → refused_for fault ≡ answer_of result
       → EndsTaking before.desk.state after.desk.state result held → after.desk.state ≡ before.desk.state
   refused_take fault (Ok done) held told ends = let never : ⊥ = cc in absurd never
   refused_take fault (Err why) held told ends = ends.1
 
-  refused_merge : (fault : OfficeFault) (result : Result ⊤ OfficeFault) (held : Option Bytes) → refused_for fault ≡ answer_of result
+  refused_merge : (fault : OfficeFault) (result : Result ⊤ OfficeFault) (held : Option Reading) → refused_for fault ≡ answer_of result
       → EndsReceiving before.desk.state after.desk.state result held → after.desk.state ≡ before.desk.state
   refused_merge fault (Ok done) held told ends = let never : ⊥ = cc in absurd never
   refused_merge fault (Err why) held told ends = ends.1
 
-  refused_renew : (fault : OfficeFault) (result : Result ⊤ OfficeFault) (held : Option Bytes) → refused_for fault ≡ answer_of result
+  refused_renew : (fault : OfficeFault) (result : Result Compared OfficeFault) (held : Option Reading) → refused_for fault ≡ answer_of result
       → EndsRenewing before.desk after.desk result held → after.desk.state ≡ before.desk.state
   refused_renew fault (Ok done) held told ends = let never : ⊥ = cc in absurd never
   refused_renew fault (Err why) held told ends = ap (λ (desk : DeskView). desk.state) ends.1
 
   -- each request has an answer
-  some_answer : (result : Result ⊤ OfficeFault) → ¬ (no_request ≡ answer_of result)
+  some_answer : {A : Type 0} (result : Result A OfficeFault) → ¬ (no_request ≡ answer_of result)
   some_answer (Ok done) told = let never : ⊥ = cc in never
   some_answer (Err fault) told = let never : ⊥ = cc in never
 
@@ -125,14 +127,14 @@ module _ (setting : Setting) (before after : Moment) where
   known_done known_request text old heard days does hears is = nothing_heard old heard _ _ hears (ap (λ (m : Moment). m.desk.state) does.1) is
   known_done renew_request text old heard days does hears is = state_known (renewing setting.name) old heard hears is
   known_done (take_request file) text old heard days does hears is = file_known file old heard hears is
-  known_done (merge_request other) text old heard days does hears is = state_known (merging other) old heard hears is
+  known_done (merge_request other) text old heard days does hears is = state_known (events_of other) old heard hears is
   known_done (horizon_request day) text old heard days does hears is =
       subst (λ (m : Moment). IsKnown (united old heard) m.desk.state) (sym does.1)
       (known_raised old heard day before.desk.state (days day refl) hears is)
   known_done save_request text old heard days does hears is = nothing_heard old heard _ _ hears (same_saved does.result does.desk) is
 
   -- a refused request leaves the state
-  same_refused : (request : RequestView) (fault : OfficeFault) → DoesRequest setting request before (refused_for fault) after
+  pub same_refused : (request : RequestView) (fault : OfficeFault) → DoesRequest setting request before (refused_for fault) after
       → after.desk.state ≡ before.desk.state
   same_refused (print_request place day) fault does = ap (λ (m : Moment). m.desk.state) does.1
   same_refused (permanent_request place day) fault does = ap (λ (m : Moment). m.desk.state) does.1
@@ -140,14 +142,14 @@ module _ (setting : Setting) (before after : Moment) where
   same_refused files_request fault does = ap (λ (m : Moment). m.desk.state) does.1
   same_refused places_request fault does = ap (λ (m : Moment). m.desk.state) does.1
   same_refused known_request fault does = ap (λ (m : Moment). m.desk.state) does.1
-  same_refused renew_request fault does = refused_renew fault does.result does.opens.held does.told does.opens.ends
-  same_refused (take_request file) fault does = refused_take fault does.result does.opens.held does.told does.opens.ends
-  same_refused (merge_request other) fault does = refused_merge fault does.result does.opens.held does.told does.opens.ends
+  same_refused renew_request fault does = refused_renew fault does.result does.opens.read does.told does.opens.ends
+  same_refused (take_request file) fault does = refused_take fault does.result does.opens.read does.told does.opens.ends
+  same_refused (merge_request other) fault does = refused_merge fault does.result does.opens.read does.told does.opens.ends
   same_refused (horizon_request day) fault does = let told = does.0 in let never : ⊥ = cc in absurd never
   same_refused save_request fault does = same_saved does.result does.desk
 
-  -- a request never gets the answer to a line that asks for nothing
-  never_unasked : (request : RequestView) → ¬ DoesRequest setting request before no_request after
+  -- a request is never answered as if it were none
+  pub never_unasked : (request : RequestView) → ¬ DoesRequest setting request before no_request after
   never_unasked (print_request place day) does = does.0
   never_unasked (permanent_request place day) does = does.0
   never_unasked (train_request uid day) does = does.0
@@ -181,7 +183,7 @@ one_day [] day of = absurd of
 one_day (word ∷ []) day of = of.within
 one_day (word ∷ second ∷ more) day of = absurd of
 
-day_asked : (may_write : Bool) (line : LineView) (request : Option RequestView) (day : ℕ) → AsksOf may_write line request → request ≡ Some (horizon_request day)
+pub day_asked : (may_write : Bool) (line : LineView) (request : Option RequestView) (day : ℕ) → AsksOf may_write line request → request ≡ Some (horizon_request day)
     → IsDay day
 day_asked may_write (whole_line line) request day asks same =
     let asked = subst (λ r. AsksOf may_write (whole_line line) r) same asks in one_day (words_in (behind_word line)) day asked.1.rest

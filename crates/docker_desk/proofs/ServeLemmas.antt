@@ -1,14 +1,17 @@
 -- How a session comes to its end.
 use Rattle.std.proofs.Common.{◌≡◌, ◌+◌, ℕ, Bool, List, ◌++◌, [], ◌∷◌, length, arith, inl, inr, Some, None, Ok, ap, subst, ◌∙◌, false}
-use Rattle.std.specs.Prelude.{Option, ◌&&◌}
+use Rattle.std.specs.Prelude.{Option, IfSome, ◌&&◌}
 use Rattle.cif_line.specs.Device.{Takes, TakesPart}
-use Rattle.docker_host.specs.History.{Bytes, Event, Text, looked}
+use Rattle.docker_host.specs.History.{Event, Text, looked}
 use Rattle.docker_host.specs.Host.{HostView}
 use Rattle.docker_desk.specs.Answering.{AnswersLines, CountsStreams}
-use Rattle.docker_desk.specs.Desk.{DeskView, IsCounted, LooksAndOpens, opening_of}
+use Rattle.docker_cmd.specs.FaultLine.{IsCounted}
+use Rattle.docker_host.specs.FaultSink.{TellsText, Told, told_by}
+use Rattle.docker_desk.specs.Desk.{DeskView}
+use Rattle.docker_desk.specs.Reading.{LooksAndOpens, Reading, StopsInState, opening_of}
 use Rattle.docker_desk.specs.declared.ending.Ending.{Ending}
 use Rattle.docker_desk.specs.Moments.{Moment, moment, setting}
-use Rattle.docker_desk.specs.Serving.{BeginsAt, EndsOpening, EndsWithStatus, NamesSession, Serves, Told, TellsText, told_by}
+use Rattle.docker_desk.specs.Serving.{BeginsAt, EndsOpening, EndsWithStatus, NamesSession, Serves}
 use Rattle.docker_desk.proofs.WritingLemmas.{both_taken, part_of_back, part_of_front}
 
 -- if two texts are written one after the other, both are written
@@ -33,12 +36,13 @@ tells_first first second piece old new one failed part =
 pub begins : {T : Type 0} (desk_in : T → DeskView) (name : Text) (old new : List Event) (made : T) (look failures : ℕ)
     → LooksAndOpens name (EndsOpening desk_in (Ok made)) old new → look ≡ length old
     → BeginsAt name old (moment (desk_in made) look new failures)
-begins desk_in name old new made look failures opens same = by opens.held opens.asked opens.ends
+begins desk_in name old new made look failures opens same = by opens.read opens.asked opens.stops opens.ends
   where
-    by : (held : Option Bytes) → new ≡ old ++ looked name ∷ opening_of name held ∷ [] → EndsOpening desk_in (Ok made) held
+    by : (read : Option Reading) → new ≡ old ++ looked name ∷ opening_of name read → IfSome read StopsInState → EndsOpening desk_in (Ok made) read
         → BeginsAt name old (moment (desk_in made) look new failures)
-    by (Some held) asked ends = record { held = held; asked = asked; state = ends.0; saved = ends.1; look = same }
-    by None asked ends = absurd ends.0
+    by (Some read) asked stops ends =
+        record { held = read.held; left = read.left; asked = asked; stops = stops; state = ends.0; saved = ends.1; look = same }
+    by None asked stops ends = absurd ends.0
 
 -- if a state was read, the folder hasn't failed
 pub still : (before after : ℕ) → IsCounted 0 before after → after ≡ before

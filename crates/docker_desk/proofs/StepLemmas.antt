@@ -11,7 +11,7 @@ use Rattle.docker_desk.specs.Lines.{AreLines, EndsLine, IsNextLine, LineView, Re
 use Rattle.docker_desk.specs.declared.lines.Asked.{Asked}
 use Rattle.docker_desk.specs.declared.lines.InputFault.{InputFault}
 use Rattle.docker_desk.specs.declared.lines.InputFault.TheVariants.{Endless}
-use Rattle.docker_desk.specs.Desk.{IsCounted}
+use Rattle.docker_cmd.specs.FaultLine.{IsCounted}
 use Rattle.docker_desk.specs.Replies.{AnswerView, bytes_told, no_request}
 use Rattle.docker_desk.specs.declared.ending.Ending.{Ending}
 use Rattle.docker_desk.specs.declared.ending.Ending.TheVariants.{Ended, InputFailed, InputEndless, OutputFailed}

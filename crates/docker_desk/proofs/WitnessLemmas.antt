@@ -13,7 +13,7 @@ use Rattle.docker_cmd.specs.OfficeFault.TheVariants as office
 use Rattle.docker_cmd.specs.FaultLine.{status_of}
 use Rattle.docker_cmd.specs.Prepared.{most_bytes}
 use Rattle.docker_cmd.specs.declared.fault.Fault.TheVariants.{Office}
-use Rattle.docker_host.specs.History.{Bytes, Event, Text, looked, opened, placed}
+use Rattle.docker_host.specs.History.{Bytes, Event, Text, closed, looked, opened, placed}
 use Rattle.docker_host.specs.Host.{HostView}
 use Rattle.docker_host.specs.Shelf.{IsShelfHistory}
 use Rattle.docker_desk.specs.Lines.{AreLines, LineView, whole_line}
@@ -111,10 +111,10 @@ answered output state no_request same is takes = absurd is
 -- ---- the state
 
 -- a shelf on which this text was placed and then opened
-held_there : (text name : Text) (held : Bytes) → name ≡ codes "S"
-    → IsShelfHistory (placed (codes "S") (Some text) ∷ looked name ∷ opened name held ∷ []) → held ≡ Some text
-held_there text name held same met =
-    (subst (λ (n : Text). IsShelfHistory (placed (codes "S") (Some text) ∷ looked n ∷ opened n held ∷ [])) same met).1.1.0.0
+held_there : (text name : Text) (held left : Bytes) → name ≡ codes "S"
+    → IsShelfHistory (placed (codes "S") (Some text) ∷ looked name ∷ opened name held ∷ closed left ∷ []) → held ≡ Some text
+held_there text name held left same met =
+    (subst (λ (n : Text). IsShelfHistory (placed (codes "S") (Some text) ∷ looked n ∷ opened n held ∷ closed left ∷ [])) same met).1.1.0.0
 
 -- a file with the text of the state of no files holds this state
 holds_none : (text : List ℕ) → text ≡ state_text dks_2 no_state → length text ≤ 100 → IsValid no_state → HoldsState dks_2 most_bytes (Some text) no_state
@@ -146,12 +146,12 @@ module _ (text : List ℕ) (holds : HoldsState dks_2 most_bytes (Some text) no_s
       same : last ≡ first
       same = are.1.1 ∙ does.1 ∙ are.0
 
-      history : last.history ≡ placed (codes "S") (Some text) ∷ looked its.name ∷ opened its.name begins.held ∷ []
+      history : last.history ≡ placed (codes "S") (Some text) ∷ looked its.name ∷ opened its.name begins.held ∷ closed begins.left ∷ []
       history = ap (λ (m : Moment). m.history) same ∙ begins.asked
-          ∙ ap (λ (events : List Event). events ++ looked its.name ∷ opened its.name begins.held ∷ []) before
+          ∙ ap (λ (events : List Event). events ++ looked its.name ∷ opened its.name begins.held ∷ closed begins.left ∷ []) before
 
       held : begins.held ≡ Some text
-      held = held_there text its.name begins.held named (subst IsShelfHistory history met)
+      held = held_there text its.name begins.held begins.left named (subst IsShelfHistory history met)
 
       read : first.desk.state ≡ no_state
       read = one_read most_bytes begins.held first.desk.state no_state begins.state

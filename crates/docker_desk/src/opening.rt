@@ -1,6 +1,7 @@
 //! How a session begins.
 ghost use Rattle.std.specs.Prelude.{◌≡◌, ◌-◌, ◌^◌, ◌<◌, IfOk, length};
-ghost use Rattle.docker_desk.specs.Desk.{IsCounted, LooksAndOpens, result_status};
+ghost use Rattle.docker_cmd.specs.FaultLine.{IsCounted, result_status};
+ghost use Rattle.docker_desk.specs.Reading.{LooksAndOpens};
 ghost use Rattle.docker_desk.specs.Serving.{EndsOpening};
 
 use crate::desk::Desk;

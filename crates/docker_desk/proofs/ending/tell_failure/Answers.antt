@@ -1,6 +1,7 @@
 use Rattle.std.proofs.Common.{rules}
 use Rattle.docker_cmd.specs.FaultLine.{fault_line}
-use Rattle.docker_desk.specs.Serving.{told, unsaved_text}
+use Rattle.docker_host.specs.FaultSink.{told}
+use Rattle.docker_desk.specs.Serving.{unsaved_text}
 use Rattle.docker_desk.proofs.ServeLemmas.{tells_both, tells_first}
 use Rattle.docker_desk.proofs.ending.tell_failure.Goals as goal
 

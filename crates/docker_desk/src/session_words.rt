@@ -8,7 +8,7 @@ use crate::requests::file_named;
 
 /// What the words of a session say.
 #[derive(Clone, Copy, Debug)]
-pub struct Terms<'a> {
+pub struct SessionWords<'a> {
     /// The name of the state's file.
     pub name: &'a str,
     /// Whether the desk may take, merge, set a horizon and save.
@@ -17,31 +17,31 @@ pub struct Terms<'a> {
 
 /// What the words of a session say: the name of its state's file, after `--write` if the desk may
 /// write. None if they are other words.
-pub fn terms_in<'a>(words: &[&'a str]) -> Option<Terms<'a>>
-    ensures named { IfSome result (λ terms.
-        NamesSession (texts words.now) terms.name.now terms.may_write) }
+pub fn session_words_in<'a>(words: &[&'a str]) -> Option<SessionWords<'a>>
+    ensures named { IfSome result (λ it.
+        NamesSession (texts words.now) it.name.now it.may_write) }
     ensures none { IsNone result → NameNoSession (texts words.now) }
 {
     match words {
-        [name] => terms_of(name, false),
+        [name] => session_words_of(name, false),
         [option, name] => {
             if !is_write(option) {
                 return None;
             }
-            terms_of(name, true)
+            session_words_of(name, true)
         }
         _ => None,
     }
 }
 
-/// The terms with this name, if a state's file may have it.
-fn terms_of(name: &str, may_write: bool) -> Option<Terms<'_>>
-    ensures named { IfSome result (λ terms. (terms.name.now ≡ name.now)
-        × (terms.may_write ≡ may_write) × NamesFile name.now name.now) }
+/// The words of a session with this name, if a state's file may have it.
+fn session_words_of(name: &str, may_write: bool) -> Option<SessionWords<'_>>
+    ensures named { IfSome result (λ it. (it.name.now ≡ name.now)
+        × (it.may_write ≡ may_write) × NamesFile name.now name.now) }
     ensures none { IsNone result → ¬ NamesFile name.now name.now }
 {
     let name = file_named(name)?;
-    Some(Terms { name, may_write })
+    Some(SessionWords { name, may_write })
 }
 
 /// Whether it is the word `--write`.
