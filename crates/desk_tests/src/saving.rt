@@ -80,6 +80,7 @@ fn renews(
 
 /// What is found out of a file that holds the desk's state, and of one that holds another.
 const SAME: Result<Compared, OfficeFault> = Ok(Compared::Same);
+
 const OTHER: Result<Compared, OfficeFault> = Ok(Compared::Other);
 
 #[test]

@@ -48,8 +48,7 @@ module _ (earlier : List (List ℕ)) where
             → after.history ≡ before.history ++ opening_of file read
             → EndsTaking before.desk.state after.desk.state result read → AreGained earlier gains before.desk.state after.desk.state
         by (Ok done) (Some read) told asked ends =
-            gained_one (file_gained gained.file) gains before.desk.state after.desk.state gained.gains_are
-            (
+            gained_one (file_gained gained.file) gains before.desk.state after.desk.state gained.gains_are (
               gained.read.held,
               gained.holds,
               subst (λ (bytes : Bytes). TakesFile most_records bytes before.desk.state after.desk.state)
@@ -63,8 +62,7 @@ module _ (earlier : List (List ℕ)) where
         → held ≡ gained.read.held → JoinsState dks_2 most_bytes held before.desk.state after.desk.state
         → AreGained earlier gains before.desk.state after.desk.state
     gained_state events gains held gained same joins =
-        gained_one (version_gained gained.number) gains before.desk.state after.desk.state gained.gains_are
-        (
+        gained_one (version_gained gained.number) gains before.desk.state after.desk.state gained.gains_are (
           gained.read.held,
           gained.holds,
           subst (λ (bytes : Bytes). JoinsState dks_2 most_bytes bytes before.desk.state after.desk.state) same joins,

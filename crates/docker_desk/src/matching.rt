@@ -1,5 +1,5 @@
 //! Whether a text is the one of a state, as the state is written.
-ghost use Rattle.std.specs.Prelude.{◌≡◌, ◌↔◌, ℕ, ◌+◌, ◌-◌, ◌<◌, ◌≤◌, List, [], length, take, Some, IsTrue, option_map};
+ghost use Rattle.std.specs.Prelude.{◌≡◌, ◌↔◌, ◌+◌, ◌-◌, ◌<◌, ◌≤◌, [], length, take, Some, IsTrue, option_map};
 ghost use Rattle.docker_model.specs.state.StateText.{dks_2, state_text};
 ghost use Rattle.docker_desk.specs.Copying.{ComparesCopy, IsNoFront};
 
