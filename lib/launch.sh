@@ -13,8 +13,8 @@ memory_of_a_check=$((5 * 1024 * 1024))
 
 # What is under way: for each process its crate, and the second in which it began.
 declare -A under_way=() began=()
-# The crates that wait, in the order in which they should begin; for each crate the crates that it
-# cites; the crates that are proved; and for each crate the checksum of what its proof rests on.
+# The crates that wait, in the order in which they should begin, and the crates that are proved. For
+# each crate the crates that it cites, and the checksum of what its proof rests on.
 declare -a waiting=()
 declare -A cites=() is_proved=() sums=()
 # A process that ends soon, while a crate waits for memory.

@@ -177,7 +177,7 @@ def is_gone(words):
 
 
 def rows_of_page(body):
-    """Of each row of a page's days, by its HTML alone: its class, and its cells."""
+    """The class and the cells of each row of a page, read from its HTML."""
     found = re.findall(r'<tr[^>]* class="([^"]*)" data-at[^>]*>(.*?)</tr>', body, re.S)
     return [(kind, [html.unescape(re.sub("<[^>]*>", "", cell)) for cell in re.findall(r"<td[^>]*>(.*?)</td>", row, re.S)]) for kind, row in found]
 
@@ -215,7 +215,7 @@ class Changed(Stated):
         run("take", cls.base, str(cls.folder / "permanent.cif"))
 
     def base_rows(self, day=DAY):
-        """The cells of the permanent docker: that of a state whose extract has no short-term record."""
+        """The cells of the permanent docker. It is printed from a state without short-term records."""
         return rows_of(run("print", self.base, "ASHFELD", day), self.names)
 
     def page(self, path):
@@ -480,7 +480,7 @@ class NoDesk(Changed):
         self.assertEqual(self.ask(f"/ASHFELD/{DAY}/changes")[0], 501)
 
 
-# Trains at random, and by their times alone what becomes of each.
+# Trains at random, and what becomes of each, judged by their times.
 
 CODES = ("ASHFELD", "BRAYTON", "CORHAM", "DUNMERE")
 

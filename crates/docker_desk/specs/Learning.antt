@@ -180,8 +180,8 @@ GainsAsked setting earlier (Some request) before (refused_for fault) after gains
 GainsAsked setting earlier (Some request) before no_request after gains = gains ≡ []
 GainsAsked setting earlier None before answer after gains = gains ≡ []
 
--- what steps gained, in their order, if each file that was taken, merged or renewed was named, and
--- each that was merged or renewed held an earlier version of a state's file
+-- what steps gained, in their order. The bytes of each file that was taken, merged or renewed are
+-- named, and each file that was merged or renewed held an earlier version of a state's file
 abbrev pub GainedBy : Setting → List Text → List Step → List Gain → Type 0
 GainedBy setting earlier [] gains = gains ≡ []
 GainedBy setting earlier (step ∷ steps) gains = (now : List Gain) × ((more : List Gain)

@@ -376,7 +376,7 @@ class Comparison:
                 self.goes(train, "altered", line, f"no {EVENTS[kind]} {{when}}")
 
     def links(self, train, now, before):
-        """The associations of a train: those of one kind with the same other train stand for each other."""
+        """The associations of a train. Two of one kind with the same other train stand for each other."""
         others = [line for _, line in before]
         for number, line in now:
             was = next((other for other in others if (other.kind, other.partner, other.suffix) == (line.kind, line.partner, line.suffix)), None)
