@@ -71,7 +71,7 @@ partner_before indicator start day is = by (indicator == 78) (indicator == 80) i
     by false true told = earlier (nat_lt 0 start) told
     by false false some = let same : start ≡ day = cc in omega arith
 
--- a train with an event on the day starts on it or on one of the two days before
+-- a train with an event on the day starts on that day or on one of the two days before
 pub started : (day start : ℕ) (lines : List (List ℕ)) (event : Event) → midnights lines ≤ 2 → event_day start lines event ≡ day
     → (start ≤ day) × (day ≤ start + 2)
 started day start lines event few today =
