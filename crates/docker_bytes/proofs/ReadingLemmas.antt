@@ -231,7 +231,7 @@ part_refused old front bytes at cause is split wide some fits same bad = by caus
 
 -- ---- a piece
 
--- a fault returned for part of a piece is the piece's
+-- a fault returned for the first part of a piece is the fault of the piece
 pub told_stays : (format : Format) (limit : ℕ) (text read front behind : List ℕ) (at : ℕ) (cause : Option StateCause)
     → IsToldSoFar format limit (text ++ read) front at cause
     → IsToldSoFar format limit text ((read ++ front) ++ behind) at cause

@@ -157,7 +157,7 @@ state_failed one one_now two two_now office.Sink same counted = counted
 
 -- ---- the sources of a task
 
--- what was read of some sources was read of equal sources
+-- if some sources gave a content, equal sources gave it too
 pub read_at : (asked sources : Sources) (first left second second_left : DeviceBytes) (read : ReadView) → asked ≡ sources
     → ReadsFew (sources_meant sources) first left second second_left
     (IsContentOf (sources_meant sources) first second read × HasReadToEnd (sources_meant sources) left second_left)

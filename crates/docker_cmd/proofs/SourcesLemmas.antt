@@ -61,7 +61,7 @@ read_one_file files_task first second read is reads = let never : ⊥ = cc in ab
 read_one_file (horizon_task day) first second read is reads = let never : ⊥ = cc in absurd never
 read_one_file migrate_task first second read is reads = let never : ⊥ = cc in absurd never
 
--- `check` is the only task that just checks a file
+-- `check` is the only task whose source is a file that is just checked
 checked : (task : TaskView) → sources_of task ≡ checked_file → task ≡ check_task
 checked new_task is = let never : ⊥ = cc in absurd never
 checked check_task is = refl

@@ -33,7 +33,7 @@ find_mapped f p (x ∷ xs) = by (p (f x)) (find_mapped f p xs)
     by true rest = refl
     by false rest = rest
 
--- the first event of a call is the first that a walk meets there
+-- the first event of a call is the first event that a walk meets there
 pub first_call_is : (lines : List (List ℕ)) (location : List ℕ) (suffix : ℕ)
     → find (is_call location suffix) (occurrences lines) ≡ option_map (occurrence_of lines) (first_event_at lines location suffix)
 first_call_is lines location suffix = find_mapped (occurrence_of lines) (is_call location suffix) (events_of lines)

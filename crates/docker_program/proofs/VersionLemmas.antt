@@ -64,7 +64,7 @@ made_known knowns texts version are made =
     (subst (λ (t : TaskView). Knows t made.read.first made.read.second (known_by knowns version.origin)) (sym made.task)
     (origin_knows knowns texts version.origin made.read.first made.read.second are made.origin))
 
--- each of all versions is the text of what is known of it
+-- the text of each version is the text of what is known of the version
 all_known : (knowns : List Known) (texts : List (List ℕ)) (versions : List Version) → AreKnown knowns texts → AreMade texts versions
     → AreKnown (known_after knowns versions) (texts ++ texts_of versions)
 all_known knowns texts [] are made = subst (AreKnown knowns) (sym (append-nil texts)) are

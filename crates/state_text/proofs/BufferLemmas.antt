@@ -35,7 +35,7 @@ takes_then (Some taken) x y c e first second =
 pub gathers_add : (start : Told) (held piece more : List ℕ) → more ≡ held ++ piece → Gathers start held piece start more
 gathers_add start held piece more is = ([], is, takes_none start)
 
--- two pieces are gathered one after the other
+-- if two pieces are gathered one after the other, both are gathered
 pub gathers_then : (a : Told) (b p : List ℕ) (c : Told) (d q : List ℕ) (e : Told) (f : List ℕ)
     → Gathers a b p c d → Gathers c d q e f → Gathers a b (p ++ q) e f
 gathers_then a b p c d q e f first second = (
