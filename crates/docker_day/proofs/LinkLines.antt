@@ -85,8 +85,7 @@ module _ (place : List ℕ) (day : ℕ) (view : RowView) where
       ∙ three_parts first (row_back trains links place day view 0) (row_back trains links place day view 1) (row_back trains links place day view 2)
       ∙ ap (λ more. first ++ more) (sym (starts_split (row_piece trains links place day view) day) ∙ row_pieces trains links place day view)
 
-  -- if the lines for each start day are added, one day after the other, all lines of the row are
-  -- added
+  -- if the lines for each start day are added, day after day, all lines of the row are added
   pub three_backs : (live : Table) (first second third last : List DockerLine)
       → Adds live (λ trains links. row_back trains links place day view 0) first second
       → Adds live (λ trains links. row_back trains links place day view 1) second third
