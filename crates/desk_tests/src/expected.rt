@@ -16,7 +16,7 @@ DOCKER ASHFELD 2024-06-10
 END                                                     
 ";
 
-/// That answer once the revision is known.
+/// The answer for Ashfeld on 10 June, once the revision is known.
 pub(crate) const ANSWER_0905: &str = "\
 0 3 171
 DOCKER ASHFELD 2024-06-10                               

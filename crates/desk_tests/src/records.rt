@@ -17,7 +17,7 @@ const HD_LATER: &str =
 /// A new permanent schedule of C10001, on weekdays from 10 to 14 June 2024.
 const BS: &str = "BSNC100012406102406141111100 POO1A10                                           P";
 
-/// Its revision.
+/// A revision of C10001's schedule.
 const BS_REVISED: &str =
     "BSRC100012406102406141111100 POO1A10                                           P";
 
@@ -79,7 +79,8 @@ pub(crate) const EMPTY_STATE: Parts = &[MARK, NONE, NONE];
 /// The state that knows the morning train: 311 bytes.
 pub(crate) const MORNING_STATE: Parts = &[MARK, ONE, ITEM, ONE, ENTRY, THREE_LINES, BS, LO, LT];
 
-/// The state that knows only its revision: 311 bytes. It keeps the transaction `N`.
+/// The state that knows only the revision of the morning train: 311 bytes. It keeps the transaction
+/// `N`.
 pub(crate) const REVISION_STATE: Parts = &[
     MARK,
     ONE,

@@ -15,7 +15,7 @@ fn add(rt: &impl Abort, text: &mut Vec<u8>, word: &[u8]) {
     text.extend_from_slice(word).expect(rt, "room");
 }
 
-/// Adds the words of a request that names a day, and nothing of another.
+/// Adds the words of a request that names a day. Adds nothing for any other request.
 fn add_dated(rt: &impl Abort, text: &mut Vec<u8>, request: &Request<'_>) {
     match request {
         Request::Print { place, day } => {

@@ -11,7 +11,7 @@ use Rattle.docker_desk.specs.Moments.{Moment, moment, setting}
 use Rattle.docker_desk.specs.Serving.{BeginsAt, EndsOpening, EndsWithStatus, NamesSession, Serves, Told, TellsText, told_by}
 use Rattle.docker_desk.proofs.WritingLemmas.{both_taken, part_of_back, part_of_front}
 
--- two texts, one after the other
+-- if two texts are written one after the other, both are written
 pub tells_both : (first second piece behind : List ℕ) (old middle new : Told) → piece ≡ first → behind ≡ second → middle.failures ≡ old.failures
     → Takes old.taken piece middle.taken → TellsText behind middle new → TellsText (first ++ second) old new
 tells_both first second piece behind old middle new one two sound whole tells = by (subst (λ text. TellsText text middle new) two tells)
@@ -23,7 +23,7 @@ tells_both first second piece behind old middle new one two sound whole tells = 
     by (inl next) = inl (next.0 ∙ sound, both_taken old.taken middle.taken new.taken first second taken next.1)
     by (inr part) = inr (part.0 ∙ ap (λ n. n + 1) sound, part_of_back old.taken middle.taken new.taken first second taken part.1)
 
--- the first text in part
+-- if a part of the first text is written, a part of both texts is written
 pub tells_first : (first second piece : List ℕ) (old new : Told) → piece ≡ first → new.failures ≡ old.failures + 1 → TakesPart old.taken piece new.taken
     → TellsText (first ++ second) old new
 tells_first first second piece old new one failed part =

@@ -14,8 +14,7 @@ use Rattle.train_choice.specs.Lately.{AreLately, runs_back, lately_back, marked_
 use Rattle.train_choice.specs.declared.lately.Lately.{Lately}
 use Rattle.train_choice.proofs.KeptLines.{runs_by_key}
 
--- if two tests agree on all numbers of days back, three flags that are the one's are also the
--- other's
+-- if two tests agree on all numbers of days back, they have the same three flags
 pub same_lately : (test other : ℕ → Bool) (lately : Lately) → ((back : ℕ) → test back ≡ other back) → AreLately test lately → AreLately other lately
 same_lately test other lately same are = record {
   today_is = are.today_is ∙ same 0;
@@ -57,7 +56,7 @@ lately_runs key lines day of back =
     (nat_le (day - back) (end_number (columns 16 21 (first_record lines))))
     ∙ ap (λ b. nat_le back day && b) (runs_by_key key lines (day - back) of)
 
--- this is what the code returns if the schedule has begun by the day
+-- if the schedule has begun by the day, the flags that the code returns are right
 pub lately_told : (key : ScheduleKey) (lines : List (List ℕ)) (line : List ℕ) (first day : ℕ) (lately : Lately) → IsScheduleOf key lines
     → line ≡ first_record lines → first ≡ key.runs_from → AreLately (lately_back line first day) lately → AreLately (runs_back lines day) lately
 lately_told key lines line first day lately of line_is first_is are =
@@ -65,7 +64,7 @@ lately_told key lines line first day lately of line_is first_is are =
     (subst (λ (n : ℕ). AreLately (lately_back (first_record lines) n day) lately) first_is
     (subst (λ (l : List ℕ). AreLately (lately_back l first day) lately) line_is are))
 
--- this is what the code returns if it begins later
+-- if the schedule begins after the day, the flags that the code returns are right
 pub never_told : (key : ScheduleKey) (lines : List (List ℕ)) (first day : ℕ) (lately : Lately) → IsScheduleOf key lines
     → first ≡ key.runs_from → nat_lt day first ≡ true → AreLately (λ back. false) lately → AreLately (runs_back lines day) lately
 never_told key lines first day lately of first_is late are =
