@@ -81,7 +81,7 @@ moved_over there again all rest fewer first second same live one passed = λ row
     (subst (λ (p : PlaceDay). AreLive (live_table p.state) rest) same live) rows are))
     ∙ one rows are
 
--- rows that are live in a state are live in an equal state
+-- rows that are live in one state are live in an equal one
 pub live_again : (there again : PlaceDay) (rows : List Row) → again ≡ there → AreLive (live_table there.state) rows → AreLive (live_table again.state) rows
 live_again there again rows same live = subst (λ (p : PlaceDay). AreLive (live_table p.state) rows) (sym same) live
 

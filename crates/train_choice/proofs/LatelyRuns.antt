@@ -14,7 +14,8 @@ use Rattle.train_choice.specs.Lately.{AreLately, runs_back, lately_back, marked_
 use Rattle.train_choice.specs.declared.lately.Lately.{Lately}
 use Rattle.train_choice.proofs.KeptLines.{runs_by_key}
 
--- if two tests agree on all numbers of days back, they have the same three flags
+-- if two tests agree on all numbers of days back, the three flags for one are the flags for the
+-- other
 pub same_lately : (test other : ℕ → Bool) (lately : Lately) → ((back : ℕ) → test back ≡ other back) → AreLately test lately → AreLately other lately
 same_lately test other lately same are = record {
   today_is = are.today_is ∙ same 0;
