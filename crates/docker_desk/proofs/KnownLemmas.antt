@@ -35,7 +35,7 @@ use Rattle.docker_desk.specs.Learning.{AreLearned, Hears, HearsFile, HearsState,
 known_with_nothing : (known : Known) → united known nothing ≡ known
 known_with_nothing known = λ i. record { files = append-nil known.files i; horizon = max-zero known.horizon i }
 
--- if nothing was heard and the state is the same, the same is known of it
+-- if nothing was heard and the state is the same, what is known is the same
 nothing_heard : (old heard : Known) (before after : State) → heard ≡ nothing → after ≡ before → IsKnown old before → IsKnown (united old heard) after
 nothing_heard old heard before after none same is =
     subst (λ h. IsKnown (united old h) after) (sym none)

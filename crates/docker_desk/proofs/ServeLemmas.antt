@@ -44,7 +44,7 @@ begins desk_in name old new made look failures opens same = by opens.read opens.
         record { held = read.held; left = read.left; asked = asked; stops = stops; state = ends.0; saved = ends.1; look = same }
     by None asked stops ends = absurd ends.0
 
--- if a state was read, the folder hasn't failed
+-- if the status is 0, the folder hasn't failed
 pub still : (before after : ℕ) → IsCounted 0 before after → after ≡ before
 still before after counted = counted.1 (λ four. omega arith)
 

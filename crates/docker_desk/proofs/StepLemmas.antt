@@ -302,7 +302,7 @@ module _ (setting : Setting) (now next : Moment) (input input_now output output_
       by None end = tt
       by (Some text) end = end
 
-  -- each input begins with no lines
+  -- each input begins with the empty list of lines
   begins_none : (input : DeviceBytes) → BeginsWith input []
   begins_none None = tt
   begins_none (Some text) = (text, refl)

@@ -101,7 +101,7 @@ made_known knowns texts (raised own day) text are made =
 made_known knowns texts (migrated known) text are made = by_command migrate_task known text made made.held
 made_known knowns texts (saved own gains) text are made = saved_known knowns texts own gains text are made
 
--- each of all versions is the text of what is known of it
+-- the text of each version is the text of what is known of the version
 all_known : (knowns : List Known) (texts : List (List ℕ)) (versions : List Version) → AreKnown knowns texts → AreMade texts versions
     → AreKnown (known_after knowns versions) (texts ++ texts_of versions)
 all_known knowns texts [] are made = subst (AreKnown knowns) (sym (append-nil texts)) are
