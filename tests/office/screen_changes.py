@@ -274,10 +274,18 @@ class Differing(Changed):
         """Where nothing differs, a page says so, and has no column for it. A page of another place has its own."""
         day = "2024-06-20"
         page = self.page(f"/ASHFELD/{day}")
-        self.assertIn('<p id="changes">as in the permanent timetable</p>', page)
+        self.assertIn('<p id="changes">As in the permanent timetable</p>', page)
         self.assertEqual([row for _, row in rows_of_page(page)], self.rows(day=day))
         self.assertIn("Nothing differs from the permanent timetable here on this day.", self.page(f"/ASHFELD/{day}/changes"))
         self.assertEqual(told_of(rows_of_page(self.page(f"/DUNMERE/{DAY}"))), [("08:21", "passes", "T00003", "added")])
+
+    def test_not_covered(self):
+        """Of a day of which something is missing, no page says that nothing differs."""
+        for day in ("2024-06-05", "2024-12-20"):
+            page = self.page(f"/ASHFELD/{day}")
+            self.assertIn('<p class="warning"', page)
+            self.assertNotIn("As in the permanent timetable", page)
+        self.assertNotIn("Nothing differs", self.page("/ASHFELD/2024-12-20/changes"))
 
     def test_wall(self):
         """The next trains have those that are cancelled in their places, today and tomorrow."""
