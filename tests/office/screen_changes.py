@@ -539,7 +539,7 @@ class Drawn:
         for uid in (f"R{at:05}" for at in range(number)):
             own = [("P", 0, 193, Journey(drawn))] if drawn.random() < 0.85 else []
             own += [(indicator, first, first + drawn.choice((0, 0, 2, 6)), Journey(drawn) if indicator != "C" else None)
-                    for indicator, first in {(drawn.choice("OOCCN"), drawn.randrange(4, 12)) for _ in range(drawn.choice((0, 1, 1, 2)))}]
+                    for indicator, first in sorted({(drawn.choice("OOCCN"), drawn.randrange(4, 12)) for _ in range(drawn.choice((0, 1, 1, 2)))})]
             self.schedules[uid] = own
             for indicator, first, last, journey in own:
                 days = "".join((self.FIRST + datetime.timedelta(day)).strftime("%y%m%d") for day in (first, last)) + "1111111"
