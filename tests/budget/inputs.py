@@ -21,7 +21,7 @@ LONG_AGO = (16705).to_bytes(2, "big") + (65).to_bytes(2, "big")
 
 
 def mixed(number, salt, below):
-    """A number below a limit, by two numbers. It seems random and isn't."""
+    """A number below a limit that looks random but is fixed by `number` and `salt`."""
     hashed = (number * 2654435761 + salt * 40503 + 12345) & 0xFFFFFFFF
     hashed = ((hashed ^ hashed >> 15) * 0x2C1B3C6D) & 0xFFFFFFFF
     return ((hashed ^ hashed >> 12) * below) >> 32

@@ -92,7 +92,7 @@ class Late(Seen):
 
 
 class LateAndAlone(Seen):
-    """A wall whose server is gone before midnight."""
+    """A screen on a wall whose server stops just before midnight."""
 
     now = f"{DAY}T23:59:40"
 

@@ -49,7 +49,7 @@ nothing_more takes fed n terms text initial now next taker into at none more = r
     last : Reads now [] next
     last = subst (λ m. Reads now (take m into) next) none more
 
--- a source that fails gives no more
+-- a read that fails changes nothing of what the taker was fed
 pub fed_where_failed : {T Terms : Type 0} (takes : Taking T Terms) (fed : ℕ) (terms : Terms) (text : List ℕ) (initial now next : Option (List ℕ)) (taker : T)
     → HasFed takes fed terms text initial now taker → next ≡ now → (count : ℕ) × HasFed takes count terms text initial next taker
 fed_where_failed takes fed terms text initial now next taker at same =

@@ -565,7 +565,7 @@ reading_of parser reading limit text none same has = subst (λ r. IsReading Keep
 pub had_failed : (parser : ParserState) (fault : FileFault) → parser.fault ≡ Some fault → ¬ HasNotFailed parser
 had_failed parser fault at none = none fault at
 
--- ---- a fault at a record that wasn't complete before
+-- ---- faults after all complete lines
 
 later_than : {K : Type 0} (keeps : Keeps K) (reading : FileReading K) (limit : ℕ) (text : List ℕ) (fault : FileFault) → IsReading keeps reading limit text
     → fault.number ≡ length (told_lines text) + 1

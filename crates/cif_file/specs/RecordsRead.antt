@@ -74,8 +74,8 @@ pub record IsNoNext (records : Lines) (line : List ℕ) (cause : fault.FileCause
 abbrev pub GoesOnWith : Lines → List ℕ → Type 0
 GoesOnWith records line = (next : law.Place) × IsPlaceOf (records ++ line ∷ []) next
 
--- a cause that was returned for a line; memory ran out only if it may, and for a line that can
--- follow
+-- why a line was refused after these records. `None` is out of memory: memory may run out then, and
+-- some file goes on with the line. Any other cause is why no file goes on with it
 abbrev pub IsNoNextCause : Type 0 → Lines → List ℕ → Option fault.FileCause → Type 0
 IsNoNextCause wants records line None = wants × GoesOnWith records line
 IsNoNextCause wants records line (Some cause) = IsNoNext records line cause

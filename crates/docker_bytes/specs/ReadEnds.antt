@@ -32,7 +32,7 @@ CountsWhy (Some Source) failures failures_now = failures_now ≡ failures + 1
 CountsWhy (Some (State fault)) failures failures_now = failures_now ≡ failures
 CountsWhy (Some Memory) failures failures_now = failures_now ≡ failures
 
--- the result of reading: a value for which this holds, or why there is none
+-- the result of reading: a value for which `IsMade` holds, or a fault that says why there is none
 abbrev pub IsOutcome : {A E : Type 0} → Wanting → (E → Option ReadFault) → Format → ℕ → (A → Type 0) → BytesLeft → BytesLeft → Result A E → Type 0
 IsOutcome wants why format limit IsMade left left_now (Ok made) = IsMade made
 IsOutcome wants why format limit IsMade left left_now (Err fault) = IsWhyUnread wants format limit left left_now (why fault)

@@ -22,7 +22,7 @@ rows_are app words result is has =
     IfOk-weaker result (HasMatchesOf docker_app words) (λ m. subcommand_rows_of m ≡ subcommand_of docker_app words) (λ m found. (found simple).1)
     (subst (λ a. IfOk result (HasMatchesOf a words)) is has)
 
--- `clap` refuses the words by the faults that the definitions give
+-- if `clap` refuses the words, it reports a fault that the definitions give
 pub fails_by : (app : App) (words : List Text) (result : Result ArgMatches Error) → app ≡ docker_app
     → (is_simple_and_free app ≡ true → FailsBy (fault_of app words) result) → FailsBy (fault_of docker_app words) result
 fails_by app words result is fails = subst (λ a. is_simple_and_free a ≡ true → FailsBy (fault_of a words) result) is fails free

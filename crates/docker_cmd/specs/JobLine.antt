@@ -34,7 +34,7 @@ is_space byte = byte == 32
 abbrev pub word_or_none : List ℕ → List (List ℕ)
 word_or_none piece = if length piece == 0 then [] else piece ∷ []
 
--- the words of a line: its longest pieces without a space
+-- the words of a line: the pieces between its spaces, without the empty ones
 abbrev pub words_in : List ℕ → List (List ℕ)
 words_in line = filter (λ word. not (length word == 0)) (slice_split is_space line)
 

@@ -66,8 +66,8 @@ fn fails_reading(rt: &impl Abort, alloc: Global, fails: Fails, failures: u64) {
     reads(rt, alloc, &mut shelf, Some(300));
 }
 
-/// Asserts the fault, and how often a shelf failed, when a text is stored and it fails at this
-/// call. Once it doesn't fail there, the text is stored.
+/// Asserts that storing a text on a shelf that fails at this call returns this fault and counts this
+/// many failures. Asserts too that the shelf stores the text once it no longer fails.
 fn fails_storing(rt: &impl Abort, alloc: Global, fails: Fails, fault: OpenFault, failures: u64) {
     let mut shelf = shelf_of(rt, alloc);
     shelf.fail(fails);

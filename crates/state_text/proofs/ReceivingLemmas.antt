@@ -21,7 +21,8 @@ pub above_staged : (own : State) (floor : Option FileStamp) (entries staged : Li
 above_staged own floor entries staged key are above other among =
     member_of (λ (entry : Key × Entry). IsBelow key_cmp entry.0 key) entries other above ((are.members other.0 other.1).0 among).0
 
--- if one more entry was offered, the entries staged are of the entries given and this one
+-- once one more entry is offered, what is staged is what has to be taken over of the entries given
+-- before and this one
 pub offered_more : (own : State) (staging after : Staging) (entries : List (Key × Entry)) (key : Key) (entry : Entry) → IsStagedOf own staging entries
     → IsAboveStaged staging.staged key → IsOffered own staging key entry after → IsStagedOf own after (entries ++ (key, entry) ∷ [])
 offered_more own staging after entries key entry are above (inl to) =

@@ -134,7 +134,7 @@ unit_more_of records line next between is fields found = by (kind_of line) refl 
     by None h told = cc
     by (Some kind) h told = unit_more records kind line next between is h fields told
 
--- records that end with a whole schedule are between units
+-- records that end with a whole schedule are a header and whole units
 within_ended : (stage : Stage) (lines records : Lines) → IsWithin stage lines records → may_end stage lines ≡ true → IsBetween records
 within_ended stage lines records within may =
     subst IsBetween (sym within.whole) (between_more within.before lines within.between (inr (schedule_of_front stage lines within.front may)))
