@@ -1,6 +1,6 @@
 //! What a program writes to its sink of faults.
 ghost use Rattle.std.specs.Prelude.{◌-◌, ◌^◌, ◌<◌};
-ghost use Rattle.docker_host.specs.FaultSink.{TellsText, told};
+ghost use Rattle.docker_host.specs.FaultSink.{TellsText, faults_view};
 
 use cif_device::{Sink, write_all};
 
@@ -9,8 +9,8 @@ use cif_device::{Sink, write_all};
 pub fn tell_text<L: Sink>(text: &[u8], faults: &mut L)
     requires { L.failures faults.old < 2 ^ 64 - 1 }
     ensures { TellsText text.now
-        (told (L.taken faults.old) (L.failures faults.old))
-        (told (L.taken faults.new) (L.failures faults.new)) }
+        (faults_view (L.taken faults.old) (L.failures faults.old))
+        (faults_view (L.taken faults.new) (L.failures faults.new)) }
 {
     match write_all(faults, text) {
         Ok(()) | Err(_) => {}

@@ -21,6 +21,7 @@ use Rattle.docker_host.specs.History.{Bytes}
 use Rattle.docker_cmd.specs.Office.{TakesFile, no_state}
 use Rattle.docker_cmd.specs.SourceRead.{Held, ReadsState}
 use Rattle.docker_cmd.specs.Prepared.{most_bytes}
+use Rattle.docker_cmd.specs.Saved.{HoldsFile}
 use Rattle.docker_cmd.specs.Words.{NamesDay, NamesStored, OfTwo, Text}
 use Rattle.docker_cmd.specs.Job.{JobView}
 use Rattle.docker_cmd.specs.Prepared.{IsOutputText, IsReadOf, IsRefusedDocker, ReadView, file_read, office_read}
@@ -28,7 +29,7 @@ use Rattle.docker_cmd.specs.Tasks.{AreWordsOf, TaskView, new_task, check_task, d
 use Rattle.docker_program.specs.SourceNames.{file_stored}
 use Rattle.docker_program.specs.Program.{AsksFor}
 use Rattle.docker_program.specs.Sources.{SourcesRead}
-use Rattle.docker_program.specs.Commands.{HoldsFile, HoldsKnown, IsKnownText, Knows, MayStore, Prints, PrintsKnown, Run, Stores, WritesKnown, of_file, of_horizon}
+use Rattle.docker_program.specs.Commands.{HoldsKnown, IsKnownText, Knows, MayStore, Prints, PrintsKnown, Run, Stores, WritesKnown, of_file, of_horizon}
 
 -- the state is the summary of what is known: of files, under a horizon
 pub record IsKnown (known : Known) (state : State) : Type 0 where
@@ -134,7 +135,7 @@ taken_alone bytes file state holds takes =
     (known_file takes.file takes.own takes.is_text.is takes.is_text.within takes.of_file) takes.joined)
 
 -- the state of what was known, after a file was taken
-taken_behind : (own : Known) (bytes : Bytes) (file : List (List ℕ)) (old new : State) → IsKnown own old → HoldsFile bytes file
+pub taken_behind : (own : Known) (bytes : Bytes) (file : List (List ℕ)) (old new : State) → IsKnown own old → HoldsFile bytes file
     → TakesFile most_records bytes old new → IsKnown (united own (of_file file)) new
 taken_behind own bytes file old new is holds takes =
     subst (λ (f : List (List ℕ)). IsKnown (united own (of_file f)) new) (file_held bytes file old new holds takes)

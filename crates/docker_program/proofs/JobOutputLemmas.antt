@@ -7,13 +7,12 @@ use Rattle.docker_host.specs.History.{Bytes, Event, drafted, dropped, named_if, 
 use Rattle.docker_cmd.specs.Words.{Text}
 use Rattle.docker_cmd.specs.Writes.{Output, counts_written, docker_written, files_written, state_written}
 use Rattle.docker_cmd.specs.Tasks.{output_of}
-use Rattle.docker_cmd.specs.FaultLine.{status_of}
+use Rattle.docker_cmd.specs.FaultLine.{IsCounted, result_status, status_of}
 use Rattle.docker_cmd.specs.Prepared.{EndsEmitting, GainsOutput, IsDocker, IsRefused, IsRefusedDocker, PreparedView, ReadView, file_read, office_read}
 use Rattle.docker_cmd.specs.OfficeFault.{OfficeFault}
 use Rattle.docker_cmd.specs.OfficeFault.TheVariants as office
 use Rattle.docker_cmd.specs.declared.fault.Fault.TheVariants.{Office}
 use Rattle.docker_program.specs.SourceNames.{file_stored, stored_by}
-use Rattle.docker_program.specs.Program.{IsCounted, result_status}
 use Rattle.docker_program.specs.Writing.{Drafting, EndsWriting, WantsToWriteTo, Writes, WritesPart, WritesPartTo, WritesTo, Written, written}
 
 none_some : (name : Text) → ◌≡◌ {A = Option Text} None (Some name) → ⊥
