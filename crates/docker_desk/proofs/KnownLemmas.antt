@@ -17,7 +17,7 @@ use Rattle.docker_cmd.specs.Office.{HoldsState}
 use Rattle.docker_cmd.specs.SourceRead.{ReadsState}
 use Rattle.docker_cmd.specs.OfficeFault.{OfficeFault}
 use Rattle.docker_cmd.specs.Words.{NamesDay, OfOne, Text}
-use Rattle.docker_host.specs.History.{Bytes, Event}
+use Rattle.docker_host.specs.History.{Event}
 use Rattle.docker_desk.specs.Lines.{LineView, whole_line, bad_line, cut_line}
 use Rattle.docker_cmd.specs.JobLine.{words_in}
 use Rattle.docker_desk.specs.Requests.{RequestView, behind_word, print_request, train_request, files_request, places_request, known_request, renew_request, take_request, merge_request, horizon_request, save_request}

@@ -1,5 +1,5 @@
 -- How a text is compared as it is written.
-use Rattle.std.proofs.Common.{◌≡◌, ◌<◌, ◌≤◌, ◌+◌, ◌-◌, ℕ, List, [], ◌∷◌, ◌++◌, length, take, drop, Option, None, Some, refl, sym, ◌∙◌, ap, subst, arith, append-nil, append_assoc, length-append}
+use Rattle.std.proofs.Common.{◌≡◌, ◌<◌, ◌+◌, ◌-◌, ℕ, List, [], ◌∷◌, ◌++◌, length, take, drop, Option, None, Some, sym, ◌∙◌, ap, subst, arith, append-nil}
 use Rattle.std.proofs.lemmas.List.{take-append-drop}
 use Rattle.std.proofs.lemmas.List.{length-drop}
 use Rattle.std.proofs.Math.Seq.{take-add, take-length}
@@ -34,12 +34,12 @@ never_whole text own front taken (Some byte) test some same is none fails = (
 )
 
 -- what was sent is the text, exactly if the sink took all of it and nothing else. It fails only after it took what isn't how the text begins
-pub sent_compares : (text sent before taken own : List ℕ) (bytes : Option (List ℕ)) (failures_before failures : ℕ) (done : Result ⊤ OfficeFault)
-    (ok whole : Bool) → before ≡ [] → failures_before ≡ 0 → bytes ≡ Some text → bytes ≡ Some own → OnOk done (Takes (Some before) sent (Some taken))
-    → OnErr done (TakesPart (Some before) sent (Some taken)) → CountsFailure (done ≡ Err office.Sink) failures_before failures
+pub sent_compares : (text sent before taken own : List ℕ) (bytes : Option (List ℕ)) (earlier failures : ℕ) (done : Result ⊤ OfficeFault)
+    (ok whole : Bool) → before ≡ [] → earlier ≡ 0 → bytes ≡ Some text → bytes ≡ Some own → OnOk done (Takes (Some before) sent (Some taken))
+    → OnErr done (TakesPart (Some before) sent (Some taken)) → CountsFailure (done ≡ Err office.Sink) earlier failures
     → IfErr done (λ fault. fault ≡ office.Sink) → ok ≡ is_ok done → (IsTrue whole → taken ≡ own) × (taken ≡ own → IsTrue whole)
     → (0 < failures → IsNoFront taken own) → (IsTrue (ok && whole) → text ≡ sent) × (text ≡ sent → IsTrue (ok && whole))
-sent_compares text sent before taken own bytes failures_before failures (Ok done) ok whole none zero named named_too takes part counts only is_ok wholly parted =
+sent_compares text sent before taken own bytes earlier failures (Ok done) ok whole none zero named named_too takes part counts only is_ok wholly parted =
     subst (λ (o : Bool). (IsTrue (o && whole) → text ≡ sent) × (text ≡ sent → IsTrue (o && whole))) (sym is_ok)
     (λ is. sym same ∙ sym (wholly.0 is) ∙ took, λ is. wholly.1 (took ∙ sym is ∙ sym same))
   where
@@ -47,15 +47,18 @@ sent_compares text sent before taken own bytes failures_before failures (Ok done
     same = cc
 
     took : taken ≡ sent
-    took = let all : Some taken ≡ Some (before ++ sent) = takes in let one : taken ≡ before ++ sent = cc in one ∙ ap (λ (b : List ℕ). b ++ sent) none
-sent_compares text sent before taken own bytes failures_before failures (Err fault) ok whole none zero named named_too takes part counts only is_ok wholly parted =
+    took =
+        let all : Some taken ≡ Some (before ++ sent) = takes in
+        let one : taken ≡ before ++ sent = cc in
+        one ∙ ap (λ (b : List ℕ). b ++ sent) none
+sent_compares text sent before taken own bytes earlier failures (Err fault) ok whole none zero named named_too takes part counts only is_ok wholly parted =
     subst (λ (o : Bool). (IsTrue (o && whole) → text ≡ sent) × (text ≡ sent → IsTrue (o && whole))) (sym is_ok)
     (λ is. let never : ⊥ = cc in absurd never, λ is. absurd (other is))
   where
     same : own ≡ text
     same = cc
 
-    failed : failures ≡ failures_before + 1
+    failed : failures ≡ earlier + 1
     failed = counts.0.0 (ap Err only)
 
     other : ¬ (text ≡ sent)
@@ -67,4 +70,7 @@ sent_compares text sent before taken own bytes failures_before failures (Err fau
             (same ∙ is ∙ sym (take-append-drop n sent) ∙ ap (λ (t : List ℕ). t ++ drop n sent) (sym front))
           where
             front : taken ≡ take n sent
-            front = let all : Some taken ≡ Some (before ++ take n sent) = takes in let one : taken ≡ before ++ take n sent = cc in one ∙ ap (λ (b : List ℕ). b ++ take n sent) none
+            front =
+                let all : Some taken ≡ Some (before ++ take n sent) = takes in
+                let one : taken ≡ before ++ take n sent = cc in
+                one ∙ ap (λ (b : List ℕ). b ++ take n sent) none

@@ -1,7 +1,6 @@
 -- What taking, receiving and reloading come to for a desk, from how the office's reading ends.
-use Rattle.std.proofs.Common.{◌≡◌, ◌≢◌, ◌+◌, ◌∙◌, ℕ, ap, arith, refl, subst, sym, Some, Ok, Err, IsErr, true, false}
-use Rattle.std.specs.Prelude.{Result, ⊤, Bool, List, ◌++◌, Option, None, IfSome, Vec, option_map}
-use Rattle.cif_line.specs.Device.{Reads}
+use Rattle.std.proofs.Common.{◌≡◌, ◌≢◌, ◌+◌, ◌∙◌, ℕ, arith, refl, subst, sym, Some, Ok, Err, IsErr}
+use Rattle.std.specs.Prelude.{Result, ⊤, Option, None, IfSome, Vec, option_map}
 use Rattle.docker_model.specs.file.File.{most_records}
 use Rattle.docker_model.specs.state.State.{State}
 use Rattle.docker_model.specs.state.StateText.{dks_2, state_text}
@@ -145,5 +144,8 @@ copied bytes (Some it) held = held
 pub compares : {Z : Type 0} (held bytes left : Bytes) (copy : Option (Vec ℕ Z)) (old new : State) (found : Compared) → held ≡ bytes
     → IfSome copy (λ it. IsText bytes it.items) → ComparesCopy found (option_map (λ (it : Vec ℕ Z). it.items) copy) (state_text dks_2 new)
     → JoinsState dks_2 most_bytes held old new → EndsComparing old new (Ok found) (Some (reading held left))
-compares held bytes left copy old new found same whole is joins =
-    (joins, found_held held (option_map (λ it. it.items) copy) found new left (copied held copy (subst (λ (b : Bytes). IfSome copy (λ it. IsText b it.items)) (sym same) whole)) is)
+compares held bytes left copy old new found same whole is joins = (
+  joins,
+  found_held held (option_map (λ it. it.items) copy) found new left
+      (copied held copy (subst (λ (b : Bytes). IfSome copy (λ it. IsText b it.items)) (sym same) whole)) is,
+)

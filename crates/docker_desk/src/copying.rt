@@ -21,8 +21,8 @@ impl Begun for Brand {
     ghost bytes = { None };
 }
 
-/// A source, and a copy of all that was read from it, or none if memory ran out for it. Then whether
-/// the last read saw the end of the source.
+/// A source, and a copy of all that was read from it, or none if memory ran out for it. Then comes
+/// whether the last read saw the end of the source.
 #[derive(Drop)]
 pub(crate) struct Copying<B: Begun, S: Source> {
     source: S,
@@ -67,7 +67,8 @@ impl<B: Begun, S: Source> Copying<B, S> {
         }
     }
 
-    /// The source, and the copy of all that it held, if there was memory for it and the end was seen.
+    /// The source, and the copy of all that it held, if there was memory for it and the end was
+    /// seen.
     pub(crate) fn into_parts(self) -> (S, Option<Vec<u8>>)
         ensures left { S.left result.0 ≡ self.left }
         ensures failures { S.failures result.0 ≡ self.failures }

@@ -121,7 +121,8 @@ impl Desk {
     /// the desk as it was.
     pub fn take<D: Folder>(&mut self, name: &str, folder: &mut D) -> Result<(), OfficeFault>
         requires { D.failures folder.old < 2 ^ 64 - 1 }
-        ensures opens { OpensOnce name.now StopsInFile (EndsTaking self.old.state self.new.state result)
+        ensures opens { OpensOnce name.now StopsInFile
+            (EndsTaking self.old.state self.new.state result)
             (D.history folder.old) (D.history folder.new) }
         ensures unsaved { self.new.unsaved ≡ unsaved_by result self.old.unsaved }
         ensures counted { IsCounted (result_status result)
@@ -140,7 +141,8 @@ impl Desk {
     /// `State`, `Source` or `Memory`, leaves the desk as it was.
     pub fn receive<D: Folder>(&mut self, name: &str, folder: &mut D) -> Result<(), OfficeFault>
         requires { D.failures folder.old < 2 ^ 64 - 1 }
-        ensures opens { OpensOnce name.now StopsInState (EndsReceiving self.old.state self.new.state result)
+        ensures opens { OpensOnce name.now StopsInState
+            (EndsReceiving self.old.state self.new.state result)
             (D.history folder.old) (D.history folder.new) }
         ensures unsaved { self.new.unsaved ≡ unsaved_by result self.old.unsaved }
         ensures counted { IsCounted (result_status result)

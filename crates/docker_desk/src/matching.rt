@@ -1,5 +1,5 @@
 //! Whether a text is the one of a state, as the state is written.
-ghost use Rattle.std.specs.Prelude.{◌≡◌, ◌↔◌, ℕ, ◌+◌, ◌-◌, ◌<◌, ◌≤◌, List, [], length, take, Some, IsTrue, option_map};
+ghost use Rattle.std.specs.Prelude.{◌≡◌, ◌↔◌, ◌+◌, ◌-◌, ◌<◌, ◌≤◌, [], length, take, Some, IsTrue, option_map};
 ghost use Rattle.docker_model.specs.state.StateText.{dks_2, state_text};
 ghost use Rattle.docker_desk.specs.Copying.{ComparesCopy, IsNoFront};
 
@@ -9,8 +9,8 @@ use cif_line::{Failed, Sink};
 use docker_cmd::Office;
 use std::marker::{Brand, Model, PhantomData};
 
-/// A sink that takes the bytes of the text that its brand names, one piece after the other. It takes
-/// the first byte that isn't the text's too, and then fails. It takes no memory.
+/// A sink that takes the bytes of the text that its brand names, one piece after the other. It also
+/// takes the first byte that isn't the text's, and then fails. It takes no memory.
 #[derive(Drop)]
 pub(crate) struct Matching<'a, B: Begun> {
     text: &'a [u8],

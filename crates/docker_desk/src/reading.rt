@@ -56,8 +56,8 @@ pub(crate) fn receive_state<D: Folder>(
     received
 }
 
-/// Like `receive_state`, but returns whether the file held the text of the state that the office has
-/// now. It is found out only if `compares`, and if there is memory to keep the text until it is
+/// Like `receive_state`, but returns whether the file held the text of the state that the office
+/// has now. It is found out only if `compares`, and if there is memory to keep the text until it is
 /// compared.
 pub(crate) fn renew_state<D: Folder>(
     alloc: Global,
@@ -88,8 +88,8 @@ pub(crate) fn renew_state<D: Folder>(
     }
 }
 
-/// Has an office receive the state that a source holds, and returns the source. Also returns whether
-/// the source held the text of the state that the office has now.
+/// Has an office receive the state that a source holds, and returns the source. Also returns
+/// whether the source held the text of the state that the office has now.
 fn receive_copied<B: Begun, S: Source>(
     alloc: Global,
     office: &mut Office,
