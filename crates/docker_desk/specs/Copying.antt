@@ -14,8 +14,8 @@ pub record CopyView : Type 0 where
   pub passed : Bool
   pub copy : Option Text
 
--- a sink that takes the bytes of a text, as far as they are the text's, and one other byte: the
--- text, the bytes that it took, and how often it has failed
+-- a sink that takes the bytes of a text, and the first other byte: the text, the bytes that it took,
+-- and how often it has failed
 pub record MatchView : Type 0 where
   pub text : Text
   pub taken : Text

@@ -109,8 +109,8 @@ RefusesToReceive read (office.File fault) = ⊥
 RefusesToReceive read office.Lapsed = ⊥
 RefusesToReceive read office.Sink = ⊥
 
--- why a file isn't read: it wasn't opened; or it was, and `Refuses` holds of what was read of it and
--- of the fault
+-- why a file isn't read: it wasn't opened; or it was, and `Refuses` holds for what was read and for
+-- the fault
 abbrev pub IsWhyNot : (Reading → OfficeFault → Type 0) → OfficeFault → Option Reading → Type 0
 IsWhyNot Refuses fault (Some read) = Refuses read fault
 IsWhyNot Refuses fault None = IsWhyUnopened fault

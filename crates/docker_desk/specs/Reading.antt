@@ -17,7 +17,7 @@ reading held left = record { held = held; left = left }
 abbrev pub events_of : Text → Reading → List Event
 events_of name read = opened name read.held ∷ closed read.left ∷ []
 
--- the events of opening the named file: those of a reading, or it couldn't be opened
+-- the events of opening the named file, which was then read and closed, or couldn't be opened
 abbrev pub opening_of : Text → Option Reading → List Event
 opening_of name (Some read) = events_of name read
 opening_of name None = unopened name ∷ []

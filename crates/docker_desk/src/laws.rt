@@ -84,9 +84,10 @@ pub fn saves_tell_what_is_known()
         → PlacesKnown setting before after known }
 {}
 
-/// What a desk saves is a version of its state's file: the text of a state that was read from an
-/// earlier version, and then gained what the steps up to there gained. `earlier` are the texts of
-/// all earlier versions of any state's file, and `own` is the number of the one that was read first.
+/// What a desk saves is a version of its state's file. It is the text of a state that was read from
+/// an earlier version, and then gained what the steps up to there gained. `earlier` are the texts
+/// of all earlier versions of any state's file, and `own` is the number of the one that was read
+/// first.
 pub fn saves_are_versions()
     ensures { (setting : Setting) (first before after : Moment) (steps : List Step)
         (old : List Event) (earlier : List (List ℕ)) (own : ℕ) (gains : List Gain)
