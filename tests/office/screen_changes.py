@@ -274,10 +274,18 @@ class Differing(Changed):
         """Where nothing differs, a page says so, and has no column for it. A page of another place has its own."""
         day = "2024-06-20"
         page = self.page(f"/ASHFELD/{day}")
-        self.assertIn('<p id="changes">as in the permanent timetable</p>', page)
+        self.assertIn('<p id="changes">As in the permanent timetable</p>', page)
         self.assertEqual([row for _, row in rows_of_page(page)], self.rows(day=day))
         self.assertIn("Nothing differs from the permanent timetable here on this day.", self.page(f"/ASHFELD/{day}/changes"))
         self.assertEqual(told_of(rows_of_page(self.page(f"/DUNMERE/{DAY}"))), [("08:21", "passes", "T00003", "added")])
+
+    def test_not_covered(self):
+        """Of a day of which something is missing, no page says that nothing differs."""
+        for day in ("2024-06-05", "2024-12-20"):
+            page = self.page(f"/ASHFELD/{day}")
+            self.assertIn('<p class="warning"', page)
+            self.assertNotIn("As in the permanent timetable", page)
+        self.assertNotIn("Nothing differs", self.page("/ASHFELD/2024-12-20/changes"))
 
     def test_wall(self):
         """The next trains have those that are cancelled in their places, today and tomorrow."""
@@ -531,7 +539,7 @@ class Drawn:
         for uid in (f"R{at:05}" for at in range(number)):
             own = [("P", 0, 193, Journey(drawn))] if drawn.random() < 0.85 else []
             own += [(indicator, first, first + drawn.choice((0, 0, 2, 6)), Journey(drawn) if indicator != "C" else None)
-                    for indicator, first in {(drawn.choice("OOCCN"), drawn.randrange(4, 12)) for _ in range(drawn.choice((0, 1, 1, 2)))}]
+                    for indicator, first in sorted({(drawn.choice("OOCCN"), drawn.randrange(4, 12)) for _ in range(drawn.choice((0, 1, 1, 2)))})]
             self.schedules[uid] = own
             for indicator, first, last, journey in own:
                 days = "".join((self.FIRST + datetime.timedelta(day)).strftime("%y%m%d") for day in (first, last)) + "1111111"

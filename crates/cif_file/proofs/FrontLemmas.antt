@@ -251,7 +251,7 @@ over_of_between keeps front records has place =
       anew = λ line _. ap (λ p. next_place p line) told.0;
     }
 
--- what is kept of the schedule that is being read
+-- in a schedule, the reader keeps the schedule that is being read
 pub opened_of : {K : Type 0} (keeps : Keeps K) (front : Front K) (opened : Opened) (records : Lines) (has : HasRecords keeps front records)
     → front.stage ≡ InSchedule opened
     → IsOpen keeps opened front.keeper has.place records

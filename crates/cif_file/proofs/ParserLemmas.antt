@@ -270,7 +270,7 @@ end_fault keeps wants reading limit text fault is some next = by (cause_meant fa
         subst (λ f. IsFileFault limit text f) (λ i. record { number = sym next.number i; cause = told.is i })
         (fault_at_end limit text told.place told.at is.counted.within some told.here)
 
--- what is returned for a text, once its lines were counted
+-- if all lines of a text were counted, what is returned belongs to the text
 pub file_at_end : {K : Type 0} (keeps : Keeps K) (records : Records K) (limit : ℕ) (text : List ℕ) (ended : Ended K)
     → HasCounted keeps records limit (lines_of text) → EndsCounted keeps records ended → IsEndedText keeps limit text ended
 file_at_end keeps records limit text ended counted told =
@@ -508,7 +508,7 @@ pub takes_line : (before middle next : Told) (text rest front behind : List ℕ)
 takes_line before middle next text rest front behind up_to cut on =
     takes_further before middle next text rest (front ++ 10 ∷ []) behind up_to (cut_whole rest front behind cut) on
 
--- taking a first part of the rest, and then more of it, takes both of the text
+-- taking a first part of the rest, and then a second part, takes both parts of the text
 pub takes_more : (before middle after : Told) (text rest left : List ℕ) → TakesUpTo before text rest middle → TakesUpTo middle rest left after
     → TakesUpTo before text left after
 takes_more before middle after text rest left up_to more =

@@ -58,7 +58,7 @@ pub no_further : {K : Type 0} (keeps : Keeps K) (limit : ℕ) (initial next : Op
 no_further keeps limit initial next more =
     record { before = more.bytes; piece = more.piece; sound = more.taken.sound; at_once = more.few; read = more.lost }
 
--- what was read to its end is what the source held
+-- a text that was read to the source's end is the text that the source held
 held_all : (initial now : Option (List ℕ)) (text : List ℕ) → Reads initial text now → IsEnd now → Held initial text
 held_all None now text lost end = tt
 held_all (Some told) None text lost end = cc

@@ -26,7 +26,7 @@ parts_ended ended = record {
   notes = ended.keeper.made.notes;
 }
 
--- the file
+-- the file that was read, if the changes themselves were kept
 abbrev pub file_ended : Ended FileSoFar → FileRead
 file_ended ended = file_of_parts (parts_ended ended)
 
@@ -39,7 +39,7 @@ thin_parts_ended ended = record {
   notes = ended.keeper.thinned.made.notes;
 }
 
--- what was kept of the file
+-- what was kept of the file for the place and the day
 abbrev pub thin_ended : {P : Type 0} → Ended (ThinSoFar P) → ThinRead
 thin_ended ended = thin_of_parts ended.keeper.thinned.place ended.keeper.thinned.day ended.keeper.so_far.changes (thin_parts_ended ended)
 

@@ -23,7 +23,7 @@ abbrev pub with_new_first : Lines → Lines
 with_new_first [] = []
 with_new_first (basic ∷ others) = as_new basic ∷ others
 
--- the change of a schedule with these lines, of which the first is as new
+-- the change of a schedule with these lines, whose first has the transaction N already
 abbrev pub change_renewed : Opened → Lines → Change
 change_renewed opened lines = record {
   number = opened.number;
@@ -55,8 +55,8 @@ abbrev pub AddsSingle : {K : Type 0} → Keeps K → K → ℕ → List ℕ → 
 AddsSingle keeps old number line new =
     (lines : Lines) (made : List Change) → keeps old lines made → keeps new lines (made ++ changes_of_record number line [])
 
--- the lines are kept, with the first as new. The changes are kept too, and the places that they
--- name are noted
+-- the lines are kept, with the transaction of the first set to N. The changes are kept too, and the
+-- places that they name are noted
 abbrev pub KeepsAll : FileSoFar → Lines → List Change → Type 0
 KeepsAll kept lines changes = (kept.lines.items ≡ with_new_first lines) × HasMade kept.made changes
 

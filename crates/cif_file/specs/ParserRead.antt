@@ -60,8 +60,8 @@ pub record IsLongNext (limit : ℕ) (records : Lines) (fault : FileFault) : Type
   pub at : IsPlaceOf records place
   pub cause : cause_meant fault.cause ≡ Some (cause_of_long limit (length records) place)
 
--- why a line that isn't a record is refused: the limit is the first cause, then the trailer, then
--- its own
+-- why a line that isn't a record is refused: the limit is the first cause, then the trailer, and
+-- then the line's own cause
 abbrev pub refusal : ℕ → ℕ → law.Place → Option model.FileCause → Option model.FileCause
 refusal limit count place cause = cond (nat_le limit count) (Some too_many) (cond (is_after_end place) (Some after_trailer) cause)
 
@@ -222,7 +222,7 @@ abbrev pub TellsNoFault : (ℕ → List ℕ → Type 0) → List ℕ → Type 0
 TellsNoFault before bytes =
     (limit : ℕ) (text : List ℕ) → before limit text → (fault : model.FileFault) → ¬ IsFaultSoFar limit (text ++ bytes) fault
 
--- the text that was read is a file's, and this is that file
+-- the text that was read is the text of a file, and this is that file
 abbrev pub EndsAs : (ℕ → List ℕ → Type 0) → FileRead → Type 0
 EndsAs read file = (limit : ℕ) (text : List ℕ) → read limit text → IsOfFileText file limit text
 

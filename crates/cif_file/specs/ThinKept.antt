@@ -58,8 +58,8 @@ ThinsOpened place day old opened near renewed new =
     (lines : Lines) → renewed ≡ with_new_first lines → HasLines (progress_meant opened.progress) lines → IsSchedule lines → IsNearBy day lines near
     → Thins place day old (change_opened opened lines) new
 
--- the lines are kept, with the first as new, and so are the changes that the place and the day
--- need. In proofs all changes are known
+-- the lines are kept, with the transaction of the first set to N. So are the changes that the place
+-- and the day need. In proofs all changes are known
 pub record KeepsThin {P : Type 0} (place : List ℕ) (day : ℕ) (keeper : ThinSoFar P) (lines : Lines) (all : List Change) : Type 0 where
   pub lines_are : keeper.open.lines.items ≡ with_new_first lines
   pub near_is : IsNearBy day lines keeper.near

@@ -77,7 +77,7 @@ line_bad format at entries key stamp n is state lines line cause refused good =
     by (Some too_long) r = absurd r
     by (Some bad_horizon) r = absurd r
 
--- if a number of lines is the least of three bounds, it is within each of them
+-- if a number of lines is the least of three bounds, the number is within each of the bounds
 pub lines_within : (more size allowed ahead : ℕ) → more ≡ min (min (size / 80) (allowed / 80)) ahead
     → (more * 80 ≤ size) × (more * 80 ≤ allowed) × (more ≤ ahead)
 lines_within more size allowed ahead is =

@@ -82,7 +82,7 @@ told_at_end format limit text at c other = by (cause_meant c) refl
     by None is told = other (none_is_memory c is)
     by (Some k) is short = inr (inr (inl short))
 
--- a fault returned for a piece is the fault of all texts that begin so
+-- a fault returned for a piece is the fault of all texts that begin with the bytes up to its end
 pub told_as_state : {A : Type 0} (format : Format) (limit : ℕ) (text piece rest : List ℕ) (found told : StateFault) (result : ReadFault)
     → IsFaultTold format limit text piece found → (found.cause ≡ cause.Memory → result ≡ fault.Memory)
     → (found.cause ≢ cause.Memory → result ≡ fault.State found) → ◌≡◌ {A = Result A ReadFault} (Err result) (Err (fault.State told))
@@ -91,7 +91,7 @@ told_as_state format limit text piece rest found told result so_far memory state
     let same = not_memory found told result memory state is in
     subst (IsFaultOf format limit ((text ++ piece) ++ rest)) same.0 (told_so_far format limit text piece rest found.at found.cause same.1 so_far)
 
--- a fault found at the end is returned as the text's, or as out of memory for a complete text
+-- a fault found at the end is returned as the text's fault, or as out of memory for a complete text
 pub ended_for : {A : Type 0} (format : Format) (limit : ℕ) (text : List ℕ) (IsMade : A → Type 0) (found : StateFault) (result : ReadFault)
     → IsUnended format limit text found → (found.cause ≡ cause.Memory → result ≡ fault.Memory)
     → (found.cause ≢ cause.Memory → result ≡ fault.State found)
@@ -190,7 +190,7 @@ refuses_more before after piece (Err told) state memory source = λ terms text h
   apart = λ is. source (ap Err is);
 }
 
--- what was read to the end is what the source held
+-- the text read up to the end of a source is the text that the source held
 held_all : (initial now : Option (List ℕ)) (text : List ℕ) → Reads initial text now → IsEnd now → Held initial text
 held_all None now text lost end = tt
 held_all (Some told) None text lost end = cc
@@ -210,7 +210,7 @@ pub unread : {K : Type 0} (parser : ParserState K) (format : Format) (limit : �
 unread parser format limit text has =
     record { no_fault = has.no_fault; sound = has.sound; format_is = refl; limit_is = refl; text_is = has.text_is }
 
--- what is true of the parser's format and limit is true of the ones it was made for
+-- a property of the parser's format and limit holds for the ones that it was made for
 pub as_asked : {K : Type 0} (parser : ParserState K) (format : Format) (limit : ℕ) (text : List ℕ) (P : Format → ℕ → Type 0) → HasRead parser format limit text
     → P (format_of parser.reading) parser.reading.limit → P format limit
 as_asked parser format limit text P has told = subst (λ n. P format n) has.limit_is (subst (λ f. P f parser.reading.limit) has.format_is told)

@@ -183,8 +183,7 @@ part_read old new bytes is none wide some small fits leads empty reached same ke
         ∙ ap length (sym (items_stay (format_of old) (before_of old) bytes (ap begins_item (sym leads.is) ∙ within.0))
         ∙ ap (items_before (format_of old)) (sym leads.is) ∙ ap (λ f. items_before f (before_of new)) (sym kept))
 
--- if a part that ends with these bytes is bad, or memory ran out for it, its fault is a fault of
--- the text
+-- if a part with these last bytes is bad, or memory ran out for it, its fault is the text's
 pub part_refused : {K : Type 0} (old : StateReading K) (front bytes : List ℕ) (at : ℕ) (cause : Option StateCause) → IsReading old → bytes ≡ old.partial.items ++ front
     → length bytes ≡ width (before_of old)
     → 0 < length front → old.reached + length bytes ≤ old.limit → at ≡ old.item_at → IsBadHere (format_of old) (before_of old) bytes cause
@@ -231,7 +230,7 @@ part_refused old front bytes at cause is split wide some fits same bad = by caus
 
 -- ---- a piece
 
--- a fault returned for part of a piece is the piece's
+-- a fault returned for the first part of a piece is the fault of the piece
 pub told_stays : (format : Format) (limit : ℕ) (text read front behind : List ℕ) (at : ℕ) (cause : Option StateCause)
     → IsToldSoFar format limit (text ++ read) front at cause
     → IsToldSoFar format limit text ((read ++ front) ++ behind) at cause

@@ -7,8 +7,7 @@ use Rattle.clap.specs.Walk.{Row, first_of}
 use Rattle.docker_cmd.specs.Words.{Text, texts}
 use Rattle.docker_cmd.specs.Grammar.{found_words}
 
--- the words of all ids are the words found before id `i`, and then the words of id `i` and the
--- later ids
+-- the words of all ids are the words found before id `i`, and then those from id `i` on
 abbrev pub HasFound : List (Bor Text) → List Row → ℕ → List Text → Type 0
 HasFound ids rows i found = found_words (texts ids) rows ≡ option_map (λ rest. found ++ rest) (found_words (texts (drop i ids)) rows)
 
@@ -20,8 +19,7 @@ none_yet ids rows = by (found_words (texts ids) rows)
     by None = refl
     by (Some words) = refl
 
--- the words that were found, then the word of id `i`, if it has one, and then the words of later
--- ids
+-- the words that were found, then the word of id `i`, if there is one, and then the later words
 abbrev with_word : List (Bor Text) → List Row → ℕ → List Text → Option Text → Option (List Text)
 with_word ids rows i found here = option_map (λ rest. found ++ rest)
     (option_and_then (λ word. option_map (λ words. word ∷ words) (found_words (texts (drop (i + 1) ids)) rows)) here)

@@ -15,8 +15,7 @@ simple = refl
 free : is_simple_and_free docker_app ≡ true
 free = refl
 
--- if `clap` accepts the words, its matches have the subcommand and the rows that the definitions
--- find
+-- if `clap` accepts the words, its matches have the subcommand and rows of the definitions
 pub rows_are : (app : App) (words : List Text) (result : Result ArgMatches Error) → app ≡ docker_app → IfOk result (HasMatchesOf app words)
     → IfOk result (λ m. subcommand_rows_of m ≡ subcommand_of docker_app words)
 rows_are app words result is has =

@@ -43,7 +43,7 @@ Judged words = Takes words ⊎ Refuses words
 
 -- ---- how many words there are
 
--- there are as many words as required, or else a fault for their number
+-- there are as many words as required, or there is a fault for their number
 abbrev IsCounted : List Text → List Text → Type 0
 IsCounted ids words = ((length words ≡ length ids) × (count_fault ids words ≡ []))
     ⊎ ((length words ≡ length ids → ⊥) × (is_empty (count_fault ids words) ≡ false))
@@ -73,13 +73,13 @@ module _ (s : Subcommand) (words : List Text) (plain : list_all is_plain_word wo
       ap found_in (named_rows leaves (leaf_of s) (name_of s) words k.met k.under)
       ∙ ap (found_at (name_of s)) (rows_found (name_of s) (ids_of s) words k.fits k.fresh plain)
 
-  -- if they are as many as required, all of them are found
+  -- if there are as many words as required, all of them are found
   words_at_name : length words ≡ length (ids_of s) → found_at (name_of s) (paired (ids_of s) words) ≡ Some (pair_of s words)
   words_at_name count =
       ap (option_and_then (λ t. option_map (pair_of t) (found_words (ids_of t) (paired (ids_of s) words)))) (named_back s)
       ∙ ap (option_map (pair_of s)) ((known s).found words count)
 
-  -- after a name, the words are judged by their number
+  -- after a name, the words are accepted or refused by their number
   named_judged : Judged (name_of s ∷ words)
   named_judged = elim (counted (ids_of s) words) [
     | inl is ↦ inl (record {
@@ -132,7 +132,7 @@ unnamed_judged word words plain none =
       names_none = λ s behind are. no_name word s none (ap first_word are.whole);
     })
 
--- plain words are judged, whether the first one names one of these subcommands or not
+-- plain words are accepted or refused, whether or not the first one names one of these subcommands
 by_name : (word : Text) (words : List Text) → list_all is_plain_word words ≡ true → (ss : List Subcommand) → (IsNoneOf word ss → Judged (word ∷ words))
     → Judged (word ∷ words)
 by_name word words plain [] unnamed = unnamed tt

@@ -6,7 +6,8 @@ use Rattle.std.proofs.lemmas.List.Elements.{All-from_recursion}
 use Rattle.std.proofs.lemmas.List.Splits.{slice_split_first, slice_split_none}
 use Rattle.docker_cmd.specs.JobLine.{is_space, word_or_none, words_in}
 
--- the words among some pieces: first the first piece, if it is a word
+-- the words among some pieces are the first piece, if it is a word, and then the words among the
+-- others
 first_apart : (piece : List ℕ) (pieces : List (List ℕ))
     → filter (λ word. not (length word == 0)) (piece ∷ pieces) ≡ word_or_none piece ++ filter (λ word. not (length word == 0)) pieces
 first_apart piece pieces = by (length piece == 0)
@@ -16,14 +17,15 @@ first_apart piece pieces = by (length piece == 0)
     by true = refl
     by false = refl
 
--- a line with a space has the piece before it, if that is a word, and then the words after it
+-- the words of a line with a space are the piece before the space, if it is a word, and then the
+-- words after the space
 pub words_at_space : (text : List ℕ) → position_or_len is_space text < length text
     → words_in text ≡ word_or_none (before_first is_space text) ++ words_in (after_first is_space text)
 words_at_space text here =
     ap (filter (λ word. not (length word == 0))) (slice_split_first is_space text 0 here)
     ∙ first_apart (before_first is_space text) (slice_split is_space (after_first is_space text))
 
--- if the first space would come at the end, there is none
+-- if no byte before the end is a space, the line has no space
 no_space : (text : List ℕ) → position_or_len is_space text ≡ length text → AllByRecursion (λ b. is_space b ≡ false) text
 no_space [] none = tt
 no_space (b ∷ text) none = by (is_space b) refl none (no_space text)

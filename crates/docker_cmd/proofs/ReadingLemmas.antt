@@ -157,7 +157,7 @@ state_failed one one_now two two_now office.Sink same counted = counted
 
 -- ---- the sources of a task
 
--- what was read of some sources was read of equal sources
+-- if some sources gave a content, equal sources gave it too
 pub read_at : (asked sources : Sources) (first left second second_left : DeviceBytes) (read : ReadView) → asked ≡ sources
     → ReadsFew (sources_meant sources) first left second second_left
     (IsContentOf (sources_meant sources) first second read × HasReadToEnd (sources_meant sources) left second_left)
@@ -175,7 +175,7 @@ refused_at asked sources first left second second_left fault is reads =
     subst (λ (s : Sources). ReadsFew (sources_meant s) first left second second_left
     (IsWhyRefused (sources_meant s) first left second second_left fault)) (sym is) reads
 
--- sources that aren't empty aren't equal to empty ones
+-- if some sources aren't empty, equal sources aren't empty
 pub some_at : (P : Type 0) (asked sources : Sources) → asked ≡ sources → ¬ HasNoSource (sources_meant sources) → HasNoSource (sources_meant asked) → P
 some_at P asked sources is some none = absurd (some (subst (λ (s : Sources). HasNoSource (sources_meant s)) is none))
 

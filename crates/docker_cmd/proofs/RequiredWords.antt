@@ -133,7 +133,7 @@ surplus_fault [] (word ∷ words) = kind.UnknownArgument ∷ []
 surplus_fault (id ∷ ids) [] = []
 surplus_fault (id ∷ ids) (word ∷ words) = surplus_fault ids words
 
--- there are fewer words than are required
+-- whether there are fewer words than are required
 abbrev is_short : List Text → List Text → Bool
 is_short [] words = false
 is_short (id ∷ ids) [] = true
@@ -228,13 +228,13 @@ missing position (id ∷ ids) (word ∷ words) rows fresh =
 
 -- ---- a whole subcommand
 
--- the faults for the number of words
+-- the faults if the number of words is wrong
 abbrev pub count_fault : List Text → List Text → Kinds
 count_fault ids words = or_else (surplus_fault ids words) (cond (is_short ids words) (kind.MissingRequiredArgument ∷ []) [])
 
 module _ (name : Text) (ids words : List Text) (fits : Fits (leaf name ids).rules 1 ids) (fresh : Fresh [] ids)
     (plain : list_all is_plain_word words ≡ true) where
-  -- what is held at the end of the words
+  -- what the walk holds at the end of the words
   end : Held
   end = (walk (leaf name ids).rules [] nothing_held words).held
 
@@ -243,7 +243,7 @@ module _ (name : Text) (ids words : List Text) (fits : Fits (leaf name ids).rule
   unfolding end
   settles_end = words_held (leaf name ids) 1 ids words nothing_held [] fits fresh (record { rows_are = refl; no_fault = refl }) plain
 
-  -- the matches are the words, each with its id
+  -- the matches are the rows of the words, each with its id
   pub rows_found : rows_after (leaf name ids).rules [] words ≡ paired ids words
   unfolding end
   rows_found = ap (λ rows. fold with_default rows (leaf name ids).rules) settles_end.rows_are ∙ no_defaults 1 ids (paired ids words)

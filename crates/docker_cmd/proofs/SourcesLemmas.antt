@@ -61,7 +61,7 @@ read_one_file files_task first second read is reads = let never : ⊥ = cc in ab
 read_one_file (horizon_task day) first second read is reads = let never : ⊥ = cc in absurd never
 read_one_file migrate_task first second read is reads = let never : ⊥ = cc in absurd never
 
--- `check` is the only task that just checks a file
+-- `check` is the only task whose source is a file that is just checked
 checked : (task : TaskView) → sources_of task ≡ checked_file → task ≡ check_task
 checked new_task is = let never : ⊥ = cc in absurd never
 checked check_task is = refl
@@ -73,8 +73,7 @@ checked files_task is = let never : ⊥ = cc in absurd never
 checked (horizon_task day) is = let never : ⊥ = cc in absurd never
 checked migrate_task is = let never : ⊥ = cc in absurd never
 
--- the state of a task's sources, under the horizon that the task sets, is the state that the task
--- makes
+-- the state of a task's sources, under the horizon that the task sets, is the task's state
 state_of : (task : TaskView) (first second : DeviceBytes) (state : State) → IsStateOf (sources_of task) first second state
     → IsReadOf task first second (under (horizon_of task) (office_read state))
 state_of new_task first second state is = is

@@ -5,7 +5,7 @@ use Rattle.std.specs.List.{flat_map}
 use Rattle.docker_laws.proofs.dockers.ScheduleLines.{number_itself}
 use Rattle.docker_laws.specs.Gathering.{start_days}
 
--- two tests of numbers that imply each other are equal
+-- two tests of numbers are equal if each implies the other
 same_test : (a b c d : ℕ) → (a ≡ b → c ≡ d) → (c ≡ d → a ≡ b) → (a == b) ≡ (c == d)
 same_test a b c d forth back = by (a == b) refl (c == d) refl
   where

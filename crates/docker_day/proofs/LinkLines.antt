@@ -33,7 +33,7 @@ find_mapped f p (x ∷ xs) = by (p (f x)) (find_mapped f p xs)
     by true rest = refl
     by false rest = rest
 
--- the first event of a call is the first that a walk meets there
+-- the first event of a call is the first event that a walk meets there
 pub first_call_is : (lines : List (List ℕ)) (location : List ℕ) (suffix : ℕ)
     → find (is_call location suffix) (occurrences lines) ≡ option_map (occurrence_of lines) (first_event_at lines location suffix)
 first_call_is lines location suffix = find_mapped (occurrence_of lines) (is_call location suffix) (events_of lines)
@@ -85,8 +85,7 @@ module _ (place : List ℕ) (day : ℕ) (view : RowView) where
       ∙ three_parts first (row_back trains links place day view 0) (row_back trains links place day view 1) (row_back trains links place day view 2)
       ∙ ap (λ more. first ++ more) (sym (starts_split (row_piece trains links place day view) day) ∙ row_pieces trains links place day view)
 
-  -- if the lines for each start day are added, one day after the other, all lines of the row are
-  -- added
+  -- if the lines for each start day are added, day after day, all lines of the row are added
   pub three_backs : (live : Table) (first second third last : List DockerLine)
       → Adds live (λ trains links. row_back trains links place day view 0) first second
       → Adds live (λ trains links. row_back trains links place day view 1) second third

@@ -209,8 +209,7 @@ not_recently place day view live first is_live not_so =
     (λ rows are. nothing first (none_recently live rows are place day view is_live not_so).1)
     (λ rows are. nothing first (none_recently live rows are place day view is_live not_so).2)
 
--- a schedule that hasn't begun, or whose days run leave out the three days, doesn't run on any of
--- them
+-- a row that may not run on the three days doesn't run on any of them
 pub row_idle : (key : Key) (body : Body) (day : ℕ) → IsBodyOf key body → row_may_run (view_of key body) day ≡ false
     → row_runs_recently (view_of key body) day ≡ false
 row_idle (schedule_key key) (schedule_body lines) day of never = let idle = idle_recently key lines day of never in (λ i. idle.0 i || idle.1 i || idle.2 i)

@@ -45,8 +45,7 @@ left_again all rest fewer first second = record {
   live = λ live are. second.live live (first.live live are);
 }
 
--- if rows may be passed over, and then more of the rows that are left, all of these may be passed
--- over
+-- if rows may be passed over, and then more of the rows that are left, all of them may be
 pub passed_again : (day : ℕ) (all rest fewer : List Row) → AreLeft all rest → ArePassedOver day all rest → ArePassedOver day rest fewer
     → ArePassedOver day all fewer
 passed_again day all rest fewer left first second = λ place live are_live rows are.
@@ -67,13 +66,13 @@ pub none_after : (day : ℕ) (all rest fewer : List Row) (so_far : Bool) (found 
 none_after day all rest fewer so_far None left before end after none = passed_again day all rest fewer left (before none) (after (λ bad. cc))
 none_after day all rest fewer so_far (Some may) left before end after none = absurd (end may refl)
 
--- a walk that has gone on and goes on again has gone on by the rows of both
+-- two moves of a walk, one after the other, make one move
 pub moved_again : (there again : PlaceDay) (all rest fewer : List Row) (first second third : List DockerLine) → again ≡ there
     → HaveMoved there all rest first second → HaveMoved again rest fewer second third → HaveMoved there all fewer first third
 moved_again there again all rest fewer first second third same one two = λ rows are.
     subst (λ (p : PlaceDay). HaveMoved p rest fewer second third) same two rows are ∙ one rows are
 
--- a walk that has gone on and passes over rows has gone on by those rows too
+-- a move of a walk, and then rows that are passed over, make one move
 pub moved_over : (there again : PlaceDay) (all rest fewer : List Row) (first second : List DockerLine) → again ≡ there
     → AreLive (live_in again.timetable) rest → HaveMoved there all rest first second → ArePassedOver again.day rest fewer
     → HaveMoved there all fewer first second

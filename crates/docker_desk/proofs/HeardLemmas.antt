@@ -24,7 +24,7 @@ one_more : (old first second : List Event) → old ++ first ≡ old ++ second �
 one_more [] first second same = same
 one_more (event ∷ old) first second same = let rest : old ++ first ≡ old ++ second = cc in one_more old first second rest
 
--- the bytes of the last opening
+-- a file that was opened last held only one text
 pub held_once : (name : Text) (old new : List Event) (first second : Reading) → new ≡ old ++ events_of name first → new ≡ old ++ events_of name second
     → first.held ≡ second.held
 held_once name old new first second one two =
@@ -38,7 +38,7 @@ held_after_look name old new first second one two =
 -- ---- a state
 
 module _ (before after : Moment) (known : Known) where
-  -- what was received is what the file held
+  -- the state that was received is the one that the file held
   hears_held : (events : Reading → List Event) (held : Bytes) (holds : HoldsKnown events before after known) → held ≡ holds.read.held
       → JoinsState dks_2 most_bytes held before.desk.state after.desk.state → HearsState events before after known
   hears_held events held holds same joins =
@@ -51,7 +51,7 @@ module _ (before after : Moment) (known : Known) where
         of = known_read most_bytes holds.read.held there.received holds.sent known there.read holds.holds holds.of;
       }
 
-  -- a file that was merged
+  -- after a merge, what is known of the merged file is heard
   pub hears_merged : (other : Text) (text : List ℕ) → Joins other StopsInState EndsReceiving before (done_with text) after
       → HoldsKnown (events_of other) before after known → HearsState (events_of other) before after known
   hears_merged other text does holds = by does.result does.opens.read does.told does.opens.asked does.opens.ends
@@ -64,7 +64,7 @@ module _ (before after : Moment) (known : Known) where
       by (Ok done) None told asked ends = absurd ends
       by (Err fault) read told asked ends = let never : ⊥ = cc in absurd never
 
-  -- a file that was renewed
+  -- after a renewal, what is known of the renewed file is heard
   pub hears_renewed : (setting : Setting) (text : List ℕ) → Renews setting before (done_with text) after
       → HoldsKnown (renewing setting.name) before after known → HearsState (renewing setting.name) before after known
   hears_renewed setting text does holds = by does.result does.opens.read does.told does.opens.asked does.opens.ends
@@ -96,7 +96,7 @@ module _ (before after : Moment) (known : Known) where
 
 -- ---- steps
 
--- a file that was taken
+-- after a file is taken, the file is heard
 takes_heard : (file : Text) (text : List ℕ) (before after : Moment) → Joins file StopsInFile EndsTaking before (done_with text) after
     → (heard : Known) × HearsFile file before after heard
 takes_heard file text before after does = by does.result does.opens.read does.told does.opens.asked does.opens.ends

@@ -35,7 +35,7 @@ use Rattle.docker_desk.specs.Learning.{AreLearned, Hears, HearsFile, HearsState,
 known_with_nothing : (known : Known) → united known nothing ≡ known
 known_with_nothing known = λ i. record { files = append-nil known.files i; horizon = max-zero known.horizon i }
 
--- if nothing was heard and the state is the same, the same is known of it
+-- if nothing was heard and the state is the same, what is known is the same
 nothing_heard : (old heard : Known) (before after : State) → heard ≡ nothing → after ≡ before → IsKnown old before → IsKnown (united old heard) after
 nothing_heard old heard before after none same is =
     subst (λ h. IsKnown (united old h) after) (sym none)
@@ -80,18 +80,18 @@ module _ (setting : Setting) (before after : Moment) where
       (known_joined old (record { files = takes.file ∷ []; horizon = 0 }) before.desk.state takes.own after.desk.state is
       (known_file takes.file takes.own takes.is_text.is takes.is_text.within takes.of_file) takes.joined)
 
-  -- after a state was received
+  -- after a state is received, what was heard of the state is known too
   state_known : (events : Reading → List Event) (old heard : Known) → HearsState events before after heard → IsKnown old before.desk.state
       → IsKnown (united old heard) after.desk.state
   state_known events old heard hears is =
       known_joined old heard before.desk.state hears.joins.received after.desk.state is hears.of hears.joins.join
 
-  -- a saving leaves the state
+  -- a saving doesn't change the state
   pub same_saved : (result : Result ⊤ OfficeFault) → after.desk ≡ desk_by result before.desk → after.desk.state ≡ before.desk.state
   same_saved (Ok done) same = ap (λ (desk : DeskView). desk.state) same
   same_saved (Err fault) same = ap (λ (desk : DeskView). desk.state) same
 
-  -- a request that was refused leaves the state
+  -- a refused request doesn't change the state
   refused_take : (fault : OfficeFault) (result : Result ⊤ OfficeFault) (held : Option Reading) → refused_for fault ≡ answer_of result
       → EndsTaking before.desk.state after.desk.state result held → after.desk.state ≡ before.desk.state
   refused_take fault (Ok done) held told ends = let never : ⊥ = cc in absurd never
@@ -133,7 +133,7 @@ module _ (setting : Setting) (before after : Moment) where
       (known_raised old heard day before.desk.state (days day refl) hears is)
   known_done save_request text old heard days does hears is = nothing_heard old heard _ _ hears (same_saved does.result does.desk) is
 
-  -- a refused request leaves the state
+  -- a request that is refused doesn't change the state
   pub same_refused : (request : RequestView) (fault : OfficeFault) → DoesRequest setting request before (refused_for fault) after
       → after.desk.state ≡ before.desk.state
   same_refused (print_request place day) fault does = ap (λ (m : Moment). m.desk.state) does.1

@@ -17,7 +17,7 @@ use Rattle.docker_desk.specs.Looking.{IsGoodLook}
 use Rattle.docker_desk.specs.Serving.{BeginsAt}
 
 module _ (name : Text) where
-  -- a good look stays good
+  -- a good look is good after further events
   pub good_more : (old new more : List Event) (look : ℕ) → new ≡ old ++ more → IsGoodLook name old look → IsGoodLook name new look
   good_more old new more look grown (inl before) = inl (record {
     earlier = before.earlier;
@@ -37,7 +37,7 @@ module _ (name : Text) where
     number = placing.number;
   })
 
-  -- a look, and then an opening
+  -- a look with an opening after it is good
   good_opened : (old new : List Event) (held left : Bytes) (look : ℕ) → new ≡ old ++ looked name ∷ opened name held ∷ closed left ∷ []
       → look ≡ length old → IsGoodLook name new look
   good_opened old new held left look grown number =
@@ -59,7 +59,7 @@ module _ (name : Text) where
       → IsGoodLook name new look_now
   good_same old new more look look_now grown same good = subst (IsGoodLook name new) (sym same) (good_more old new more look grown good)
 
-  -- after a renewal
+  -- after a renewal the look is good
   good_renewed : (old new : List Event) (read : Option Reading) (result : Result Compared OfficeFault) (own after : DeskView) (look look_now : ℕ)
       → new ≡ old ++ looked name ∷ opening_of name read → EndsRenewing own after result read → look_now ≡ look_by result (length old) look
       → IsGoodLook name old look → IsGoodLook name new look_now
@@ -137,6 +137,6 @@ module _ (setting : Setting) where
       good_steps step.after last steps
       (good_asked step.request step.before step.after step.answer are.1.0.does (good_kept first step.before are.0 good)) are.1.1
 
-  -- at the beginning
+  -- at the beginning of a session the look is good
   pub good_first : (old : List Event) (first : Moment) → BeginsAt setting.name old first → LooksWell first
   good_first old first begins = good_opened setting.name old first.history begins.held begins.left first.look begins.asked begins.look

@@ -23,7 +23,7 @@ one_split (a ∷ line) (b ∷ other) rest last first second same =
     both : (a b : ℕ) (line other : List ℕ) → a ≡ b → line ≡ other → a ∷ line ≡ b ∷ other
     both a b line other head tail = cc
 
--- a text without a line feed can't be split at one
+-- a text without a line feed can't be split at a line feed
 no_split : (text line rest : List ℕ) → IsWithoutFeed text → ¬ (text ≡ line ++ 10 ∷ rest)
 no_split [] [] rest without same = let never : ⊥ = cc in never
 no_split [] (b ∷ line) rest without same = let never : ⊥ = cc in never

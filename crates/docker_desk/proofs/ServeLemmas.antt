@@ -32,7 +32,7 @@ pub tells_first : (first second piece : List ℕ) (old new : FaultsView) → pie
 tells_first first second piece old new one failed part =
     inr (failed, part_of_front old.taken new.taken first second (subst (λ text. TakesPart old.taken text new.taken) one part))
 
--- a session begins with what was read
+-- a session begins with the desk that was read
 pub begins : {T : Type 0} (desk_in : T → DeskView) (name : Text) (old new : List Event) (made : T) (look failures : ℕ)
     → LooksAndOpens name (EndsOpening desk_in (Ok made)) old new → look ≡ length old
     → BeginsAt name old (moment (desk_in made) look new failures)
@@ -44,7 +44,7 @@ begins desk_in name old new made look failures opens same = by opens.read opens.
         record { held = read.held; left = read.left; asked = asked; stops = stops; state = ends.0; saved = ends.1; look = same }
     by None asked stops ends = absurd ends.0
 
--- if a state was read, the folder hasn't failed
+-- if the status is 0, the folder hasn't failed
 pub still : (before after : ℕ) → IsCounted 0 before after → after ≡ before
 still before after counted = counted.1 (λ four. omega arith)
 
@@ -75,7 +75,7 @@ served words names_bytes old new status name may_write first last ending unsaved
       ends = subst (λ (u : Bool). EndsWithStatus ending u status (faults_of old) (faults_of new)) same ends;
     }))
 
--- the same session, with the old view in another form
+-- as `served`, with an equal old view
 pub served_as : (words : List Text) (names_bytes : Bool) (seen old new : HostView) (status : ℕ) (name : Text) (may_write : Bool) (first last : Moment)
     (ending : Ending) (unsaved : Bool) → seen ≡ old
     → NamesSession words name may_write → BeginsAt name seen.history first → first.failures ≡ seen.folder_failures

@@ -118,7 +118,7 @@ module _ (old now : DeviceBytes) (lines : List LineView) where
 pub next_read : (old new : DeviceBytes) (read : Asked) (line : LineView) → asked_meant read ≡ Some line → EndsLine old (Ok read) new → ReadsNext old line new
 next_read old new read line is ends = subst (λ (met : Option LineView). ReadsAsked old met new) is ends
 
--- a line that has more bytes than can be counted
+-- if a line has more bytes than can be counted, at least 2 ^ 64 - 1 bytes were read
 pub next_endless : (old new : DeviceBytes) (fault : InputFault) → fault ≡ Endless → EndsLine old (Err fault) new → ReadsMany (2 ^ 64 - 1) old new
 next_endless old new fault is ends = subst (λ (f : InputFault). EndsLine old (Err f) new) is ends
 
@@ -302,7 +302,7 @@ module _ (setting : Setting) (now next : Moment) (input input_now output output_
       by None end = tt
       by (Some text) end = end
 
-  -- each input begins with no lines
+  -- each input begins with the empty list of lines
   begins_none : (input : DeviceBytes) → BeginsWith input []
   begins_none None = tt
   begins_none (Some text) = (text, refl)

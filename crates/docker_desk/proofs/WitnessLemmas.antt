@@ -110,7 +110,7 @@ answered output state no_request same is takes = absurd is
 
 -- ---- the state
 
--- a shelf on which this text was placed and then opened
+-- a file that is opened holds the text that was placed on the shelf
 held_there : (text name : Text) (held left : Bytes) → name ≡ codes "S"
     → IsShelfHistory (placed (codes "S") (Some text) ∷ looked name ∷ opened name held ∷ closed left ∷ []) → held ≡ Some text
 held_there text name held left same met =
@@ -211,7 +211,7 @@ bytes_answered taken (inr refused) = inr (unsome taken memory_told refused)
     unsome : (one two : List ℕ) → Some one ≡ Some two → one ≡ two
     unsome one two equal = cc
 
--- the same session, with the new view in another form
+-- as `files_answered`, with an equal new view
 pub files_told : (text : List ℕ) (old seen new : HostView) (status : ℕ) (taken : List ℕ) → Serves (codes "S" ∷ []) true old new status → seen ≡ new
     → text ≡ state_text dks_2 no_state → length text ≤ 100 → IsValid no_state → old.history ≡ placed (codes "S") (Some text) ∷ []
     → old.input ≡ Some (codes "files\n") → old.output ≡ Some [] → IsShelfHistory seen.history → status ≡ 0 → seen.output ≡ Some taken

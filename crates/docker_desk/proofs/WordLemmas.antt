@@ -28,7 +28,8 @@ some_word piece some = by (length piece == 0) refl
     by false is = refl
     by true is = let none : length piece ≡ 0 = search (rules, tests) in absurd (omega (arith, some, none))
 
--- the words of a text with a space are the piece before it, if it is a word, and the words after it
+-- the words of a text with a space are the piece before the space, if it is a word, and the words
+-- after the space
 at_space : (text : List ℕ) → position_or_len is_space text < length text
     → words_in text ≡ word_or_none (before_first is_space text) ++ words_in (after_first is_space text)
 at_space text here =

@@ -23,7 +23,7 @@ Keyed = Key × Entry
 pub no_names : AreNames [] []
 no_names uid = (λ among. among, λ among. among)
 
--- at first nothing is kept
+-- before the first entry nothing is kept
 pub walk_first : (place : List ℕ) → IsWalk place [] [] [] false []
 walk_first place = record { has_kept = kept_first place; told = no_names; sorted = inl refl }
 
@@ -40,7 +40,7 @@ names_of_one key entry = by (name_in key entry.op)
     by None = refl
     by (Some name) = refl
 
--- the names, with the name in one more entry, are the names in the entries and this one
+-- if one more entry is kept, the name in it is added to the names
 names_more : (names : List (List ℕ)) (kept : List Keyed) (key : Key) (entry : Entry) → AreNames names kept
     → AreNames (names ++ option_to_list (name_in key entry.op)) (kept ++ (key, entry) ∷ [])
 names_more names kept key entry are uid =

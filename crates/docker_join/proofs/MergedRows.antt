@@ -83,7 +83,7 @@ module _ {E : Type 0} (picked : E → E → E) where
   walk_ascends [] ys up_x up_y = up_y
   walk_ascends (x ∷ xs) ys up_x up_y = from_ascends x xs up_x (λ zs up. walk_ascends xs zs up_x.1 up) ys up_y
 
-  -- what two tables have at a key, joined
+  -- the join of the values that two tables have at a key
   abbrev Both : List (Key × E) → List (Key × E) → model.Key → Option E
   Both xs ys key = picked_value picked (value_at xs key) (value_at ys key)
 

@@ -16,6 +16,6 @@ abbrev pub better : {A : Type 0} → (A → A → Ordering) → Option A → A �
 better cmp None x = Some x
 better cmp (Some b) x = if is_lt (cmp x b) then Some x else Some b
 
--- the best, with one more element
+-- the best after one more element
 abbrev pub with_one_more : {A : Type 0} → (A → A → Ordering) → (A → Bool) → Option A → A → Option A
 with_one_more cmp test found x = if test x then better cmp found x else found

@@ -11,7 +11,7 @@ use Rattle.docker_laws.specs.Best.{IsBest, with_one_more}
 abbrev pub IsChosenSoFar : List ℕ → ℕ → List Row → Option Train → Type 0
 IsChosenSoFar uid day rows found = IsBest (on (λ (train : Train). train.key) schedule_choice_cmp) (is_running uid day) (schedules_in rows) found
 
--- the best schedule, with one more row
+-- the best schedule after one more row
 abbrev pub next_chosen : List ℕ → ℕ → Option Train → Key → Body → Option Train
 next_chosen uid day found (schedule_key key) (schedule_body lines) =
     with_one_more (on (λ (train : Train). train.key) schedule_choice_cmp) (is_running uid day) found (record { key = key; lines = lines })
@@ -21,7 +21,7 @@ next_chosen uid day found _ _ = found
 abbrev pub IsLinkSoFar : Group → ℕ → List Row → Option Link → Type 0
 IsLinkSoFar group day rows found = IsBest (on (λ (link : Link). link.key) association_choice_cmp) (is_linked group day) (associations_in rows) found
 
--- the best association, with one more row
+-- the best association after one more row
 abbrev pub next_link : Group → ℕ → Option Link → Key → Body → Option Link
 next_link group day found (association_key key) (association_body line) =
     with_one_more (on (λ (link : Link). link.key) association_choice_cmp) (is_linked group day) found (record { key = key; line = line })

@@ -1,5 +1,5 @@
--- The events of a schedule, as a walk over its lines meets them. It carries along the falls and the
--- last change en route.
+-- The events of a schedule, as a walk over its lines meets them. The walk carries along the falls
+-- and the last change en route.
 use Rattle.std.specs.Prelude.{ℕ, ◌+◌, nat_lt, if◌then◌else◌, List, [], ◌∷◌, ◌++◌, map, length, filter, Option, Some, None, codes}
 use Rattle.std.specs.List.{enumerate_from, last_or}
 use Rattle.docker_model.specs.file.Journey.{Occasion, times_of}

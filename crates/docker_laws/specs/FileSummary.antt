@@ -8,19 +8,19 @@ use Rattle.docker_model.specs.state.Op.{Entry, key_cmp}
 use Rattle.docker_model.specs.state.State.{State}
 use Rattle.docker_model.specs.state.Summary.{entry_of}
 
--- the list with an entry placed by the order of its key and the first one's. It goes before the
--- first one, is left out if the keys are equal, or goes further back
+-- the list with an entry placed by comparing its key with the first entry's. The entry goes before
+-- the first one, is left out if the keys are equal, or goes further back
 abbrev pub placed : Ordering → Key × Entry → Key × Entry → List (Key × Entry) → List (Key × Entry) → List (Key × Entry)
 placed Less entry first entries rest = entry ∷ first ∷ entries
 placed Equal entry first entries rest = first ∷ entries
 placed Greater entry first entries rest = first ∷ rest
 
--- entries in key order, and one that was made earlier: it is left out if they have one of its key
+-- entries in key order, with one made earlier, which is left out if they have an entry of its key
 abbrev pub with_earlier : Key × Entry → List (Key × Entry) → List (Key × Entry)
 with_earlier entry [] = entry ∷ []
 with_earlier entry (first ∷ entries) = placed (key_cmp entry.0 first.0) entry first entries (with_earlier entry entries)
 
--- of each key the entry that was made last, in key order
+-- the entry of each key that was made last, in key order
 abbrev pub latest_entries : List (Key × Entry) → List (Key × Entry)
 latest_entries [] = []
 latest_entries (entry ∷ entries) = with_earlier entry (latest_entries entries)

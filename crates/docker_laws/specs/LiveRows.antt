@@ -1,4 +1,4 @@
--- A live table as rows. They give the train of a UID on a day, and the chosen association of a
+-- A live table as rows. The rows give the train of a UID on a day, and the chosen association of a
 -- group on a start day of the base train.
 use Rattle.std.specs.Prelude.{◌≡◌, ℕ, List, Some, Contains, Option, None, Bool, ◌&&◌, not, find, ◌==◌, if◌then◌else◌}
 use Rattle.std.specs.List.{filter_map, list_all}

@@ -28,7 +28,7 @@ may_count day op = true
 abbrev pub near_entries : ℕ → List (Key × Entry) → List (Key × Entry)
 near_entries day entries = filter (λ entry. may_count day entry.1.op) entries
 
--- the state with only those entries
+-- the state with only the entries that may count on the day
 abbrev pub near_state : ℕ → State → State
 near_state day state = record { horizon = state.horizon; ledger = state.ledger; entries = near_entries day state.entries }
 

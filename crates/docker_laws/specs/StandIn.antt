@@ -1,5 +1,5 @@
--- A table that stands for another in the docker of one place and one day. Schedules that don't call
--- there may have other lines in it.
+-- A table that stands for another in the docker of one place and one day. It may have other lines
+-- for schedules that don't call there.
 use Rattle.std.specs.Prelude.{◌≡◌, ℕ, ◌⊎◌, true, List, Some, Contains}
 use Rattle.docker_model.specs.records.Record.{columns}
 use Rattle.docker_model.specs.file.Journey.{CallsAt}

@@ -53,17 +53,17 @@ thin_body place day body = if may_count day (put_with body) then Some (body_for 
 abbrev pub thinned : List ℕ → ℕ → Table → Table
 thinned place day live key = if may_matter place key then option_and_then (thin_body place day) (live key) else None
 
--- the act, thin. A put of what may not count becomes a deletion; any other put has the body that
--- the place needs
+-- the thin form of an act. A put that may not count becomes a deletion; any other put has the body
+-- that the place needs
 abbrev pub thin_act : List ℕ → ℕ → Act → Act
 thin_act place day delete = delete
 thin_act place day (put body) = if may_count day (put_with body) then put (body_for place body) else delete
 
--- the change, thin: only its act is another
+-- the thin form of a change: only its act may differ
 abbrev pub thin_change : List ℕ → ℕ → Change → Change
 thin_change place day change = record { number = change.number; key = change.key; act = thin_act place day change.act }
 
--- the changes whose keys may matter at the place, each thin
+-- the changes whose keys may matter at the place, each in its thin form
 abbrev pub thin_changes : List ℕ → ℕ → List Change → List Change
 thin_changes place day changes = map (thin_change place day) (filter (λ (change : Change). may_matter place change.key) changes)
 
@@ -71,13 +71,13 @@ thin_changes place day changes = map (thin_change place day) (filter (λ (change
 abbrev pub table_of : List Change → Table
 table_of changes = fold after_change empty_table changes
 
--- the kept changes are enough for the place and the day: they make the thinned table of what all
--- changes make
+-- the kept changes are enough for the place and the day: they make the thinned table of the table
+-- that all changes make
 abbrev pub AreEnough : List ℕ → ℕ → List Change → List Change → Type 0
 AreEnough place day changes kept = (key : Key) → table_of kept key ≡ thinned place day (table_of changes) key
 
--- these changes may be kept in place of all: they are some of them, each thin, in their order, and
--- they are enough
+-- these changes may be kept in place of all changes. They are the thin forms of some of the
+-- changes, in their order, and they are enough
 pub record IsThinning (place : List ℕ) (day : ℕ) (changes kept : List Change) : Type 0 where
   pub some : IsSublist kept (map (thin_change place day) changes)
   pub enough : AreEnough place day changes kept
@@ -95,7 +95,7 @@ abbrev pub without : Key → List Change → List Change
 without key changes = filter (λ (change : Change). not (is_eq (key_cmp change.key key))) changes
 
 -- the state that some changes of a file make, thin or not. It has the file's ledger item and, for
--- each key, the greatest entry that they make
+-- each key, the greatest entry that the changes make
 pub record IsStateOfChanges (file : List (List ℕ)) (changes : List Change) (state : State) : Type 0 where
   pub horizon : state.horizon ≡ 0
   pub ledger : state.ledger ≡ ledger_item_of file ∷ []

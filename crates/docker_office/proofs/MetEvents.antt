@@ -174,7 +174,7 @@ module _ (known : KnownSets) (held : Holdings) (holds : AreOf known held) where
       holds = unchanged office now after is same;
     }
 
-    -- the take meets its definition, whatever the office returns
+    -- a take meets its definition, whatever the office returns
     pub take_met : (answer : Result Unit OfficeFault) (reply : Reply) → reply ≡ reply_for answer → limit ≤ 4_294_967_294
         → (IsOk answer → TakesFile limit (Some text) (get_or held.offices.items office no_state) now)
         → (IsErr answer → now ≡ get_or held.offices.items office no_state)
@@ -212,7 +212,7 @@ module _ (known : KnownSets) (held : Holdings) (holds : AreOf known held) where
         (after_send dks_2 known held.offices.items (texts_of held.messages.items) holds office (is_office office there)));
   }
 
-  -- if memory runs out, there is no new message
+  -- if memory runs out for a send, there is no new message
   pub send_without_memory : (office : ℕ) → office < length held.offices.items → MeetsEvent known (send_state office) (Refused (Office why.Memory)) held
   send_without_memory office there = record {
     told = tt;
@@ -253,7 +253,7 @@ module _ (known : KnownSets) (held : Holdings) (holds : AreOf known held) where
             no_fault_of_state dks_2 (length text) text reads.0 (record { at = fault.at; cause = cause }) reads.1
             (subst (λ t. states.IsStateFault dks_2 (length text) t (record { at = fault.at; cause = cause })) (sym refuses.held) is)
 
-    -- the message is the text of the state that was read from it
+    -- the message is the text of the state that was read from the message
     read_of : (state : State) → (read : ReadsState dks_2 (length text) (Some text) state)
         → IsStateText dks_2 (length text) (message_text (texts_of held.messages.items) message) state
     read_of state read = subst (λ t. IsStateText dks_2 (length text) t state) (sym read.held ∙ text_is) read.is
@@ -291,7 +291,7 @@ module _ (known : KnownSets) (held : Holdings) (holds : AreOf known held) where
       reload_without_memory : now ≡ get_or held.offices.items office no_state → MeetsEvent known (reload office message) (Refused (Office why.Memory)) after
       reload_without_memory same = record { told = tt; may = no_memory_there; holds = unchanged office now after is same }
 
-      -- the delivery meets its definition, whatever the office returns
+      -- a delivery meets its definition, whatever the office returns
       pub delivery_met : (answer : Result Unit OfficeFault) (reply : Reply) → reply ≡ reply_for answer
           → (IsOk answer → JoinsState dks_2 (length text) (Some text) (get_or held.offices.items office no_state) now)
           → (IsErr answer → now ≡ get_or held.offices.items office no_state)
@@ -312,7 +312,7 @@ module _ (known : KnownSets) (held : Holdings) (holds : AreOf known held) where
           by (Err why.Lapsed) ok stays state source only = absurd only
           by (Err why.Sink) ok stays state source only = absurd only
 
-      -- the reload meets its definition, whatever the office returns
+      -- a reload meets its definition, whatever the office returns
       pub reload_met : (answer : Result Unit OfficeFault) (reply : Reply) → reply ≡ reply_for answer
           → (IsOk answer → ReadsState dks_2 (length text) (Some text) now) → (IsErr answer → now ≡ get_or held.offices.items office no_state)
           → ((fault : StateFault) → answer ≡ Err (why.State fault) → RefusesState dks_2 (length text) (Some text) fault) → ¬ (answer ≡ Err why.Source)

@@ -27,11 +27,11 @@ module _ (offices : ℕ) (events : List RunEvent) (exchange : Exchange) (leaves 
       (length exchange.messages ≡ length (sets_of offices events exchange).messages)
   many = sizes dks_2 (sets_of offices events exchange) exchange.states exchange.messages held
 
-  -- there is one reply for each event
+  -- a run has one reply for each event
   pub one_each : length exchange.replies ≡ length events
   one_each = sym (replies_long (none_known offices) events exchange.replies leaves.run.replies)
 
-  -- each reply is one that its event may have
+  -- each reply of a run is one that its event may have
   pub each_reply : (place : ℕ) → place < length events → IsReplyAt offices events exchange.replies place
   each_reply place low = reply_there (none_known offices) events exchange.replies leaves.run.replies place low
 

@@ -24,7 +24,7 @@ pub record HasRun (offices : ℕ) (events : List RunEvent) (replies : List Reply
   pub holds : AreOf (known_sets offices events (map reply_meant replies)) held
   pub good : All (IsGoodEvent dks_2) events
 
--- the run before its first event
+-- before the first event the run is empty
 pub run_at_first : (offices : ℕ) (held : Holdings) → length held.offices.items ≡ offices → All (IsSummary [] 0) held.offices.items
     → held.messages.items ≡ [] → HasRun offices [] [] held
 run_at_first offices held many each none = record {
@@ -36,7 +36,7 @@ run_at_first offices held many each none = record {
   good = All-nil (IsGoodEvent dks_2);
 }
 
--- the run after one more event
+-- one more event and its reply are added to the run
 pub run_with_one_more : (offices : ℕ) (events : List RunEvent) (replies : List Reply) (held after : Holdings) (event : RunEvent) (reply : Reply)
     → HasRun offices events replies held → IsGoodEvent dks_2 event → ((known : model.KnownSets) → AreOf known held → MeetsEvent known event reply after)
     → HasRun offices (events ++ event ∷ []) (replies ++ reply ∷ []) after
@@ -65,7 +65,7 @@ run_with_one_more offices events replies held after event reply run good meets =
       good = All-push (IsGoodEvent dks_2) events event run.good good;
     }
 
--- the run after its last event
+-- after the last event the run has a reply for each event
 pub run_at_end : (offices : ℕ) (events : List Event) (index : ℕ) (replies : List Reply) (held : Holdings) (exchange : Exchange)
     → HasRun offices (events_meant (take index events)) replies held → length events ≤ index
     → exchange ≡ record { states = held.offices.items; messages = texts_of held.messages.items; replies = map reply_meant replies }

@@ -51,7 +51,7 @@ by_reading asked job (Err office.Memory) read = inr (opened_by asked job (Err of
 by_reading asked job (Err office.Lapsed) read = read.reads.ends
 by_reading asked job (Err office.Sink) read = read.reads.ends
 
--- and so does a fault of opening
+-- if a job's source wasn't opened, the fault means what it should
 by_cause : (asked : Asking) (job : JobView) (cause : OpenFault) → FailsToOpen (names_of job) asked.before asked.now → asked.left ≡ asked.rest
     → ReadsNamed asked job (Err (one_of office.Source office.Memory cause))
 by_cause asked job opening.Failed fails unread = inl (record { fails = fails; unread = unread })

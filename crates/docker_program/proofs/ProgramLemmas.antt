@@ -90,11 +90,11 @@ ends_done words names_bytes before old new shown read job rest prepared same see
       };
     })
 
--- what the host shows once the sink of faults took something
+-- what the host shows after the sink of faults has taken something
 abbrev pub with_faults : HostView → Bytes → ℕ → HostView
 with_faults host faults failures = record host { faults = faults; faults_failures = failures }
 
--- that a job read its sources whole still holds then
+-- a job that has read its sources whole still has after the report of a fault
 read_still : (old new : HostView) (faults : Bytes) (failures : ℕ) (Holds : Written → PreparedView → Type 0) (job : JobView) (rest : Bytes)
     → HasRead old new Holds job rest → HasRead old (with_faults new faults failures) Holds job rest
 read_still old new faults failures Holds job rest has = record { prepared = has.prepared; read = has.read; is = has.is; holds = has.holds }
@@ -113,7 +113,7 @@ unasked_still : (words : List Text) (old new : HostView) (faults : Bytes) (failu
     → IsNotAsked words old new Why → IsNotAsked words old (with_faults new faults failures) Why
 unasked_still words old new faults failures Why is = record { why = is.why; at_most = is.at_most; unasked = is.unasked }
 
--- the ending is reported after all else
+-- an ending is the same after the report of its fault
 ends_still : (words : List Text) (names_bytes : Bool) (old new : HostView) (faults : Bytes) (failures : ℕ) (fault : Fault)
     → EndsBy words names_bytes old new (Some fault) → EndsBy words names_bytes old (with_faults new faults failures) (Some fault)
 ends_still words names_bytes old new faults failures (Job job.Usage) ends = (unasked_still words old new faults failures _ ends.0, ends.1)

@@ -41,7 +41,7 @@ version_held knowns texts bytes number are holds =
     let low : number < length knowns = omega arith in
     (slice_index_or texts number [], holds.held, zip_at (IsKnownText dks_2) knowns texts number nothing [] are low)
 
--- what was stored, or may have been, is known
+-- a text that was stored, or may have been, is the text of what the job knows
 stored_either : (run : Run) (job : JobView) (read : SourcesRead) (text : List ℕ) (known : Known) → Stores run job read text ⊎ MayStore run job read text
     → Knows job.task read.first read.second known → IsKnownText dks_2 known text
 stored_either run job read text known (inl stores) knows = stores_known run job read text known stores knows
@@ -80,7 +80,7 @@ saved_known knowns texts own gains text are is =
     (all_gained knowns texts gains (known_at knowns own) is.first is.last are
     (known_held (known_at knowns own) is.held is.first (version_held knowns texts is.held own are is.holds) is.reads) is.gained) is.text_is
 
--- a version that was made from earlier ones is known
+-- a version made from earlier ones is the text of what is known of it
 made_known : (knowns : List Known) (texts : List (List ℕ)) (origin : Origin) (text : List ℕ) → AreKnown knowns texts → IsMade texts origin text
     → IsKnownText dks_2 (known_by knowns origin) text
 made_known knowns texts begun text are made = by_command new_task nothing text made refl
@@ -101,7 +101,7 @@ made_known knowns texts (raised own day) text are made =
 made_known knowns texts (migrated known) text are made = by_command migrate_task known text made made.held
 made_known knowns texts (saved own gains) text are made = saved_known knowns texts own gains text are made
 
--- each of all versions is the text of what is known of it
+-- the text of each version is the text of what is known of the version
 all_known : (knowns : List Known) (texts : List (List ℕ)) (versions : List Version) → AreKnown knowns texts → AreMade texts versions
     → AreKnown (known_after knowns versions) (texts ++ texts_of versions)
 all_known knowns texts [] are made = subst (AreKnown knowns) (sym (append-nil texts)) are

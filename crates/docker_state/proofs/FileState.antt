@@ -231,7 +231,7 @@ rows_made_by file all made rows made_is in_rows row among =
 pub changes_are : (file : FileRead) (parts : FileParts) → file_of_parts parts ≡ file → map change_meant parts.changes.items ≡ file.changes_made
 changes_are file parts same = ap (λ (f : FileRead). f.changes_made) same
 
--- what was kept of a file has its kept changes
+-- the parts of a thinned file have the file's kept changes
 pub kept_are : (file : ThinRead) (parts : FileParts) → thin_of_parts file.place file.day file.file.changes_made parts ≡ file
     → map change_meant parts.changes.items ≡ file.kept
 kept_are file parts same = ap (λ (f : ThinRead). f.kept) same

@@ -22,7 +22,7 @@ use Rattle.docker_state.specs.Rows.{last_rows}
 abbrev pub by_entry : Key × Entry → Key × Entry → Ordering
 by_entry a b = ordering_then (row_cmp a b) (entry_cmp (entry_meant a.1) (entry_meant b.1))
 
--- no row is above a later one
+-- no row is above a later row
 abbrev pub AreSorted : List (Key × Entry) → Type 0
 AreSorted rows = AllLater (IsAtMost by_entry) rows
 
@@ -38,7 +38,7 @@ later_key a b = by (row_cmp a b) refl
     by Equal is low = inr (is, low)
     by Greater is low = absurd (low refl)
 
--- what holds for all rows holds for the last ones
+-- a property of all rows is a property of the last rows
 pub lasts_all : (P : Key × Entry → Type 0) (rows : List (Key × Entry)) → AllByRecursion P rows → AllByRecursion P (last_rows rows)
 lasts_all P [] all = tt
 lasts_all P (row ∷ []) all = (all.0, tt)

@@ -1,5 +1,5 @@
-//! Tests compare values with these functions, which end the test if they differ. As they are
-//! functions, their assertions are proved only once.
+//! Tests compare values with these functions, which end the test if the values differ. Each
+//! assertion in a function is proved only once.
 
 use std::fmt::Debug;
 use std::process::Abort;

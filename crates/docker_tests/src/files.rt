@@ -9,7 +9,7 @@ pub(crate) type File = &'static [&'static str];
 /// June it then can't count.
 pub(crate) const PUT_AND_REVISED: File = &[HD, BS, LO, LT, BS_FRIDAY, LO_0905, LT_0935, ZZ];
 
-/// The same records, the revision first.
+/// A train that is first revised, so that it runs on Friday 14 June only, and then put.
 pub(crate) const REVISED_AND_PUT: File = &[HD, BS_FRIDAY, LO_0905, LT_0935, BS, LO, LT, ZZ];
 
 /// A train that is put, deleted and put again.
@@ -21,19 +21,19 @@ pub(crate) const PUT_AND_DELETED: File = &[HD, BS, LO, LT, BS_DELETED, ZZ];
 /// One train from Ashfeld to Brayton, on weekdays from 10 to 14 June 2024.
 pub(crate) const MORNING: File = &[HD, BS, LO, LT, ZZ];
 
-/// The same file without its trailer.
+/// The file of the morning train, without its trailer.
 pub(crate) const OPEN: File = &[HD, BS, LO, LT];
 
-/// The same train, in a record with the transaction `R`.
+/// The morning train, in a record with the transaction `R`.
 pub(crate) const REVISED: File = &[HD, BS_REVISED, LO, LT, ZZ];
 
-/// The same train, leaving in the evening.
+/// The train from Ashfeld to Brayton, leaving in the evening.
 pub(crate) const EVENING: File = &[HD, BS, LO_2355, LT_0005, ZZ];
 
-/// The same train, in a full extract.
+/// The morning train, in a full extract.
 pub(crate) const FULL: File = &[HD_FULL, BS, LO, LT, ZZ];
 
-/// A revision of that train, a day later.
+/// A revision of the morning train, a day later.
 pub(crate) const REVISION: File = &[HD_10B, BS_REVISED, LO_0905, LT_0935, ZZ];
 
 /// An update of 5 June: it deletes C10003 and puts C10001.
@@ -45,19 +45,19 @@ pub(crate) const SEVENTH: File = &[HD_7B, BS_C10002, LO_1000, LT_1030, ZZ];
 /// An update of 9 June, in which C10001 runs two hours later.
 pub(crate) const NINTH: File = &[HD_9C, BS, LO_1100, LT_1130, ZZ];
 
-/// That update without its trailer.
+/// The update of 9 June, without its trailer.
 pub(crate) const NINTH_OPEN: File = &[HD_9C, BS, LO_1100, LT_1130];
 
 /// A file that deletes C10001.
 pub(crate) const DELETION: File = &[HD_9B, BS_DELETED, ZZ];
 
-/// C10001, in a file of the day before that deletion.
+/// C10001, in a file of the day before its deletion.
 pub(crate) const EIGHTH: File = &[HD_8A, BS, LO, LT, ZZ];
 
 /// A timing point.
 pub(crate) const PLACE: File = &[HD, TI, ZZ];
 
-/// A new code for that timing point, a day later.
+/// A new code for the timing point, a day later.
 pub(crate) const RENAMED: File = &[HD_10B, TA, ZZ];
 
 /// A file of a train with an overlay on two days and a cancellation on a third, and of these
@@ -82,7 +82,7 @@ macro_rules! week {
 /// A train with an overlay on two days and a cancellation on a third.
 pub(crate) const WEEK: File = week!();
 
-/// The same train, and a further schedule of it for the weekend.
+/// A train with an overlay and a cancellation, and a further schedule of it for the weekend.
 pub(crate) const WEEKEND: File = week!(BS_WEEKEND, LO_0910, LT);
 
 /// A train that passes midnight, calls at Colwell and passes Dunmere.
@@ -167,28 +167,28 @@ macro_rules! two_trains {
 /// A train to Colwell, whose next working there starts on the next day.
 pub(crate) const NEXT_DAY: File = two_trains!(BS_C40001, AA_N);
 
-/// The same trains, but the next working starts on the same day.
+/// A train to Colwell, whose next working there starts on the same day.
 pub(crate) const SAME_DAY: File = two_trains!(BS_C40001, AA_S);
 
-/// The same trains, with a space as the date indicator.
+/// A train to Colwell and its next working, with a space as the date indicator.
 pub(crate) const NO_INDICATOR: File = two_trains!(BS_C40001, AA_BLANK);
 
-/// The same trains, but the next working starts a day earlier.
+/// A train to Colwell, whose next working there starts a day earlier.
 pub(crate) const DAY_BEFORE: File = two_trains!(BS_C40001, AA_P);
 
-/// The same trains, with an unknown date indicator.
+/// A train to Colwell and its next working, with an unknown date indicator.
 pub(crate) const UNKNOWN_INDICATOR: File = two_trains!(BS_C40001, AA_X);
 
-/// The same trains, with an unknown category.
+/// A train to Colwell and its next working, with an unknown category.
 pub(crate) const UNKNOWN_CATEGORY: File = two_trains!(BS_C40001, AA_OTHER);
 
-/// The same trains, on the last day of the calendar.
+/// A train to Colwell and its next working, on the last day of the calendar.
 pub(crate) const LAST_DAY: File = two_trains!(BS_C40001_LAST, AA_LAST);
 
-/// The same trains, with the next working cancelled.
+/// A train to Colwell, whose next working is cancelled.
 pub(crate) const PARTNER_CANCELLED: File = two_trains!(BS_C40001, AA_N, BS_C40002_CANCELLED);
 
-/// The same trains, with the first train cancelled.
+/// A train to Colwell that is cancelled, and its next working.
 pub(crate) const BASE_CANCELLED: File = two_trains!(BS_C40001, AA_N, BS_C40001_CANCELLED);
 
 /// The morning train, and its deletion in the same file.

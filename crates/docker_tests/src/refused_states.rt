@@ -254,7 +254,7 @@ const CUT: &[(usize, u64)] = &[
     (310, 41),
 ];
 
-/// Like `CUT`, for the older format.
+/// As in `CUT`, for the older format.
 const OLD_CUT: &[(usize, u64)] = &[
     (0, 0),
     (3, 0),

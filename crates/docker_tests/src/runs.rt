@@ -147,7 +147,7 @@ fn three_left(rt: &impl Abort, alloc: Global) -> Exchange {
     left_by(rt, alloc, 3, events)
 }
 
-/// The replies to the last three events of that run.
+/// The replies to the last three events of the run of three offices.
 const LAST_REPLIES: &[Reply] = &[
     Reply::Refused(RunFault::NoOffice),
     Reply::Refused(RunFault::NoMessage),

@@ -29,8 +29,8 @@ pub(crate) const ITEM: &str = "\x5b\u{f0}\x04\u{ec}DFROC1AUDFROC1Z";
 
 const ITEM_FULL: &str = "\x5b\u{f0}\x04\u{ec}DFROC1AFDFROC1Z";
 
-/// The ledger items of other files, named by their days in June and the last letters of their
-/// references.
+/// The ledger items of other files. Their names have the day in June and the last letter of the
+/// reference.
 const ITEM_10B: &str = "\x5b\u{f1}\x04\u{ec}DFROC1BUDFROC1A";
 
 pub(crate) const ITEM_5A: &str = "\x5b\u{ec}\x04\u{ec}DFROC1AUDFROC1Z";

@@ -1,5 +1,5 @@
--- A UID and a day have one answer. The file from which it comes, and the trains of a docker as
--- answers.
+-- A UID and a day have one answer. Also the file from which an answer comes, and the trains of a
+-- docker as answers.
 use Rattle.std.proofs.Common.{◌≡◌, ℕ, ◌+◌, ◌<◌, ◌≤◌, List, Bool, true, false, cond, refl, ap, sym, ◌∙◌, subst, inl, inr, ◌⊎◌, Some, None, Contains, arith}
 use Rattle.std.specs.Prelude.{Option, option_map, IsTrue, ◌&&◌, nat_le, nat_lt}
 use Rattle.std.proofs.lemmas.Bool.{cases_lt, leb-true}

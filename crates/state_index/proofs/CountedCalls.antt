@@ -50,7 +50,7 @@ as_many_rows rows (spot ∷ piece) seen =
     by None told rest = absurd (none_some told.0 told.1)
     by (Some row) told rest = ap suc rest
 
--- a place's piece of spots names as many live schedules as call there
+-- the piece of spots of a place names as many live schedules as call there
 counted_there : (state : State) → AreAscending state.entries → (spots : List Spot) → AreSpotsOf call_places state.entries spots
     → (place : List ℕ) (piece : List Spot) → IsPieceAt place spots piece → IsCallingCount (live_table state) place (length piece)
 counted_there state up spots of place piece is =

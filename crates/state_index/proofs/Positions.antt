@@ -29,7 +29,7 @@ module _ {A : Type 0} where
   at_member (y ∷ ys) zero x is = subst (Contains (y ∷ ys)) (some_is y x is) (cons-Contains-first y ys)
   at_member (y ∷ ys) (suc i) x is = cons-Contains y ys x (at_member ys i x is)
 
-  -- each member has an index
+  -- each member of a list has an index
   pub member_at : (xs : List A) (x : A) → Contains xs x → (i : ℕ) × (slice_get xs i ≡ Some x)
   member_at [] x among = absurd (nil-Contains x among)
   member_at (y ∷ ys) x among = by (member_at ys x) (Contains-cons y ys x among)

@@ -90,7 +90,7 @@ calling_keys index place = map (λ (r : CallingRow). schedule_key r.1) (filter (
 abbrev pub linked_keys : List LinkedRow → List ℕ → List Key
 linked_keys index place = map (λ (r : LinkedRow). association_key r.1) (filter (λ (r : LinkedRow). bytes_eq r.0 place) index)
 
--- at each key the third table has what one of the first two has there, or nothing
+-- at each key the third table has the body of one of the first two tables, or none
 abbrev pub IsFromEither : Table → Table → Table → Type 0
 IsFromEither one two live = (key : Key) → (live key ≡ one key) ⊎ (live key ≡ two key) ⊎ (live key ≡ None)
 

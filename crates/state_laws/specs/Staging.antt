@@ -18,12 +18,12 @@ pub record IsToStage (own : State) (floor : Option FileStamp) (key : Key) (entry
   pub kept : IsKept floor entry.stamp.file
   pub greater : (other : Entry) → Contains own.entries (key, other) → IsBelow entry_cmp other entry
 
--- the entry is greater than this one, or there is none
+-- the entry is greater than this other one, if there is one
 abbrev pub IsGreaterThan : Option Entry → Entry → Type 0
 IsGreaterThan None entry = ⊤
 IsGreaterThan (Some mine) entry = IsBelow entry_cmp mine entry
 
--- what is staged of the offered entries: those that are to be staged, in key order
+-- the staged entries: the offered entries that are to be staged, in key order
 pub record IsStaged (own : State) (floor : Option FileStamp) (offered staged : List (Key × Entry)) : Type 0 where
   pub ascending : AreAscending staged
   pub members : (key : Key) (entry : Entry) → Contains staged (key, entry) ↔ (Contains offered (key, entry) × IsToStage own floor key entry)

@@ -39,7 +39,7 @@ one_rows live rows others one two =
       λ among. (one.members row.0 row.1).1 ((two.members row.0 row.1).0 among),
     ))
 
--- a list that has a place passes the test for it
+-- a list that has a place passes the test for that place
 has_place : (place : List ℕ) (places : List (List ℕ)) → Contains places place → list_any (bytes_eq place) places ≡ true
 has_place place [] among = absurd (nil-Contains place among)
 has_place place (other ∷ places) among = by (has_place place places) (Contains-cons other places place among)

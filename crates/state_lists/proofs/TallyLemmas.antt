@@ -171,7 +171,7 @@ count_few tag i rows =
     let front = length-take i rows in
     omega arith
 
--- no count of the rows so far is above the number of rows
+-- if there are fewer than 2^63 rows, each count of the rows so far is below 2^63
 pub are_few : (i : ℕ) (rows : List (Kept × Held)) (tally : Tally) → IsTallyOf (live_up_to i rows) tally → length rows < 2 ^ 63 → AreFew tally
 are_few i rows tally is short = record {
   schedules = (let most = count_few 3 i rows in let told = is.schedules in omega arith);

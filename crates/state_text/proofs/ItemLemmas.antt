@@ -58,7 +58,7 @@ item_told bytes day minute reference indicator last size d m r i l is_day is_min
       last_reference = (ap length l ∙ range_length bytes 12 7 (omega arith), last_text);
     }
 
--- an item above the last item of a ledger is above all its items
+-- an item above the last item of a ledger is above all the ledger's items
 pub items_above : {A : Type 0} (item : A → LedgerItem) (items : List A) (last : A) (next : LedgerItem) (test : Bool) → IsLedger (map item items)
     → slice_get items (length items - 1) ≡ Some last → test ≡ is_lt (ledger_item_cmp (item last) next) → IsTrue test ↔ IsAboveItems (map item items) next
 items_above item items last next test is at tested =

@@ -25,7 +25,7 @@ same_key first second test tested = (
   (λ same. tested ∙ ap is_eq (subst (λ k. key_cmp first k ≡ Equal) same (tied_itself key_total first))),
 )
 
--- a key above the last entry's key is above all entries' keys
+-- a key above the key of the last entry is above the keys of all entries
 pub keys_above : (state : State) (last key : Key) (test : Bool) → AreAscending state.entries → Some last ≡ last_key state.entries
     → test ≡ is_lt (key_cmp last key)
     → IsTrue test ↔ IsAboveEntries state key

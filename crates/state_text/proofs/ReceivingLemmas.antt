@@ -1,4 +1,4 @@
--- The entries staged of those given. Their commit is the join.
+-- The entries that are staged of the given entries. Their commit is the join.
 use Rattle.std.proofs.Common.{◌≡◌, ℕ, ◌-◌, List, [], ◌∷◌, ◌++◌, length, refl, ap, sym, ◌∙◌, subst, inl, inr, arith, length-append, All, Some, None}
 use Rattle.std.specs.Prelude.{Option, slice_get}
 use Rattle.docker_model.specs.file.Change.{Key}

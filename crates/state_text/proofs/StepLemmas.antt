@@ -24,7 +24,7 @@ item_follows ledger told item meant same is equal may =
     let here = subst (λ l. MayFollow l meant) same (subst (MayFollow told) (sym equal) may) in
     one_item_more ledger meant is here.good here.above here.keeps_floor
 
--- after the last line there are at least as many lines as their number says
+-- after the last line there are at least as many lines as the entry's number of lines says
 pub taken_all : (lines : List (List ℕ)) (line : List ℕ) (taken : List (List ℕ)) (n : ℕ) → taken ≡ lines ++ line ∷ [] → n ≤ length lines + 1 → n ≤ length taken
 taken_all lines line taken n is last =
     let size = length-append lines (line ∷ []) in

@@ -154,8 +154,7 @@ next_link_is_none group day found (schedule_key key) body none = refl
 abbrev row_of : Train → Row
 row_of train = (schedule_key train.key, schedule_body train.lines)
 
--- rows that have each schedule of a UID still have each of them after one more live row is put
--- first
+-- rows that have each schedule of a UID still have them if one more live row comes first
 has_in_front : (live : Table) (train : Train) (rows : List Row) → IsLiveTrain live train → HasSchedulesOf live train.key.uid rows
     → HasSchedulesOf live train.key.uid (row_of train ∷ rows)
 has_in_front live train rows is_live has = record {

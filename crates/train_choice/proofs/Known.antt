@@ -103,7 +103,7 @@ module _ (day : ℕ) (link : Link) where
       by found true = λ i. cond (sym idle i) (better by_key found link) found
       by found false = refl
 
-  -- an association that isn't better than its group's best changes nothing
+  -- an association that isn't better than the best of its group changes nothing
   pub better_there : (before : GroupLinks) → is_better by_key link (get group_cmp before (group_of link.key)) ≡ false → HasOneMore day before link before
   better_there before is = λ group. by group (is_of_group group link.key) refl
     where

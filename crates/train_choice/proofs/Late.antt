@@ -1,5 +1,5 @@
--- Before some event of a schedule a midnight is passed if and only if some time is below the one
--- before.
+-- A train passes midnight before some event if and only if some time of its schedule is below the
+-- time before.
 use Rattle.std.proofs.Common.{◌≡◌, ℕ, ◌+◌, ◌==◌, ◌<◌, Bool, true, false, cond, List, [], ◌∷◌, ◌++◌, refl, sym, ◌∙◌, subst, Some, None, All, arith}
 use Rattle.std.specs.Prelude.{Option, ◌||◌, not, nat_lt}
 use Rattle.std.proofs.lemmas.Bool.{ltb-true}

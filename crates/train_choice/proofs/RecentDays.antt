@@ -23,7 +23,7 @@ same_recent_runs test other recent same are = record {
   two_before_is = are.two_before_is ∙ same 2;
 }
 
--- a schedule that begins after a day doesn't run on it or before it
+-- a schedule that begins after a day doesn't run on that day or before it
 pub never_yet : (key : ScheduleKey) (lines : List (List ℕ)) (day : ℕ) → IsScheduleOf key lines → day < key.runs_from
     → (back : ℕ) → false ≡ runs_back lines day back
 never_yet key lines day of late back =

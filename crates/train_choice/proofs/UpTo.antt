@@ -38,7 +38,7 @@ all_before P place [] good = tt
 all_before P place (line ∷ lines) good =
     good_before P (names_place place line) line (up_to_last place lines) good.0 (all_before P place lines good.1)
 
--- what is true of each line is true of each line up to the last one at a place
+-- a property of all lines is a property of the lines up to the last one at a place
 pub all_up_to : (P : List ℕ → Type 0) (place : List ℕ) (lines : List (List ℕ)) → All P lines → All P (up_to_last place lines)
 all_up_to P place lines good =
     All-from_recursion P (up_to_last place lines) (all_before P place lines (recursion_from_All P lines good))

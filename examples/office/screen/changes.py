@@ -144,18 +144,13 @@ def differs(line, was):
 
 
 def departures_of(docker, origin):
-    """When each UID departs that starts at a place, by the text of the place's docker, in half minutes."""
-    found, arrived = {}, set()
-    for row in docker.decode("ascii").split("\n")[1:-2]:
-        if row[6] in "AD":
-            line = lines.line_of(row)
-            if line.kind == "A":
-                arrived.add(line.uid)
-            elif line.uid in arrived:
-                # It comes back to where it started.
-                arrived.remove(line.uid)
-            elif line.origin == origin:
-                found.setdefault(line.uid, line.half_minutes)
+    """When each UID departs that starts at a place, by the text of the place's docker, in half minutes. A train that comes back there has another suffix then."""
+    found = {}
+    events = [lines.line_of(row) for row in docker.decode("ascii").split("\n")[1:-2] if row[6] in "AD"]
+    arrives = {(line.uid, line.suffix) for line in events if line.kind == "A"}
+    for line in events:
+        if line.kind == "D" and line.origin == origin and (line.uid, line.suffix) not in arrives:
+            found.setdefault(line.uid, line.half_minutes)
     return found
 
 

@@ -72,7 +72,9 @@ def cutter(*tables):
     return operator.itemgetter(*(slice(first - 1, last) for columns in tables for first, last in columns.values()))
 
 
-HEADING_FIELDS, EVENT_FIELDS, LINK_FIELDS = cutter(HEADING), cutter(COLUMNS, ENDS), cutter(COLUMNS, PARTNER)
+HEADING_FIELDS = cutter(HEADING)
+EVENT_FIELDS = cutter(COLUMNS, ENDS)
+LINK_FIELDS = cutter(COLUMNS, PARTNER)
 
 
 def line_of(text):

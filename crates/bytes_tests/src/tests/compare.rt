@@ -1,5 +1,5 @@
-//! Tests compare values with these functions, which end the test if they differ. An assertion in
-//! its own function is proved once for all rows.
+//! Tests compare values with these functions, which end the test if the values differ. An assertion
+//! in its own function is proved once for all rows.
 use std::fmt::Debug;
 use std::process::Abort;
 

@@ -45,7 +45,7 @@ pub record IsWithin (stage : Stage) (lines records : Lines) : Type 0 where
   pub between : IsBetween before
   pub front : IsFront stage lines
 
--- what a place says about the records that lead to it
+-- what a place means for the records that lead there
 abbrev pub IsAt : Place → Lines → Type 0
 IsAt before_header records = records ≡ []
 IsAt between_units records = IsBetween records

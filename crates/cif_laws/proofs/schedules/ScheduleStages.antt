@@ -123,7 +123,7 @@ midnights_of_journey basic extra journey kind details =
 pub no_extra_fields : (line : List ℕ) → HasKind extra_details line → HasGoodFields line
 no_extra_fields line kind = fields_good extra_details line kind tt
 
--- the next line has good fields, and with it the schedule passes midnight at most twice
+-- the next line has good fields, and the lines up to and including it pass midnight at most twice
 pub record IsSoundNext (lines : Lines) (line : List ℕ) : Type 0 where
   pub fields : HasGoodFields line
   pub falls : midnights (lines ++ line ∷ []) ≤ 2

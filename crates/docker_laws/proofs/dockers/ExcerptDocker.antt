@@ -150,7 +150,7 @@ module _ (place : List ℕ) (live part : Table) (is : IsExcerpt place live part)
       by (inl same) = same
       by (inr none) = absurd (none.1 needed)
 
-  -- whatever the excerpt has, the table has
+  -- a body in the excerpt is in the table, at the same key
   pub was_there : (key : Key) (body : Body) → part key ≡ Some body → live key ≡ Some body
   was_there key body there = by (is key)
     where

@@ -45,7 +45,7 @@ pub kept_from_there : (place : List ℕ) (front rest : List Keyed)
     → kept_from place (kept_so_far place front) rest ≡ kept_after_run place (kept_so_far place (front ++ rest))
 kept_from_there place front rest = ap (kept_after_run place) (sym (fold_more (next_kept place) nothing_kept front rest))
 
--- what holds at the start, and stays true with each entry, holds throughout
+-- a fact that holds at the start, and stays true with each entry, holds throughout
 module _ (place : List ℕ) (P : List Keyed → ExcerptSoFar → Type 0)
     (step : (done : List Keyed) (so_far : ExcerptSoFar) (x : Keyed) → P done so_far → P (done ++ x ∷ []) (next_kept place so_far x)) where
   onward : (rest done : List Keyed) (so_far : ExcerptSoFar) → P done so_far → P (done ++ rest) (fold (next_kept place) so_far rest)
@@ -330,8 +330,8 @@ named_iff names key entry others = (
   λ among. any_forth (λ name. bytes_eq key.uid name) names key.uid among ((bytes_eq-Decides key.uid key.uid).1 refl),
 )
 
--- a run is needed if and only if a kept association names its UID or a live schedule of it calls at
--- the place
+-- a run is needed if and only if a kept association names its UID or a live schedule of the run
+-- calls at the place
 pub run_needed_iff : (place : List ℕ) (so_far : ExcerptSoFar) (key : ScheduleKey) (entry : Entry) (others : List Keyed)
     → so_far.run ≡ (schedule_key key, entry) ∷ others
     → (is_run_needed place so_far ≡ true)
@@ -356,7 +356,7 @@ run_needed_iff place so_far key entry others is =
         or_right (is_run_named (names_in so_far.kept) so_far.run) (is_run_calling place so_far.run)
         (any_forth (λ (e : Keyed). is_call place e.1.op) so_far.run call.0 call.1 call.2)
 
--- a test, or false, is the test
+-- joining a test with false by `or` leaves the test as it is
 pub or_false : (b : Bool) → (b || false) ≡ b
 or_false true = refl
 or_false false = refl

@@ -50,7 +50,7 @@ falls_below lines number =
     subst (λ times. falls_to lines number ≤ fall_count times) (take-append-drop number (times_along lines))
     (fewer_falls (take number (times_along lines)) (drop number (times_along lines)))
 
--- a train with an event on a day started at most two days before it
+-- a train with an event on a day started at most two days before that day
 pub starts_near : (start : ℕ) (lines : List (List ℕ)) (event : Event) (day : ℕ) → midnights lines ≤ 2 → event_day start lines event ≡ day → day ≤ start + 2
 starts_near start lines event day few today =
     let falls = falls_below lines event.number in

@@ -42,7 +42,7 @@ IsLineFrom live place day key start line =
     ((schedule : ScheduleKey) × (schedule_key schedule ≡ key) × IsOfSchedule live place day schedule start line)
     ⊎ ((association : AssociationKey) × (association_key association ≡ key) × IsOfAssociation live place day association start line)
 
--- such a line of a schedule or an association is a line of the docker
+-- a line as `IsLineFrom` describes it is a line of the docker
 from_is : (live : Table) (place : List ℕ) (day : ℕ) (key : Key) (start : ℕ) (line : DockerLine) → IsLineFrom live place day key start line
     → IsDockerLine live place day line
 from_is live place day key start line (inl (schedule, same, of)) = inl of.made

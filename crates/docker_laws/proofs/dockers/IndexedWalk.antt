@@ -48,7 +48,7 @@ module _ (live : Table) (place : List ℕ) (linked calling : List Row) (are_link
         ((are_linked.members (association_key key) (association_body line)).1 (key, line, refl, refl, record { is_live = is; here = here }));
   }
 
--- the lines that these rows give, sorted, are the docker list
+-- the lines that the rows of both indexes give, sorted, are the docker list
 pub indexed_docker : (live : Table) (place : List ℕ) (day : ℕ) (rows linked calling : List Row) (lines : List DockerLine) → HasGoodBodies live
     → AreRowsOf live rows
     → AreLinked live place linked → AreCalling live place calling

@@ -71,7 +71,7 @@ partner_before indicator start day is = by (indicator == 78) (indicator == 80) i
     by false true told = earlier (nat_lt 0 start) told
     by false false some = let same : start ≡ day = cc in omega arith
 
--- a train with an event on the day starts on it or on one of the two days before
+-- a train with an event on the day starts on that day or on one of the two days before
 pub started : (day start : ℕ) (lines : List (List ℕ)) (event : Event) → midnights lines ≤ 2 → event_day start lines event ≡ day
     → (start ≤ day) × (day ≤ start + 2)
 started day start lines event few today =
@@ -173,7 +173,7 @@ list_over one other place day forth back lines is = record {
 
 -- ---- a table and the part of it that may count
 
--- the key is left out: at it the table has a schedule that runs on no start day near the day
+-- the key is left out: the table has there a schedule that runs on no start day near the day
 abbrev pub IsLeftOut : ℕ → Table → Key → Type 0
 IsLeftOut day live key = (lines : List (List ℕ)) × (live key ≡ Some (schedule_body lines)) × (runs_near day (first_record lines) ≡ false)
 
@@ -183,7 +183,7 @@ abbrev pub IsNearPart : ℕ → Table → Table → Type 0
 IsNearPart day live part = (key : Key) → (part key ≡ live key) ⊎ ((part key ≡ None) × IsLeftOut day live key)
 
 module _ (day : ℕ) (live part : Table) (is : IsNearPart day live part) where
-  -- whatever the part has, the table has
+  -- a body in the part is in the table, at the same key
   was_there : (key : Key) (body : Body) → part key ≡ Some body → live key ≡ Some body
   was_there key body there = by (is key)
     where

@@ -1,5 +1,5 @@
 -- A valid state with only what may count near a day is valid, and gives the same dockers on that
--- day. So does its excerpt for a place.
+-- day. The same holds for its excerpt for a place.
 use Rattle.std.proofs.Common.{◌≡◌, ℕ, List, [], ◌∷◌, ◌++◌, inl, inr, ◌⊎◌, refl, ap, sym, ◌∙◌, Bool, true, false, cond, None, Contains, append-nil}
 use Rattle.std.specs.Prelude.{◌↔◌, filter}
 use Rattle.std.proofs.lemmas.List.Elements.{filter-append}

@@ -52,7 +52,7 @@ after_here table change key h = λ i. cond (h i) (left_by change.act) (table key
 after_there : (table : Table) (change : Change) (key : Key) → is_of key change ≡ false → after_change table change key ≡ table key
 after_there table change key h = λ i. cond (h i) (left_by change.act) (table key)
 
--- if two tables have the same at a key, so have the thinned tables
+-- if two tables have the same body at a key, so have the thinned tables
 left_at : (place : List ℕ) (day : ℕ) (one other : Table) (key : Key) → one key ≡ other key → thinned place day one key ≡ thinned place day other key
 left_at place day one other key same = λ i. cond (may_matter place key) (option_and_then (thin_body place day) (same i)) None
 

@@ -38,8 +38,8 @@ runs line day = runs_by_kind (kind_of line) line day
 abbrev pub IsCancellation : ℕ → Type 0
 IsCancellation indicator = indicator ≡ 67
 
--- the order of choice, by STP indicator and first date. The lower indicator comes first, C before N
--- before O before P; of two that are equal, the later first date
+-- the order of choice, by STP indicator and first date. The lower indicator comes first: C, N, O,
+-- P. If the indicators are equal, the later first date comes first
 abbrev pub choice_cmp : ℕ → ℕ → ℕ → ℕ → Ordering
 choice_cmp indicator first other_indicator other_first = ordering_then (nat_cmp indicator other_indicator) (nat_cmp other_first first)
 

@@ -42,7 +42,7 @@ is_transaction field = (slice_index field 0 == 78) || (slice_index field 0 == 68
 abbrev pub is_stp_letter : ℕ → Bool
 is_stp_letter b = (b == 80) || (b == 78) || (b == 79) || (b == 67)
 
--- one of P, N, O and C
+-- the letter is P, N, O or C
 abbrev pub IsStpLetter : ℕ → Type 0
 IsStpLetter letter = IsTrue (is_stp_letter letter)
 

@@ -16,7 +16,7 @@ HaveSameFiles first second = (file : List (List ℕ)) → Contains first file �
 abbrev pub AreOneKnowledge : Known → Known → Type 0
 AreOneKnowledge first second = HaveSameFiles first.files second.files × (first.horizon ≡ second.horizon)
 
--- each is a CIF file of at most 4,294,967,294 records
+-- each of the files is a CIF file of at most 4,294,967,294 records
 abbrev pub AreFiles : Files → Type 0
 AreFiles files = All IsFile files × All (λ file. length file ≤ most_records) files
 

@@ -7,7 +7,7 @@ use Rattle.docker_model.specs.state.State.{State}
 use Rattle.docker_model.specs.state.Summary.{IsSummary}
 use Rattle.docker_model.specs.state.StateText.{Format, state_text}
 
--- an event of a run. A message that is lost is one that no event delivers
+-- an event of a run. A message is lost if no event delivers it
 pub data RunEvent : Type 0 where
   take_file : (office : ℕ) (text : List ℕ) (limit : ℕ) → RunEvent
   send_state : (office : ℕ) → RunEvent
@@ -58,13 +58,13 @@ office_known known office = slice_index_or known.offices office nothing
 abbrev pub message_known : KnownSets → ℕ → Known
 message_known known message = slice_index_or known.messages message nothing
 
--- what offices and messages know, once this office knows this
+-- what is known once this office has this knowledge
 abbrev pub with_office : KnownSets → ℕ → Known → KnownSets
 with_office known office now = record { offices = slice_set known.offices office now; messages = known.messages }
 
--- what is known after an event that was done. The office learns a file, or sets a horizon, of which
--- the greater counts. A message is sent that knows what the office knows. Delivering a message
--- unites its knowledge with the office's; reloading it replaces the office's
+-- what is known after an event that was done. The office learns a file, or has the greater of its
+-- horizon and the one that is set. Sending makes a message that knows what the office knows.
+-- Delivering a message unites its knowledge with the office's; reloading it replaces the office's
 abbrev pub after_done : KnownSets → RunEvent → KnownSets
 after_done known (take_file office text limit) =
     with_office known office (united (record { files = lines_of text ∷ []; horizon = 0 }) (office_known known office))
@@ -147,9 +147,9 @@ pub record Exchange : Type 0 where
   pub messages : List (List ℕ)
   pub replies : List Reply
 
--- a run of these events at this many offices leaves this, with messages in this format. Each state
--- is the summary of what its office knows. Each message is the text of the summary of what it knows
--- itself
+-- a run of these events at this many offices leaves this exchange, with messages in this format.
+-- Each state is the summary of what its office knows. Each message is the text of the summary of
+-- what it knows itself
 pub record IsRun (format : Format) (offices : ℕ) (events : List RunEvent) (exchange : Exchange) : Type 0 where
   pub replies : AreReplies (none_known offices) events exchange.replies
   pub states : AllZip IsStateOf (known_sets offices events exchange.replies).offices exchange.states

@@ -68,7 +68,7 @@ body_end (association_body line) = readable_end (columns 22 27 line)
 body_end (schedule_body lines) = readable_end (columns 16 21 (first_record lines))
 
 -- the order of bodies: by end number, then by bytes, then by tag. Two bodies whose lines are
--- records are equal in it only if they are the same
+-- records compare as equal only if they are the same
 abbrev pub body_cmp : Body → Body → Ordering
 body_cmp a b =
     ordering_then (nat_cmp (body_end a) (body_end b))
@@ -92,7 +92,7 @@ body_of lapsed = None
 body_of (put_with body) = Some body
 
 -- the order of ops: deleted is below lapsed, and lapsed below every put. Two ops whose lines are
--- records are equal in it only if they are the same
+-- records compare as equal only if they are the same
 abbrev pub op_cmp : Op → Op → Ordering
 op_cmp deleted deleted = Equal
 op_cmp deleted lapsed = Less
@@ -109,7 +109,7 @@ pub record Entry : Type 0 where
   pub stamp : Stamp
   pub op : Op
 
--- the order of entries: by stamp, then by op. Two entries whose lines are records are equal in it
+-- the order of entries: by stamp, then by op. Two entries whose lines are records compare as equal
 -- only if they are the same
 abbrev pub entry_cmp : Entry → Entry → Ordering
 entry_cmp a b = ordering_then (stamp_cmp a.stamp b.stamp) (op_cmp a.op b.op)

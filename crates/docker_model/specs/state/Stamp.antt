@@ -74,7 +74,7 @@ IsFull item = item.indicator ≡ 70
 abbrev pub HasNoFull : List LedgerItem → Type 0
 HasNoFull items = (item : LedgerItem) → Contains items item → ¬ IsFull item
 
--- this is the greatest file stamp of a full extract among the items
+-- the stamp is the greatest file stamp of a full extract among the items
 pub record IsGreatestFull (items : List LedgerItem) (stamp : FileStamp) : Type 0 where
   pub full : LedgerItem
   pub among : Contains items full

@@ -123,7 +123,7 @@ entry_at state key = option_and_then (λ (entry : Key × Entry). Some entry.1) (
 abbrev pub live_table : State → Key → Option Body
 live_table state key = option_and_then (λ (entry : Entry). body_of entry.op) (entry_at state key)
 
--- each live key has a body that is well formed and agrees with it, as in every valid state
+-- each live key has a well formed body that fits the key, as in every valid state
 abbrev pub HasGoodBodies : Table → Type 0
 HasGoodBodies live = (key : Key) (body : Body) → live key ≡ Some body → IsBodyOf key body
 

@@ -123,8 +123,8 @@ pub record AreLinesOf (key : ScheduleKey) (lines : List (List ℕ)) : Type 0 whe
   pub new : HasNewTransaction (first_record lines)
   pub key_is : schedule_named (first_record lines) ≡ schedule_key key
 
--- the lines begin a schedule with this key, and if there are as many as the count says they
--- complete it
+-- the lines begin a schedule with this key. If there are as many lines as the count says, they are
+-- a whole schedule
 pub record AreLinesUpTo (key : ScheduleKey) (count : ℕ) (lines : List (List ℕ)) : Type 0 where
   pub lines_of : AreLinesOf key lines
   pub complete : length lines ≡ count → IsSchedule lines

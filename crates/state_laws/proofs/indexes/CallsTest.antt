@@ -73,7 +73,7 @@ location_forth line (inl h) = ap is_location h
 location_forth line (inr (inl h)) = ap is_location h
 location_forth line (inr (inr h)) = ap is_location h
 
--- the test of calling passes if and only if the schedule calls at the place
+-- `calls_at` passes if and only if the schedule calls at the place
 pub calls_test : (place : List ℕ) (lines : List (List ℕ)) → (calls_at place lines ≡ true) ↔ CallsAt place lines
 calls_test place lines = (
   λ is.

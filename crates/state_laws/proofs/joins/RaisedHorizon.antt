@@ -86,7 +86,7 @@ none_to_lapse entries = All-from_recursion (λ (entry : Keyed). HasNotToLapse 0 
     each [] = tt
     each (x ∷ xs) = (none_has_to x.1.op, each xs)
 
--- the summary of files without a horizon: each key has the greatest entry itself
+-- the summary of files without a horizon: each key has its greatest entry as it is
 pub record IsPlainSummary (files : List (List (List ℕ))) (state : State) : Type 0 where
   pub no_horizon : state.horizon ≡ 0
   pub floor : Option FileStamp

@@ -391,7 +391,7 @@ find_in (first ∷ entries) key = by (is_eq (key_cmp first.0 key)) refl (find_in
         no entry (inl e) = other_key first.0 key h (ap (λ (pair : Keyed). pair.0) e)
         no entry (inr inside) = none.1 entry inside
 
--- entries in key order have at most one of each key
+-- entries in key order have at most one entry of each key
 pub one_per_key : (entries : List Keyed) → IsStrictlyAscending (on (λ (entry : Keyed). entry.0) key_cmp) entries → (key : Key) (first second : Entry)
     → Contains entries (key, first) → Contains entries (key, second) → first ≡ second
 one_per_key [] up key first second in_first in_second = absurd (nil-Contains (key, first) in_first)

@@ -1,5 +1,5 @@
--- Reading a text part by part. The parts so far determine the text so far. Of two points in one text
--- that differ, one is later.
+-- Reading a text part by part. The parts so far determine the text so far. If two points in one
+-- text differ, one is later.
 use Rattle.std.proofs.Common.{◌≡◌, ℕ, ◌<◌, List, ◌++◌, length, [], ◌∷◌, ap, ◌∙◌, sym, subst, append_assoc, append-nil, ◌⊎◌, refl, inl, inr}
 use Rattle.std.specs.Prelude.{⊤}
 use Rattle.std.specs.List.{concat}

@@ -28,6 +28,6 @@ pub returns-in-Err-clause-memory : goal.returns-in-Err-clause-memory
 returns-in-Err-clause-memory g c = λ format limit text has is.
     told_as_memory format limit text c.args.piece.now c.in-Err.fault c.fault_of.result (c.in-Err.ensures.err format limit text has) c.fault_of.ensures.state is
 
--- `auto` proves these too. Written out, they get a wrong body refused without a long search.
+-- `auto` proves these goals too. Written out, they let a wrong body fail without a long search.
 pub returns-then-used-piece-clause-memory : goal.returns-then-used-piece-clause-memory
 returns-then-used-piece-clause-memory g c = search rules

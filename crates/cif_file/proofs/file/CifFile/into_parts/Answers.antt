@@ -1,4 +1,4 @@
--- `auto` proves these too: they are written so that a wrong body is refused without a long search.
+-- `auto` proves these goals too. Written out, they let a wrong body fail without a long search.
 use Rattle.std.proofs.Common.{rules}
 use Rattle.cif_file.proofs.file.CifFile.into_parts.Goals as goal
 

@@ -1,4 +1,4 @@
--- `auto` proves these too. Written out, they get a wrong body refused without a long search.
+-- `auto` proves these goals too. Written out, they let a wrong body fail without a long search.
 use Rattle.std.proofs.Common.{rules}
 use Rattle.cif_line.proofs.line.Line.bytes.Goals as goal
 

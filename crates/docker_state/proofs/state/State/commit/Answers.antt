@@ -47,7 +47,7 @@ pub of_rows-received-requires-clause-noted : goal.of_rows-received-requires-clau
 of_rows-received-requires-clause-noted c =
     (subst (λ (rows : List (Key × Entry)). HasNoted (items_of (map row_meant rows)) c.in_ok-notes.notes) c.as_slice.ensures.value c.in_ok-notes.ensures).are
 
--- `auto` proves these too: they are written so that a wrong body is refused without a long search.
+-- `auto` proves these goals too. Written out, they let a wrong body fail without a long search.
 pub returns-clause-err : goal.returns-clause-err
 returns-clause-err c = search rules
 
