@@ -1,7 +1,8 @@
 -- How a text is compared as it is written.
 use Rattle.std.proofs.Common.{◌≡◌, ◌<◌, ◌≤◌, ◌+◌, ◌-◌, ℕ, List, [], ◌∷◌, ◌++◌, length, take, drop, Option, None, Some, refl, sym, ◌∙◌, ap, subst, arith, append-nil, append_assoc, length-append}
 use Rattle.std.proofs.lemmas.List.{take-append-drop}
-use Rattle.std.proofs.Math.Seq.{take-add}
+use Rattle.std.proofs.lemmas.List.{length-drop}
+use Rattle.std.proofs.Math.Seq.{take-add, take-length}
 use Rattle.std.specs.Prelude.{Bool, true, false, ◌&&◌, Result, Ok, Err, OnOk, OnErr, IfErr, IfSome, IsTrue, ⊤}
 use Rattle.std.specs.Option.{is_some}
 use Rattle.std.specs.Result.{is_ok}
@@ -16,8 +17,11 @@ goes_on text piece taken at n same front = take-add at n text ∙ (λ i. front i
 
 -- the same, of a sink that has taken no other byte
 pub goes_on_as : (text piece taken : List ℕ) (other : Option ℕ) (at n : ℕ) → is_some other ≡ false → with_other (take at text) other ≡ taken
-    → take n (drop at text) ≡ take n piece → Some (with_other (take (at + n) text) other) ≡ Some (taken ++ take n piece)
-goes_on_as text piece taken None at n none front same = ap Some (goes_on text piece taken at n same front)
+    → take n (take (length text - at) (drop at text)) ≡ take n piece → Some (with_other (take (at + n) text) other) ≡ Some (taken ++ take n piece)
+goes_on_as text piece taken None at n none front same = ap Some (goes_on text piece taken at n (ap (take n) (sym rest) ∙ same) front)
+  where
+    rest : take (length text - at) (drop at text) ≡ drop at text
+    rest = ap (λ (many : ℕ). take many (drop at text)) (sym (length-drop at text)) ∙ take-length (drop at text)
 goes_on_as text piece taken (Some byte) at n none front same = let never : ⊥ = cc in absurd never
 
 -- a sink that has taken another byte didn't take the text

@@ -6,7 +6,7 @@ use Rattle.docker_host.specs.History.{Event, Text, looked}
 use Rattle.docker_host.specs.Host.{HostView}
 use Rattle.docker_desk.specs.Answering.{AnswersLines, CountsStreams}
 use Rattle.docker_cmd.specs.FaultLine.{IsCounted}
-use Rattle.docker_host.specs.FaultSink.{TellsText, Told, told_by}
+use Rattle.docker_host.specs.FaultSink.{FaultsView, TellsText, faults_of}
 use Rattle.docker_desk.specs.Desk.{DeskView}
 use Rattle.docker_desk.specs.Reading.{LooksAndOpens, Reading, StopsInState, opening_of}
 use Rattle.docker_desk.specs.declared.ending.Ending.{Ending}
@@ -15,7 +15,7 @@ use Rattle.docker_desk.specs.Serving.{BeginsAt, EndsOpening, EndsWithStatus, Nam
 use Rattle.docker_desk.proofs.WritingLemmas.{both_taken, part_of_back, part_of_front}
 
 -- if two texts are written one after the other, both are written
-pub tells_both : (first second piece behind : List ℕ) (old middle new : Told) → piece ≡ first → behind ≡ second → middle.failures ≡ old.failures
+pub tells_both : (first second piece behind : List ℕ) (old middle new : FaultsView) → piece ≡ first → behind ≡ second → middle.failures ≡ old.failures
     → Takes old.taken piece middle.taken → TellsText behind middle new → TellsText (first ++ second) old new
 tells_both first second piece behind old middle new one two sound whole tells = by (subst (λ text. TellsText text middle new) two tells)
   where
@@ -27,7 +27,7 @@ tells_both first second piece behind old middle new one two sound whole tells = 
     by (inr part) = inr (part.0 ∙ ap (λ n. n + 1) sound, part_of_back old.taken middle.taken new.taken first second taken part.1)
 
 -- if a part of the first text is written, a part of both texts is written
-pub tells_first : (first second piece : List ℕ) (old new : Told) → piece ≡ first → new.failures ≡ old.failures + 1 → TakesPart old.taken piece new.taken
+pub tells_first : (first second piece : List ℕ) (old new : FaultsView) → piece ≡ first → new.failures ≡ old.failures + 1 → TakesPart old.taken piece new.taken
     → TellsText (first ++ second) old new
 tells_first first second piece old new one failed part =
     inr (failed, part_of_front old.taken new.taken first second (subst (λ text. TakesPart old.taken text new.taken) one part))
@@ -55,7 +55,7 @@ pub served : (words : List Text) (names_bytes : Bool) (old new : HostView) (stat
     → AnswersLines (setting name may_write names_bytes) first last old.input old.output new.output ending
     → new.history ≡ last.history → new.folder_failures ≡ last.failures
     → CountsStreams ending old.input_failures new.input_failures old.output_failures new.output_failures
-    → (old.ended ≡ false → new.passed ≡ old.passed) → EndsWithStatus ending unsaved status (told_by old) (told_by new)
+    → (old.ended ≡ false → new.passed ≡ old.passed) → EndsWithStatus ending unsaved status (faults_of old) (faults_of new)
     → unsaved ≡ may_write && last.desk.unsaved → Serves words names_bytes old new status
 served words names_bytes old new status name may_write first last ending unsaved named begins none answers history failures counts not_passed ends same =
     inr (inr (record {
@@ -72,7 +72,7 @@ served words names_bytes old new status name may_write first last ending unsaved
       failures = failures;
       counts = counts;
       not_passed = not_passed;
-      ends = subst (λ (u : Bool). EndsWithStatus ending u status (told_by old) (told_by new)) same ends;
+      ends = subst (λ (u : Bool). EndsWithStatus ending u status (faults_of old) (faults_of new)) same ends;
     }))
 
 -- as `served`, with an equal old view
@@ -82,7 +82,7 @@ pub served_as : (words : List Text) (names_bytes : Bool) (seen old new : HostVie
     → AnswersLines (setting name may_write names_bytes) first last seen.input seen.output new.output ending
     → new.history ≡ last.history → new.folder_failures ≡ last.failures
     → CountsStreams ending seen.input_failures new.input_failures seen.output_failures new.output_failures
-    → (seen.ended ≡ false → new.passed ≡ seen.passed) → EndsWithStatus ending unsaved status (told_by seen) (told_by new)
+    → (seen.ended ≡ false → new.passed ≡ seen.passed) → EndsWithStatus ending unsaved status (faults_of seen) (faults_of new)
     → unsaved ≡ may_write && last.desk.unsaved → Serves words names_bytes old new status
 served_as words names_bytes seen old new status name may_write first last ending unsaved is named begins none answers history failures counts not_passed ends same =
     subst (λ (host : HostView). Serves words names_bytes host new status) is

@@ -8,7 +8,7 @@ use Rattle.docker_cmd.specs.OfficeFault.{OfficeFault}
 use Rattle.docker_cmd.specs.Prepared.{ReadsFewOfState, most_bytes}
 use Rattle.docker_cmd.specs.declared.fault.Fault.TheVariants.{Office}
 use Rattle.docker_host.specs.History.{Bytes, Event, Text, closed, looked, opened}
-use Rattle.docker_host.specs.FaultSink.{TellsText, Told, told_by}
+use Rattle.docker_host.specs.FaultSink.{FaultsView, TellsText, faults_of}
 use Rattle.docker_host.specs.Host.{HostView}
 use Rattle.docker_desk.specs.Requests.{NamesFile, usage_line}
 use Rattle.docker_desk.specs.Desk.{DeskView, IsWhyNot, RefusesToReceive}
@@ -84,7 +84,7 @@ ending_text InputEndless unsaved = device_line ++ unsaved_text unsaved
 ending_text OutputFailed unsaved = device_line ++ unsaved_text unsaved
 
 -- the status of a session, and what the sink of faults gains at its end
-pub record EndsWithStatus (ending : Ending) (unsaved : Bool) (status : ℕ) (old new : Told)
+pub record EndsWithStatus (ending : Ending) (unsaved : Bool) (status : ℕ) (old new : FaultsView)
     : Type 0 where
   pub status_is : status ≡ ending_status ending unsaved
   pub tells : TellsText (ending_text ending unsaved) old new
@@ -96,7 +96,7 @@ pub record IsMisused (words : List Text) (old new : HostView) (status : ℕ) : T
   pub none : NameNoSession words
   pub untouched : new ≡ record old { faults = new.faults; faults_failures = new.faults_failures }
   pub status_is : status ≡ 2
-  pub tells : TellsText usage_line (told_by old) (told_by new)
+  pub tells : TellsText usage_line (faults_of old) (faults_of new)
 
 -- the input and the output are as they were
 pub record LeavesStreams (old new : HostView) : Type 0 where
@@ -117,7 +117,7 @@ pub record IsRefusedStart (words : List Text) (old new : HostView) (status : ℕ
   pub counted : IsCounted status old.folder_failures new.folder_failures
   pub streams : LeavesStreams old new
   pub status_is : status ≡ status_of (Office fault)
-  pub tells : TellsText (fault_line (Office fault)) (told_by old) (told_by new)
+  pub tells : TellsText (fault_line (Office fault)) (faults_of old) (faults_of new)
 
 -- the state was read, the lines of the input were answered, and then the session ended. What is
 -- unsaved counts only if the desk may write. An input that hadn't reported its end isn't read after
@@ -139,8 +139,8 @@ pub record IsServed (words : List Text) (names_bytes : Bool) (old new : HostView
   pub counts : CountsStreams ending old.input_failures new.input_failures old.output_failures
       new.output_failures
   pub not_passed : old.ended ≡ false → new.passed ≡ old.passed
-  pub ends : EndsWithStatus ending (may_write && last.desk.unsaved) status (told_by old)
-      (told_by new)
+  pub ends : EndsWithStatus ending (may_write && last.desk.unsaved) status (faults_of old)
+      (faults_of new)
 
 -- a whole session: its words name none, its start is refused, or it is served
 abbrev pub Serves : List Text → Bool → HostView → HostView → ℕ → Type 0

@@ -1,7 +1,7 @@
 //! How a session ends.
 ghost use Rattle.std.specs.Prelude.{◌≡◌, ◌-◌, ◌^◌, ◌<◌, ◌++◌};
 ghost use Rattle.docker_cmd.specs.FaultLine.{fault_line, status_of};
-ghost use Rattle.docker_host.specs.FaultSink.{TellsText, told};
+ghost use Rattle.docker_host.specs.FaultSink.{TellsText, faults_view};
 ghost use Rattle.docker_desk.specs.Serving.{EndsWithStatus, unsaved_text};
 
 use cif_line::{Sink, write_all};
@@ -29,8 +29,8 @@ pub enum Ending {
 pub(crate) fn end_session<L: Sink>(ending: Ending, unsaved: bool, faults: &mut L) -> u8
     requires { L.failures faults.old < 2 ^ 64 - 1 }
     ensures { EndsWithStatus ending unsaved result
-        (told (L.taken faults.old) (L.failures faults.old))
-        (told (L.taken faults.new) (L.failures faults.new)) }
+        (faults_view (L.taken faults.old) (L.failures faults.old))
+        (faults_view (L.taken faults.new) (L.failures faults.new)) }
 {
     match ending {
         Ending::Ended => {
@@ -56,8 +56,8 @@ pub(crate) fn tell_failure<L: Sink>(fault: &Fault, unsaved: bool, faults: &mut L
     requires { L.failures faults.old < 2 ^ 64 - 1 }
     ensures status { result ≡ status_of fault.now }
     ensures tells { TellsText (fault_line fault.now ++ unsaved_text unsaved)
-        (told (L.taken faults.old) (L.failures faults.old))
-        (told (L.taken faults.new) (L.failures faults.new)) }
+        (faults_view (L.taken faults.old) (L.failures faults.old))
+        (faults_view (L.taken faults.new) (L.failures faults.new)) }
 {
     let line = fault_text(fault);
     let behind = unsaved_line(unsaved);
@@ -76,8 +76,8 @@ pub(crate) fn tell<L: Sink>(fault: &Fault, faults: &mut L) -> u8
     requires { L.failures faults.old < 2 ^ 64 - 1 }
     ensures status { result ≡ status_of fault.now }
     ensures tells { TellsText (fault_line fault.now)
-        (told (L.taken faults.old) (L.failures faults.old))
-        (told (L.taken faults.new) (L.failures faults.new)) }
+        (faults_view (L.taken faults.old) (L.failures faults.old))
+        (faults_view (L.taken faults.new) (L.failures faults.new)) }
 {
     let line = fault_text(fault);
     tell_text(line.as_slice(), faults);
