@@ -6,4 +6,5 @@ pub mod MadeState
 pub mod Staging
 pub mod UidPiece
 pub mod Indexed
+pub mod PlaceRows
 pub use Rattle.state_index.specs.Counts
