@@ -14,7 +14,7 @@ use crate::row_view::RowView;
 use crate::visits::Visits;
 use arrayvec::ArrayVec;
 use cif_line::{Day, Memory};
-use docker_state::{Numbered, Standing};
+use docker_state::{Numbered, PlaceRows};
 
 /// How many rows are read before lines are added, so that cache misses overlap.
 const PORTION: usize = 16;
@@ -26,7 +26,7 @@ type Portion<'a> = ArrayVec<(usize, RowView<'a>), PORTION>;
 pub(crate) fn add_rows<'a>(
     lines: &mut Vec<DockerLine<'a>>,
     visits: &mut Visits<'a>,
-    rows: Standing<'a>,
+    rows: PlaceRows<'a>,
 ) -> Result<(), Memory>
     requires good { AreGoodRows rows }
     requires live { AreLive (live_table visits.old.state) rows }

@@ -12,7 +12,7 @@ use Rattle.cif_laws.proofs.lists.Membership.{cons-Contains, cons-Contains-first}
 use Rattle.state_index.specs.Counts.{IsCallingCount}
 use Rattle.state_index.specs.SpotOrder.{Spot}
 use Rattle.state_index.specs.Spots.{call_places, spot_at, mark_spot, spots_in, AreSpotsOf}
-use Rattle.state_index.specs.StandingRows.{live_row, live_at, standing_rows, IsPieceAt}
+use Rattle.state_index.specs.PlaceRows.{live_row, live_at, rows_at_spots, IsPieceAt}
 use Rattle.state_index.specs.declared.mark.Mark.{Mark}
 use Rattle.state_index.proofs.LiveIndexes.{calling_there}
 use Rattle.state_index.proofs.Positions.{Keyed, spots_stand}
@@ -40,13 +40,13 @@ IsSeen rows spot = (row : Row) × (live_at rows spot ≡ Some row)
 
 -- spots that name live rows name as many
 as_many_rows : (rows : List Keyed) (piece : List Spot) → ((spot : Spot) → Contains piece spot → IsSeen rows spot)
-    → length (standing_rows rows piece) ≡ length piece
+    → length (rows_at_spots rows piece) ≡ length piece
 as_many_rows rows [] seen = refl
 as_many_rows rows (spot ∷ piece) seen =
     by (live_at rows spot) (seen spot (cons-Contains-first spot piece)) (as_many_rows rows piece (λ s among. seen s (cons-Contains spot piece s among)))
   where
-    by : (o : Option Row) → ((row : Row) × (o ≡ Some row)) → length (standing_rows rows piece) ≡ length piece
-        → length (cons_option o (standing_rows rows piece)) ≡ length (spot ∷ piece)
+    by : (o : Option Row) → ((row : Row) × (o ≡ Some row)) → length (rows_at_spots rows piece) ≡ length piece
+        → length (cons_option o (rows_at_spots rows piece)) ≡ length (spot ∷ piece)
     by None told rest = absurd (none_some told.0 told.1)
     by (Some row) told rest = ap suc rest
 
@@ -54,7 +54,7 @@ as_many_rows rows (spot ∷ piece) seen =
 counted_there : (state : State) → AreAscending state.entries → (spots : List Spot) → AreSpotsOf call_places state.entries spots
     → (place : List ℕ) (piece : List Spot) → IsPieceAt place spots piece → IsCallingCount (live_table state) place (length piece)
 counted_there state up spots of place piece is =
-    (standing_rows state.entries piece, calling_there state up spots of place piece is, as_many_rows state.entries piece seen)
+    (rows_at_spots state.entries piece, calling_there state up spots of place piece is, as_many_rows state.entries piece seen)
   where
     seen : (spot : Spot) → Contains piece spot → IsSeen state.entries spot
     seen spot among =

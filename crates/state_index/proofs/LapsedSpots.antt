@@ -14,7 +14,7 @@ use Rattle.state_index.specs.SpotOrder.{Spot, spot_cmp}
 use Rattle.state_index.specs.declared.mark.Mark.{Mark}
 use Rattle.state_index.specs.MarkOrder.{mark_cmp}
 use Rattle.state_index.specs.Spots.{Places, spots_of, spots_in, AreSpotsOf, AreMarksOf}
-use Rattle.state_index.specs.StandingRows.{live_row, is_put_at, is_put_at_mark}
+use Rattle.state_index.specs.PlaceRows.{live_row, is_put_at, is_put_at_mark}
 use Rattle.state_index.specs.Turns.{is_put}
 use Rattle.state_index.proofs.Positions.{Keyed, some_is, spots_stand, stand_spots}
 use Rattle.state_index.proofs.JoinedSpots.{stays}

@@ -22,7 +22,7 @@ use Rattle.state_laws.proofs.joins.StagedEntry.{entry_at_iff}
 use Rattle.state_index.specs.SpotOrder.{Spot, spot_cmp}
 use Rattle.state_index.specs.Spots.{call_places, link_places, spot_at, AreSpotsOf}
 use Rattle.state_index.specs.Tables.{calling_row, linked_row, calling_rows, linked_rows}
-use Rattle.state_index.specs.StandingRows.{live_row, standing_rows, IsPieceAt}
+use Rattle.state_index.specs.PlaceRows.{live_row, rows_at_spots, IsPieceAt}
 use Rattle.state_index.proofs.Positions.{Keyed, some_is, at_member, member_at, at_ascends, chosen_from, chosen_to, chosen_ascends, spots_stand, stand_spots}
 use Rattle.state_index.proofs.RowPlaces.{call_back, call_forth, link_back, link_forth}
 
@@ -113,17 +113,17 @@ module _ {K : Type 0} (wrap : K → Key) (row_of : List ℕ → Key → Option (
 
   -- the keys of the rows that such spots name are the keys that the index has
   same_keys : (rows : List Keyed) (piece : List Spot) → ((spot : Spot) → Contains piece spot → IsSeen rows spot)
-      → map (λ (row : Row). row.0) (standing_rows rows piece) ≡ map (λ (row : IndexRow). wrap row.1) (filter_map (row_at rows) piece)
+      → map (λ (row : Row). row.0) (rows_at_spots rows piece) ≡ map (λ (row : IndexRow). wrap row.1) (filter_map (row_at rows) piece)
   same_keys rows [] seen = refl
   same_keys rows (spot ∷ piece) seen = by (seen spot (cons-Contains-first spot piece))
       (same_keys rows piece (λ s among. seen s (cons-Contains spot piece s among)))
     where
-      by : IsSeen rows spot → map (λ (row : Row). row.0) (standing_rows rows piece) ≡ map (λ (row : IndexRow). wrap row.1) (filter_map (row_at rows) piece)
-          → map (λ (row : Row). row.0) (standing_rows rows (spot ∷ piece)) ≡ map (λ (row : IndexRow). wrap row.1) (filter_map (row_at rows) (spot ∷ piece))
+      by : IsSeen rows spot → map (λ (row : Row). row.0) (rows_at_spots rows piece) ≡ map (λ (row : IndexRow). wrap row.1) (filter_map (row_at rows) piece)
+          → map (λ (row : Row). row.0) (rows_at_spots rows (spot ∷ piece)) ≡ map (λ (row : IndexRow). wrap row.1) (filter_map (row_at rows) (spot ∷ piece))
       by (row, k, body, at, key, put) rest =
           let live : option_and_then live_row (slice_get rows spot.at) ≡ Some (row.0, body) =
           ap (option_and_then live_row) at ∙ ap (λ op. option_and_then {U = Row} (λ (b : Body). Some (row.0, b)) (body_of op)) put in
-          (λ i. map (λ (r : Row). r.0) (cons_option (live i) (standing_rows rows piece)))
+          (λ i. map (λ (r : Row). r.0) (cons_option (live i) (rows_at_spots rows piece)))
           ∙ (λ i. key i ∷ rest i)
           ∙ sym (λ i. map (λ (r : IndexRow). wrap r.1) (cons_option (row_is rows spot row k at key i) (filter_map (row_at rows) piece)))
 
@@ -150,9 +150,9 @@ module _ {K : Type 0} (wrap : K → Key) (row_of : List ℕ → Key → Option (
       filter_map-append (row_at rows) (before ++ piece) behind ∙ (λ i. filter_map-append (row_at rows) before piece i ++ filter_map (row_at rows) behind)
 
 -- the rows that spots name are live
-standing_live : (state : State) → AreAscending state.entries → (spots : List Spot) (key : Key) (body : Body)
-    → Contains (standing_rows state.entries spots) (key, body) → live_table state key ≡ Some body
-standing_live state up spots key body among = by (slice_get state.entries found.0.at) refl found.2
+live_at_spots : (state : State) → AreAscending state.entries → (spots : List Spot) (key : Key) (body : Body)
+    → Contains (rows_at_spots state.entries spots) (key, body) → live_table state key ≡ Some body
+live_at_spots state up spots key body among = by (slice_get state.entries found.0.at) refl found.2
   where
     found : (spot : Spot) × Contains spots spot × (option_and_then live_row (slice_get state.entries spot.at) ≡ Some (key, body))
     found = chosen_from (λ (spot : Spot). option_and_then live_row (slice_get state.entries spot.at)) spots (key, body) among
@@ -270,9 +270,9 @@ module _ (state : State) (up : AreAscending state.entries) (spots : List Spot) w
 
   -- the rows that a place's piece of spots names are the ones that call there
   pub calling_there : AreSpotsOf call_places state.entries spots → (place : List ℕ) (piece : List Spot) → IsPieceAt place spots piece
-      → AreCalling (live_table state) place (standing_rows state.entries piece)
+      → AreCalling (live_table state) place (rows_at_spots state.entries piece)
   calling_there of place piece is =
-      calling_by_index (live_table state) place (calling_rows state.entries spots) (standing_rows state.entries piece) (calls_index of)
+      calling_by_index (live_table state) place (calling_rows state.entries spots) (rows_at_spots state.entries piece) (calls_index of)
       (same_keys schedule_key calling_row schedule_key_cmp call_unwrap (λ p k. refl) (λ a b less. less) state.entries piece seen
       ∙ sym (calling_piece place (calling_rows state.entries is.before) (calling_rows state.entries piece) (calling_rows state.entries is.behind)
       (not_at schedule_key calling_row schedule_key_cmp call_unwrap (λ p k. refl) (λ a b less. less) state.entries place is.before is.none_before)
@@ -280,7 +280,7 @@ module _ (state : State) (up : AreAscending state.entries) (spots : List Spot) w
       (not_at schedule_key calling_row schedule_key_cmp call_unwrap (λ p k. refl) (λ a b less. less) state.entries place is.behind is.none_behind))
       ∙ sym (ap (λ index. calling_keys index place) (ap (calling_rows state.entries) is.whole
       ∙ cut schedule_key calling_row schedule_key_cmp call_unwrap (λ p k. refl) (λ a b less. less) state.entries is.before piece is.behind)))
-      (standing_live state up piece)
+      (live_at_spots state up piece)
     where
       seen : (spot : Spot) → Contains piece spot
           → (row : Keyed) × (k : ScheduleKey) × (body : Body) × (slice_get state.entries spot.at ≡ Some row) × (row.0 ≡ schedule_key k) ×
@@ -294,9 +294,9 @@ module _ (state : State) (up : AreAscending state.entries) (spots : List Spot) w
 
   -- in the other index they are the ones that are linked there
   pub linked_there : AreSpotsOf link_places state.entries spots → (place : List ℕ) (piece : List Spot) → IsPieceAt place spots piece
-      → AreLinked (live_table state) place (standing_rows state.entries piece)
+      → AreLinked (live_table state) place (rows_at_spots state.entries piece)
   linked_there of place piece is =
-      linked_by_index (live_table state) place (linked_rows state.entries spots) (standing_rows state.entries piece) (links_index of)
+      linked_by_index (live_table state) place (linked_rows state.entries spots) (rows_at_spots state.entries piece) (links_index of)
       (same_keys association_key linked_row association_key_cmp link_unwrap (λ p k. refl) (λ a b less. less) state.entries piece seen
       ∙ sym (linked_piece place (linked_rows state.entries is.before) (linked_rows state.entries piece) (linked_rows state.entries is.behind)
       (not_at association_key linked_row association_key_cmp link_unwrap (λ p k. refl) (λ a b less. less) state.entries place is.before is.none_before)
@@ -304,7 +304,7 @@ module _ (state : State) (up : AreAscending state.entries) (spots : List Spot) w
       (not_at association_key linked_row association_key_cmp link_unwrap (λ p k. refl) (λ a b less. less) state.entries place is.behind is.none_behind))
       ∙ sym (ap (λ index. linked_keys index place) (ap (linked_rows state.entries) is.whole
       ∙ cut association_key linked_row association_key_cmp link_unwrap (λ p k. refl) (λ a b less. less) state.entries is.before piece is.behind)))
-      (standing_live state up piece)
+      (live_at_spots state up piece)
     where
       seen : (spot : Spot) → Contains piece spot
           → (row : Keyed) × (k : AssociationKey) × (body : Body) × (slice_get state.entries spot.at ≡ Some row) × (row.0 ≡ association_key k) ×
@@ -319,19 +319,19 @@ module _ (state : State) (up : AreAscending state.entries) (spots : List Spot) w
 -- like `calling_there`, for equal rows, spots and places
 pub calling_found : (state : State) (rows : List Keyed) → state.entries ≡ rows → AreAscending rows → (spots slice : List Spot) → slice ≡ spots
     → AreSpotsOf call_places rows spots
-    → (place field : List ℕ) → field ≡ place → (piece : List Spot) → IsPieceAt field slice piece → (result : List Row) → result ≡ standing_rows rows piece
+    → (place field : List ℕ) → field ≡ place → (piece : List Spot) → IsPieceAt field slice piece → (result : List Row) → result ≡ rows_at_spots rows piece
     → AreCalling (live_table state) place result
 calling_found state rows same up spots slice slice_is of place field field_is piece is result result_is =
-    subst (AreCalling (live_table state) place) (sym (result_is ∙ sym (ap (λ (all : List Keyed). standing_rows all piece) same)))
+    subst (AreCalling (live_table state) place) (sym (result_is ∙ sym (ap (λ (all : List Keyed). rows_at_spots all piece) same)))
     (calling_there state (subst AreAscending (sym same) up) spots (subst (λ (all : List Keyed). AreSpotsOf call_places all spots) (sym same) of) place piece
     (subst (λ p. IsPieceAt p spots piece) field_is (subst (λ zs. IsPieceAt field zs piece) slice_is is)))
 
 -- like `linked_there`, for equal rows, spots and places
 pub linked_found : (state : State) (rows : List Keyed) → state.entries ≡ rows → AreAscending rows → (spots slice : List Spot) → slice ≡ spots
     → AreSpotsOf link_places rows spots
-    → (place field : List ℕ) → field ≡ place → (piece : List Spot) → IsPieceAt field slice piece → (result : List Row) → result ≡ standing_rows rows piece
+    → (place field : List ℕ) → field ≡ place → (piece : List Spot) → IsPieceAt field slice piece → (result : List Row) → result ≡ rows_at_spots rows piece
     → AreLinked (live_table state) place result
 linked_found state rows same up spots slice slice_is of place field field_is piece is result result_is =
-    subst (AreLinked (live_table state) place) (sym (result_is ∙ sym (ap (λ (all : List Keyed). standing_rows all piece) same)))
+    subst (AreLinked (live_table state) place) (sym (result_is ∙ sym (ap (λ (all : List Keyed). rows_at_spots all piece) same)))
     (linked_there state (subst AreAscending (sym same) up) spots (subst (λ (all : List Keyed). AreSpotsOf link_places all spots) (sym same) of) place piece
     (subst (λ p. IsPieceAt p spots piece) field_is (subst (λ zs. IsPieceAt field zs piece) slice_is is)))

@@ -14,7 +14,7 @@ use Rattle.docker_model.specs.state.Order.{IsBelow, IsStrictlyAscending}
 use Rattle.cif_laws.proofs.lists.Membership.{Contains-cons, nil-Contains}
 use Rattle.state_index.specs.declared.mark.Mark.{Mark}
 use Rattle.state_index.specs.MarkOrder.{mark_cmp}
-use Rattle.state_index.specs.StandingRows.{IsPieceOf}
+use Rattle.state_index.specs.PlaceRows.{IsPieceOf}
 
 module _ {A : Type 0} (P : A → Type 0) where
   -- a property of the first n elements holds for what is taken

@@ -17,7 +17,7 @@ use Rattle.state_index.specs.SpotOrder.{Spot, spot_cmp}
 use Rattle.state_index.specs.declared.mark.Mark.{Mark}
 use Rattle.state_index.specs.MarkOrder.{mark_cmp}
 use Rattle.state_index.specs.Spots.{Places, spot_at, spots_of, mark_spot, spots_in, AreMarksOf}
-use Rattle.state_index.specs.StandingRows.{live_row, standing_rows, standing_marks, is_put_at, is_put_at_mark, IsPieceAt, IsPieceOf}
+use Rattle.state_index.specs.PlaceRows.{live_row, rows_at_spots, rows_at_marks, is_put_at, is_put_at_mark, IsPieceAt, IsPieceOf}
 use Rattle.state_index.proofs.Positions.{Keyed, some_is, at_member, at_ascends, chosen_from, chosen_to, chosen_ascends}
 
 none_some : {A : Type 0} (a : A) → None ≡ Some a → ⊥
@@ -102,14 +102,14 @@ no_piece names marks place never all all_is = record {
 
 -- a place's marks name the same rows as its spots
 pub same_rows : (names : List (List ℕ)) (rank : ℕ) (place : List ℕ) → slice_get names rank ≡ Some place → (piece : List Mark)
-    → ((mark : Mark) → Contains piece mark → mark.place ≡ rank) → (rows : List Keyed) → standing_marks rows piece ≡ standing_rows rows (spots_in names piece)
+    → ((mark : Mark) → Contains piece mark → mark.place ≡ rank) → (rows : List Keyed) → rows_at_marks rows piece ≡ rows_at_spots rows (spots_in names piece)
 same_rows names rank place at [] here rows = refl
 same_rows names rank place at (mark ∷ piece) here rows =
     by (mark_spot names mark) (ap (option_map (spot_at mark.at)) (ap (slice_get names) (here mark (cons-Contains-first mark piece)) ∙ at))
     (same_rows names rank place at piece (λ m among. here m (cons-Contains mark piece m among)) rows)
   where
-    by : (o : Option Spot) → o ≡ Some (spot_at mark.at place) → standing_marks rows piece ≡ standing_rows rows (spots_in names piece)
-        → standing_marks rows (mark ∷ piece) ≡ standing_rows rows (cons_option o (spots_in names piece))
+    by : (o : Option Spot) → o ≡ Some (spot_at mark.at place) → rows_at_marks rows piece ≡ rows_at_spots rows (spots_in names piece)
+        → rows_at_marks rows (mark ∷ piece) ≡ rows_at_spots rows (cons_option o (spots_in names piece))
     by None told rest = absurd (none_some (spot_at mark.at place) told)
     by (Some spot) told rest =
         let same : spot ≡ spot_at mark.at place = some_is spot (spot_at mark.at place) told in

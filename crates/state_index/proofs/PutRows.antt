@@ -4,7 +4,7 @@ use Rattle.std.specs.Prelude.{Option, slice_get, option_map, option_and_then}
 use Rattle.std.specs.Option.{is_some}
 use Rattle.std.proofs.lemmas.Option.{slice_get-map}
 use Rattle.state_index.specs.declared.mark.Mark.{Mark}
-use Rattle.state_index.specs.StandingRows.{live_row, is_put_at_mark, or_not, put_among, puts_in}
+use Rattle.state_index.specs.PlaceRows.{live_row, is_put_at_mark, or_not, put_among, puts_in}
 use Rattle.state_index.specs.Turns.{is_put}
 use Rattle.state_index.proofs.Positions.{Keyed}
 use Rattle.state_index.proofs.LapsedSpots.{live_is}

@@ -6,7 +6,7 @@ pub mod ByPlace
 pub mod Rooms
 pub mod Turns
 pub mod Joined
-pub mod StandingRows
+pub mod PlaceRows
 pub mod Noted
 pub mod Counts
 pub use Rattle.cif_change.specs.declared.notes.Notes

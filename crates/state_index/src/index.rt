@@ -19,9 +19,9 @@ use crate::fill::ascending;
 use crate::mark::Mark;
 use crate::merge::{Moved, merged, ranks_of, union_of};
 use crate::moves::Moves;
+use crate::place_rows::{PlaceRows, marks_at};
 use crate::puts::{keep_put, puts_of};
 use crate::room::Room;
-use crate::standing::{Standing, marks_at};
 use crate::walk::MarkWalk;
 use cif_change::{Key, Memory, Notes, Tiploc};
 use docker_join::Entry;
@@ -143,13 +143,13 @@ impl Index {
 
     /// The live schedules that call at a TIPLOC, found by a binary search. `rows` are the rows of
     /// this index.
-    pub fn calling<'a>(&'a self, rows: &'a [(Key, Entry)], tiploc: &Tiploc) -> Standing<'a>
+    pub fn calling<'a>(&'a self, rows: &'a [(Key, Entry)], tiploc: &Tiploc) -> PlaceRows<'a>
         requires index { IsIndexOf (map row_meant rows.now) self.now }
         requires ascending { AreAscending (map row_meant rows.now) }
         ensures { (state : State) → state.entries ≡ map row_meant rows.now
             → AreCalling (live_table state) tiploc.now result }
     {
-        Standing::of(
+        PlaceRows::of(
             rows,
             marks_at(
                 self.places.as_slice(),
@@ -177,13 +177,13 @@ impl Index {
 
     /// The live associations at a location, found by a binary search. `rows` are the rows of this
     /// index.
-    pub fn linked<'a>(&'a self, rows: &'a [(Key, Entry)], tiploc: &Tiploc) -> Standing<'a>
+    pub fn linked<'a>(&'a self, rows: &'a [(Key, Entry)], tiploc: &Tiploc) -> PlaceRows<'a>
         requires index { IsIndexOf (map row_meant rows.now) self.now }
         requires ascending { AreAscending (map row_meant rows.now) }
         ensures { (state : State) → state.entries ≡ map row_meant rows.now
             → AreLinked (live_table state) tiploc.now result }
     {
-        Standing::of(
+        PlaceRows::of(
             rows,
             marks_at(
                 self.places.as_slice(),

@@ -2,10 +2,10 @@
 ghost use Rattle.std.specs.Prelude.{◌≡◌, filter, map, IfSome};
 ghost use Rattle.docker_join.specs.Meaning.{op_meant, row_meant};
 ghost use Rattle.state_index.specs.Turns.{is_put};
-ghost use Rattle.state_index.specs.StandingRows.{is_put_at_mark, put_among, puts_in};
+ghost use Rattle.state_index.specs.PlaceRows.{is_put_at_mark, put_among, puts_in};
 
 use crate::mark::Mark;
-use crate::standing::is_put_at;
+use crate::place_rows::is_put_at;
 use cif_change::Key;
 use docker_join::{Entry, Op};
 use std::alloc::Global;

@@ -19,7 +19,7 @@ use crate::rows::association_of;
 use crate::walks::associations_at;
 use cif_change::{AssocKey, Body, Key};
 use cif_line::{Day, Memory, Tiploc};
-use docker_state::{Standing, State};
+use docker_state::{PlaceRows, State};
 use std::alloc::Global;
 use std::collections::BTreeMap;
 use std::marker::Model;
@@ -88,7 +88,7 @@ impl<'a> DayLinks<'a> {
 /// The best association of each group in these rows.
 fn best_of<'a>(
     alloc: Global,
-    rows: Standing<'a>,
+    rows: PlaceRows<'a>,
     day: Day,
 ) -> Result<BTreeMap<LinkGroup, LinkView<'a>>, Memory>
     requires { AreGoodRows rows }

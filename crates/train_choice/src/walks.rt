@@ -8,7 +8,7 @@ ghost use Rattle.train_choice.specs.Along.{AreGoodRows, AreLive};
 
 use crate::near::Near;
 use cif_line::{Tiploc, Uid};
-use docker_state::{Live, Standing, State};
+use docker_state::{Live, PlaceRows, State};
 
 /// The state, with what its validity says of its rows. A state's invariant is private to its crate,
 /// but the contract of `entries` states it.
@@ -30,7 +30,7 @@ pub(crate) fn schedules_of<'a>(near: &Near<'a>, uid: &Uid) -> Live<'a>
 }
 
 /// The rows of the associations at a place.
-pub fn associations_at<'a>(state: &'a State, place: &Tiploc) -> Standing<'a>
+pub fn associations_at<'a>(state: &'a State, place: &Tiploc) -> PlaceRows<'a>
     ensures linked { AreLinked (live_table state.now) place.now result }
     ensures has { (group : Group) → group.location ≡ place.now
         → HasAssociationsOf (live_table state.now) group result }
@@ -41,7 +41,7 @@ pub fn associations_at<'a>(state: &'a State, place: &Tiploc) -> Standing<'a>
 }
 
 /// The rows of the schedules that call at a place.
-pub fn schedules_at<'a>(state: &'a State, place: &Tiploc) -> Standing<'a>
+pub fn schedules_at<'a>(state: &'a State, place: &Tiploc) -> PlaceRows<'a>
     ensures calling { AreCalling (live_table state.now) place.now result }
     ensures good { AreGoodRows result }
     ensures live { AreLive (live_table state.now) result }

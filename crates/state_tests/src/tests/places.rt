@@ -5,7 +5,7 @@ use super::shown::{add, add_body, add_key, add_number};
 use super::{joined, pair, set_on, state};
 use cif_file::{Body, Key};
 use cif_line::{Tiploc, Uid};
-use docker_state::{Standing, State};
+use docker_state::{PlaceRows, State};
 use std::alloc::Global;
 use std::process::Abort;
 use test_records::{
@@ -23,14 +23,14 @@ fn add_found(rt: &impl Abort, alloc: Global, text: &mut Vec<u8>, key: &Key, body
 
 /// Adds the rows found at a place to a text, each with a word and its index among the state's rows,
 /// from 0. No clause gives the index, as no answer depends on it.
-fn add_standing(
+fn add_place_rows(
     rt: &impl Abort,
     alloc: Global,
     text: &mut Vec<u8>,
     word: &[u8],
-    standing: Standing<'_>,
+    rows: PlaceRows<'_>,
 ) {
-    for (number, key, body) in standing.numbered() {
+    for (number, key, body) in rows.numbered() {
         add(rt, text, word);
         add_number(rt, alloc, text, number as u64);
         add(rt, text, b": ");
@@ -50,8 +50,8 @@ fn add_of_uid(rt: &impl Abort, alloc: Global, text: &mut Vec<u8>, state: &State,
 fn found_is(rt: &impl Abort, alloc: Global, state: &State, tiploc: &str, lines: &[&[u8]]) {
     let mut found = Vec::new(alloc);
     let tiploc = Tiploc::from_text(tiploc).expect(rt, "a TIPLOC");
-    add_standing(rt, alloc, &mut found, b"calls ", state.calling(&tiploc));
-    add_standing(rt, alloc, &mut found, b"linked ", state.linked(&tiploc));
+    add_place_rows(rt, alloc, &mut found, b"calls ", state.calling(&tiploc));
+    add_place_rows(rt, alloc, &mut found, b"linked ", state.linked(&tiploc));
     let uid = Uid::from_field(b"C30002").expect(rt, "a UID");
     add_of_uid(rt, alloc, &mut found, state, &uid);
     let wanted = text(alloc, lines, b"\n").expect(rt, "memory");

@@ -4,7 +4,7 @@ use Rattle.std.specs.Global.{Vec}
 use Rattle.std.proofs.lemmas.Fn.{filter_same}
 use Rattle.docker_join.specs.Meaning.{row_meant}
 use Rattle.state_index.specs.declared.mark.Mark.{Mark}
-use Rattle.state_index.specs.StandingRows.{is_put_at_mark, put_among, puts_in}
+use Rattle.state_index.specs.PlaceRows.{is_put_at_mark, put_among, puts_in}
 use Rattle.state_index.proofs.PutRows.{told_put}
 use Rattle.state_index.proofs.puts.keep_put.Goals as goal
 

@@ -1,6 +1,6 @@
 use Rattle.std.proofs.Common.{◌≡◌, ◌+◌, ◌≤◌, ◌++◌, length, map, vec_len, vec_capacity}
 use Rattle.docker_join.specs.Meaning.{row_meant}
-use Rattle.state_index.specs.StandingRows.{puts_in}
+use Rattle.state_index.specs.PlaceRows.{puts_in}
 use Rattle.state_index.proofs.puts.puts_of.Given as goal
 
 abbrev pub invariant-loop-row : goal.invariant-loop-row

@@ -10,7 +10,7 @@ ghost use Rattle.docker_model.specs.file.Change as model;
 ghost use Rattle.docker_model.specs.state.Op as ops;
 ghost use Rattle.state_index.specs.Spots.{spots_in};
 ghost use Rattle.state_index.specs.MarkOrder.{mark_cmp};
-ghost use Rattle.state_index.specs.StandingRows.{standing_rows, standing_marks, live_at_mark, IsPieceAt, IsPieceOf, is_put_at_mark};
+ghost use Rattle.state_index.specs.PlaceRows.{rows_at_spots, rows_at_marks, live_at_mark, IsPieceAt, IsPieceOf, is_put_at_mark};
 
 use crate::mark::Mark;
 use crate::names::rank_of;
@@ -31,12 +31,12 @@ impl<'a> Model for Numbered<'a> {
     ghost use Rattle.std.specs.Prelude.{List, map};
     ghost use Rattle.state_laws.specs.Row.{Row};
     ghost use Rattle.docker_join.specs.Meaning.{row_meant};
-    ghost use Rattle.state_index.specs.StandingRows.{standing_marks};
+    ghost use Rattle.state_index.specs.PlaceRows.{rows_at_marks};
 
     ghost Value = { List Row };
 
     ghost view = { λ numbered.
-        standing_marks (map row_meant numbered.rows.now) numbered.marks.now };
+        rows_at_marks (map row_meant numbered.rows.now) numbered.marks.now };
 }
 
 impl<'a> Iterator for Numbered<'a> {
@@ -60,25 +60,25 @@ impl<'a> Iterator for Numbered<'a> {
 
 /// Walks over the live rows at a place, in key order. It gives each row's key and body.
 #[derive(Clone, Debug, Drop)]
-pub struct Standing<'a> {
+pub struct PlaceRows<'a> {
     numbered: Numbered<'a>,
 }
 
-impl<'a> Model for Standing<'a> {
+impl<'a> Model for PlaceRows<'a> {
     ghost use Rattle.std.specs.Prelude.{List};
     ghost use Rattle.state_laws.specs.Row.{Row};
 
     ghost Value = { List Row };
 
-    ghost view = { λ standing. standing.numbered };
+    ghost view = { λ rows. rows.numbered };
 }
 
-impl<'a> Standing<'a> {
+impl<'a> PlaceRows<'a> {
     /// The walk over the rows that these marks name.
-    pub(crate) fn of(rows: &'a [(Key, Entry)], marks: &'a [Mark]) -> Standing<'a>
-        ensures { result ≡ standing_marks (map row_meant rows.entry.now) marks.entry.now }
+    pub(crate) fn of(rows: &'a [(Key, Entry)], marks: &'a [Mark]) -> PlaceRows<'a>
+        ensures { result ≡ rows_at_marks (map row_meant rows.entry.now) marks.entry.now }
     {
-        Standing {
+        PlaceRows {
             numbered: Numbered { rows, marks },
         }
     }
@@ -91,13 +91,13 @@ impl<'a> Standing<'a> {
     }
 }
 
-impl<'a> Iterator for Standing<'a> {
+impl<'a> Iterator for PlaceRows<'a> {
     type Item = (&'a Key, &'a Body);
 
     ghost next_gives = { YieldsFirstBy
-        (λ row. (key_meant row.0.now, body_meant row.1.now)) (λ standing. standing) };
+        (λ row. (key_meant row.0.now, body_meant row.1.now)) (λ rows. rows) };
 
-    ghost remaining = { item_count (λ standing. standing) };
+    ghost remaining = { item_count (λ rows. rows) };
 
     fn next(&mut self) -> Option<(&'a Key, &'a Body)> {
         match self.numbered.next() {
@@ -164,8 +164,8 @@ pub(crate) fn marks_at<'a>(places: &[[u8; 7]], marks: &'a [Mark], place: &[u8; 7
     ensures piece { IsPieceAt place.now (spots_in places.now marks.entry.now)
         (spots_in places.now result.now) }
     ensures each { length (spots_in places.now result.now) ≡ length result.now }
-    ensures rows { (rows : List (model.Key × ops.Entry)) → standing_marks rows result.now
-        ≡ standing_rows rows (spots_in places.now result.now) }
+    ensures rows { (rows : List (model.Key × ops.Entry)) → rows_at_marks rows result.now
+        ≡ rows_at_spots rows (spots_in places.now result.now) }
 {
     match rank_of(places, place) {
         Some(rank) => marks_of(marks, rank),

@@ -2,7 +2,7 @@ use Rattle.std.proofs.Common.{◌≡◌, refl, false, true}
 use Rattle.state_index.specs.Spots.{spots_in}
 use Rattle.state_index.proofs.CountedCalls.{as_many_spots}
 use Rattle.state_index.proofs.MarkSpots.{piece_at, same_rows, no_piece}
-use Rattle.state_index.proofs.standing.marks_at.Goals as goal
+use Rattle.state_index.proofs.place_rows.marks_at.Goals as goal
 
 pub returns-in-Some-clause-piece : goal.returns-in-Some-clause-piece
 returns-in-Some-clause-piece c =

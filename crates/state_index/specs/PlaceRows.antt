@@ -18,16 +18,16 @@ abbrev pub live_at : List (Key × Entry) → Spot → Option Row
 live_at rows spot = option_and_then live_row (slice_get rows spot.at)
 
 -- the live rows that spots name, in the order of the spots
-abbrev pub standing_rows : List (Key × Entry) → List Spot → List Row
-standing_rows rows spots = filter_map (live_at rows) spots
+abbrev pub rows_at_spots : List (Key × Entry) → List Spot → List Row
+rows_at_spots rows spots = filter_map (live_at rows) spots
 
 -- the live row that a mark names
 abbrev pub live_at_mark : List (Key × Entry) → Mark → Option Row
 live_at_mark rows mark = option_and_then live_row (slice_get rows mark.at)
 
 -- the live rows that marks name, in the order of the marks
-abbrev pub standing_marks : List (Key × Entry) → List Mark → List Row
-standing_marks rows marks = filter_map (live_at_mark rows) marks
+abbrev pub rows_at_marks : List (Key × Entry) → List Mark → List Row
+rows_at_marks rows marks = filter_map (live_at_mark rows) marks
 
 -- the piece is the marks of one place, by the place's index; no mark before or after it has that
 -- place

@@ -3,7 +3,7 @@ use Rattle.std.proofs.lemmas.List.Sorted.{IsPartitionPoint-from_clause}
 use Rattle.docker_model.specs.state.Order.{IsStrictlyAscending}
 use Rattle.state_index.specs.MarkOrder.{mark_cmp}
 use Rattle.state_index.proofs.MarkPieces.{is_before, is_up_to, parted_before, parted_up_to, behind_ascends, piece_is}
-use Rattle.state_index.proofs.standing.marks_of.Goals as goal
+use Rattle.state_index.proofs.place_rows.marks_of.Goals as goal
 
 pub returns : goal.returns
 returns c =
