@@ -322,7 +322,7 @@ pub made_itself : (format : Format) (limit : ℕ) (text : List ℕ) (made : Stat
     → IsStateText format limit text made
 made_itself format limit text made of = subst (IsStateText format limit text) (sym of.made_of) of.is
 
--- so it is for what a source held
+-- the same for what a source held
 pub read_itself : (format : Format) (limit : ℕ) (initial : Option (List ℕ)) (made : State) → ReadsMade (λ made state. made ≡ state) format limit initial made
     → ReadsState format limit initial made
 read_itself format limit initial made read =

@@ -17,14 +17,15 @@ abbrev pub Wanting : Type 1
 Wanting = (format : Format) (most limit : ℕ) (left left_now : BytesLeft) → Type 0
 
 -- this is why no state was read: the source failed, or its text has this fault, or memory ran out.
--- None is a fault of another kind, which is never why
+-- None stands for a fault of another kind, which can't occur
 abbrev pub IsWhyUnread : Wanting → Format → ℕ → BytesLeft → BytesLeft → Option ReadFault → Type 0
 IsWhyUnread wants format limit left left_now None = ⊥
 IsWhyUnread wants format limit left left_now (Some Source) = ⊤
 IsWhyUnread wants format limit left left_now (Some (State fault)) = RefusesState format limit left fault
 IsWhyUnread wants format limit left left_now (Some Memory) = wants format most_at_once limit left left_now
 
--- the source has failed once more if it is why no state was read, and otherwise no more than before
+-- the source has failed once more if its failure is why no state was read, and otherwise no more
+-- than before
 abbrev pub CountsWhy : Option ReadFault → ℕ → ℕ → Type 0
 CountsWhy None failures failures_now = ⊥
 CountsWhy (Some Source) failures failures_now = failures_now ≡ failures + 1

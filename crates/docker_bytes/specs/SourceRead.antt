@@ -21,17 +21,19 @@ pub record ReadsState (format : Format) (limit : ℕ) (left : Option (List ℕ))
   pub held : Held left text
   pub is : IsStateText format limit text state
 
--- what was made is made of the state whose text in a format the source held, within the limit
+-- what was made is made of the state whose text the source held, in this format and within the
+-- limit
 pub record ReadsMade {Made : Type 0} (makes : Made → State → Type 0) (format : Format) (limit : ℕ) (left : Option (List ℕ)) (made : Made) : Type 0 where
   pub text : List ℕ
   pub held : Held left text
   pub of : IsMadeOf makes format limit text made
 
--- the fault is the text's; running out of memory isn't
+-- the text has a fault at this offset, for this cause. Out of memory is no cause of a text's fault
 abbrev pub IsCauseOf : Format → ℕ → List ℕ → ℕ → Option model.StateCause → Type 0
 IsCauseOf format limit text at None = ⊥
 IsCauseOf format limit text at (Some cause) = IsStateFault format limit text (record { at = at; cause = cause })
 
+-- the same for a fault as the code has it
 abbrev pub IsFaultOf : Format → ℕ → List ℕ → StateFault → Type 0
 IsFaultOf format limit text fault = IsCauseOf format limit text fault.at (cause_meant fault.cause)
 
@@ -41,7 +43,8 @@ pub record RefusesState (format : Format) (limit : ℕ) (left : Option (List ℕ
   pub held : Held left text
   pub is : IsFaultOf format limit text fault
 
--- after a text without a fault, complete or not, a source lost one piece of at most `most` bytes
+-- from a source were read a text without a fault, complete or not, and then one piece of at most
+-- `most` bytes
 pub record ReadsOnePieceMore (format : Format) (most limit : ℕ) (old new : Option (List ℕ)) : Type 0 where
   pub text : List ℕ
   pub piece : List ℕ
@@ -49,8 +52,7 @@ pub record ReadsOnePieceMore (format : Format) (most limit : ℕ) (old new : Opt
   pub few : length piece ≤ most
   pub sound : IsOpen format limit text ⊎ IsWhole format limit text
 
--- memory ran out for a part that ends in the last piece, of at most `most` bytes, that a source
--- lost
+-- memory ran out for a part that ends in the last piece that was read, of at most `most` bytes
 pub record WantsPart (format : Format) (most limit : ℕ) (old new : Option (List ℕ)) : Type 0 where
   pub text : List ℕ
   pub piece : List ℕ
@@ -59,7 +61,7 @@ pub record WantsPart (format : Format) (most limit : ℕ) (old new : Option (Lis
   pub at : ℕ
   pub wanting : IsWanting format limit text piece at
 
--- memory ran out before a byte was read, or for a part up to which none is bad
+-- memory ran out: before a byte was read, or for a part. No part up to it is bad
 abbrev pub WantsSoFar : Format → ℕ → ℕ → Option (List ℕ) → Option (List ℕ) → Type 0
 WantsSoFar format most limit old new = Reads old [] new ⊎ WantsPart format most limit old new
 
@@ -75,7 +77,7 @@ pub record JoinsState (format : Format) (limit : ℕ) (left : Option (List ℕ))
   pub read : ReadsState format limit left received
   pub join : IsJoin own received after
 
--- memory ran out: before a byte was read, for a part up to which none is bad, or at the end of a
--- state's text
+-- memory ran out: before a byte was read, for a part, or at the end of a state's text. No part up
+-- to there is bad
 abbrev pub WantsMemory : Format → ℕ → ℕ → Option (List ℕ) → Option (List ℕ) → Type 0
 WantsMemory format most limit old new = Reads old [] new ⊎ WantsPart format most limit old new ⊎ ((state : State) × ReadsState format limit old state)

@@ -29,7 +29,7 @@ before_of reading = stage_meant reading.stage reading.parts reading.lines
 abbrev pub text_of : {K : Type 0} → StateReading K → List ℕ
 text_of reading = text_before (format_of reading) (before_of reading) ++ reading.partial.items
 
--- all parts before are good, and a front of the next one was read, within the limit
+-- all parts so far are good, and a prefix of the next one was read, within the limit
 pub record IsReading {K : Type 0} (reading : StateReading K) : Type 0 where
   pub ready : IsReady (format_of reading) reading.stage reading.parts reading.lines
   pub short : length reading.partial.items ≤ width (before_of reading) - 1

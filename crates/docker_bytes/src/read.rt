@@ -89,8 +89,8 @@ pub(crate) fn read_format<S: Source, K: Maker>(
     finish(parser)
 }
 
-/// Feeds a parser that has read nothing all that a source has, in pieces of at most 65,536 bytes.
-/// All the bytes have to be the state's.
+/// Feeds all that a source has to a parser that has read nothing, in pieces of at most 65,536
+/// bytes. All the bytes have to be the state's.
 pub(crate) fn read_pieces<S: Source, K: Keeper>(
     alloc: Global,
     source: &mut S,
@@ -179,7 +179,7 @@ fn tail<K: Keeper>(parser: &Parser<K>) -> StateFault
     }
 }
 
-/// Out of memory is a fault of its own. Each other cause is the text's.
+/// The read fault for a parser's fault: `Memory` for out of memory, and otherwise the text's fault.
 pub(crate) fn fault_of(fault: StateFault) -> ReadFault
     ensures memory { fault.cause ≡ StateCause.Memory → result ≡ ReadFault.Memory }
     ensures state { fault.cause ≢ StateCause.Memory → result ≡ ReadFault.State fault }

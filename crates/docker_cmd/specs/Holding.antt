@@ -6,7 +6,7 @@ use Rattle.docker_cmd.specs.Prepared.{IsWrittenOf, Output, ReadView, docker_writ
 use Rattle.docker_cmd.specs.declared.holding.Holding.{Holding}
 use Rattle.docker_cmd.specs.declared.holding.Holding.TheVariants.{Whole, Place, Ledger}
 
--- of an office at a timing point the whole state was read
+-- what an office at a timing point has read: the whole state
 abbrev pub place_read : Excerpt → ReadView
 place_read office = office_read office.state
 
@@ -16,8 +16,8 @@ held_meant (Whole content) = content_meant content
 held_meant (Place office) = place_read office
 held_meant (Ledger office) = office_read office
 
--- such an output is written of what is held: of an office at a timing point for a day, the docker
--- there on that day, and of a ledger, its files
+-- the output can be written from what is held. An office at a timing point for a day has only the
+-- docker there on that day, and a ledger only its files
 abbrev pub IsWrittenFrom : Output → Holding → Type 0
 IsWrittenFrom output (Whole content) = IsWrittenOf output (content_meant content)
 IsWrittenFrom output (Place office) = output ≡ docker_written office.place office.day

@@ -115,7 +115,8 @@ pub record IsOfOneFile (left : DeviceBytes) (read : ReadView) : Type 0 where
   pub summary : IsSummary (file ∷ []) 0 state
   pub plain : IsPlainTable (file ∷ []) (live_table state)
 
--- the fault is the fault of the file, which may follow a state
+-- the fault is the fault of the source that should have held a file. If a state comes before it,
+-- that one is good
 abbrev pub RefusesFileOf : Sources → DeviceBytes → DeviceBytes → FileFault → Type 0
 RefusesFileOf no_source first second fault = ⊥
 RefusesFileOf checked_file first second fault = RefusesText most_records first fault
@@ -135,7 +136,7 @@ RefusesStateOf state_and_file first second fault = RefusesState dks_2 most_bytes
 RefusesStateOf two_states first second fault =
     RefusesState dks_2 most_bytes first fault ⊎ (HoldsSomeState first × RefusesState dks_2 most_bytes second fault)
 
--- memory ran out for a state of a format
+-- memory ran out for a state in this format
 abbrev pub WantsForState : Format → DeviceBytes → DeviceBytes → Type 0
 WantsForState format old new = WantsMemory format most_at_once most_bytes old new
 
@@ -186,7 +187,7 @@ HasReadToEnd (one_state format) first second = ⊤
 HasReadToEnd state_and_file first second = IsEnd second
 HasReadToEnd two_states first second = ⊤
 
--- why two sources were refused, from what they held and have left: never because of a sink or a day
+-- why two sources were refused, by what they held and have left. `Sink` and `Lapsed` can't occur
 abbrev pub IsWhyRefused : Sources → DeviceBytes → DeviceBytes → DeviceBytes → DeviceBytes → OfficeFault → Type 0
 IsWhyRefused sources first left second second_left (office.File fault) = RefusesFileOf sources first second fault
 IsWhyRefused sources first left second second_left (office.State fault) = RefusesStateOf sources first second fault
@@ -195,13 +196,13 @@ IsWhyRefused sources first left second second_left office.Memory = WantsFor sour
 IsWhyRefused sources first left second second_left office.Lapsed = ⊥
 IsWhyRefused sources first left second second_left office.Sink = ⊥
 
--- the outcome of reading two sources: a value of which this holds, with the file that was read at
--- its end, or why they were refused
+-- the outcome of reading two sources: a value for which this holds, and a file was read to its end;
+-- or why they were refused
 abbrev pub EndsReading : {A : Type 0} → (A → Type 0) → Sources → DeviceBytes → DeviceBytes → DeviceBytes → DeviceBytes → Result A OfficeFault → Type 0
 EndsReading IsMade sources first left second second_left (Ok made) = IsMade made × HasReadToEnd sources left second_left
 EndsReading IsMade sources first left second second_left (Err fault) = IsWhyRefused sources first left second second_left fault
 
--- two sources were read in their order and no further than decides, and this is the outcome
+-- two sources were read in their order, no further than the answer needs, with this outcome
 pub record ReadsFew (sources : Sources) (first left second second_left : DeviceBytes) (Ends : Type 0) : Type 0 where
   pub first_few : ReadsFewOfFirst sources first left
   pub second_few : ReadsFewOfSecond sources first second second_left
@@ -272,7 +273,7 @@ pub record GainsText (output : Output) (read : ReadView) (old new : DeviceBytes)
   pub is : IsOutputText output read text
   pub gained : Takes old text new
 
--- the sink gained a proper beginning of the text
+-- the sink gained a proper prefix of the text
 pub record GainsTextPart (output : Output) (read : ReadView) (old new : DeviceBytes) : Type 0 where
   pub text : List ℕ
   pub is : IsOutputText output read text
@@ -282,7 +283,7 @@ pub record GainsTextPart (output : Output) (read : ReadView) (old new : DeviceBy
 abbrev pub GainsOutput : PreparedView → DeviceBytes → DeviceBytes → Type 0
 GainsOutput prepared old new = GainsText (output_of prepared.job.task) prepared.read old new
 
--- the sink gained a proper beginning of the text that a job writes
+-- the sink gained a proper prefix of the text that a job writes
 abbrev pub GainsPart : PreparedView → DeviceBytes → DeviceBytes → Type 0
 GainsPart prepared old new = GainsTextPart (output_of prepared.job.task) prepared.read old new
 
@@ -309,8 +310,8 @@ IsDocker state_written = ⊥
 abbrev pub PrintsDocker : PreparedView → Type 0
 PrintsDocker prepared = IsDocker (output_of prepared.job.task)
 
--- the outcome of writing an output to a sink: it gained the text; or it failed, and gained a proper
--- beginning of it; or a docker can't be made, and the sink is unchanged
+-- the outcome of writing an output to a sink. It gained the text; or it failed, and gained a proper
+-- prefix of it; or a docker can't be made, and the sink is unchanged
 abbrev pub EndsEmitting : {K : Type 0} → (K → DeviceBytes) → (K → ℕ) → Output → ReadView → K → K → Result ⊤ OfficeFault → Type 0
 EndsEmitting taken failures output read old new (Ok done) =
     GainsText output read (taken old) (taken new) × (failures new ≡ failures old)

@@ -18,8 +18,8 @@ use docker_office::{LedgerOffice, Office, OfficeFault, PlaceOffice};
 /// `files` writes the office's files. Any other job writes the text of the office's state.
 ///
 /// It returns `Lapsed` for a docker of a day before the state's horizon plus three days, and
-/// `Memory` if room for a docker is refused: both before anything is written. `Sink` leaves the
-/// sink with a beginning of the text.
+/// `Memory` if room for a docker is refused: both before anything is written. With `Sink`, the sink
+/// has gained a proper prefix of the text.
 pub fn emit<K: Sink>(prepared: &Prepared<'_>, sink: &mut K) -> Result<(), OfficeFault>
     requires { K.failures sink.old < 2 ^ 64 - 1 }
     ensures ends { EndsEmitting K.taken K.failures (output_of prepared.now.job.task)
@@ -46,7 +46,7 @@ fn write_counts<K: Sink>(file: &FileCount, sink: &mut K) -> Result<(), OfficeFau
     write(sink, text.as_slice())
 }
 
-/// Writes the whole text, or a beginning of it if the sink fails.
+/// Writes the whole text, or a proper prefix of it if the sink fails.
 fn write<K: Sink>(sink: &mut K, text: &[u8]) -> Result<(), OfficeFault>
     requires { K.failures sink.old < 2 ^ 64 - 1 }
     ensures whole { OnOk result (Takes (K.taken sink.old) text.now (K.taken sink.new)) }

@@ -1,4 +1,4 @@
-//! What is read of a job's sources.
+//! Reads a job's sources.
 ghost use Rattle.std.specs.Prelude.{◌≡◌, ◌-◌, ◌^◌, ◌<◌, ◌⊎◌, ℕ};
 ghost use Rattle.docker_cmd.specs.Reads.{sources_meant};
 ghost use Rattle.docker_model.specs.state.StateText.{dks_1, dks_2};

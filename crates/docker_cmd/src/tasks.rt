@@ -122,7 +122,7 @@ impl Subcommand {
     }
 
     /// Its task with these words, which are as many as it requires. None if a state that has to be
-    /// written anew is `stdin`, or if a word doesn't name a timing point or a day as it should.
+    /// written anew is `stdin`, or if a word that has to name a timing point or a day doesn't.
     pub(crate) fn task(self, words: &[&str]) -> Option<Task>
         requires { length words.now ≡ length (ids_of self) }
         ensures { IsTaskOf self (texts words.now) (option_map task_meant result) }

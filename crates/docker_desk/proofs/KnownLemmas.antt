@@ -29,7 +29,7 @@ use Rattle.docker_desk.specs.Learning.{AreLearned, Hears, HearsFile, HearsState,
 
 -- ---- what is known
 
--- with nothing more, as much is known
+-- adding nothing leaves what is known
 known_with_nothing : (known : Known) → united known nothing ≡ known
 known_with_nothing known = λ i. record { files = append-nil known.files i; horizon = max-zero known.horizon i }
 
@@ -39,7 +39,7 @@ nothing_heard old heard before after none same is =
     subst (λ h. IsKnown (united old h) after) (sym none)
     (subst (λ k. IsKnown k after) (sym (known_with_nothing old)) (subst (IsKnown old) (sym same) is))
 
--- what is known after a join with a state of which this is known
+-- what is known after a join, by what was known of both states
 known_joined : (old heard : Known) (own other after : State) → IsKnown old own → IsKnown heard other
     → IsJoin own other after → IsKnown (united old heard) after
 known_joined old heard own other after first second join = record {
@@ -220,7 +220,7 @@ one_read limit left read sent reads holds =
     let same : holds.text ≡ reads.text = subst (λ bytes. Held bytes reads.text) holds.told reads.held in
     one_text dks_2 read sent reads.is.valid holds.is.valid (sym reads.is.is ∙ sym same ∙ holds.is.is)
 
--- what is known of it is known
+-- what is known of that state is known of the state that was read
 pub known_read : (limit : ℕ) (left : Option (List ℕ)) (read sent : State) (start : Known) → ReadsState dks_2 limit left read → HoldsState dks_2 limit left sent
     → IsKnown start sent → IsKnown start read
 known_read limit left read sent start reads holds is = subst (IsKnown start) (sym (one_read limit left read sent reads holds)) is

@@ -43,7 +43,7 @@ abbrev pub IsEndless : DeviceBytes → Type 0
 IsEndless None = ⊤
 IsEndless (Some text) = 2 ^ 64 - 1 ≤ length text
 
--- the output gained each answer but the last, and a proper beginning of that one
+-- the output gained every answer but the last, and a proper prefix of the last
 pub record BreaksOff (steps : List Step)
     (output output_now : DeviceBytes) : Type 0 where
   pub earlier : List Step
@@ -53,8 +53,8 @@ pub record BreaksOff (steps : List Step)
   pub told : Takes output (answers_told earlier) between
   pub part : TakesPart between (bytes_told last.answer) output_now
 
--- how the steps of a session end: at the input's end all lines are answered; if a device fails, the
--- first lines of the input are
+-- which lines were answered, and what the output gained, by how the session ended. At the input's
+-- end all lines were answered, otherwise its first lines
 abbrev pub EndsSession : Ending → DeviceBytes → List Step → DeviceBytes
     → DeviceBytes → Type 0
 EndsSession Ended input steps output output_now =
@@ -67,7 +67,7 @@ EndsSession InputEndless input steps output output_now =
 EndsSession OutputFailed input steps output output_now =
     BeginsWith input (lines_of steps) × BreaksOff steps output output_now
 
--- the lines of an input were answered on an output, and led from one moment to the other
+-- the lines of an input were answered on an output, and led from the moment before to the one after
 pub record AnswersLines (setting : Setting) (before after : Moment)
     (input output output_now : DeviceBytes) (ending : Ending) : Type 0 where
   pub steps : List Step
@@ -106,14 +106,14 @@ CountsNext None input input_now output output_now = (input_now ≡ input) × (ou
 CountsNext (Some ending) input input_now output output_now =
     CountsStreams ending input input_now output output_now
 
--- an input that hadn't reported its end isn't read after it; and if the session goes on, the input
--- still hasn't reported it
+-- an input that hadn't reported its end isn't read past it. If the session goes on, the input still
+-- hasn't reported it
 abbrev pub StopsAtEnd : Option Ending → Bool → Bool → Bool → Bool → Type 0
 StopsAtEnd result ended ended_now passed passed_now =
     ended ≡ false → (passed_now ≡ passed) × (result ≡ None → ended_now ≡ false)
 
--- the output gained an answer, and the session ends as it is next to; or the output failed, gained
--- a proper beginning of the answer, and the session ends for that
+-- the output gained the answer, and the result is `next`; or the output failed, gained a proper
+-- prefix of the answer, and the result is `OutputFailed`
 abbrev pub TellsAnswer : List ℕ → Option Ending → DeviceBytes → DeviceBytes → ℕ → ℕ → Option Ending
     → Type 0
 TellsAnswer told next output output_now failures failures_now result =

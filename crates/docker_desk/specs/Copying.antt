@@ -1,10 +1,10 @@
--- What is read and copied, and what is written and compared.
+-- The view of a source that copies what is read, and of a sink that compares what is written.
 use Rattle.std.specs.Prelude.{◌≡◌, ℕ, Bool, List, ◌++◌, Option, Some, None, ⊤}
 use Rattle.docker_host.specs.History.{Bytes, Text}
 
 -- a source whose bytes are copied as they are read: what is left of it, and how often it has
--- failed. Then come whether its end was reported and read past, and the copy, if there was memory
--- for it
+-- failed. Then come whether it has reported its end, whether it was read past that, and the copy,
+-- if there was memory for it
 pub record CopyView : Type 0 where
   pub left : Bytes
   pub failures : ℕ
@@ -17,7 +17,7 @@ pub record MatchView : Type 0 where
   pub taken : Text
   pub failures : ℕ
 
--- the copy has these bytes more, or there is none any more
+-- the copy gained these bytes, or there is no copy any more
 abbrev pub KeepsMore : Option Text → List ℕ → Option Text → Type 0
 KeepsMore old bytes None = ⊤
 KeepsMore None bytes (Some new) = ⊥

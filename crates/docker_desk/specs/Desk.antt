@@ -23,13 +23,13 @@ use Rattle.docker_host.specs.History.{Bytes, Event, IsText, Text, drafted, looke
 use Rattle.docker_host.specs.Asked.{FailsToStore, IsStored, IsUndrafted}
 use Rattle.docker_desk.specs.Replies.{AnswerView, done_with, refused_for, no_request}
 
--- the state that a desk knows, and whether it may be another than the one whose text the state's
--- file was last seen to hold
+-- the state that a desk knows, and whether it may differ from the one that the state's file was
+-- last seen to hold
 pub record DeskView : Type 0 where
   pub state : State
   pub unsaved : Bool
 
--- a docker is refused for its day or, if not for its day, because memory ran out
+-- why a docker is refused: `Lapsed` if the horizon refuses its day, otherwise `Memory`
 abbrev pub IsDockerRefused : State → ℕ → OfficeFault → Type 0
 IsDockerRefused state day office.Lapsed = IsDayRefused state.horizon day
 IsDockerRefused state day office.Memory = ¬ IsDayRefused state.horizon day
@@ -45,7 +45,7 @@ IsDockerAnswer state place day (done_with text) =
 IsDockerAnswer state place day (refused_for fault) = IsDockerRefused state day fault
 IsDockerAnswer state place day no_request = ⊥
 
--- a train is refused for its day or, if not for its day, because memory ran out
+-- why a train is refused: `Lapsed` if its day is before the horizon, otherwise `Memory`
 abbrev pub IsTrainRefused : State → ℕ → OfficeFault → Type 0
 IsTrainRefused state day office.Lapsed = day < state.horizon
 IsTrainRefused state day office.Memory = ¬ (day < state.horizon)
@@ -81,19 +81,20 @@ IsKnownAnswer state no_request = ⊥
 
 -- ---- what is read
 
--- the file of this name was opened, and held these bytes then; or it wasn't opened
+-- the event of opening the named file: it was opened and held these bytes, or it couldn't be opened
 abbrev pub opening_of : Text → Option Bytes → Event
 opening_of name (Some bytes) = opened name bytes
 opening_of name None = unopened name
 
--- the file of this name was opened once, or couldn't be, and this holds of what it held then
+-- the named file was opened once. `Ends` holds of the bytes that it held then, or of `None` if it
+-- couldn't be opened
 pub record OpensOnce (name : Text) (Ends : Option Bytes → Type 0) (old new : List Event) : Type 0 where
   pub held : Option Bytes
   pub asked : new ≡ old ++ opening_of name held ∷ []
   pub ends : Ends held
 
--- the file of this name was looked at, and then it was opened once, or couldn't be, and this holds
--- of what it held then
+-- the named file was looked at, and then opened once. `Ends` holds of the bytes that it held then,
+-- or of `None` if it couldn't be opened
 pub record LooksAndOpens (name : Text) (Ends : Option Bytes → Type 0) (old new : List Event) : Type 0 where
   pub held : Option Bytes
   pub asked : new ≡ old ++ looked name ∷ opening_of name held ∷ []
@@ -108,8 +109,8 @@ IsWhyUnopened (office.State fault) = ⊥
 IsWhyUnopened office.Lapsed = ⊥
 IsWhyUnopened office.Sink = ⊥
 
--- why a file that held this isn't taken: it is no file, its device failed, or memory ran out, which
--- may be before a byte was read
+-- why a file that held this isn't taken: its text is refused, its device failed, or memory ran out,
+-- perhaps before a byte was read
 abbrev pub RefusesToTake : Bytes → OfficeFault → Type 0
 RefusesToTake held (office.File fault) = RefusesText most_records held fault
 RefusesToTake held office.Source = ⊤
@@ -118,8 +119,8 @@ RefusesToTake held (office.State fault) = ⊥
 RefusesToTake held office.Lapsed = ⊥
 RefusesToTake held office.Sink = ⊥
 
--- why no state is received from a file that held this: it is no state, its device failed, or memory
--- ran out, which may be before a byte was read
+-- why no state is received from a file that held this: its text is refused, its device failed, or
+-- memory ran out, perhaps before a byte was read
 abbrev pub RefusesToReceive : Bytes → OfficeFault → Type 0
 RefusesToReceive held (office.State fault) = RefusesState dks_2 most_bytes held fault
 RefusesToReceive held office.Source = ⊤
@@ -133,62 +134,63 @@ abbrev pub HasOpened : (Bytes → Type 0) → Option Bytes → Type 0
 HasOpened Holds (Some held) = Holds held
 HasOpened Holds None = ⊥
 
--- why a file isn't read: it wasn't opened, or this is said of what it held and of the fault
+-- why a file isn't read: it wasn't opened; or it was, and `Refuses` holds of what it held and of
+-- the fault
 abbrev pub IsWhyNot : (Bytes → OfficeFault → Type 0) → OfficeFault → Option Bytes → Type 0
 IsWhyNot Refuses fault (Some held) = Refuses held fault
 IsWhyNot Refuses fault None = IsWhyUnopened fault
 
--- the state after taking a file, from what the file held if it was opened; the same state if that
--- was refused
+-- how taking a file ends, by what the file held if it was opened. If it was refused, the state is
+-- unchanged
 abbrev pub EndsTaking : State → State → Result ⊤ OfficeFault → Option Bytes → Type 0
 EndsTaking old new (Ok done) held = HasOpened (λ bytes. TakesFile most_records bytes old new) held
 EndsTaking old new (Err fault) held = IsWhyNot RefusesToTake fault held × (new ≡ old)
 
--- the state after receiving the state of a file, from what the file held if it was opened; the same
--- state if that was refused
+-- how receiving the state of a file ends, by what the file held if it was opened. If it was
+-- refused, the state is unchanged
 abbrev pub EndsReceiving : State → State → Result ⊤ OfficeFault → Option Bytes → Type 0
 EndsReceiving old new (Ok done) held =
     HasOpened (λ bytes. JoinsState dks_2 most_bytes bytes old new) held
 EndsReceiving old new (Err fault) held = IsWhyNot RefusesToReceive fault held × (new ≡ old)
 
--- the state after reading the state of a file, from what the file held if it was opened
+-- how reading the state of a file ends, by what the file held if it was opened
 abbrev pub EndsReloading : State → Result ⊤ OfficeFault → Option Bytes → Type 0
 EndsReloading new (Ok done) held = HasOpened (λ bytes. ReadsState dks_2 most_bytes bytes new) held
 EndsReloading new (Err fault) held = IsWhyNot RefusesToReceive fault held
 
--- the file was opened, and held the text of this state, as far as the device can name what it held
+-- the file was opened and, if its bytes can be named, held the text of this state
 abbrev pub HoldsTextOf : State → Option Bytes → Type 0
 HoldsTextOf state held = HasOpened (λ bytes. IsText bytes (state_text dks_2 state)) held
 
--- the state after receiving the state of a file; and if the two were compared and found the same,
--- the file held the text of the state
+-- how receiving the state of a file ends. If `same`, the file held the text of the state that the
+-- office has after that
 abbrev pub EndsComparing : State → State → Result ⊤ OfficeFault → (same : Bool) → Option Bytes → Type 0
 EndsComparing old new result true held =
     EndsReceiving old new result held × HoldsTextOf new held
 EndsComparing old new result false held = EndsReceiving old new result held
 
--- what a desk knows after renewing from its state's file: there are no unsaved changes only if the
--- file held the text of the state that the desk has then. If it was refused, all is as it was
+-- what a desk knows after renewing from its state's file. Nothing is unsaved only if the file held
+-- the text of the state that the desk has then. A refusal changes nothing
 abbrev pub EndsRenewing : DeskView → DeskView → Result ⊤ OfficeFault → Option Bytes → Type 0
 EndsRenewing old new (Ok done) held = EndsReceiving old.state new.state (Ok done) held
     × (new.unsaved ≡ false → HoldsTextOf new.state held)
 EndsRenewing old new (Err fault) held = IsWhyNot RefusesToReceive fault held × (new ≡ old)
 
--- whether there are unsaved changes after a request that may change what is known: there are if it
--- was done, and if it was refused, all is as it was
+-- the unsaved flag after a request that may change what is known: set if it was done, unchanged if
+-- it was refused
 abbrev pub unsaved_by : Result ⊤ OfficeFault → Bool → Bool
 unsaved_by (Ok done) unsaved = true
 unsaved_by (Err fault) unsaved = unsaved
 
--- the look of this number if a request was done, otherwise the one before
+-- the number of the look after a request: `look` if it was done, otherwise the one before
 abbrev pub look_by : Result ⊤ OfficeFault → ℕ → ℕ → ℕ
 look_by (Ok done) look before = look
 look_by (Err fault) look before = before
 
 -- ---- what is written
 
--- how the storing of a text in a file ends, by a draft from the look of this number. The draft took
--- its place, or a device failed, or there was no memory for a draft
+-- how storing a text in a file ends, by a draft from the look with this number. The draft took the
+-- file's place, or a device failed, or there was no memory for a draft
 abbrev pub EndsStoring : (names_bytes : Bool) (name : Text) (look : ℕ) (text : List ℕ)
     (old new : List Event) → Result ⊤ OfficeFault → Type 0
 EndsStoring names_bytes name look text old new (Ok done) = IsStored names_bytes name look text old new
@@ -200,7 +202,7 @@ EndsStoring names_bytes name look text old new (Err office.Lapsed) = ⊥
 EndsStoring names_bytes name look text old new (Err (office.File fault)) = ⊥
 EndsStoring names_bytes name look text old new (Err (office.State fault)) = ⊥
 
--- how the saving of a text ends: like its storing, and once the draft took its place, the file is
+-- how saving a text ends: like storing it, and once the draft took the file's place, the file is
 -- looked at
 abbrev pub EndsSaving : (names_bytes : Bool) (name : Text) (look : ℕ) (text : List ℕ)
     (old new : List Event) → Result ⊤ OfficeFault → Type 0

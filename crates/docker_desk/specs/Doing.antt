@@ -16,8 +16,8 @@ abbrev pub answer_of : Result ⊤ OfficeFault → AnswerView
 answer_of (Ok done) = done_with []
 answer_of (Err fault) = refused_for fault
 
--- a request to take a file or to receive a state. The file of that name is opened once, and how the
--- request ends follows from what the file held then
+-- a request to take a file or to receive a state. The named file is opened once, and what it held
+-- then decides how the request ends
 pub record Joins (name : Text) (Ends : State → State → Result ⊤ OfficeFault → Option Bytes → Type 0)
     (before : Moment) (answer : AnswerView) (after : Moment) : Type 0 where
   pub result : Result ⊤ OfficeFault
@@ -28,8 +28,8 @@ pub record Joins (name : Text) (Ends : State → State → Result ⊤ OfficeFaul
   pub look : after.look ≡ before.look
 
 -- a request to renew: the state's file is looked at and then opened once, and the state is joined
--- with the one whose text the file held then. If that is done, the look is the one before this
--- opening
+-- with the one whose text the file held then. If that is done, the moment's look is the one right
+-- before this opening
 pub record Renews (setting : Setting) (before : Moment) (answer : AnswerView) (after : Moment)
     : Type 0 where
   pub result : Result ⊤ OfficeFault
@@ -43,8 +43,8 @@ abbrev pub desk_by : Result ⊤ OfficeFault → DeskView → DeskView
 desk_by (Ok done) desk = record desk { unsaved = false }
 desk_by (Err fault) desk = desk
 
--- a request to save: a draft is made from the last look. If it takes its place, the file is looked
--- at again, and that look is the last one then
+-- a request to save: a draft is made from the moment's look. If the draft takes the file's place,
+-- the file is looked at again, and that look is the next moment's
 pub record Saves (setting : Setting) (before : Moment) (answer : AnswerView) (after : Moment)
     : Type 0 where
   pub result : Result ⊤ OfficeFault
@@ -54,7 +54,8 @@ pub record Saves (setting : Setting) (before : Moment) (answer : AnswerView) (af
   pub desk : after.desk ≡ desk_by result before.desk
   pub look : after.look ≡ look_by result (length before.history + 2) before.look
 
--- a moment at which the desk has this horizon too, and unsaved changes
+-- the moment after a horizon was set: the state has the later of the two horizons, and something is
+-- unsaved
 abbrev pub with_horizon : ℕ → Moment → Moment
 with_horizon day before =
     record before { desk = record { state = raise_horizon day before.desk.state; unsaved = true } }
@@ -92,8 +93,8 @@ DoesAsked setting (Some request) before answer after =
     DoesRequest setting request before answer after
 DoesAsked setting None before answer after = (answer ≡ no_request) × (after ≡ before)
 
--- the step is what its line makes of the moment before. The folder failed once more exactly if the
--- answer has status 4
+-- the step does what its line asks for, from the moment before to the moment after. The folder
+-- failed once more exactly if the answer has status 4
 pub record IsStep (setting : Setting) (step : Step) : Type 0 where
   pub asks : AsksOf setting.may_write step.line step.request
   pub does : DoesAsked setting step.request step.before step.answer step.after

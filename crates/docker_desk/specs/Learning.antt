@@ -24,15 +24,16 @@ pub record IsKnown (known : Known) (state : State) : Type 0 where
   pub good : IsGoodKnown dks_2 known
   pub is : IsStateOf known state
 
--- the file of this name was opened and held the text of a file, and this is the file
+-- the named file was opened and held an extract that was taken. This extract is what was heard,
+-- without a horizon
 pub record HearsFile (name : Text) (before after : Moment) (heard : Known) : Type 0 where
   pub held : Bytes
   pub asked : after.history ≡ before.history ++ opened name held ∷ []
   pub takes : TakesFile most_records held before.desk.state after.desk.state
   pub heard_is : heard ≡ record { files = takes.file ∷ []; horizon = 0 }
 
--- a file was opened by these events and held the text of a state, and the state is the summary of
--- what was heard
+-- these events opened a file that held the text of a state, and that state is the summary of what
+-- was heard
 pub record HearsState (events : Bytes → List Event) (before after : Moment) (heard : Known)
     : Type 0 where
   pub held : Bytes
@@ -40,11 +41,11 @@ pub record HearsState (events : Bytes → List Event) (before after : Moment) (h
   pub joins : JoinsState dks_2 most_bytes held before.desk.state after.desk.state
   pub of : IsKnown heard joins.received
 
--- the events of a merge with the file of this name, which held this
+-- the events of a merge with the named file, which held these bytes
 abbrev pub merging : Text → Bytes → List Event
 merging name held = opened name held ∷ []
 
--- the events of a renewal from the file of this name, which held this
+-- the events of a renewal from the named file, which held these bytes
 abbrev pub renewing : Text → Bytes → List Event
 renewing name held = looked name ∷ opened name held ∷ []
 
@@ -73,14 +74,14 @@ Learns setting (Some request) before (refused_for fault) after old new = new ≡
 Learns setting (Some request) before no_request after old new = new ≡ old
 Learns setting None before answer after old new = new ≡ old
 
--- what is known after steps
+-- what is known after these steps, by what was known before
 abbrev pub AreLearned : Setting → Known → List Step → Known → Type 0
 AreLearned setting old [] new = new ≡ old
 AreLearned setting old (step ∷ steps) new =
     (now : Known) × (Learns setting step.request step.before step.answer step.after old now
     × AreLearned setting now steps new)
 
--- a file was opened by these events, and held the text of the summary of this
+-- these events opened a file that held the text of the summary of this knowledge
 pub record HoldsKnown (events : Bytes → List Event) (before after : Moment) (known : Known)
     : Type 0 where
   pub held : Bytes
@@ -118,7 +119,7 @@ AllHearKnown setting [] = ⊤
 AllHearKnown setting (step ∷ steps) =
     HearsKnown setting step.request step.before step.answer step.after × AllHearKnown setting steps
 
--- a draft took the place of the state's file, with the text of the summary of this
+-- a draft with the text of the summary of this knowledge took the place of the state's file
 pub record PlacesKnown (setting : Setting) (before after : Moment) (known : Known) : Type 0 where
   pub text : List ℕ
   pub good : IsGoodKnown dks_2 known
@@ -137,8 +138,9 @@ pub record KnowsAt (setting : Setting) (known : Known) (state : State) : Type 0 
   pub learned : AreLearned setting start steps known
   pub has : last.desk.state ≡ state
 
--- the text of a train, as it came from the files that are known: the schedule that was found came
--- from one of them, and if they have a plain table, it is the one that this table has
+-- the text of a train, and where it comes from. A schedule that was found came from one of the
+-- known files. If these files have a plain table, it is the schedule that is chosen there, or none
+-- is
 pub record IsTrainOf (known : Known) (uid : List ℕ) (day : ℕ) (text : List ℕ) : Type 0 where
   pub found : Option Stamped
   pub text_is : text ≡ train_text uid day found

@@ -9,8 +9,8 @@ use Rattle.docker_desk.specs.declared.lines.Asked.TheVariants as asked
 use Rattle.docker_desk.specs.declared.lines.InputFault.{InputFault}
 use Rattle.docker_desk.specs.declared.lines.InputFault.TheVariants.{Failed, Endless}
 
--- a line: the bytes before its line feed; a line that is longer or has another byte; or what comes
--- after the last line feed
+-- a line: whole, with the bytes before its line feed; bad, if it is longer or has a byte that isn't
+-- printable; or cut, if its line feed is missing
 pub data LineView : Type 0 where
   whole_line : (line : List ℕ) → LineView
   bad_line : LineView
@@ -20,7 +20,7 @@ pub data LineView : Type 0 where
 abbrev pub IsWithoutFeed : List ℕ → Type 0
 IsWithoutFeed = AllByRecursion (λ byte. byte ≢ 10)
 
--- the text begins with a line that isn't whole and its line feed, and then comes the rest
+-- the text begins with a bad line and its line feed, and then comes the rest
 pub record IsBadLine (text rest : List ℕ) : Type 0 where
   pub line : List ℕ
   pub whole : text ≡ line ++ 10 ∷ rest
@@ -43,7 +43,7 @@ abbrev pub AreLines : List ℕ → List LineView → Type 0
 AreLines text [] = text ≡ []
 AreLines text (line ∷ lines) = (rest : List ℕ) × (IsNextLine text line rest × AreLines rest lines)
 
--- what holds of a line if the source's bytes can't be named
+-- what is still known of a line if the source's bytes can't be named
 abbrev pub IsSomeLine : LineView → Type 0
 IsSomeLine (whole_line line) = IsLineText line
 IsSomeLine bad_line = ⊤
@@ -54,7 +54,7 @@ abbrev pub ReadsNext : Option (List ℕ) → LineView → Option (List ℕ) → 
 ReadsNext None line new = IsSomeLine line
 ReadsNext (Some text) line new = (rest : List ℕ) × (IsNextLine text line rest × (new ≡ Some rest))
 
--- what is left of a source, after these bytes that were read ahead
+-- what is left to read: the bytes that were read ahead, and then what is left of the source
 abbrev pub with_ahead : List ℕ → Option (List ℕ) → Option (List ℕ)
 with_ahead ahead left = option_map (λ rest. ahead ++ rest) left
 
@@ -83,19 +83,21 @@ EndsLine old (Ok asked) new = ReadsAsked old (asked_meant asked) new
 EndsLine old (Err Failed) new = ReadsMany 0 old new
 EndsLine old (Err Endless) new = ReadsMany (2 ^ 64 - 1) old new
 
--- a source that hadn't reported its end has reported it now or not, as `at_end` says, and wasn't
--- read after it
+-- a source that hadn't reported its end has reported it now exactly if `at_end`, and wasn't read
+-- past it
 pub record MeetsEnd (at_end ended now_ended passed now_passed : Bool) : Type 0 where
   pub told : ended ≡ false → now_ended ≡ at_end
   pub kept : ended ≡ false → now_passed ≡ passed
 
--- whether the end of the source was met, if no byte was left of it; it wasn't met where it failed
+-- whether reading the next byte met the source's end. It did if there was no byte, and not if the
+-- source failed
 abbrev pub is_end_of_bytes : {A E : Type 0} → Result (Option A) E → Bool
 is_end_of_bytes (Ok (Some byte)) = false
 is_end_of_bytes (Ok None) = true
 is_end_of_bytes (Err fault) = false
 
--- whether the end of the source was met with a line, or with what stands after the last one
+-- whether reading the next line met the source's end. It did if the line's line feed is missing, or
+-- if there was no line
 abbrev pub is_end_of_lines : Result Asked InputFault → Bool
 is_end_of_lines (Ok (asked.Line line)) = false
 is_end_of_lines (Ok asked.Bad) = false
@@ -103,8 +105,8 @@ is_end_of_lines (Ok asked.Cut) = true
 is_end_of_lines (Ok asked.End) = true
 is_end_of_lines (Err fault) = false
 
--- a line that ends without a line feed after these bytes: none if there are no bytes, else one
--- whose line feed is missing
+-- what these bytes are if no line feed comes after them: no line if there are none, otherwise a cut
+-- line
 abbrev pub cut_or_end : List ℕ → Option LineView
 cut_or_end [] = None
 cut_or_end (byte ∷ bytes) = Some cut_line
@@ -122,8 +124,7 @@ abbrev pub SkipsLine : Option (List ℕ) → Option (List ℕ) → Type 0
 SkipsLine None new = ⊤
 SkipsLine (Some text) new = SkipsTo text new
 
--- if the source's bytes can be named, none of those that were left is a line feed, and all were
--- read
+-- if the source's bytes can be named, those that were left have no line feed, and all were read
 abbrev pub SkipsAll : Option (List ℕ) → Option (List ℕ) → Type 0
 SkipsAll None new = ⊤
 SkipsAll (Some text) new = IsWithoutFeed text × (new ≡ Some [])

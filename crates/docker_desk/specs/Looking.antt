@@ -2,7 +2,7 @@
 use Rattle.std.specs.Prelude.{◌≡◌, ℕ, ◌+◌, List, ◌∷◌, ◌++◌, length, ◌⊎◌}
 use Rattle.docker_host.specs.History.{Bytes, Event, Text, looked, opened, placed}
 
--- the look of this number is a look at the file of this name, and the file was opened next
+-- the event with this number is a look at the named file, and in the next event the file was opened
 pub record IsBeforeOpening (name : Text) (history : List Event) (look : ℕ) : Type 0 where
   pub earlier : List Event
   pub held : Bytes
@@ -10,7 +10,7 @@ pub record IsBeforeOpening (name : Text) (history : List Event) (look : ℕ) : T
   pub whole : history ≡ earlier ++ looked name ∷ opened name held ∷ later
   pub number : look ≡ length earlier
 
--- the look of this number is a look at the file of this name, and it comes right after a draft took
+-- the event with this number is a look at the named file, and in the event before it a draft took
 -- the file's place
 pub record IsAfterPlacing (name : Text) (history : List Event) (look : ℕ) : Type 0 where
   pub earlier : List Event
@@ -19,7 +19,8 @@ pub record IsAfterPlacing (name : Text) (history : List Event) (look : ℕ) : Ty
   pub whole : history ≡ earlier ++ placed name bytes ∷ looked name ∷ later
   pub number : look ≡ length earlier + 1
 
--- a draft from this look never takes the place of a text that the desk neither read nor placed,
--- unless that text came after the look. For the look comes before an opening, or after a placing
+-- the look comes right before an opening of the file, or right after a draft took its place. So a
+-- draft from this look never replaces a text that the desk neither read nor placed, unless that
+-- text came after the look
 abbrev pub IsGoodLook : Text → List Event → ℕ → Type 0
 IsGoodLook name history look = IsBeforeOpening name history look ⊎ IsAfterPlacing name history look

@@ -18,8 +18,8 @@ abbrev pub setting : Text → Bool → Bool → Setting
 setting name may_write names_bytes =
     record { name = name; may_write = may_write; names_bytes = names_bytes }
 
--- a moment of a session: what the desk knows, the look that saw the state's file, as the number of
--- its event, what was asked of the folder so far, and how often the folder has failed
+-- a moment of a session: what the desk knows, and the look that saw the state's file, as the number
+-- of its event. Then come what was asked of the folder so far, and how often the folder has failed
 pub record Moment : Type 0 where
   pub desk : DeskView
   pub look : ℕ

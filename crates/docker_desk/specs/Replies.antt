@@ -9,7 +9,8 @@ use Rattle.docker_desk.specs.Requests.{usage_line}
 use Rattle.docker_desk.specs.declared.reply.Answer.{Answer}
 use Rattle.docker_desk.specs.declared.reply.Answer.TheVariants as code
 
--- the request was done, and has this text; it was refused; or the line asks for nothing
+-- an answer: the request was done, with this text; it was refused for this fault; or the line asks
+-- for nothing
 pub data AnswerView : Type 0 where
   done_with : (text : List ℕ) → AnswerView
   refused_for : (fault : OfficeFault) → AnswerView

@@ -51,7 +51,7 @@ verb_of (horizon_request day) = verb.Horizon
 verb_of save_request = verb.Save
 
 -- a row of the table of requests: the word, the names of what comes after it, and whether the
--- request changes what is known, or the file; then it is allowed only if the desk may write
+-- request changes what is known, or the file. Such a request is allowed only if the desk may write
 pub record RequestRow : Type 0 where
   pub name : Text
   pub ids : List Text
@@ -78,11 +78,11 @@ row_of verb.Merge = row (codes "merge") (codes "OTHER" ∷ []) true
 row_of verb.Horizon = row (codes "horizon") (codes "DATE" ∷ []) true
 row_of verb.Save = row (codes "save") [] true
 
--- all of these words
+-- all words that name requests, in the order of the usage line
 abbrev pub verbs : List Verb
 verbs = verb.Print ∷ verb.Train ∷ verb.Files ∷ verb.Places ∷ verb.Known ∷ verb.Renew ∷ verb.Take ∷ verb.Merge ∷ verb.Horizon ∷ verb.Save ∷ []
 
--- the bytes of such a word
+-- the bytes of the word
 abbrev pub name_of : Verb → Text
 name_of verb = (row_of verb).name
 
@@ -135,7 +135,7 @@ pub record ArePlaceAndDay (place : List ℕ) (day : ℕ) (tiploc date : Text) : 
   pub named : NamesPlace tiploc place
   pub dated : NamesDay date day
 
--- what comes after the word that names a request: the request's words, or its file and nothing else
+-- what has to come after the word that names a request: its words or its file, and nothing else
 abbrev pub HasRest : RequestView → List ℕ → Type 0
 HasRest (print_request place day) rest = OfTwo (ArePlaceAndDay place day) (words_in rest)
 HasRest (train_request uid day) rest =

@@ -47,14 +47,15 @@ told taken failures = record { taken = taken; failures = failures }
 abbrev pub told_by : HostView → Told
 told_by host = told host.faults host.faults_failures
 
--- the sink of faults gained this text; or it failed once more, and gained a proper beginning of it
+-- the sink of faults gained this text; or it failed once more, and gained a proper prefix of it
 abbrev pub TellsText : List ℕ → Told → Told → Type 0
 TellsText text old new = ((new.failures ≡ old.failures) × Takes old.taken text new.taken)
     ⊎ ((new.failures ≡ old.failures + 1) × TakesPart old.taken text new.taken)
 
 -- ---- the beginning
 
--- a state was read from a file that held this, and nothing has changed; or it wasn't read
+-- how the opening of a session ends: the desk has the state whose text the file held, and nothing
+-- is unsaved; or no state was read
 abbrev pub EndsOpening : {T : Type 0} → (T → DeskView) → Result T OfficeFault → Option Bytes
     → Type 0
 EndsOpening desk_in (Ok made) held =
@@ -62,8 +63,8 @@ EndsOpening desk_in (Ok made) held =
     × ((desk_in made).unsaved ≡ false)
 EndsOpening desk_in (Err fault) held = IsWhyNot RefusesToReceive fault held
 
--- the first moment of a session, after this history: the state's file was looked at and then
--- opened, the state is the one whose text it held, and that look is the moment's
+-- the first moment of a session, after this history. The state's file was looked at and then
+-- opened. The desk has the state whose text it held, and that look is the moment's
 pub record BeginsAt (name : Text) (old : List Event) (first : Moment) : Type 0 where
   pub held : Bytes
   pub asked : first.history ≡ old ++ looked name ∷ opened name held ∷ []
@@ -73,7 +74,7 @@ pub record BeginsAt (name : Text) (old : List Event) (first : Moment) : Type 0 w
 
 -- ---- the end
 
--- the line on the sink of faults where changes weren't saved
+-- the line on the sink of faults if changes weren't saved
 abbrev pub unsaved_line : List ℕ
 unsaved_line = codes "desk: changes not saved\n"
 
@@ -157,7 +158,7 @@ pub record IsServed (words : List Text) (names_bytes : Bool) (old new : HostView
   pub ends : EndsWithStatus ending (may_write && last.desk.unsaved) status (told_by old)
       (told_by new)
 
--- a session
+-- a whole session: its words name none, its start is refused, or it is served
 abbrev pub Serves : List Text → Bool → HostView → HostView → ℕ → Type 0
 Serves words names_bytes old new status =
     IsMisused words old new status

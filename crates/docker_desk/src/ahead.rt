@@ -60,7 +60,7 @@ impl Ahead {
         Some(byte)
     }
 
-    /// Reads once if no byte is left. So if still none is left, the source is at its end.
+    /// Reads once if no byte is left. If still none is left then, the source is at its end.
     fn make_ready<S: Source>(&mut self, source: &mut S) -> Result<(), Failed>
         requires { S.failures source.old < 2 ^ 64 - 1 }
         ensures same { with_ahead self.new (S.left source.new)
@@ -84,8 +84,8 @@ impl Ahead {
         Ok(())
     }
 
-    /// Takes the next byte of a source. Returns `None` at the source's end, which the source then
-    /// has reported.
+    /// Takes the next byte of a source. Returns `None` once the source has reported its end. If the
+    /// source fails, no byte is lost.
     pub(crate) fn next_byte<S: Source>(&mut self, source: &mut S) -> Result<Option<u8>, Failed>
         requires { S.failures source.old < 2 ^ 64 - 1 }
         ensures byte { IfOk result (λ byte. ReadsByte (with_ahead self.old (S.left source.old))

@@ -12,7 +12,7 @@ use itoa::Buffer;
 type AnswerHeader = ArrayVec<u8, 64>;
 
 /// Writes the answer with a status and a text: its header, and then the text as it is. If a write
-/// fails, the sink has gained a proper beginning of the answer.
+/// fails, the sink has gained a proper prefix of the answer.
 pub fn write_answer<K: Sink>(status: u8, text: &[u8], sink: &mut K) -> Result<(), Failed>
     requires { K.failures sink.old < 2 ^ 64 - 1 }
     ensures whole { OnOk result (Takes (K.taken sink.old) (answer_text status text.now)

@@ -7,8 +7,8 @@ use cif_line::{Failed, Source};
 use std::alloc::Global;
 use std::marker::{Brand, Model, PhantomData};
 
-/// Names the bytes that a source had left when its copy was begun. A type bound by it holds them,
-/// whatever is called on it.
+/// Says, for clauses only, which bytes a source had left when its copy was begun. They are part of
+/// the copy's type, so no call on it can change them.
 pub(crate) trait Begun {
     ghost use Rattle.std.specs.Prelude.{List, Option, ℕ};
 
@@ -21,7 +21,7 @@ impl Begun for Brand {
     ghost bytes = { None };
 }
 
-/// A source, and a copy of what was read of it, as far as there was memory for it.
+/// A source, and a copy of all that was read from it, or none if memory ran out for it.
 #[derive(Drop)]
 pub(crate) struct Copying<B: Begun, S: Source> {
     source: S,
@@ -62,7 +62,7 @@ impl<B: Begun, S: Source> Copying<B, S> {
         }
     }
 
-    /// The source, and the copy of all that was read of it, if there was memory for it.
+    /// The source, and the copy of all that was read from it, if there was memory for it.
     pub(crate) fn into_parts(self) -> (S, Option<Vec<u8>>)
         ensures failures { S.failures result.0 ≡ self.failures }
         ensures copy { IfSome result.1 (λ copy. Reads B.bytes copy.items (S.left result.0)) }

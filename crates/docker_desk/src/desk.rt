@@ -19,8 +19,8 @@ use state_lists::{print_known, print_places};
 use std::alloc::Global;
 use std::marker::Model;
 
-/// A desk: an office, and whether its state may be another than the one whose text the state's file
-/// was last seen to hold.
+/// A desk: an office, and whether its state may differ from the one that the state's file was last
+/// seen to hold.
 #[derive(Debug, Drop)]
 pub struct Desk {
     alloc: Global,
@@ -48,15 +48,16 @@ impl Desk {
         }
     }
 
-    /// Whether the state may be another than the one whose text the state's file was last seen to
-    /// hold. Then something was taken, merged, set or renewed since it was read or saved.
+    /// Whether the state may differ from the one that the state's file was last seen to hold. If
+    /// so, something was taken, merged, set or renewed since the file was read or saved.
     pub fn is_unsaved(&self) -> bool
         ensures { result ≡ self.now.unsaved }
     {
         self.unsaved
     }
 
-    /// The docker of a timing point on a day. The docker is whole before it is returned.
+    /// The docker of a timing point on a day, as a whole text. Refused for a day before the horizon
+    /// plus three days, or because memory ran out.
     pub fn print(&self, place: &Tiploc, day: Day) -> Answer
         ensures { IsDockerAnswer self.now.state place.now day (answer_meant result) }
     {
@@ -68,8 +69,8 @@ impl Desk {
         }
     }
 
-    /// The schedule that is chosen for a train on a day, or that none is. The text is whole before
-    /// it is returned.
+    /// The schedule that is chosen for a train on a day, or that none is, as a whole text. Refused
+    /// for a day before the horizon, or because memory ran out.
     pub fn train(&self, uid: &Uid, day: Day) -> Answer
         ensures { IsTrainAnswer self.now.state uid.now day (answer_meant result) }
     {
@@ -81,7 +82,8 @@ impl Desk {
         }
     }
 
-    /// The files that the desk knows.
+    /// A line for each file that the desk knows, in the ledger's order. Refused only if memory ran
+    /// out.
     pub fn files(&self) -> Answer
         ensures { IsFilesAnswer self.now.state (answer_meant result) }
     {
@@ -92,8 +94,8 @@ impl Desk {
         }
     }
 
-    /// The timing points that are live, with how many live schedules call at each. The text is
-    /// whole before it is returned.
+    /// The timing points that are live, with how many live schedules call at each. Refused only if
+    /// memory ran out.
     pub fn places(&self) -> Answer
         ensures { IsPlacesAnswer self.now.state (answer_meant result) }
     {
@@ -103,7 +105,7 @@ impl Desk {
     }
 
     /// What the desk knows, in a few lines: the horizon, the newest full extract, the last day, and
-    /// how much is live.
+    /// how much is live. Refused only if memory ran out.
     pub fn known(&self) -> Answer
         ensures { IsKnownAnswer self.now.state (answer_meant result) }
     {
@@ -112,7 +114,7 @@ impl Desk {
         answer_on(page, printed)
     }
 
-    /// Takes a file, which is opened once.
+    /// Takes the named file, which is opened once. If it is refused, the desk knows what it knew.
     pub fn take<D: Folder>(&mut self, name: &str, folder: &mut D) -> Result<(), OfficeFault>
         requires { D.failures folder.old < 2 ^ 64 - 1 }
         ensures opens { OpensOnce name.now (EndsTaking self.old.state self.new.state result)
@@ -130,7 +132,8 @@ impl Desk {
         }
     }
 
-    /// Joins what the desk knows with the state that a file holds, which is opened once.
+    /// Joins what the desk knows with the state in the named file, which is opened once. If it is
+    /// refused, the desk knows what it knew.
     pub fn receive<D: Folder>(&mut self, name: &str, folder: &mut D) -> Result<(), OfficeFault>
         requires { D.failures folder.old < 2 ^ 64 - 1 }
         ensures opens { OpensOnce name.now (EndsReceiving self.old.state self.new.state result)
@@ -148,7 +151,8 @@ impl Desk {
         }
     }
 
-    /// Sets a horizon, which may be later than the desk's own. It is never refused.
+    /// Sets a horizon: the desk keeps the later of this day and its own horizon. It is never
+    /// refused.
     pub fn set_horizon(&mut self, day: Day)
         ensures { self.new
             ≡ record { state = raise_horizon day self.old.state; unsaved = true } }
@@ -164,10 +168,11 @@ impl Desk {
         self.unsaved = true;
     }
 
-    /// Looks at a file, then opens it once and joins what the desk knows with the state that it
-    /// holds. If that is done, notes what was seen of the file before it was opened. Then nothing
-    /// is unsaved only if the file held the text of the state that the desk has now. It is found
-    /// out only if `compares`, for which the file's text is kept until it is compared.
+    /// Looks at the named file, then opens it once and joins what the desk knows with the state
+    /// that it holds. If that is done, `seen` is what this look saw. Then nothing is unsaved only
+    /// if the file held the text of the state that the desk has now. It is found out only if
+    /// `compares` and if nothing was unsaved before. For this the file's text is kept until it is
+    /// compared.
     pub fn renew<D: Folder>(
         &mut self,
         name: &str,
@@ -196,8 +201,8 @@ impl Desk {
         }
     }
 
-    /// Stores the text of the desk's state in a file, by a draft from what was seen of that file.
-    /// If that is done, looks at the file, and notes what is seen of it.
+    /// Stores the text of the desk's state in the named file, by a draft from what was seen of that
+    /// file. If that is done, looks at the file again, and `seen` is what this look saw.
     pub fn save<D: Folder>(
         &mut self,
         name: &str,

@@ -49,7 +49,7 @@ pub fn known_files_fix_sessions()
 /// At each moment of a session there is a look from which a draft is made. It comes right before an
 /// opening of the state's file, whose text was read then, or right after the desk put its own text
 /// there. So a text that came between a look and a reading is never overwritten unread: it was
-/// read, or the file is another than the one that was seen.
+/// read, or the file is no longer the one that the look saw.
 pub fn looks_come_before_readings()
     ensures { (setting : Setting) (old : List Event) (first last : Moment) (steps : List Step)
         → BeginsAt setting.name old first → AreSteps setting first steps last
@@ -57,8 +57,8 @@ pub fn looks_come_before_readings()
 {}
 
 /// If a file that was merged or renewed held the text of a summary, it is heard as that summary. If
-/// that is so of each such file, something is learned from all the steps: no step stands in the way
-/// of the law above.
+/// each such file held one, something is learned from every step, so the law
+/// `known_files_fix_sessions` applies to the whole session.
 pub fn known_texts_are_heard()
     ensures merged { (setting : Setting) (other text : List ℕ) (before after : Moment)
         (known : Known) → DoesRequest setting (merge_request other) before (done_with text) after
@@ -82,8 +82,8 @@ pub fn saves_tell_what_is_known()
         → PlacesKnown setting before after known }
 {}
 
-/// The first steps of a session lead to a moment, and the others lead on from there. So what holds
-/// of the last state of a session holds of each state before it.
+/// The first steps of a session lead to a moment, and the others lead on from there. So what a law
+/// says of the last moment holds at every moment.
 pub fn each_moment_is_a_last_one()
     ensures { (setting : Setting) (first last : Moment) (earlier later : List Step)
         → AreSteps setting first (earlier ++ later) last → (between : Moment)
@@ -120,7 +120,7 @@ pub fn dockers_are_of_the_plain_table()
 {}
 
 /// Each train that is answered came from a file that is known. If no two of these files have the
-/// same moment, it is what their plain table has for the UID on the day.
+/// same moment, it is the schedule that their plain table has for the UID on the day.
 pub fn trains_came_from_known_files()
     ensures { (known : Known) (state : State) (uid : List ℕ) (day : ℕ) (text : List ℕ)
         → IsKnown known state → IsTrainText state uid day text → state.horizon ≤ day

@@ -46,9 +46,9 @@ impl From<cif_line::Failed> for InputFault {
     }
 }
 
-/// Reads the next line of a source, whose bytes may have been read ahead. The source is left after
-/// the line's line feed. With `Cut` and `End` the source has reported its end, so a caller that
-/// wants to read nothing after it stops at either.
+/// Reads the next line of a source, whose bytes may have been read ahead. What comes after its line
+/// feed is left for the next call. With `Cut` and `End` the source has reported its end, so a
+/// caller that must not read past it stops there.
 pub fn next_line<S: Source>(ahead: &mut Ahead, source: &mut S) -> Result<Asked, InputFault>
     requires { S.failures source.old < 2 ^ 64 - 1 }
     ensures ends { EndsLine (with_ahead ahead.old (S.left source.old)) result
@@ -74,7 +74,7 @@ pub fn next_line<S: Source>(ahead: &mut Ahead, source: &mut S) -> Result<Asked, 
     unreachable!()
 }
 
-/// What a line is that ends without a line feed after these bytes. It is the end if there are none.
+/// What these bytes are if no line feed comes after them: a cut line, or the end if there are none.
 fn without_feed(line: &RequestLine) -> Asked
     ensures { asked_meant result ≡ cut_or_end line.now.items }
 {
@@ -85,7 +85,7 @@ fn without_feed(line: &RequestLine) -> Asked
     }
 }
 
-/// Reads the rest of a line that isn't whole.
+/// Reads the rest of a bad line, with its line feed. Returns `Cut` if the source ends before that.
 fn skip_line<S: Source>(ahead: &mut Ahead, source: &mut S) -> Result<Asked, InputFault>
     requires { S.failures source.old < 2 ^ 64 - 1 }
     ensures ends { EndsSkipping (with_ahead ahead.old (S.left source.old)) result

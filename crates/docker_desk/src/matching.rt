@@ -71,7 +71,7 @@ impl Sink for Matching<'_> {
     }
 }
 
-/// Whether a text is the one of an office's state.
+/// Whether a text is the text of an office's state.
 fn is_text_of(text: &[u8], office: &Office) -> bool
     ensures { IsTrue result → text.now ≡ state_text dks_2 office.now }
 {
@@ -93,7 +93,7 @@ pub(crate) fn is_copied(copy: &Option<Vec<u8>>, office: &Office) -> bool
     }
 }
 
-/// An office's state is one that a text can have.
+/// Changes nothing: its contract says that an office's state is one that a text can have.
 pub(crate) fn tell_good(office: &Office)
     ensures { AreGood dks_2 (at_end office.now) }
 {

@@ -10,8 +10,8 @@ use docker_cmd::{Office, OfficeFault};
 use docker_host::Folder;
 use std::alloc::Global;
 
-/// Looks at the file of a name, and then opens it and reads its state. The file is looked at, even
-/// if it can't be opened.
+/// Looks at the named file, and then opens it and reads its state. The file is looked at, even if
+/// it can't be opened.
 pub fn open_session<D: Folder>(
     alloc: Global,
     name: &str,

@@ -53,9 +53,9 @@ pub(crate) fn receive_state<D: Folder>(
     received
 }
 
-/// Like `receive_state`. Returns also whether it is sure that the file held the text of the state
-/// that the office has then. It is found out only if that is asked for, and if there is memory to
-/// keep the text for so long.
+/// Like `receive_state`. Also returns whether the file is known to have held the text of the state
+/// that the office has now. It is found out only if `compares`, and if there is memory to keep the
+/// text until it is compared.
 pub(crate) fn renew_state<D: Folder>(
     alloc: Global,
     office: &mut Office,
@@ -82,8 +82,8 @@ pub(crate) fn renew_state<D: Folder>(
     }
 }
 
-/// Has an office receive the state that a source holds, and returns the source. Returns also
-/// whether it is sure that the source held the text of the state that the office has then.
+/// Has an office receive the state that a source holds, and returns the source. Also returns
+/// whether the source is known to have held the text of the state that the office has now.
 fn receive_copied<B: Begun, S: Source>(
     alloc: Global,
     office: &mut Office,

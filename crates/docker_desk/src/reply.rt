@@ -26,7 +26,7 @@ pub enum Answer {
 }
 
 /// Writes an answer: its header, and then the text that was asked for, or the line of the fault. If
-/// a write fails, the sink has gained a proper beginning of the answer.
+/// a write fails, the sink has gained a proper prefix of the answer.
 pub fn write_reply<K: Sink>(answer: &Answer, sink: &mut K) -> Result<(), Failed>
     requires { K.failures sink.old < 2 ^ 64 - 1 }
     ensures whole { OnOk result (Takes (K.taken sink.old) (bytes_told (answer_meant answer.now))

@@ -30,7 +30,7 @@ pub enum Verb {
     Take,
     /// Joins what is known with another state.
     Merge,
-    /// Sets a horizon, which may be later.
+    /// Sets a horizon, unless the state's horizon is later.
     Horizon,
     /// Writes what is known to the state's file.
     Save,
@@ -39,9 +39,9 @@ pub enum Verb {
 /// A row of the table of requests.
 #[derive(Clone, Copy, Debug)]
 struct RequestRow<'a> {
-    /// The word.
+    /// The word that names the request.
     name: &'a str,
-    /// The names of what comes after it.
+    /// The names of what comes after it, as the usage line has them.
     ids: &'a [&'a str],
     /// Whether only a desk that may write allows it.
     writes: bool,
@@ -59,7 +59,7 @@ impl<'a> RequestRow<'a> {
 }
 
 impl Verb {
-    /// All of them, in the order of the usage line.
+    /// All verbs, in the order of the usage line.
     fn all<'a>() -> &'a [Verb]
         ensures { result.now ≡ verbs }
     {
@@ -117,7 +117,7 @@ impl Verb {
         self.row().writes
     }
 
-    /// Whether a desk allows it that may or may not write.
+    /// Whether a desk allows it, by whether the desk may write.
     fn is_allowed(self, may_write: bool) -> bool
         ensures { (result ≡ true) ↔ (is_writing self ≡ true → may_write ≡ true) }
     {
@@ -177,8 +177,8 @@ pub enum Request<'a> {
     Save,
 }
 
-/// What a line asks for, of a desk that may or may not write. None if it asks for nothing, or if it
-/// asks a desk that may not write for something that needs writing.
+/// What a line asks for. `None` if it asks for nothing, or for something that only a desk that may
+/// write allows, and this one may not.
 pub fn request_in(line: &[u8], may_write: bool) -> Option<Request<'_>>
     requires { IsLineText line.now }
     ensures { AsksFor may_write line.now (option_map request_meant result) }
@@ -191,7 +191,7 @@ pub fn request_in(line: &[u8], may_write: bool) -> Option<Request<'_>>
     None
 }
 
-/// The request with this name and this rest.
+/// The request with this verb, if the rest of the line fits it.
 fn request_of(verb: Verb, rest: &str) -> Option<Request<'_>>
     ensures { FitsRest verb rest.now (option_map request_meant result) }
 {
@@ -256,7 +256,7 @@ fn horizon_request(rest: &str) -> Option<Request<'_>>
     Some(Request::Horizon { day })
 }
 
-/// Some if no word is there.
+/// Returns `Some` if the rest of the line has no word.
 fn alone(rest: &str) -> Option<()>
     ensures alone { IsSome result → words_in rest.now ≡ [] }
     ensures more { IsNone result → words_in rest.now ≢ [] }

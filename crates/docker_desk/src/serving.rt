@@ -52,7 +52,7 @@ pub fn serve_lines<S: Source, D: Folder, K: Sink>(
 
 /// Reads one line and answers it. Returns how the session ends, if it ends there. When it returns,
 /// the answer is written, and the lines after this one are left. So each line that is read gets its
-/// answer, even of an input that never ends.
+/// answer, even if the input never ends.
 pub fn serve_next<S: Source, D: Folder, K: Sink>(
     terms: &Terms<'_>,
     ahead: &mut Ahead,
@@ -90,7 +90,7 @@ pub fn serve_next<S: Source, D: Folder, K: Sink>(
     }
 }
 
-/// Writes an answer. Returns how the session ends: as the output fails, or else as it is `next` to.
+/// Writes an answer. Returns `OutputFailed` if the write fails, and otherwise `next`.
 fn tell_answer<K: Sink>(answer: &Answer, next: Option<Ending>, output: &mut K) -> Option<Ending>
     requires { K.failures output.old < 2 ^ 64 - 1 }
     ensures { TellsAnswer (bytes_told (answer_meant answer.now)) next

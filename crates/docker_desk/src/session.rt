@@ -1,9 +1,9 @@
 //! What changes in a session.
 use crate::desk::Desk;
 
-/// A session: the desk, and what was seen of its state's file at the last look from which a draft
-/// may be made. That look comes before the opening at which the state was read or renewed last, or
-/// after the last saving.
+/// A session: the desk, and what was seen of its state's file at the look from which the next draft
+/// is made. That look came right before the opening at which the state was last read or renewed, or
+/// right after the last saving.
 #[derive(Drop)]
 pub struct Session<T> {
     /// The desk.

@@ -4,7 +4,7 @@ use Rattle.docker_host.specs.History.{Event, looked, opened, unopened, drafted, 
 use Rattle.docker_host.specs.declared.history.Note.{Note}
 use Rattle.docker_host.specs.declared.history.Note.TheVariants as note
 
--- each note is of one event
+-- the event of each note
 abbrev pub event_of : Note → Event
 event_of (note.Looked name) = looked name.now
 event_of (note.OpenedUnnamed name) = opened name.now None

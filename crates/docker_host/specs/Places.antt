@@ -4,7 +4,7 @@ use Rattle.docker_host.specs.History.{Text, Event}
 use Rattle.docker_host.specs.Shelf.{Texts, no_texts, with_text, after_events, AreMet}
 use Rattle.docker_host.specs.declared.shelf.Place.{Place}
 
--- the files of these places, of which the first of a name counts
+-- what the file of each name holds, by these places. The first place with a name counts
 abbrev pub texts_of : List Place → Texts
 texts_of [] = no_texts
 texts_of (place ∷ places) = with_text (string_bytes place.name) place.text.items (texts_of places)

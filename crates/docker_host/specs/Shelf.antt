@@ -20,6 +20,7 @@ page_count page room = min room (min (min page.sound 100) (length page.left))
 abbrev pub Texts : Type 0
 Texts = Text → Option Text
 
+-- no files
 abbrev pub no_texts : Texts
 no_texts name = None
 
@@ -44,7 +45,7 @@ abbrev pub after_events : Texts → List Event → Texts
 after_events texts [] = texts
 after_events texts (event ∷ events) = after_events (after_event texts event) events
 
--- a file that is opened holds what these files hold
+-- if the event opens a file, the file is one of these, and held its text
 abbrev pub IsMet : Texts → Event → Type 0
 IsMet texts (opened name bytes) = (bytes ≡ texts name) × IsSome bytes
 IsMet texts (placed name bytes) = ⊤

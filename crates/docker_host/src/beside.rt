@@ -26,7 +26,7 @@ pub(crate) struct Beside {
 impl Beside {
     /// Makes an empty draft beside the file of this path, held only by this command, with the old
     /// file's permissions if there is an old file. A draft that can't be given them is removed
-    /// again. If that fails too, the device failed.
+    /// again. If the removal fails too, the fault is `Failed`.
     pub(crate) fn make(
         rt: &HostRuntime,
         file: String,
@@ -119,8 +119,8 @@ fn is_left_over(rt: &HostRuntime, left: &File, name: &str) -> bool {
     is_marked(&held) && stands_under(rt, left, name)
 }
 
-/// Locks a draft that was just made. Refuses if another command considered it left over, and removed
-/// it. Where files can't be locked, no draft is removed so.
+/// Locks a draft that was just made. Fails if another command takes it for a left-over draft, and
+/// has locked or removed it. On a file system without locks no draft counts as left over.
 fn hold(rt: &HostRuntime, made: &File, name: &str) -> Result<(), OpenFault> {
     if let Err(TryLockError::WouldBlock) = made.try_lock() {
         return Err(OpenFault::Failed);

@@ -1,6 +1,6 @@
 //! Drafts of real files. The draft of a regular file is written beside it, and then renamed over
 //! it. So the file is always whole: it has the old text or the new one. A pipe or a device is
-//! written in its place.
+//! written directly.
 ghost use Rattle.std.specs.Prelude.{◌≡◌, None, IfOk};
 
 use crate::beside::Beside;
@@ -41,7 +41,8 @@ impl Model for DraftFile {
 
 impl DraftFile {
     /// Makes an empty draft for a named file, if what is there is still what was seen. A file that
-    /// isn't there yet is written beside its place too, but a link that leads nowhere is followed.
+    /// isn't there yet has its draft beside its place too. But if a link leads nowhere, the file
+    /// that it names is made and written directly.
     pub(crate) fn make(
         rt: &HostRuntime,
         name: &str,
@@ -60,7 +61,7 @@ impl DraftFile {
     }
 
     /// Puts the draft in the place of its file. Returns what a look then sees of it, or `None` if
-    /// that can't be known, as of a file that was written in its place. If that fails, the draft is
+    /// that can't be known, as of a file that was written directly. If that fails, the draft is
     /// removed, as far as possible.
     pub(crate) fn place(self, rt: &HostRuntime) -> Result<Option<Placed>, Failed> {
         let DraftFile {

@@ -11,7 +11,8 @@ use std::io::ErrorKind;
 /// Why a file isn't opened, or no draft is made.
 #[derive(Clone, Copy, PartialEq, Eq, Debug)]
 pub enum OpenFault {
-    /// It isn't there, it may not be opened this way, or its device failed.
+    /// It isn't there, it may not be opened this way, it is no longer what was seen, or its device
+    /// failed.
     Failed,
     /// Out of memory: an allocation was refused.
     Memory,
@@ -71,20 +72,20 @@ pub trait Folder {
     // How often it has failed so far, with the failures of what was given back to it.
     ghost failures: { Self → ℕ };
 
-    // Which event the look was that saw this, counted from 0.
+    // The look that saw this, as the number of its event, counted from 0.
     ghost look_of: { Self.Seen → ℕ };
 
     // Whether its drafts name the bytes that they took.
     ghost names_bytes: { Bool };
 
-    /// Looks at the file of this name.
+    /// Looks at the named file. From what it saw, a draft for that file can be made.
     fn look(&mut self, name: &str) -> Self::Seen
         ensures asked { history self.new ≡ history self.old ++ looked name.now ∷ [] }
         ensures look { look_of result ≡ length (history self.old) }
         ensures no_failure { failures self.new ≡ failures self.old };
 
-    /// Opens the file of this name, to be read from its first byte. What is left in it is what it
-    /// held then.
+    /// Opens the named file, to be read from its first byte. What is left in it is what it held
+    /// then.
     fn open(&mut self, name: &str) -> Result<Self::File, OpenFault>
         requires { failures self.old < 2 ^ 64 - 1 }
         ensures asked { IfOk result (λ file.
@@ -103,7 +104,7 @@ pub trait Folder {
         ensures asked { history self.new ≡ history self.old }
         ensures counted { failures self.new ≡ failures self.old + Self.File.failures file };
 
-    /// An empty draft for the file of this name, from a look.
+    /// Makes an empty draft for the named file, from what a look saw of it.
     fn create<'a>(
         &mut self,
         name: &'a str,

@@ -55,7 +55,7 @@ pub enum Note<'a> {
 impl History {
     ghost use Rattle.docker_host.specs.Notes.{event_of};
 
-    /// Nothing was asked yet.
+    /// A history without events.
     pub fn new() -> History
         ensures { result.events ≡ [] }
     {

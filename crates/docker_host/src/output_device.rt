@@ -29,7 +29,7 @@ impl Model for OutputDevice {
 }
 
 impl OutputDevice {
-    /// Standard output. Nobody has to be reading it.
+    /// Standard output, whether or not anybody reads it.
     pub fn stdout(rt: &HostRuntime) -> OutputDevice
         ensures { result.failures ≡ 0 }
     {
@@ -37,7 +37,7 @@ impl OutputDevice {
         OutputDevice { to, failures: 0 }
     }
 
-    /// Standard error. Nobody has to be reading it.
+    /// Standard error, whether or not anybody reads it.
     pub fn stderr(rt: &HostRuntime) -> OutputDevice
         ensures { result.failures ≡ 0 }
     {

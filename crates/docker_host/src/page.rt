@@ -10,7 +10,7 @@ use std::marker::Model;
 const STEP: usize = 100;
 
 /// A source that owns its bytes. It gives at most 100 bytes per read, and fails once it has given a
-/// number of bytes.
+/// set number of bytes.
 #[derive(Debug, Drop)]
 pub struct Page {
     bytes: Vec<u8>,
@@ -39,7 +39,7 @@ impl Model for Page {
 }
 
 impl Page {
-    /// A source of these bytes. Each read fails once it has given `sound` bytes.
+    /// A source of these bytes. Once it has given `sound` bytes, each read fails.
     pub fn new(bytes: Vec<u8>, sound: usize) -> Page
         ensures left { result.left ≡ bytes.items }
         ensures sound { result.sound ≡ sound }

@@ -20,8 +20,8 @@ pub struct Seen {
 }
 
 /// The real files. Once a draft took the place of a file, the next look at its name sees the draft
-/// itself, even if another program has put another file there since. So what comes after a look
-/// never takes that file's place unseen.
+/// itself, even if another program has put another file there since. So the next draft never
+/// replaces that other file unseen.
 #[derive(Drop)]
 pub struct RealFolder {
     rt: HostRuntime,

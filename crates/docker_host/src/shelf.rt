@@ -24,19 +24,19 @@ pub struct Place {
 pub enum Fails {
     /// At none.
     Never,
-    /// Where a file is opened.
+    /// When a file is opened.
     AtOpen,
-    /// Where a file is opened, because memory runs out.
+    /// When a file is opened, because memory runs out.
     AtOpenForMemory,
-    /// Where an opened file has given this many bytes, and is read again.
+    /// When an opened file has given this many bytes, and is read again.
     AfterReading(usize),
-    /// Where a draft is made.
+    /// When a draft is made.
     AtCreate,
-    /// Where a draft is made, because memory runs out.
+    /// When a draft is made, because memory runs out.
     AtCreateForMemory,
-    /// Where a draft has taken this many bytes, and is written again.
+    /// When a draft has taken this many bytes, and is written again.
     AfterWriting(usize),
-    /// Where a draft is to take its file's place.
+    /// When a draft is to take its file's place.
     AtComplete,
 }
 
@@ -93,8 +93,7 @@ fn number_among(places: &[Place], name: &str) -> Option<usize> {
 }
 
 impl Shelf {
-    /// An empty shelf, whose drafts have room for this many bytes. It never fails for another
-    /// reason than that they are full.
+    /// An empty shelf, whose drafts have room for this many bytes. Nobody has asked it to fail yet.
     pub fn new(alloc: Global, room: usize) -> Shelf
         ensures events { result.events ≡ [] }
         ensures no_failure { result.failures ≡ 0 }
@@ -139,7 +138,8 @@ impl Shelf {
         text_among(self.places.as_slice(), name)
     }
 
-    /// Each file that was opened held what was last placed under its name.
+    /// Changes nothing: its contract says that each file that was opened held what was last placed
+    /// under its name.
     pub fn tell(&self)
         ensures { IsShelfHistory self.now.events }
     {

@@ -3,7 +3,7 @@ use std::fs;
 use std::fs::{File, Metadata};
 use std::os::unix::fs::MetadataExt;
 
-/// A file, and when it was last written. So it is distinguished from one that takes its place.
+/// A file, and when it was last written. That distinguishes it from a file that takes its place.
 #[derive(Clone, Copy, PartialEq, Eq)]
 pub(crate) struct Version {
     device: u64,

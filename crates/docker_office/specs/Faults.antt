@@ -27,7 +27,7 @@ abbrev pub told_of_docker : dockers.DockerFault → OfficeFault
 told_of_docker docker_faults.Lapsed = Lapsed
 told_of_docker docker_faults.Memory = Memory
 
--- the faults that a call has which reads a file
+-- the faults of a call that reads a file
 abbrev pub IsOfFile : OfficeFault → Type 0
 IsOfFile (File fault) = ⊤
 IsOfFile Source = ⊤
@@ -36,7 +36,7 @@ IsOfFile (State fault) = ⊥
 IsOfFile Lapsed = ⊥
 IsOfFile Sink = ⊥
 
--- the faults that a call has which reads a state
+-- the faults of a call that reads a state
 abbrev pub IsOfState : OfficeFault → Type 0
 IsOfState (State fault) = ⊤
 IsOfState Source = ⊤
@@ -45,7 +45,7 @@ IsOfState (File fault) = ⊥
 IsOfState Lapsed = ⊥
 IsOfState Sink = ⊥
 
--- the faults that a call has which prints a docker
+-- the faults of a call that prints a docker
 abbrev pub IsOfDocker : OfficeFault → Type 0
 IsOfDocker Lapsed = ⊤
 IsOfDocker Sink = ⊤

@@ -50,8 +50,8 @@ pub record HoldsState (format : Format) (limit : ℕ) (left : Option (List ℕ))
   pub told : left ≡ Some text
   pub is : IsStateText format limit text sent
 
--- if the old state is the summary of some files, and the source held the text of a summary of other
--- files, the new state is the summary of all of them, under the greater horizon
+-- suppose that the old state is the summary of some files, and that the source held the text of the
+-- summary of others. Then the new state is the summary of all of them, under the greater horizon
 abbrev pub JoinsSummaries : ℕ → Option (List ℕ) → State → State → Type 0
 JoinsSummaries limit left old new =
     (files others : List (List (List ℕ))) (g h : ℕ) (sent : State) → IsSummary files g old → IsSummary others h sent → HoldsState dks_2 limit left sent
@@ -63,7 +63,7 @@ pub record PrintsDocker (state : State) (place : List ℕ) (day : ℕ) (old new 
   pub is : IsDockerText (live_table state) place day text
   pub gained : Takes old text new
 
--- the sink gained a proper beginning of that text
+-- the sink gained a proper prefix of that text
 pub record PrintsPart (state : State) (place : List ℕ) (day : ℕ) (old new : Option (List ℕ)) : Type 0 where
   pub text : List ℕ
   pub is : IsDockerText (live_table state) place day text

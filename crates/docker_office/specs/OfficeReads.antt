@@ -14,7 +14,7 @@ use Rattle.docker_office.specs.declared.fault.OfficeFault.TheVariants.{File, Sta
 
 -- ---- a state
 
--- the fault of reading a state for which an office's fault stands, if there is one
+-- the fault of reading a state that an office's fault stands for, if it stands for one
 abbrev pub why_unread : OfficeFault → Option ReadFault
 why_unread (State fault) = Some (states.State fault)
 why_unread Source = Some states.Source

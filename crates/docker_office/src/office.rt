@@ -164,8 +164,8 @@ impl Office {
     }
 
     /// Sets a horizon: each entry that is put and ends before this day lapses. A day that is not
-    /// after the present horizon changes nothing. It is never refused: it may take one byte per row
-    /// for a time, and takes longer if the allocator refuses them.
+    /// after the present horizon changes nothing. It is never refused. While it works it uses one
+    /// byte per row; if there is no memory for them, it takes longer.
     pub fn set_horizon(&mut self, day: Day)
         ensures raised { self.new ≡ raise_horizon day self.old }
         ensures summary { (files : List (List (List ℕ))) (horizon : ℕ)
@@ -175,7 +175,7 @@ impl Office {
     }
 
     /// Writes the text of the state, for another office to receive or reload. Takes no memory, so
-    /// it fails only with `Sink`. Then the sink has gained a proper beginning of the text.
+    /// it fails only with `Sink`. Then the sink has gained a proper prefix of the text.
     pub fn send<K: Sink>(&self, sink: &mut K) -> Result<(), OfficeFault>
         requires { K.failures sink.old < 2 ^ 64 - 1 }
         ensures whole { OnOk result
@@ -191,7 +191,7 @@ impl Office {
 
     /// Prints the docker of a timing point and a day. The docker is made before its first byte is
     /// written, so `Lapsed` and `Memory` write nothing. `Lapsed` means that the day is before the
-    /// horizon plus three days. With `Sink`, the sink has gained a proper beginning of the text.
+    /// horizon plus three days. With `Sink`, the sink has gained a proper prefix of the text.
     pub fn print<K: Sink>(&self, place: &Tiploc, day: Day, sink: &mut K) -> Result<(), OfficeFault>
         requires { K.failures sink.old < 2 ^ 64 - 1 }
         ensures ok { IsOk result
@@ -210,7 +210,7 @@ impl Office {
     }
 
     /// Writes a line for each file that the office knows, in the ledger's order. Takes no memory,
-    /// so it fails only with `Sink`. Then the sink has gained a proper beginning of the text.
+    /// so it fails only with `Sink`. Then the sink has gained a proper prefix of the text.
     pub fn files<K: Sink>(&self, sink: &mut K) -> Result<(), OfficeFault>
         requires { K.failures sink.old < 2 ^ 64 - 1 }
         ensures whole { OnOk result

@@ -87,7 +87,7 @@ impl PlaceOffice {
     /// Prints the docker of its timing point and its day, as an office with the whole state does.
     /// The docker is made before its first byte is written, so `Lapsed` and `Memory` write nothing.
     /// `Lapsed` means that the day is before the horizon plus three days. With `Sink`, the sink has
-    /// gained a proper beginning of the text.
+    /// gained a proper prefix of the text.
     pub fn print<K: Sink>(&self, sink: &mut K) -> Result<(), OfficeFault>
         requires { K.failures sink.old < 2 ^ 64 - 1 }
         ensures ok { IsOk result → PrintsDocker self.now.state self.now.place self.now.day

@@ -157,7 +157,7 @@ impl Holdings {
             → MeetsEvent known (horizon_event office day) result self.new }
         ensures messages { self.new.messages ≡ self.old.messages }
     {
-        // This call is for its contract: the number of a day is at most 36524.
+        // Called for its contract: the number of a day is at most 36524.
         let _number = day.number();
         if office >= self.offices.len() {
             return Reply::Refused(RunFault::NoOffice);

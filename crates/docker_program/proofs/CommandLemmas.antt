@@ -40,7 +40,7 @@ none_some name is = cc
 
 -- ---- what a source held
 
--- the state of a text is the one of which the text was made
+-- the state that is read from a text is the one that the text was made from
 one_sent : (format : Format) (known : Known) (sent state : State) (text : List ℕ) → IsGoodKnown format known → IsStateOf known sent
     → text ≡ state_text format sent → IsStateText format most_bytes text state → sent ≡ state
 one_sent format known sent state text good is told reads =
@@ -68,7 +68,7 @@ known_held known bytes state holds reads = record {
   is = state_held dks_2 known bytes state holds reads;
 }
 
--- a file that a source held is the one that was read of it
+-- the file that was read from a source is the one that it held
 pub file_held : (bytes : Bytes) (file : List (List ℕ)) (old new : State) (holds : HoldsFile bytes file) (takes : TakesFile most_records bytes old new)
     → takes.file ≡ file
 file_held bytes file old new holds takes =

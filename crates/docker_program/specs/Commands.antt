@@ -79,7 +79,7 @@ IsNoStoring (placed name bytes) = ⊥
 IsNoStoring (unplaced name bytes) = ⊥
 IsNoStoring _ = ⊤
 
--- no event did
+-- no event did, or can have
 abbrev pub AreNoStorings : List Event → Type 0
 AreNoStorings [] = ⊤
 AreNoStorings (event ∷ events) = IsNoStoring event × AreNoStorings events

@@ -48,7 +48,7 @@ pub record IsAsked (words : List Text) (input : Bytes)
   pub at_most : AsksAtMost words input rest
   pub holds : Holds job rest
 
--- no job is asked for, or it couldn't be found out, for this reason; nothing was asked of the
+-- for this reason no job is asked for, or it couldn't be found out which. Nothing was asked of the
 -- folder
 pub record IsNotAsked (words : List Text) (old new : HostView) (Why : Type 0) : Type 0 where
   pub why : Why
@@ -115,9 +115,8 @@ IsWhy words names_bytes old new (Office office.Memory) =
     IsAsked words old.input (WantsMemory names_bytes old new)
 IsWhy words names_bytes old new (Office office.Sink) = ⊥
 
--- the program ends without a fault, and has written the output of its job; or what it writes to
--- failed, and took a part of the output; or the program ends with another fault, and nothing is
--- written
+-- how the program ends. Without a fault it has written the output of its job. With `Sink`, what it
+-- writes to failed, and took a part of the output. With another fault nothing is written
 abbrev pub EndsBy : List Text → Bool → HostView → HostView → Option Fault → Type 0
 EndsBy words names_bytes old new None =
     IsAsked words old.input (HasRead old new (Writes (from_first_look names_bytes old)))
@@ -136,8 +135,8 @@ abbrev pub result_status : {A : Type 0} → Result A OfficeFault → ℕ
 result_status (Ok answer) = 0
 result_status (Err fault) = status_of (Office fault)
 
--- without a fault, the sink of faults gained nothing; with one, it gained the fault's line, or
--- failed once more and gained a proper beginning of the line
+-- without a fault, the sink of faults gained nothing. With one, it gained the fault's line; or it
+-- failed once more, and gained a proper prefix of the line
 abbrev pub Tells : Option Fault → (old new : Bytes) → (before after : ℕ) → Type 0
 Tells None old new before after = (new ≡ old) × (after ≡ before)
 Tells (Some fault) old new before after =
@@ -153,7 +152,7 @@ abbrev pub failures_of : HostView → ℕ
 failures_of host = host.input_failures + host.folder_failures + host.output_failures
 
 -- how the program ends: its fault, if there is one, its status, what it asked of the folder and
--- what it wrote. The folder's drafts name their bytes or don't
+-- what it wrote. `names_bytes` says whether the folder's drafts name their bytes
 pub record Performs (words : List Text) (names_bytes : Bool) (old new : HostView)
     (status : ℕ) : Type 0 where
   pub ending : Option Fault

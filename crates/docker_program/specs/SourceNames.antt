@@ -49,7 +49,7 @@ abbrev pub second_word : List Text → Text
 second_word [] = []
 second_word (word ∷ words) = first_word words
 
--- the source of the only word that names one: if the job writes a state, the word is the name of
+-- the source of the only word that names one. If the job writes a state, the word is the name of
 -- STATE, and names a file even if it is `stdin`
 abbrev pub only_source : Output → Text → SourceNames
 only_source counts_written word = file_or_input word

@@ -111,7 +111,7 @@ pub record IsPrepared (asked : Asking) (job : JobView) (prepared : PreparedView)
   pub read : IsReadOf job.task opened.read.first opened.read.second prepared.read
   pub to_end : HasReadToEnd (sources_of job.task) opened.read.first_left opened.read.second_left
 
--- what each result means if the sources that a job names were to be opened and read
+-- what each result of opening and reading a job's sources means
 abbrev pub ReadsNamed : Asking → JobView → Result PreparedView OfficeFault → Type 0
 ReadsNamed asked job (Ok prepared) = IsPrepared asked job prepared
 ReadsNamed asked job (Err (office.File fault)) = RefusesFile fault asked job
@@ -137,6 +137,7 @@ pub record AreRead (names : SourceNames) (asked : Asking) (job : JobView)
   pub others : AreOthers names read asked.rest asked.left
   pub reads : ReadsInOrder job read.first read.first_left read.second read.second_left result
 
--- what each result means if the files of these names were to be opened for a job
+-- how opening and reading the sources of these names ends: a file wasn't opened, or all files were,
+-- and then the sources were read
 abbrev pub ReadsBy : SourceNames → Asking → JobView → Result PreparedView OfficeFault → Type 0
 ReadsBy names asked job result = AreNotOpened names asked result ⊎ AreRead names asked job result

@@ -51,7 +51,8 @@ pub record MayStoreOutput (by : Drafting) (written : Written) (prepared : Prepar
   pub history : IsUnplaced by.names_bytes name by.look text written.before written.now
 
 -- the output gained what a job writes, which is no docker of a day that is refused. Or the job
--- writes a file, and a draft of it took the file's place. The other is as it was
+-- writes a file, and a draft of it took the file's place. Where the job doesn't write, all is as it
+-- was
 abbrev pub WritesTo : Option Text → Drafting → Written → PreparedView → Type 0
 WritesTo None by written prepared =
     GainsOutput prepared written.output written.output_now × (¬ IsRefused prepared)
@@ -60,7 +61,8 @@ WritesTo (Some name) by written prepared =
     StoresOutput by written prepared name × (written.output_now ≡ written.output)
 
 -- the output gained a proper prefix of what a job writes. Or the job writes a file, and no draft
--- was made, or it was given up, or it failed to take the file's place. The other is as it was
+-- was made, or it was given up, or it failed to take the file's place. Where the job doesn't write,
+-- all is as it was
 abbrev pub WritesPartTo : Option Text → Drafting → Written → PreparedView → Type 0
 WritesPartTo None by written prepared =
     GainsPart prepared written.output written.output_now × (written.now ≡ written.before)
@@ -92,7 +94,7 @@ WantsToWrite by written prepared = WantsToWriteTo (stored_by prepared.job) by wr
 abbrev pub RefusesDay : Written → PreparedView → Type 0
 RefusesDay written prepared = IsRefused prepared × (written.now ≡ written.before)
 
--- what each result means if a job that has read its sources was to write
+-- what each result of writing a job's output means
 abbrev pub EndsWriting : Drafting → Written → PreparedView → Result ⊤ OfficeFault → Type 0
 EndsWriting by written prepared (Ok done) = Writes by written prepared
 EndsWriting by written prepared (Err office.Sink) = WritesPart by written prepared

@@ -38,7 +38,7 @@ fn real_host(rt: &HostRuntime) -> Host<InputDevice, RealFolder, OutputDevice, Ou
     }
 }
 
-/// Does what the program's own words ask for, if they can be had.
+/// Does what the program's own words ask for, and reports a fault if it can't get them.
 fn run_own_words(rt: &HostRuntime) -> u8 {
     match own_words(rt).and_then(|words| run_strings(rt, words.as_slice())) {
         Ok(status) => status,

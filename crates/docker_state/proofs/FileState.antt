@@ -39,7 +39,7 @@ use Rattle.docker_laws.proofs.dockers.ThinState.{kept_good, thin_valid}
 use Rattle.docker_join.proofs.MeantOrder.{ascending_meant}
 use Rattle.docker_state.proofs.StateJoin.{op_records}
 
--- two ways to take the first of some lines are one
+-- two ways to take the first of some lines give the same line
 pub first_is : (lines : List (List ℕ)) → slice_index_or lines 0 [] ≡ first_record lines
 first_is [] = refl
 first_is (line ∷ lines) = refl

@@ -25,7 +25,7 @@ abbrev pub last_or : Key × Entry → List (Key × Entry) → List (Key × Entry
 last_or row [] rest = row ∷ rest
 last_or row (next ∷ rows) rest = if is_of_key (Some next) (key_meant row.0) then rest else row ∷ rest
 
--- the last row of each run of rows of one key
+-- the last row of each run of rows with the same key
 abbrev pub last_rows : List (Key × Entry) → List (Key × Entry)
 last_rows [] = []
 last_rows (row ∷ rows) = last_or row rows (last_rows rows)
@@ -34,11 +34,11 @@ last_rows (row ∷ rows) = last_or row rows (last_rows rows)
 abbrev pub Made : Type 0
 Made = (Key × Entry) × ℕ
 
--- the rows of these
+-- the rows that changes make, without their numbers
 abbrev pub rows_in : List Made → List (Key × Entry)
 rows_in made = map (λ (m : Made). m.0) made
 
--- the numbers of these
+-- the numbers of these rows
 abbrev pub numbers_in : List Made → List ℕ
 numbers_in made = map (λ (m : Made). m.1) made
 
@@ -46,17 +46,17 @@ numbers_in made = map (λ (m : Made). m.1) made
 abbrev pub AreNumbered : List Item → List Made → Type 0
 AreNumbered items made = (m : Made) → Contains made m → slice_get items m.1 ≡ Some ((row_meant m.0).0, (row_meant m.0).1.op)
 
--- whether there is one, and its row is of this key
+-- whether there is a row with its number, and the row is of this key
 abbrev pub is_made_of_key : Option Made → model.Key → Bool
 is_made_of_key None key = false
 is_made_of_key (Some made) key = is_eq (key_cmp (key_meant made.0.0) key)
 
--- one before the rest, unless the next one's row is of its key
+-- a row with its number before the rest, unless the next row is of its key
 abbrev pub last_made_or : Made → List Made → List Made → List Made
 last_made_or made [] rest = made ∷ rest
 last_made_or made (next ∷ more) rest = if is_made_of_key (Some next) (key_meant made.0.0) then rest else made ∷ rest
 
--- the last one of each run of rows of one key
+-- the last row of each run with the same key, with its number
 abbrev pub last_made : List Made → List Made
 last_made [] = []
 last_made (made ∷ more) = last_made_or made more (last_made more)

@@ -42,8 +42,8 @@ fn none_to_stage(own: &State, rows: &[(Key, Entry)], floor: &Option<FileStamp>) 
     true
 }
 
-/// Whether nothing of the other state has to be staged for the own one. If all files of the other
-/// are below the floor of both, none of its rows is looked at.
+/// Whether the other state brings no entry that this one has to take over. If all files of the
+/// other are below the floor of both, none of its rows is looked at.
 fn brings_none(own: &State, other: &State, floor: &Option<FileStamp>) -> bool
     ensures { IsTrue result → HasNoneToStage own.now (floor_meant floor.now) other.now.entries }
 {
@@ -52,8 +52,8 @@ fn brings_none(own: &State, other: &State, floor: &Option<FileStamp>) -> bool
 
 impl State {
     /// Whether the join with another state is this one under the greater horizon. That is so if
-    /// each item and each entry of the other is below the floor of both, or this state has it, or
-    /// this state has a greater entry of its key.
+    /// this state has each item and each entry of the other, or a greater entry of its key. What is
+    /// below the floor of both doesn't count.
     pub(crate) fn covers(&self, other: &State) -> bool
         ensures { IsTrue result
             → IsJoin self.now other.now (raise_horizon other.now.horizon self.now) }

@@ -131,8 +131,8 @@ impl Staging {
     }
 }
 
-/// Whether an entry is kept under a floor and greater than the state's own entry of its key, if
-/// there is one. The own entry is looked for at an index first.
+/// Whether an entry is kept under a floor and greater than the state's entry of its key, if there
+/// is one. The state's entry is looked for at index `near` first.
 pub(crate) fn is_to_stage(
     state: &State,
     floor: &Option<FileStamp>,
@@ -143,8 +143,8 @@ pub(crate) fn is_to_stage(
     ensures { IsTrue result
         ↔ IsToStage state.now (floor_meant floor.now) (key_meant key.now) (entry_meant entry.now) }
 {
-    // An entry of a file that is newer than each known file is greater than the own entry, which
-    // need not be searched for then.
+    // An entry of a file that is newer than every known file is greater than ours, so ours needn't
+    // be searched for.
     if is_above_all(state.ledger(), &entry.stamp.file) {
         return is_kept(floor, &entry.stamp.file);
     }
@@ -155,10 +155,10 @@ pub(crate) fn is_to_stage(
 }
 
 impl State {
-    /// Takes over what was received: the union of the ledgers, kept under its floor, and the own
-    /// entries that are kept, with each staged entry at its key, lapsed under the own horizon. That
-    /// is the join with the state of what was received. If the entries were offered to another
-    /// state with the same floor, it is the join all the same, and a greater own entry stays. If
+    /// Joins the state with what was received. The ledger becomes the union of both ledgers, and
+    /// each staged entry takes its place at its key. What is below the floor of both is dropped,
+    /// and what ends before this state's horizon lapses. If the entries were offered to another
+    /// state with the same floor, it is still the join, and a greater entry of this state stays. If
     /// nothing is staged and no item is new, it does nothing. If memory runs out, the state stays
     /// as it was, and what was received is dropped.
     pub fn commit(&mut self, staging: Staging) -> Result<(), Memory>

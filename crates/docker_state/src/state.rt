@@ -549,14 +549,14 @@ impl Merge for State {
 
     ghost idempotent = { join_idempotent };
 
-    /// The join of two states: the union of their ledgers, kept under its floor, and for each key
-    /// the greater entry, kept under the same floor and lapsed under the greater horizon. If one
-    /// state has all that the other would bring, the join is that state under the greater horizon,
-    /// and the other's memory is freed. A full extract that is newer than each file of the other is
-    /// such a state, and then no row of the other is looked at. If memory runs out, nothing was
-    /// moved yet, and both states come back as they were. The join has an index if both states have
-    /// one. Then two states with more than 4,294,967,295 rows or places together, which are numbered
-    /// in 32 bits, also come back.
+    /// The join of two states: the union of their ledgers, and for each key the greater entry. What
+    /// is below the floor of both is left out, and the entries lapse under the greater horizon. If
+    /// one state has all that the other would bring, the join is that state under the greater
+    /// horizon, and the other's memory is freed. The state of a full extract that is newer than
+    /// each file of the other is such a state, and then no row of the other is looked at. If memory
+    /// runs out, nothing was moved yet, and both states come back as they were. The join has an
+    /// index if both states have one. Then two states with more than 4,294,967,295 rows or places
+    /// together, which are numbered in 32 bits, also come back.
     fn join(self, alloc: Global, other: State) -> Result<State, (State, State)>
         ensures ok { IfOk result (IsJoin self other) }
         ensures err { IfErr result (λ both. (both.0 ≡ self) × (both.1 ≡ other)) }

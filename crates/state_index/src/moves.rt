@@ -80,8 +80,8 @@ impl Moves {
         moves
     }
 
-    /// Takes one turn of the walk, if the join has `at` rows so far. Returns how many it has with
-    /// this turn.
+    /// Notes where the rows of one turn go, if the join has `at` rows so far. Returns how many rows
+    /// it has after this turn.
     fn take(&mut self, turn: Turn<'_>, floor: &Option<FileStamp>, horizon: u16, at: u32) -> u32
         requires few { at + 1 < 2 ^ 32 }
         requires first_room { vec_len self.old.first + length (firsts (turn_meant turn ∷ []))

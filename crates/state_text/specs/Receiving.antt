@@ -23,11 +23,12 @@ abbrev pub items_of : List LedgerItem → Option Staging → List stamps.LedgerI
 items_of items None = map item_meant items
 items_of items (Some staging) = staging.items
 
--- what was given
+-- the ledger items and entries that were given, as a state
 abbrev pub given_of : {R : Type 0} → Receiving R → State
 given_of it = given_state (items_of it.items.items it.staging) it.given.entries
 
--- what is staged of the entries given is what is to be, under the floor of both ledgers
+-- of the given entries exactly those are staged that this state has to take over, under the floor
+-- of both ledgers
 pub record IsStagedOf (own : State) (staging : Staging) (entries : List (model.Key × ops.Entry)) : Type 0 where
   pub floor : IsFloor (own.ledger ++ staging.items) staging.floor
   pub staged : IsStaged own staging.floor entries staging.staged

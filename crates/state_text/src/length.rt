@@ -77,8 +77,7 @@ fn rows_len(rows: &[(Key, Entry)]) -> u128
     total
 }
 
-/// The exact number of bytes of the text of a state: its mark, its horizon, its counts, items and
-/// entries.
+/// How many bytes the text of a state has: its mark, its horizon, its counts, items and entries.
 pub fn encoded_len(state: &State) -> u128
     ensures { result ≡ length (state_text dks_2 state.now) }
 {

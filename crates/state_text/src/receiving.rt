@@ -19,8 +19,8 @@ use std::alloc::Global;
 use std::marker::{Brand, PhantomData};
 use std::mem;
 
-/// Names the state that receives the parts of one text. A type bound by it holds that state,
-/// whatever is called on it.
+/// Says, for clauses only, which state receives the parts of one text. It is part of the keeper's
+/// type, so no call can change it.
 pub trait Receiver {
     ghost use Rattle.docker_model.specs.state.State as states;
 
@@ -47,7 +47,7 @@ pub(crate) struct Receiving<R> {
     of: PhantomData<R>,
 }
 
-/// Offers the next entry to what is staged of the entries before it.
+/// Offers the next entry to the staging, after the entries before it.
 fn offer(
     own: &State,
     staging: &mut Staging,

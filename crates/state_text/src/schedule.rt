@@ -110,8 +110,8 @@ impl Gathered {
             .saturating_sub(self.lines.len())
     }
 
-    /// Takes room for `count` lines at once, if there are no lines yet and this number of bytes has
-    /// all of them. If memory runs out, each line takes room as it comes.
+    /// Takes room for `count` lines at once, if there are no lines yet and the next `bytes` bytes
+    /// have all of them. If memory runs out, each line takes room as it comes.
     pub fn make_room(&mut self, alloc: Global, count: u32, bytes: usize)
         ensures { self.new ≡ self.old }
     {

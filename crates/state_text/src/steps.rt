@@ -341,8 +341,8 @@ fn after_last_line<K: Keeper>(
     give(count, parts, key, schedule.stamp, op)
 }
 
-/// Takes the next part, which is no line with more lines to come. Returns the stage after it, or
-/// why the part is bad.
+/// Takes the next part: any but a line with more lines to come, which `judged_inner_line` takes.
+/// Returns the stage after it, or why the part is bad.
 pub fn step<K: Keeper>(
     alloc: Global,
     format: Format,

@@ -1,4 +1,4 @@
-//! A keeper of all parts, for a state of their own.
+//! A keeper of all parts, which makes a state of them.
 ghost use Rattle.std.specs.Prelude.{◌≡◌, []};
 
 use crate::keeper::{Keeper, Maker};
@@ -9,7 +9,7 @@ use docker_state::{LedgerItem, Parts, State};
 use std::alloc::Global;
 use std::marker::Model;
 
-/// The parts so far, as a state of their own.
+/// All parts so far, for the state that is made of them.
 #[derive(Debug, Drop)]
 pub struct Whole {
     parts: Parts,

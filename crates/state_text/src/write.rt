@@ -1,4 +1,4 @@
-//! The writing of a state.
+//! Writes the text of a state.
 ghost use Rattle.std.specs.Prelude.{◌≡◌, ◌+◌, ◌-◌, ◌^◌, ◌<◌, ◌≤◌, ◌++◌, map, All, IsErr, OnOk, OnErr};
 ghost use Rattle.std.specs.List.{concat, flat_map};
 ghost use Rattle.std.specs.Int.{w64, to_be_bytes};
@@ -116,8 +116,7 @@ fn put_text<K: Sink>(sink: &mut K, state: &State) -> Result<(), Failed>
     flush(sink, &mut buffer)
 }
 
-/// Writes the text of a state. If a write fails, the sink has a beginning of the text, and not all
-/// of it.
+/// Writes the text of a state. If a write fails, the sink has gained a proper prefix of the text.
 pub fn write_state<K: Sink>(state: &State, sink: &mut K) -> Result<(), Failed>
     requires { K.failures sink.old < 2 ^ 64 - 1 }
     ensures whole { OnOk result
