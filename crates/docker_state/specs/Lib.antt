@@ -7,4 +7,5 @@ pub mod Staging
 pub mod UidPiece
 pub mod Indexed
 pub mod PlaceRows
+pub mod Walked
 pub use Rattle.state_index.specs.Counts

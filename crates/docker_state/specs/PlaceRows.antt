@@ -6,8 +6,6 @@ use Rattle.docker_model.specs.file.Change.{Key, tiploc_key, association_key, sch
 use Rattle.docker_model.specs.file.Journey.{calls_at}
 use Rattle.docker_model.specs.state.Op.{Entry, body_of}
 use Rattle.state_laws.specs.Row.{Row}
-use Rattle.docker_state.specs.declared.place_rows.Walk.{Walk}
-use Rattle.docker_state.specs.declared.place_rows.Walk.TheVariants.{Marked, Sifted}
 
 -- the key is a schedule's, and the schedule with this body calls at the place
 abbrev pub is_call : List ℕ → Key → Body → Bool
@@ -37,8 +35,3 @@ row_here links place row = option_and_then (λ body. if is_here links place row.
 -- the live rows at the place
 abbrev pub rows_here : Bool → List ℕ → List (Key × Entry) → List Row
 rows_here links place rows = filter_map (row_here links place) rows
-
--- the rows that a walk gives
-abbrev pub rows_walked : Walk → List Row
-rows_walked (Marked rows) = rows
-rows_walked (Sifted rows) = rows

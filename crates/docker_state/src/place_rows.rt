@@ -2,7 +2,7 @@
 ghost use Rattle.std.specs.Prelude.{◌≡◌};
 ghost use Rattle.std.specs.Iterator.{YieldsFirstBy, item_count};
 ghost use Rattle.cif_file.specs.Meaning.{key_meant, body_meant};
-ghost use Rattle.docker_state.specs.PlaceRows.{rows_walked};
+ghost use Rattle.docker_state.specs.Walked.{rows_walked};
 
 use crate::sifted::SiftedRows;
 use cif_file::{Body, Key};
@@ -42,7 +42,7 @@ pub struct Numbered<'a> {
 impl<'a> Model for Numbered<'a> {
     ghost use Rattle.std.specs.Prelude.{List};
     ghost use Rattle.state_laws.specs.Row.{Row};
-    ghost use Rattle.docker_state.specs.PlaceRows.{rows_walked};
+    ghost use Rattle.docker_state.specs.Walked.{rows_walked};
 
     ghost Value = { List Row };
 
@@ -80,7 +80,7 @@ impl<'a> Model for PlaceRows<'a> {
 impl<'a> PlaceRows<'a> {
     /// The rows of a walk.
     pub(crate) fn of(walk: Walk<'a>) -> PlaceRows<'a>
-        ensures { result ≡ rows_walked walk }
+        ensures { result ≡ rows_walked walk.entry }
     {
         PlaceRows {
             numbered: Numbered { walk },

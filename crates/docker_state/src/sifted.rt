@@ -1,5 +1,5 @@
 //! The live rows at a place, found by a walk over all rows.
-ghost use Rattle.std.specs.Prelude.{◌≡◌, List, length, map};
+ghost use Rattle.std.specs.Prelude.{◌≡◌, false, length, map};
 ghost use Rattle.std.specs.Iterator.{YieldsFirstBy, item_count};
 ghost use Rattle.std.specs.Option.{option_map};
 ghost use Rattle.cif_file.specs.Meaning.{key_meant, body_meant};
