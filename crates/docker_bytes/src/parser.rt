@@ -8,7 +8,7 @@ ghost use Rattle.docker_bytes.specs.ParserRead.{HasRead, HasFailed};
 use crate::fault::{StateFault, Step};
 use crate::reading::StateReading;
 use state_text::format::Format;
-use state_text::{Keeper, Maker, Received, Receiver, State, PartsSoFar};
+use state_text::{Keeper, Maker, PartsSoFar, Received, Receiver, State};
 use std::alloc::Global;
 use std::marker::Model;
 
