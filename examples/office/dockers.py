@@ -1,11 +1,11 @@
 """Asks for dockers of one STATE, and for what STATE is made of. There are two ways to ask, with one interface.
 
 If there is a program `desk`, one process of it answers every request: it loads STATE once, and renews it when STATE's file changed.
-Else each request is a `docker` command of its own, which reads STATE again: of a national extract that takes 1.4 to 3 seconds and 1 GB of
-memory each time. Its answer is kept as long as STATE's file is the same one. Both give the same bytes.
+Otherwise each request is a `docker` command of its own, which reads STATE again. For a national state that takes about a second and at most 60 MB
+of memory each time. Its answer is kept as long as STATE's file is the same one. Both ways give the same bytes.
 
-DOCKER names the program `docker`, and DESK the program `desk`. Else they are those that ./install has put here, those of the sources around this file, or those that
-./install has put elsewhere on the PATH."""
+DOCKER names the program `docker`, and DESK the program `desk`. Without them the programs that ./install has put here are used. If there are none, it's
+the ones of the sources around this file, and then the ones that ./install has put elsewhere on the PATH."""
 import collections
 import datetime
 import os
@@ -25,8 +25,8 @@ NO_PROGRAM = "there is no program docker: build it by `./docker` or install it b
 TIPLOC = re.compile(r"[!-,.-~][!-~]{0,6}")
 # Six such bytes, as `desk` reads a UID.
 UID = re.compile(r"[!-~]{6}")
-# The first and the last column of each field of a line of `files`, and of the description in a docker's heading, by the names in docs/FORMATS.md;
-# docs/columns compares both.
+# Fields by their names in docs/FORMATS.md, each with its first and its last column: in a line of `files`, and in a docker's heading. docs/columns compares
+# them with the page.
 FILE = {
     "date of extract": (1, 10), "time of extract": (12, 15), "current file reference": (17, 23), "update indicator": (25, 25), "last file reference": (27, 33),
 }
@@ -66,8 +66,8 @@ class Extract(NamedTuple):
 
 
 class Coverage(NamedTuple):
-    """What `known` says of the days that STATE covers: the horizon, the day of the newest full extract, and the last day of the schedules, apart from those
-    without an end. Each is None if there is none. `schedules` is how many there are."""
+    """What `known` says of the days that STATE covers: the horizon, the day of the newest full extract, and the last day of the schedules that have an end.
+    Each is None if there is none. `schedules` is how many schedules there are."""
     horizon: Optional[str]
     full: Optional[str]
     last: Optional[str]
@@ -104,7 +104,7 @@ def coverage_of(text):
 
 
 def missing(extracts):
-    """Of each update that doesn't follow the file before it: what should stand before it, and the update."""
+    """The updates that don't follow the file before them, each after the reference of the file that should stand there."""
     before = [None, *(extract.reference for extract in extracts)]
     return [(extract.last, extract) for extract, last in zip(extracts, before) if extract.indicator == "U" and extract.last != last]
 
@@ -343,8 +343,8 @@ def knowledge(path):
 
 
 def grew(before, after):
-    """Whether a state has all that another had, so that their join is that state: no lower horizon, and each file that still counts. Of a
-    state that can't be read it is left to `desk` to say what is wrong."""
+    """Whether a state has all that another had, so that their join is that state: no lower horizon, and each file that still counts. If
+    either can't be read, the answer is yes, and `desk` says what is wrong."""
     if before is None or after is None:
         return True
     floor = next((item[:11] for item in after.items if item[11:12] == b"F"), b"")

@@ -32,14 +32,14 @@ class Browser:
         return self.ask("/goog/cdp/execute", {"cmd": command, "params": words})
 
     def sized(self, width, height, is_phone=False):
-        """Gives the page so much room, on a screen or a phone's."""
+        """Gives the page this much room, on a screen or a phone's."""
         self.cdp("Emulation.setDeviceMetricsOverride", width=width, height=height, deviceScaleFactor=1, mobile=is_phone)
 
     def open(self, address):
         self.ask("/url", {"url": address})
 
     def run(self, script, *words):
-        """What a function's body of JavaScript gives in the page."""
+        """What the page returns for the body of a JavaScript function."""
         return self.ask("/execute/sync", {"script": script, "args": list(words)})
 
     def keys(self, text):

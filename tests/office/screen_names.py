@@ -18,7 +18,7 @@ import names as spelled  # noqa: E402
 
 TIPS = "return [...document.querySelectorAll('#day tr')].map(row => [...row.querySelectorAll('.from, .to')].map(cell => cell.title))"
 FOUND = "return [...document.querySelectorAll('#found a')].map(link => link.getAttribute('href'))"
-# What a name is of each description.
+# Each description, and the name that is made of it.
 SPELLED = {
     "ASHFELD JUNCTION": "Ashfeld Junction", "LONDON KINGS CROSS": "London Kings Cross", "KING'S LYNN": "King's Lynn", "D'ARCY RD": "D'Arcy Rd",
     "BURTON-ON-TRENT": "Burton-on-Trent", "BETWS-Y-COED": "Betws-y-Coed", "CHESTER-LE-STREET": "Chester-le-Street", "THE HAWTHORNS": "The Hawthorns",
@@ -196,7 +196,7 @@ class Names(Stated):
         self.assertEqual(listed, ["Ashfeld &amp; Holm Junction ASHFELD", "BLANK BLANK", "NOWHERE nobody knows this code"])
 
     def test_unknown(self):
-        """Of a code that nobody knows a page leads to the search."""
+        """The page of a code that nobody knows leads to the search."""
         self.assertIn(b'<a href="/?q=ASF">Find a place by its name</a>', self.ask("/ASF")[2])
 
 
@@ -248,7 +248,7 @@ class Search(Stated):
         self.assertEqual([self.found(text) for text in ("zzzz", "%27", "manchester%20ash")], [[], [], []])
 
     def test_many(self):
-        """Of many places the first are shown, and how many there are."""
+        """If many places are found, the first are shown, and how many there are."""
         body = self.ask("/?q=junction")[2].decode()
         self.assertRegex(body, r'<p id="number" role="status">1 place</p>')
         self.assertEqual(len(self.found("jn")), 50)

@@ -46,7 +46,7 @@ CUT = """return [...document.querySelectorAll('body *')].filter(it => !it.closes
 
 
 def waited(seconds, ask):
-    """What a question gives as soon as it gives something, within so many seconds."""
+    """What `ask` returns as soon as it returns something, within this many seconds."""
     end = time.monotonic() + seconds
     while not (answer := ask()) and time.monotonic() < end:
         time.sleep(0.2)
@@ -113,7 +113,7 @@ class Alive(Seen):
     desk = STAND_IN
 
     def test_hung(self):
-        """Of a server that hangs the wall says within seconds that it isn't renewed, and afterwards that it is."""
+        """If the server hangs, the wall says within seconds that it isn't renewed, and later that it is."""
         wall = self.browser(1920, 1080)
         wall.open(self.address("/ASHFELD"))
         self.assertEqual(wall.run("return document.getElementById('status').textContent"), "")
@@ -164,7 +164,7 @@ class Alive(Seen):
         self.assertEqual(idle.recv(1), b"")
 
     def is_ended(self, connection, seconds):
-        """Whether the server ends a connection within so many seconds, though nothing is read from it."""
+        """Whether the server ends a connection within this many seconds, though nothing is read from it."""
         def tried():
             try:
                 connection.sendall(b"GET / HTTP/1.1\r\n")

@@ -62,7 +62,7 @@ def pytest_runtest_makereport(item):
     """A case that is skipped has failed, unless the list has it."""
     outcome = yield
     report = outcome.get_result()
-    # xdist puts the name of a group after that of the case.
+    # xdist puts the name of a group after the case's name.
     name = item.nodeid.removesuffix("@alone")
     if report.skipped and name not in may_be_skipped():
         report.outcome = "failed"

@@ -28,7 +28,7 @@ mod parts;
 mod pieces;
 mod received;
 
-/// The pieces joined.
+/// These pieces, one after the other.
 fn joined_text(rt: &impl Abort, alloc: Global, pieces: &[&[u8]]) -> Vec<u8> {
     text(alloc, pieces, b"").expect(rt, "room")
 }
@@ -66,7 +66,7 @@ fn read(rt: &impl Abort, alloc: Global, text: &[u8], step: usize, limit: u64) ->
     read_state(alloc, &mut source, limit).expect(rt, "a state")
 }
 
-/// The number of files that the ledger of a text has, read by a step of bytes.
+/// How many files the ledger of a text has. The text is read `step` bytes at a time.
 fn files_in(rt: &impl Abort, alloc: Global, text: &[u8], step: usize, limit: u64) -> usize
     requires { 0 < step }
 {
@@ -306,7 +306,7 @@ fn faults_of_an_entry(rt: HostRuntime) {
     }
 }
 
-/// Asserts that each front of a text, whose parts begin at these places, is too short.
+/// Asserts that each proper prefix of a text is too short. The text's parts begin at these places.
 fn refused_fronts(rt: &impl Abort, alloc: Global, text: &[u8], places: &[u64]) {
     for (n, _) in text.iter().enumerate() {
         let fault = at(last_place(places, n), StateCause::Short);

@@ -115,8 +115,8 @@ fn an_answer_with_a_text(rt: HostRuntime) {
     answers(&rt, rt.alloc(), &Answer::Text(page), "0 2 8\none\ntwo\n");
 }
 
-/// What comes of the answer that has no request, on a sink that takes one byte per write and fails
-/// at this write, and the bytes that the sink has.
+/// Writes the usage answer to a sink that takes one byte per write and fails at this write. Returns
+/// the result and the sink.
 fn broken_at(rt: &impl Abort, alloc: Global, write: u64) -> (Result<(), Failed>, Fuse<Kept>)
     requires { 0 < write }
 {

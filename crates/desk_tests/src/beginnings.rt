@@ -13,18 +13,18 @@ use docker_host::{Host, Shelf};
 use std::alloc::Global;
 use std::process::Abort;
 
-/// What a session is asked that can't begin.
+/// The input of a session that can't begin.
 const INPUT: &[u8] = b"files\nsave\n";
 
-/// The line of words that are no session's.
+/// The line for words that name no session.
 const USAGE_LINE: &str = "\
 desk: usage: [--write] STATE, and then a line for each request: print TIPLOC DATE \
 | train UID DATE | files | places | known | renew | with --write take FILE | merge OTHER \
 | horizon DATE | save
 ";
 
-/// Asserts the status of a session over this folder, and its line of faults. It reads nothing of its
-/// input, answers nothing, and leaves the text of the file `S`, which is this one.
+/// Asserts the status and the line of faults of a session over this folder that can't begin. It
+/// reads nothing of its input, answers nothing, and leaves this text in the file `S`.
 fn can_t_begin(
     rt: &impl Abort,
     alloc: Global,
@@ -49,13 +49,13 @@ fn can_t_begin(
     same(rt, text_of(&host.folder), text);
 }
 
-/// Asserts how a session can't begin whose state's file has this text.
+/// Asserts the line of faults of a session that can't begin because its state's file has this text.
 fn refuses_text(rt: &impl Abort, alloc: Global, words: &[&str], text: &[u8], line: &str) {
     let folder = shelf_with(rt, alloc, "S", text);
     can_t_begin(rt, alloc, words, folder, (1, line, text));
 }
 
-/// Words that are no session's.
+/// Words that name no session.
 const OTHER_WORDS: &[&[&str]] = &[
     &[],
     &[""],

@@ -32,8 +32,8 @@ pub(crate) fn prints(rt: &impl Abort, alloc: Global, desk: &Desk, date: &str, wa
     answers(rt, alloc, &desk.print(&place, day_of(rt, date)), wanted);
 }
 
-/// Asserts that a desk that nothing saves any more has the state with this text, and whether it
-/// had something to save.
+/// Asserts, of a desk that isn't used any more, whether something is unsaved, and the state that it
+/// saves.
 pub(crate) fn ends(rt: &impl Abort, alloc: Global, mut desk: Desk, unsaved: bool, state: Parts) {
     same(rt, desk.is_unsaved(), unsaved);
     let mut folder = shelf_with(rt, alloc, "S", b"");

@@ -14,8 +14,8 @@ use docker_host::{Fails, Host};
 use std::alloc::Global;
 use std::process::Abort;
 
-/// Asserts that the output has a beginning of the answers to two requests, of this many bytes, if
-/// it has room for no more, and that then nothing more is read.
+/// Asserts that an output with room for this many bytes has the first bytes of the answers to two
+/// requests, and that nothing more is read then.
 fn output_has_room_for(rt: &impl Abort, alloc: Global, bytes: usize) {
     let mut host = Host {
         input: Bytes::new(b"files\nprint ASHFELD 2024-06-10\nfiles\n", 1),
@@ -68,7 +68,7 @@ fn an_input_that_fails(rt: HostRuntime) {
     input_fails_at(&rt, rt.alloc(), 16, &[DONE, both], (1, UNSAVED));
 }
 
-/// Asserts that a session goes on whose store fails at this call whenever it saves.
+/// Asserts that a session goes on if its folder fails at this call whenever it saves.
 fn store_fails(rt: &impl Abort, alloc: Global, fails: Fails) {
     let mut folder = shelf_of_morning(rt, alloc);
     folder.fail(fails);

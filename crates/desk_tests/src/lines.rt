@@ -7,7 +7,7 @@ use docker_desk::{Ahead, Asked, next_line};
 use std::alloc::Global;
 use std::process::Abort;
 
-/// What a line is, and the bytes of one that can be a request.
+/// The kind of a line, and its bytes if it can be a request.
 type Told<'a> = (&'static str, &'a [u8]);
 
 /// A line that can be a request.
@@ -114,8 +114,8 @@ fn letters(rt: &impl Abort, alloc: Global, many: usize) -> Vec<u8> {
     text
 }
 
-/// Asserts that a line of this many letters is read whole or, if it is too long, is read to its
-/// line feed, and that the line after it is read.
+/// Asserts that a line of this many letters is read whole or, if it is too long, to its line feed.
+/// Then the line after it is read.
 fn is_line_of(rt: &impl Abort, alloc: Global, many: usize, is_whole: bool) {
     let long = letters(rt, alloc, many);
     let mut text = letters(rt, alloc, many);
@@ -164,8 +164,8 @@ fn a_thousand_lines(rt: HostRuntime) {
     are_lines_in_pieces(&rt, text.as_slice(), &[(LINE, b"renew".as_slice()); 1000]);
 }
 
-/// How often a source failed from which one line is read, and whether reading it failed. The source
-/// gives one byte per read, and fails at only this read.
+/// Reads one line from a source that gives one byte per read, and fails at only this read. Returns
+/// how often the source failed, and whether reading the line failed.
 fn read_with_fuse(text: &[u8], read: u64) -> (u64, bool)
     requires { 0 < read }
 {

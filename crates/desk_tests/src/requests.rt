@@ -6,7 +6,7 @@ use docker_desk::{Ahead, Asked, Request, next_line, request_in};
 use std::alloc::Global;
 use std::process::Abort;
 
-/// A line, and the request that it is, with one space between two words.
+/// A line, and the words of its request, with one space between two of them.
 type Row = (&'static str, &'static str);
 
 /// Adds a word after a space.
@@ -62,7 +62,7 @@ fn words_of(rt: &impl Abort, alloc: Global, request: &Request<'_>) -> Vec<u8> {
     text
 }
 
-/// The words of the request that the first line of a text is. Nothing if it asks for nothing.
+/// The words of the request that the first line of a text makes. No byte if it asks for nothing.
 fn asked_by(rt: &impl Abort, alloc: Global, text: &[u8], may_write: bool) -> Vec<u8> {
     let mut source = Bytes::new(text, 4096);
     match next_line(&mut Ahead::new(), &mut source) {
@@ -75,7 +75,8 @@ fn asked_by(rt: &impl Abort, alloc: Global, text: &[u8], may_write: bool) -> Vec
     }
 }
 
-/// Asserts that a line is the request with these words, or none if there are no words.
+/// Asserts that a line makes the request with these words, or asks for nothing if there are no
+/// words.
 fn asks(rt: &impl Abort, alloc: Global, line: &str, may_write: bool, words: &str) {
     let mut text = Vec::new(alloc);
     text.extend_from_slice(line.as_bytes()).expect(rt, "room");

@@ -21,7 +21,7 @@ fn desk_with_revision(rt: &impl Abort, alloc: Global) -> Desk {
     desk
 }
 
-/// Asserts what a desk returns that saves, and whether it then has something to save.
+/// Asserts what a desk returns when it saves, and whether something is unsaved then.
 fn saves(
     rt: &impl Abort,
     desk: &mut Desk,
@@ -63,8 +63,8 @@ fn puts(rt: &impl Abort, alloc: Global, folder: &mut Shelf, state: Parts) {
     put(rt, folder, "S", text.as_slice());
 }
 
-/// Asserts what a desk returns that renews what it knows from the file `S`, and whether it then has
-/// something to save.
+/// Asserts what a desk returns when it renews what it knows from the file `S`, and whether
+/// something is unsaved then.
 fn renews(
     rt: &impl Abort,
     desk: &mut Desk,

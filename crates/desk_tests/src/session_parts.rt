@@ -18,7 +18,7 @@ pub(crate) fn room(rt: &impl Abort, alloc: Global, bytes: usize) -> Kept
     Kept::new(alloc, bytes).expect(rt, "room")
 }
 
-/// Texts as one text.
+/// These texts, one after the other.
 pub(crate) fn joined(rt: &impl Abort, alloc: Global, texts: &[&str]) -> Vec<u8> {
     let mut all = Vec::new(alloc);
     for text in texts {

@@ -24,7 +24,7 @@ type Row = (
     Parts,
 );
 
-/// Asserts what a session does whose input comes in pieces of at most `step` bytes.
+/// Asserts what a session does if its input comes in pieces of at most `step` bytes.
 fn goes_in_pieces(rt: &impl Abort, alloc: Global, row: &Row, step: usize)
     requires { 0 < step }
 {

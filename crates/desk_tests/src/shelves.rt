@@ -45,7 +45,7 @@ pub(crate) fn shelf_of_morning(rt: &impl Abort, alloc: Global) -> Shelf
     shelf
 }
 
-/// The text of the file `S`, without a byte if there is none.
+/// The text of the file `S`. It is empty if there is no such file.
 pub(crate) fn text_of(shelf: &Shelf) -> &[u8] {
     match shelf.text("S") {
         Some(text) => text,

@@ -15,14 +15,14 @@ use docker_office::{StateCause, StateFault};
 use std::alloc::Global;
 use std::process::Abort;
 
-/// What a desk returns that takes the file `F2` of a shelf.
+/// What a desk returns when it takes the file `F2` of a shelf.
 fn take(desk: &mut Desk, shelf: &mut Shelf) -> Result<(), OfficeFault>
     requires { shelf.old.failures ≡ 0 }
 {
     desk.take("F2", shelf)
 }
 
-/// What a desk returns that takes the file `F2`, which has this text.
+/// What a desk returns when it takes the file `F2`, which has this text.
 pub(crate) fn taken(
     rt: &impl Abort,
     alloc: Global,
@@ -32,7 +32,8 @@ pub(crate) fn taken(
     take(desk, &mut shelf_with(rt, alloc, "F2", text))
 }
 
-/// What a desk returns that receives the state of a file, on a shelf whose file `S2` has this text.
+/// What a desk returns when it receives the state in a file, on a shelf whose file `S2` has this
+/// text.
 fn received(
     rt: &impl Abort,
     alloc: Global,

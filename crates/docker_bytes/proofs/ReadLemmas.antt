@@ -204,7 +204,7 @@ pub reads_all : {K : Type 0} (terms : StateTerms) (count : ℕ) (initial now : O
 reads_all terms count initial now parser at end =
     record { text = at.bytes; held = held_all initial now at.bytes at.lost end; read = at.taken.read }
 
--- a parser that has read nothing of a format under a limit
+-- what a parser has read, by its own format and limit
 pub unread : {K : Type 0} (parser : ParserState K) (format : Format) (limit : ℕ) (text : List ℕ) → HasRead parser format limit text
     → HasRead parser (format_of parser.reading) parser.reading.limit text
 unread parser format limit text has =
@@ -308,7 +308,7 @@ ends_whole {A = A} format limit initial next parser failed failed_now IsMade IsR
     by (Err fault.Memory) is =
         record { few = read.few; outcome = inr (inr (is.0, record { text = all.text; held = all.held; is = is.1 })); failures = read.failures }
 
--- what holds of what was made has another form
+-- the end of reading, with a property that follows from the first one
 pub ends_with : {S A E : Type 0} (wants : Wanting) (why : E → Option ReadFault) (left : S → Option (List ℕ)) (failures : S → ℕ) (format : Format) (limit : ℕ)
     (IsMade IsRead : A → Type 0) (source source_now : S) (result : Result A E) → ((made : A) → IsMade made → IsRead made)
     → EndsReadingBy wants why left failures format limit IsMade source source_now result

@@ -91,7 +91,7 @@ read_of task first second (file_read file) is =
     subst (λ task. IsReadOf task first second (under (horizon_of task) (file_read file))) (sym (checked task is.0)) (refl, is.1)
 read_of task first second (office_read state) is = state_of task first second state is
 
--- what a task writes of a state is no count
+-- what a task writes can be written of a state that it has read
 state_written_of : (task : TaskView) (first second : DeviceBytes) (state : State) → IsStateOf (sources_of task) first second state
     → IsWrittenOf (output_of task) (office_read state)
 state_written_of new_task first second state is = λ same. cc
@@ -104,7 +104,7 @@ state_written_of files_task first second state is = λ same. cc
 state_written_of (horizon_task day) first second state is = λ same. cc
 state_written_of migrate_task first second state is = λ same. cc
 
--- so its output is written of what was read
+-- so its output can be written of what was read
 written_of : (task : TaskView) (first second : DeviceBytes) (read : ReadView) → IsContentOf (sources_of task) first second read
     → IsWrittenOf (output_of task) read
 written_of task first second (file_read file) is = ap output_of (checked task is.0)

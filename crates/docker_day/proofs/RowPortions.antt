@@ -37,7 +37,7 @@ row_passed day key body row before after false is good viewed told never = λ pl
     (sym (told ∙ ap (λ (r : RowView). row_may_run r day) viewed)) i
     ++ gathered (train_in rows) (link_in rows) place day after)
 
--- if rows are left of a walk, and then fewer of them, the fewer are left of the walk
+-- what is left of the rows that are left of a walk is left of the walk
 pub left_again : (all rest fewer : List Row) → AreLeft all rest → AreLeft rest fewer → AreLeft all fewer
 left_again all rest fewer first second = record {
   good = λ good. second.good (first.good good);

@@ -14,7 +14,7 @@ pub record Shown : Type 0 where
   pub arrival : List ℕ
   pub departure : List ℕ
 
--- what the code prints, in the definitions
+-- what the code prints, as the definitions have it
 abbrev pub location_meant : Location → Shown
 location_meant location = record {
   platform = location.platform.now;

@@ -19,7 +19,8 @@ use fixed_text::{put, whole};
 /// How many bytes a line has: 56 columns and a line feed.
 const WIDTH: usize = 57;
 
-/// Writes a docker as it is printed. If a write fails, the sink has only a first part of the text.
+/// Writes a docker as it is printed. If a write fails, the sink has gained a proper prefix of the
+/// text.
 pub fn write_docker<K: Sink>(docker: &Docker<'_>, sink: &mut K) -> Result<(), Failed>
     requires { K.failures sink.old < 2 ^ 64 - 1 }
     ensures whole { OnOk result (Takes (K.taken sink.old) (text_of docker.now) (K.taken sink.new)) }

@@ -17,7 +17,7 @@ use Rattle.docker_desk.proofs.KnownLemmas.{known_read}
 
 -- ---- the bytes of an event
 
--- two histories that go on from one are the same only if what was added is the same
+-- if two additions to one history give equal histories, the additions are equal
 one_more : (old first second : List Event) → old ++ first ≡ old ++ second → first ≡ second
 one_more [] first second same = same
 one_more (event ∷ old) first second same = let rest : old ++ first ≡ old ++ second = cc in one_more old first second rest

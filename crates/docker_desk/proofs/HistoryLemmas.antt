@@ -14,7 +14,7 @@ pub then : (old middle new : List Event) (first next : List Event) → middle �
 then old middle new first next before after =
     after ∙ ap (λ (events : List Event). events ++ next) before ∙ append_assoc old first next
 
--- what a draft took that was empty
+-- an empty draft that took a text holds that text
 pub draft_took : (names_bytes : Bool) (text : List ℕ) (before after : Bytes) → before ≡ named_if names_bytes [] → Takes before text after
     → after ≡ named_if names_bytes text
 draft_took true text before after empty takes = rw empty at takes
@@ -30,7 +30,7 @@ then_unplaced name made_for look old middle new took bytes made failed same held
 
 -- ---- an opening
 
--- the same opening, of states that are the same
+-- the same opening, with equal states in place of the states
 pub opens_as : (name : Text) (Ends : State → State → Result ⊤ OfficeFault → Option Bytes → Type 0) (own now old new : State) (result : Result ⊤ OfficeFault)
     (before after : List Event) → own ≡ old → now ≡ new → OpensOnce name (Ends own now result) before after → OpensOnce name (Ends old new result) before after
 opens_as name Ends own now old new result before after is same opens = record {

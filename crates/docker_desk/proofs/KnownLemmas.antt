@@ -143,7 +143,7 @@ module _ (setting : Setting) (before after : Moment) where
   same_refused (horizon_request day) fault does = let told = does.0 in let never : ⊥ = cc in absurd never
   same_refused save_request fault does = same_saved does.result does.desk
 
-  -- a request is never answered as if it were none
+  -- a request never gets the answer to a line that asks for nothing
   never_unasked : (request : RequestView) → ¬ DoesRequest setting request before no_request after
   never_unasked (print_request place day) does = does.0
   never_unasked (train_request uid day) does = does.0

@@ -71,7 +71,7 @@ served words names_bytes old new status name may_write first last ending unsaved
       ends = subst (λ (u : Bool). EndsWithStatus ending u status (told_by old) (told_by new)) same ends;
     }))
 
--- the same, of a view that is another way to write the old one
+-- the same session, with the old view in another form
 pub served_as : (words : List Text) (names_bytes : Bool) (seen old new : HostView) (status : ℕ) (name : Text) (may_write : Bool) (first last : Moment)
     (ending : Ending) (unsaved : Bool) → seen ≡ old
     → NamesSession words name may_write → BeginsAt name seen.history first → first.failures ≡ seen.folder_failures

@@ -98,7 +98,7 @@ module _ (old now : DeviceBytes) (lines : List LineView) where
           let some = first_lines_some text lines first.0 first.1.0 in
           omega (arith, there, some)
 
-  -- an input of that many lines is endless
+  -- an input of 2 ^ 64 - 1 lines is endless
   pub endless_lines : ReadsFirst old lines now → length lines ≡ 2 ^ 64 - 1 → IsEndless old
   endless_lines = by old
     where
@@ -122,7 +122,7 @@ next_read old new read line is ends = subst (λ (met : Option LineView). ReadsAs
 pub next_endless : (old new : DeviceBytes) (fault : InputFault) → fault ≡ Endless → EndsLine old (Err fault) new → ReadsMany (2 ^ 64 - 1) old new
 next_endless old new fault is ends = subst (λ (f : InputFault). EndsLine old (Err f) new) is ends
 
--- an input from which that number of bytes was read is endless
+-- an input from which 2 ^ 64 - 1 bytes were read is endless
 pub endless_line : (old new : DeviceBytes) → ReadsMany (2 ^ 64 - 1) old new → IsEndless old
 endless_line None new many = tt
 endless_line (Some text) new many = by new many.read

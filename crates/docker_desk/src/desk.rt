@@ -114,7 +114,8 @@ impl Desk {
         answer_on(page, printed)
     }
 
-    /// Takes the named file, which is opened once. If it is refused, the desk knows what it knew.
+    /// Takes the named file, which is opened once. A refusal, `File`, `Source` or `Memory`, leaves
+    /// the desk as it was.
     pub fn take<D: Folder>(&mut self, name: &str, folder: &mut D) -> Result<(), OfficeFault>
         requires { D.failures folder.old < 2 ^ 64 - 1 }
         ensures opens { OpensOnce name.now (EndsTaking self.old.state self.new.state result)
@@ -132,8 +133,8 @@ impl Desk {
         }
     }
 
-    /// Joins what the desk knows with the state in the named file, which is opened once. If it is
-    /// refused, the desk knows what it knew.
+    /// Joins what the desk knows with the state in the named file, which is opened once. A refusal,
+    /// `State`, `Source` or `Memory`, leaves the desk as it was.
     pub fn receive<D: Folder>(&mut self, name: &str, folder: &mut D) -> Result<(), OfficeFault>
         requires { D.failures folder.old < 2 ^ 64 - 1 }
         ensures opens { OpensOnce name.now (EndsReceiving self.old.state self.new.state result)
@@ -170,9 +171,10 @@ impl Desk {
 
     /// Looks at the named file, then opens it once and joins what the desk knows with the state
     /// that it holds. If that is done, `seen` is what this look saw. Then nothing is unsaved only
-    /// if the file held the text of the state that the desk has now. It is found out only if
-    /// `compares` and if nothing was unsaved before. For this the file's text is kept until it is
-    /// compared.
+    /// if the file held the text of the state that the desk has now. The texts are compared only if
+    /// `compares` and if nothing was unsaved before. For this a copy of the file's text is kept
+    /// until then. A refusal, `State`, `Source` or `Memory`, leaves the desk and `seen` as they
+    /// were.
     pub fn renew<D: Folder>(
         &mut self,
         name: &str,
@@ -202,7 +204,9 @@ impl Desk {
     }
 
     /// Stores the text of the desk's state in the named file, by a draft from what was seen of that
-    /// file. If that is done, looks at the file again, and `seen` is what this look saw.
+    /// file. If that is done, looks at the file again, and `seen` is what this look saw. A refusal
+    /// leaves the desk and `seen` as they were: `Sink` if the draft can't be made, written or put in
+    /// the file's place, or `Memory` if there is no memory to make it.
     pub fn save<D: Folder>(
         &mut self,
         name: &str,

@@ -155,7 +155,7 @@ pub fn places_are_of_the_plain_table()
         → IsPlacesText (lapse_table known.horizon plain) text) }
 {}
 
-/// A text has one list of lines.
+/// A text divides into lines in only one way.
 pub fn an_input_has_one_reading()
     ensures { (text : List ℕ) (lines others : List LineView) → AreLines text lines
         → AreLines text others → lines ≡ others }

@@ -11,7 +11,7 @@ use docker_host::Folder;
 use std::alloc::Global;
 
 /// Looks at the named file, and then opens it and reads its state. The file is looked at, even if
-/// it can't be opened.
+/// it can't be opened. Refused with `State`, `Source` or `Memory`, and then there is no session.
 pub fn open_session<D: Folder>(
     alloc: Global,
     name: &str,

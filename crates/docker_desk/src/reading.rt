@@ -54,8 +54,8 @@ pub(crate) fn receive_state<D: Folder>(
 }
 
 /// Like `receive_state`. Also returns whether the file is known to have held the text of the state
-/// that the office has now. It is found out only if `compares`, and if there is memory to keep the
-/// text until it is compared.
+/// that the office has now. The texts are compared only if `compares`, and if there is memory to
+/// keep the file's text until then.
 pub(crate) fn renew_state<D: Folder>(
     alloc: Global,
     office: &mut Office,

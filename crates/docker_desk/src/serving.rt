@@ -50,9 +50,9 @@ pub fn serve_lines<S: Source, D: Folder, K: Sink>(
     Ending::InputEndless
 }
 
-/// Reads one line and answers it. Returns how the session ends, if it ends there. When it returns,
-/// the answer is written, and the lines after this one are left. So each line that is read gets its
-/// answer, even if the input never ends.
+/// Reads one line and writes its answer. Returns how the session ends, if it ends there. The lines
+/// after this one are left for the next call. So each line that is read gets its answer, even if the
+/// input never ends.
 pub fn serve_next<S: Source, D: Folder, K: Sink>(
     terms: &Terms<'_>,
     ahead: &mut Ahead,

@@ -68,8 +68,8 @@ impl Excerpt {
         }
     }
 
-    /// The excerpt for a place and a day of the state of a file, of which enough was kept for them.
-    /// If memory runs out, what was kept is dropped.
+    /// The excerpt for a place and a day, from what was kept of a file for them. Its value has the
+    /// state of the whole file. If memory runs out, what was kept is dropped.
     pub fn of_file(
         alloc: Global,
         place: Tiploc,

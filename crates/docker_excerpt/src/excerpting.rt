@@ -23,8 +23,8 @@ use std::marker::Model;
 /// The excerpt of a state for a place and a day. The state's parts are given in order, as `Parts`
 /// takes them. It keeps only the entries from which the docker is made: the place's TIPLOC, the
 /// associations there, and the schedules of some UIDs. These are the UIDs that call there, and the
-/// ones that a live association there names as its associated train. A schedule that runs on none
-/// of the start days near the day is passed over: it is neither kept nor looked at for calls.
+/// ones that a live association there names as its associated train. A schedule that runs on no
+/// start day near the day is passed over: it is neither kept nor looked at for calls.
 #[derive(Drop)]
 pub struct Excerpting {
     ledger: Ledger,

@@ -10,8 +10,8 @@ use cif_file::runs_near;
 use cif_line::Day;
 use state_text::Op;
 
-/// Whether what a key holds may count in the dockers of a day. Only a schedule that runs on none of
-/// the start days near the day may not.
+/// Whether what a key holds may count in the dockers of a day. Anything may but a schedule that
+/// runs on no start day near the day.
 #[tactic(auto, using(crate::proofs::NearFields::kept_schedule))]
 pub(crate) fn may_count(day: Day, key: &Key, op: &Op) -> bool
     requires { IsOpOf (key_meant key.now) (op_meant op.now) }

@@ -104,7 +104,8 @@ pub trait Folder {
         ensures asked { history self.new ≡ history self.old }
         ensures counted { failures self.new ≡ failures self.old + Self.File.failures file };
 
-    /// Makes an empty draft for the named file, from what a look saw of it.
+    /// Makes an empty draft for the named file, from what a look saw of it. Fails if what is under
+    /// the name is no longer that.
     fn create<'a>(
         &mut self,
         name: &'a str,
@@ -122,7 +123,8 @@ pub trait Folder {
         ensures failures { CountsFailure (result ≡ Err OpenFault.Failed)
             (failures self.old) (failures self.new) };
 
-    /// Puts a draft in the place of its file, which then holds what the draft took.
+    /// Puts a draft in the place of its file, which then holds what the draft took. If that fails,
+    /// the file holds this or what it held before.
     fn complete(&mut self, made: Drafted<'_, Self::Draft>) -> Result<(), Failed>
         requires { failures self.old + Self.Draft.failures made.draft < 2 ^ 64 - 1 }
         ensures asked { OnOk result (history self.new ≡ history self.old

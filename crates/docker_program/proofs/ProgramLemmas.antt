@@ -93,7 +93,7 @@ ends_done words names_bytes before old new shown read job rest prepared same see
 abbrev pub told : HostView → Bytes → ℕ → HostView
 told host faults failures = record host { faults = faults; faults_failures = failures }
 
--- a job that read its sources whole did so still
+-- that a job read its sources whole still holds then
 read_still : (old new : HostView) (faults : Bytes) (failures : ℕ) (Holds : Written → PreparedView → Type 0) (job : JobView) (rest : Bytes)
     → HasRead old new Holds job rest → HasRead old (told new faults failures) Holds job rest
 read_still old new faults failures Holds job rest has = record { prepared = has.prepared; read = has.read; is = has.is; holds = has.holds }

@@ -52,7 +52,7 @@ impl Model for Staging {
 
 impl Staging {
     /// Staging for a state, with the ledger received, which is valid, and no entry yet. It takes no
-    /// memory.
+    /// memory, so it never returns `Memory`.
     pub fn new(alloc: Global, state: &State, items: Vec<LedgerItem>) -> Result<Staging, Memory>
         requires { IsLedger (map item_meant items.items) }
         ensures ok { IsOk result }
@@ -101,8 +101,8 @@ impl Staging {
     }
 
     /// Offers the next entry received, with its key. It is staged if it is kept under the floor,
-    /// and the state has no entry of the key or a lesser one. If memory runs out, all stays as it
-    /// was, without the entry.
+    /// and the state has no entry of the key, or only a lesser one. If memory runs out, all stays
+    /// as it was, without the entry.
     pub fn offer(&mut self, state: &State, key: Key, entry: Entry) -> Result<(), Memory>
         requires floor { IsFloor (state.now.ledger ++ self.old.items) self.old.floor }
         requires above { IsAboveStaged self.old.staged (key_meant key) }

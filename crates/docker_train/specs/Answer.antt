@@ -1,4 +1,4 @@
--- What is found in a state for a UID and a day, and what a sink gets of its text.
+-- What is found in a state for a UID and a day, and what a sink gains of its text.
 use Rattle.std.specs.Prelude.{◌≡◌, ℕ, List, Option}
 use Rattle.cif_line.specs.Device.{Takes, TakesPart}
 use Rattle.docker_model.specs.state.State.{State}
@@ -20,13 +20,13 @@ pub record IsAnswerOf (state : State) (uid : List ℕ) (day : ℕ) (answer : Ans
 abbrev pub text_of : Answer → List ℕ
 text_of answer = train_text answer.uid answer.day answer.found
 
--- the sink got the train text for the state, the UID and the day
+-- the sink gained the train text for the state, the UID and the day
 pub record PrintsTrain (state : State) (uid : List ℕ) (day : ℕ) (old new : Option (List ℕ)) : Type 0 where
   pub text : List ℕ
   pub is : IsTrainText state uid day text
   pub gained : Takes old text new
 
--- the sink got a first part of that text, but not all of it
+-- the sink gained a proper prefix of that text
 pub record PrintsPart (state : State) (uid : List ℕ) (day : ℕ) (old new : Option (List ℕ)) : Type 0 where
   pub text : List ℕ
   pub is : IsTrainText state uid day text

@@ -28,7 +28,8 @@ const WIDTH: usize = 81;
 
 /// Prints the schedule chosen for a UID on a day, or that there is none. The schedule is found
 /// before the first byte is written. `Lapsed` means that the day is before the horizon; nothing is
-/// written then. After `Sink` the sink has only a first part of the text. It allocates nothing.
+/// written then. With `Sink`, the sink has gained a proper prefix of the text. It allocates
+/// nothing.
 pub fn print_train<K: Sink>(
     state: &State,
     uid: &Uid,
@@ -51,8 +52,8 @@ pub fn print_train<K: Sink>(
     }
 }
 
-/// Writes what was found for a UID and a day. If a write fails, the sink has only a first part of
-/// the text.
+/// Writes what was found for a UID and a day. If a write fails, the sink has gained a proper prefix
+/// of the text.
 pub fn write_train<K: Sink>(train: &ChosenTrain<'_>, sink: &mut K) -> Result<(), Failed>
     requires { K.failures sink.old < 2 ^ 64 - 1 }
     ensures whole { OnOk result (Takes (K.taken sink.old) (text_of train.now) (K.taken sink.new)) }

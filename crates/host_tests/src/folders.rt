@@ -7,7 +7,7 @@ use docker_host::{Drafted, Folder, OpenFault};
 use std::alloc::Global;
 use std::process::Abort;
 
-/// Asserts that a folder failed less often than 100 times.
+/// Asserts that a folder failed fewer than 100 times.
 pub(crate) fn has_few_failures<F: Folder>(rt: &impl Abort, folder: &F)
     ensures { F.failures folder.now < 100 }
 {
@@ -89,7 +89,7 @@ pub(crate) fn store<F: Folder>(
     finish(rt, folder, made, text)
 }
 
-/// Asserts how the storing of a text from a new look ends.
+/// Asserts how storing a text ends, by a draft from a new look.
 pub(crate) fn stores<F: Folder>(
     rt: &impl Abort,
     folder: &mut F,

@@ -1,4 +1,4 @@
-//! Devices that are no regular files, which are written in their place.
+//! Devices that aren't regular files. They are written directly.
 
 use crate::compare::same;
 use crate::folders::{read, stores};

@@ -13,7 +13,7 @@ fn shelf_of(rt: &impl Abort, alloc: Global) -> Shelf {
     shelf
 }
 
-/// Asserts how many bytes of the file `F` are read to its end. `None` if it isn't read so.
+/// Asserts how many bytes the file `F` has when it is read. `None` if it isn't read to its end.
 fn reads(rt: &impl Abort, alloc: Global, shelf: &mut Shelf, length: Option<usize>) {
     let text = read(rt, alloc, shelf, "F");
     same(rt, text.map(|text| text.len()), length);
@@ -55,7 +55,8 @@ fn another_text_that_came_since(rt: HostRuntime) {
     same(&rt, shelf.failures(), 1);
 }
 
-/// Asserts how often a shelf that fails so has failed after its file is read, and what is read.
+/// Asserts how often a shelf failed when its file is read and it fails at this call. Once it
+/// doesn't fail there, the file is read whole.
 fn fails_reading(rt: &impl Abort, alloc: Global, fails: Fails, failures: u64) {
     let mut shelf = shelf_of(rt, alloc);
     shelf.fail(fails);
@@ -65,7 +66,8 @@ fn fails_reading(rt: &impl Abort, alloc: Global, fails: Fails, failures: u64) {
     reads(rt, alloc, &mut shelf, Some(300));
 }
 
-/// Asserts how a shelf that fails so stores a text, and how often it then failed.
+/// Asserts the fault, and how often a shelf failed, when a text is stored and it fails at this
+/// call. Once it doesn't fail there, the text is stored.
 fn fails_storing(rt: &impl Abort, alloc: Global, fails: Fails, fault: OpenFault, failures: u64) {
     let mut shelf = shelf_of(rt, alloc);
     shelf.fail(fails);

@@ -15,7 +15,7 @@ use Rattle.state_laws.specs.Row.{Row, AreRowsOf}
 abbrev pub count_of : ℕ → List Row → ℕ
 count_of tag rows = length (filter (λ (row : Row). key_tag row.0 == tag) rows)
 
--- an end number, if it is a day's. The number for no end isn't
+-- an end number, if it is a day. The number that means no end isn't
 abbrev pub day_in : ℕ → Option ℕ
 day_in end = if nat_le end last_day then Some end else None
 

@@ -21,8 +21,8 @@ type KnownText = ArrayVec<u8, 187>;
 
 /// Prints what a state knows. There is a line for its horizon, and lines for how many schedules,
 /// associations and timing points are live. The newest full extract and the greatest last day of a
-/// live schedule have a line if there is one. It allocates nothing. If the write fails, the sink has
-/// only a first part of the text.
+/// live schedule have a line if there is one. It allocates nothing. If the write fails, the sink
+/// has gained a proper prefix of the text.
 pub fn print_known<K: Sink>(state: &State, sink: &mut K) -> Result<(), Failed>
     requires { K.failures sink.old < 2 ^ 64 - 1 }
     ensures whole { OnOk result (Gains (IsKnownText state.now)

@@ -23,7 +23,7 @@ type PlaceLine = ArrayVec<u8, 66>;
 
 /// Prints a line for each live timing point, in the order of their codes: TIPLOC, CRS, STANOX, TPS
 /// description, and how many live schedules call there. It allocates nothing. If a write fails, the
-/// sink has only a first part of the text.
+/// sink has gained a proper prefix of the text.
 pub fn print_places<K: Sink>(state: &State, sink: &mut K) -> Result<(), Failed>
     requires { K.failures sink.old < 2 ^ 64 - 1 }
     ensures whole { OnOk result (Gains (IsPlacesText (live_table state.now))

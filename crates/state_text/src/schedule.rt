@@ -227,7 +227,8 @@ fn may_follow<K: Keeper>(
 }
 
 /// Takes the next of `count` lines of this key. `Body` if the line doesn't continue a schedule with
-/// this key and `count` lines, or if the schedule lapses under the horizon that was read.
+/// this key and `count` lines, or if the schedule lapses under the horizon that was read. `Memory`
+/// if the lines have no room to grow.
 pub fn judged_line<K: Keeper>(
     key: &ScheduleKey,
     parts: &PartsSoFar<K>,

@@ -5,7 +5,7 @@ use Rattle.docker_model.specs.records.Record.{columns}
 use Rattle.docker_model.specs.file.File.{first_record}
 use Rattle.train_choice.specs.Occurrences.{Occurrence, before_all, occurrences_from}
 
--- the line has the place where location records have their TIPLOC
+-- the line has the place in the columns in which location records have their TIPLOC
 abbrev pub names_place : List ℕ → List ℕ → Bool
 names_place place line = bytes_eq (columns 3 9 line) place
 

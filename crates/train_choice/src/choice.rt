@@ -75,7 +75,7 @@ pub(crate) fn train_from<'a>(
     unless_cancelled(best_of(Some(train.again()), schedules_of(near, uid), uid, day))
 }
 
-/// The best of the best so far and all schedules of these rows.
+/// The best so far, after all these rows.
 fn best_of<'a>(
     so_far: Option<ScheduleView<'a>>,
     rows: Live<'a>,

@@ -19,7 +19,7 @@ pub(crate) fn up_to_last<'a>(lines: &'a [Line], place: &Tiploc) -> &'a [Line]
     rest
 }
 
-/// Whether a line has the place where location records have their TIPLOC.
+/// Whether a line has the place in the columns in which location records have their TIPLOC.
 fn names_place(line: &Line, place: &Tiploc) -> bool
     ensures { result ≡ names_place place.now line.now }
 {

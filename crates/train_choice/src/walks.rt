@@ -16,7 +16,7 @@ pub(crate) fn valid(state: &State) -> &State
     ensures same { result.now ≡ state.now }
     ensures bodies { HasGoodBodies (live_table state.now) }
 {
-    // This call is made for its contract: the state is valid.
+    // Called for its contract: the state is valid.
     let _entries = state.entries();
     state
 }

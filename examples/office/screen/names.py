@@ -3,7 +3,7 @@ import hashlib
 import re
 from typing import NamedTuple
 
-# The first and the last column of each field of a line of `places`, by the names in docs/FORMATS.md.
+# The fields in a line of `places` by their names in docs/FORMATS.md, each with its first and its last column.
 COLUMNS = {"TIPLOC": (1, 7), "CRS": (9, 11), "STANOX": (13, 17), "description of the TIPLOC": (19, 44), "how many live schedules": (46, 55)}
 
 WORD = re.compile(r"[A-Z]+(?:'[A-Z]+)*")
@@ -83,7 +83,7 @@ class Names:
         self.tag = tag
         self.places = {place.tiploc: place for place in places}
         self.written = {}
-        # The busier places first, so that of equals they are found first.
+        # The busier places come first, so that among equals they are found first.
         self.sought = [self.sought_of(place) for place in sorted(places, key=lambda place: (-place.schedules, place.description or place.tiploc, place.tiploc))]
 
     @staticmethod
@@ -111,8 +111,8 @@ class Names:
         return self.of(tiploc) if tiploc in self.places and self.places[tiploc].description else ""
 
     def find(self, text):
-        """The places whose name, CRS or code has a text, the best first: it is the CRS or the code; the name begins with it; a word does; it is anywhere;
-        or each of its words begins a word there. Of equals the busier place comes first."""
+        """The places whose name, CRS or code has a text, the best first. Best is a CRS or a code that is the text, then a name that begins with it, then
+        one with a word that does, then any other. Last come places with a word for the beginning of each of its words. Of equals the busier comes first."""
         wanted = folded(text)
         if not wanted:
             return []

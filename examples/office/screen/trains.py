@@ -140,7 +140,7 @@ def weekdays(days):
 
 
 def starts_of(docker, ask):
-    """The start day of each line's train; nothing where it can't be told. `ask` gives the train of a UID on a day, or None."""
+    """The start day of each line's train; nothing where it isn't clear. `ask` gives the train of a UID on a day, or None."""
     day = datetime.date.fromisoformat(docker.date)
     numbers = {}
     for number, line in enumerate(docker.lines):

@@ -51,7 +51,7 @@ def doubt(office, plain, files):
 
 
 def looks_at_horizon(office, path, plain, asks):
-    """Says so if the horizon would rise, and asks. If there is nobody to ask, it takes over a horizon of a week ago or older."""
+    """Says so if the horizon would rise, and asks. Where it can't ask, it takes over a horizon of a week ago or older."""
     if horizon_of(plain) <= horizon_of(office.state):
         return
     its = day_of(horizon_of(plain))

@@ -33,7 +33,7 @@ def packing_of(path):
 
 
 def kind_of(head):
-    """What a file is that begins so, where it is no extract and its first bytes say what it is."""
+    """What kind of file begins with these bytes, if they show that it is no extract."""
     if head[257:262] == b"ustar":
         return "it is a tar: unpack it, and put its extracts here one by one"
     for mark, name in (PACKINGS | OTHER_PACKINGS).items():

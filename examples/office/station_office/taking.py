@@ -56,7 +56,7 @@ def takes(office, path):
 
 
 def looks_at(office, path):
-    """The extract in a file. What is none is refused, by docker or by its first bytes, and so is what is withdrawn."""
+    """The extract in a file. A file that is no extract is refused, by docker or by its first bytes, and so is one that is withdrawn."""
     plain = office.unpacked(path)
     with open(plain, "rb") as text:
         head = text.read(512)
@@ -116,7 +116,7 @@ def doubt(office, found):
 
 def what_is_left(office, extract, added):
     """How many timing points, associations and schedules STATE has, and how many at most if a full extract comes that adds some. No full extract replaces what is
-    newer, and where none is known before it there is nothing to compare with."""
+    newer. If none is known before it, nothing can be compared."""
     newest = next(iter(office.files()), None)
     if newest is None or newest.indicator != "F" or stamp_of(extract) <= stamp_of(newest):
         return 0, 0

@@ -35,9 +35,9 @@ def parts_of(calls):
 
 
 class Session(typing.NamedTuple):
-    """What a desk is asked, and what is known of the parts up to each save, but the last. A save
-    goes on from a look, which is this one of its part; without any, it goes on from the last save.
-    The requests of these numbers are refused if STATE has changed since."""
+    """What a desk is asked. `looks` has for each save but the last the look from which it goes on,
+    counted from the save before it; 0 is the look of that save. `refused` has the numbers of the
+    requests that are refused if STATE changes after that look."""
 
     requests: tuple
     looks: tuple
@@ -48,7 +48,7 @@ class Session(typing.NamedTuple):
 
 
 CHANGES = ("take tuesday", "merge monday.state")
-# The looks of a start and of a renewal are followed by those of a save.
+# After the look of a start or of a renewal come the looks of a save.
 SESSIONS = {
     "that saves what it read": Session(
         (*CHANGES, "save", "renew", "save", "renew", "save"), (1, 1), ((2,), (4,)),
@@ -61,8 +61,8 @@ SESSIONS = {
 
 
 class Part(typing.NamedTuple):
-    """Where something meets a session: after how many saves that were done, the calls since then,
-    and how often the desk looks at STATE until it has done the next."""
+    """Where something meets a session. It has the number of saves done before, the calls since
+    then, and how often the desk looks at STATE up to the end of the next save."""
 
     session: Session
     saves: int
@@ -118,7 +118,8 @@ class Beside:
 @pytest.mark.timeout(120)
 @each("session", SESSIONS)
 def test_another_command_meets_a_session(meeting, session):
-    """It may be refused only while a draft of the desk is there. Otherwise the end has both."""
+    """The other command may be refused only while a draft of the desk is there. Otherwise STATE
+    has both at the end."""
     beside = Beside(meeting, session)
 
     def trial(number):
@@ -144,8 +145,8 @@ def test_another_command_meets_a_session(meeting, session):
 @pytest.mark.timeout(120)
 @each("session", SESSIONS)
 def test_a_text_meets_a_session(meeting, session):
-    """A program that heeds no drafts puts it in place. It is seen until a save's last look, and
-    then the end has both. What comes after that look isn't seen."""
+    """A program that ignores drafts puts a text in place. The desk sees it until a save's last
+    look, and then STATE has both at the end. A text that comes after that look isn't seen."""
     beside = Beside(meeting, session)
 
     def trial(number):

@@ -98,7 +98,7 @@ def test_a_renewal_of_an_older_state_by_a_desk_that_only_reads():
         assert asked.closed() == Ended(0, b"", b"")
 
 
-# A stream that fails while changes are unsaved: both lines tell it.
+# A stream that fails while changes are unsaved: there is a line for each.
 
 BOTH_LINES = DEVICE_LINE + NOT_SAVED
 

@@ -1,4 +1,4 @@
-"""Each growth of memory refused in turn, and each call of the system failing or the last."""
+"""Each growth of memory is refused in turn. Each system call in turn fails, or is the last."""
 import contextlib
 import os
 import pathlib
@@ -44,7 +44,7 @@ def desk_on(library, **settings):
 
 
 class Followed:
-    """What a session comes to, if the requests that were refused weren't asked."""
+    """What a session comes to, as if the refused requests hadn't been asked."""
 
     def __init__(self, requests, answers, refusals):
         self.mirror, self.refused = Mirror("full"), []
@@ -58,7 +58,7 @@ class Followed:
             self.stored.append(self.mirror.stored)
 
     def tried(self, request):
-        """The answer that the request has, without doing it."""
+        """The answer that a request would get now. It isn't done."""
         other = Mirror("full")
         other.__dict__.update(self.mirror.__dict__)
         return other.answer(*request)
@@ -76,7 +76,7 @@ def here(name):
 
 
 def follow(ended, refusals, requests=REQUESTS, most=1):
-    """Follows a session to its end. At most this many requests were refused so. Returns it."""
+    """Follows a session to its end. At most `most` requests were refused in this way."""
     followed = Followed(requests, answers_in(ended.output), refusals)
     assert len(followed.refused) <= most, f"requests {followed.refused} were refused"
     assert (ended.status, ended.errors) == followed.mirror.end()
@@ -95,7 +95,7 @@ def is_refused_start(ended, before):
 
 
 def refused_growth(ended, before):
-    """In what a growth was refused. None of them if the library managed with less memory."""
+    """Where a growth was refused: the start or a request. `none` if less memory was enough."""
     if is_refused_start(ended, before):
         return "start"
     followed = follow(ended, (MEMORY,))

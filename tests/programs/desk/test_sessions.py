@@ -1,4 +1,4 @@
-"""Random sessions, whose answers have to be those of `docker` commands on a state file."""
+"""Random sessions. Each answer has to be the answer of a `docker` command on a state file."""
 import itertools
 import os
 import random

@@ -137,7 +137,7 @@ def test_a_take_that_was_overtaken():
     holds_only("office", STATE_OF_BOTH)
 
 
-# The times of STATE, in nanoseconds: that of the file which the take read is the first.
+# The times of STATE, in nanoseconds. The first is the time of the file that the take read.
 THEN = 1718010000_500000000
 SECOND = 1000000000
 
@@ -194,7 +194,7 @@ def leading(given):
 
 @pytest.mark.usefixtures("leading")
 def test_a_take_by_a_link_that_leads_elsewhere_meanwhile():
-    """The state to which it led stays, and so does the one to which it leads."""
+    """Both states stay: the one that it led to, and the one that it leads to now."""
     give(STATE_OF_REVISED, "elsewhere")
     stamp = os.stat("office")
     os.utime("elsewhere", ns=(stamp.st_atime_ns, stamp.st_mtime_ns))

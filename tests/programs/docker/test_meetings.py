@@ -208,11 +208,11 @@ def test_take_of_what_a_pipe_gives_into_a_state_that(meeting, name, line):
 
 # The drafts of others. The first look at the draft's name is for what a killed command left there.
 #
-# These cases, and those above, were tried with a program that makes the calls of `docker` in its
-# order, and leaves one out: the look at the name of a draft that is locked, the look at the name of
-# what is left over once it is locked, the one at its mark, either lock, or the last look at STATE.
-# They were tried with that last look before the draft is made, and with the first one after STATE
-# is read. Each time some cases failed.
+# All cases here were tried with programs that make the calls of `docker` in its order, but leave
+# one out. It was either lock, the last look at STATE, or one of three looks at a locked file. Those
+# three are at the draft's name, at the name of what is left over, and at its mark. The cases were
+# also tried with the last look at STATE before the draft is made, and with the first one after
+# STATE is read. Each time some cases failed.
 
 DRAFT_LOOK = "statx office.new"
 TAKE = command_of("take office revised")

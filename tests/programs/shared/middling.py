@@ -145,7 +145,7 @@ def in_reverse():
 
 
 def ended_early(transaction, train):
-    """A permanent schedule that runs on none of the days asked about, nor near one."""
+    """A permanent schedule that ends before the days that are asked about, and isn't near one."""
     return schedule(transaction, train, ("240601", "240603"), "1111111", "P", version=3)
 
 

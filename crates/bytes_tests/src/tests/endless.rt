@@ -119,7 +119,7 @@ fn refused_without_end(
     );
 }
 
-/// A first part of a text, and then 60 ledger items, each a minute after the one before it.
+/// The first parts of a text, and then 60 ledger items, each a minute after the one before it.
 fn with_items(rt: &impl Abort, alloc: Global, front: &[&[u8]]) -> Vec<u8> {
     let mut items = joined_text(rt, alloc, front);
     for minute in 0..60u16 {
