@@ -29,7 +29,8 @@ file_of_parts parts = record {
   changes_made = map change_meant parts.changes.items;
 }
 
--- the parts belong to a file that was read, and their notes are those of its changes
+-- the parts belong to a file that was read, and the places that its changes name are noted, if there
+-- are notes
 pub record ArePartsOfFile (parts : FileParts) : Type 0 where
   pub read : IsRead (file_of_parts parts)
   pub noted : AreNotesOf (map change_meant parts.changes.items) parts.notes

@@ -29,7 +29,8 @@ thin_of_parts place day all parts = record {
   kept = map change_meant parts.changes.items;
 }
 
--- the parts are kept of a file that was read, and their notes are those of the kept changes
+-- the parts are kept of a file that was read, and the places that the kept changes name are noted, if
+-- there are notes
 pub record AreThinParts (place : List ℕ) (day : ℕ) (all : List Change) (parts : FileParts) : Type 0 where
   pub read : IsThinRead (thin_of_parts place day all parts)
   pub noted : AreNotesOf (map change_meant parts.changes.items) parts.notes
