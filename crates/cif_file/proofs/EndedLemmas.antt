@@ -10,8 +10,7 @@ use Rattle.cif_file.specs.declared.kept.FileSoFar.{FileSoFar}
 use Rattle.cif_file.specs.declared.tally.Tally.{Tally}
 use Rattle.cif_file.specs.KeeperRead.{KeepsAll, CountsChanges}
 use Rattle.cif_file.specs.EndedRead.{file_ended, parts_ended, count_ended}
-use Rattle.cif_change.specs.Noted.{HasNoted, items_put}
-use Rattle.cif_file.specs.MadeChanges.{ArePartsOfFile}
+use Rattle.cif_file.specs.MadeChanges.{AreNotesOf, ArePartsOfFile}
 use Rattle.cif_file.specs.FileRead.{IsRead, IsCounted}
 use Rattle.cif_file.specs.ParserRead.{IsOfFileText, IsCountOfFileText, IsEndedText, ParserState, WasFed, IsReading, EndsBy}
 use Rattle.cif_file.specs.SourceRead.{ReadsText, CountsText, ReadsEnded}
@@ -68,7 +67,7 @@ are_parts : (limit : ℕ) (text : List ℕ) (ended : Ended FileSoFar) → limit 
     → ArePartsOfFile (parts_ended ended)
 are_parts limit text ended few is = record {
   read = is_read limit text ended few is;
-  noted = subst (λ (all : List Change). HasNoted (items_put all) ended.keeper.made.notes) (sym is.of_records.kept.1.changes_are) is.of_records.kept.1.noted;
+  noted = subst (λ (all : List Change). AreNotesOf all ended.keeper.made.notes) (sym is.of_records.kept.1.changes_are) is.of_records.kept.1.noted;
 }
 
 -- the limit of a reading is at most `most_records`

@@ -4,11 +4,11 @@ use Rattle.std.specs.Prelude.{Option}
 use Rattle.docker_model.specs.file.File.{most_records}
 use Rattle.docker_model.specs.file.Change.{Change, changes}
 use Rattle.docker_laws.specs.Thinning.{IsThinning}
-use Rattle.cif_change.specs.Noted.{HasNoted, items_put}
 use Rattle.cif_file.specs.declared.ended.Ended.{Ended}
 use Rattle.cif_file.specs.declared.thin_kept.ThinSoFar.{ThinSoFar}
 use Rattle.cif_file.specs.EndedRead.{IsEnded, thin_parts_ended, thin_ended}
 use Rattle.cif_file.specs.FileRead.{IsOfRecords}
+use Rattle.cif_file.specs.MadeChanges.{AreNotesOf}
 use Rattle.cif_file.specs.SourceRead.{ReadsThin, ReadsEnded}
 use Rattle.cif_file.specs.ThinKept.{KeepsThin}
 use Rattle.cif_file.specs.ThinRead.{AreThinParts}
@@ -57,5 +57,5 @@ module _ {P : Type 0} (place : List ℕ) (day : ℕ) where
           read = record { records = is.records; of_records = file_of is.records ended is.of_records; is_file = is.is_text.is; few = omega arith };
           thinning = enough_of is.records ended is.of_records;
         };
-        noted = subst (λ (all : List Change). HasNoted (items_put all) ended.keeper.thinned.made.notes) (sym made.changes_are) made.noted;
+        noted = subst (λ (all : List Change). AreNotesOf all ended.keeper.thinned.made.notes) (sym made.changes_are) made.noted;
       }

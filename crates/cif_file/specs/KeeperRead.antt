@@ -56,7 +56,7 @@ AddsSingle keeps old number line new =
     (lines : Lines) (made : List Change) → keeps old lines made → keeps new lines (made ++ changes_of_record number line [])
 
 -- the lines are kept, with the transaction of the first set to N. The changes are kept too, and the
--- places that they name are noted
+-- places that they name are noted, if any are
 abbrev pub KeepsAll : FileSoFar → Lines → List Change → Type 0
 KeepsAll kept lines changes = (kept.lines.items ≡ with_new_first lines) × HasMade kept.made changes
 

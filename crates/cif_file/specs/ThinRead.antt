@@ -3,9 +3,9 @@ use Rattle.std.specs.Prelude.{ℕ, List, map}
 use Rattle.docker_model.specs.file.Change.{Change}
 use Rattle.docker_laws.specs.Thinning.{IsThinning}
 use Rattle.cif_change.specs.Meaning.{change_meant}
-use Rattle.cif_change.specs.Noted.{HasNoted, items_put}
 use Rattle.cif_file.specs.declared.parts.FileParts.{FileParts}
 use Rattle.cif_file.specs.FileRead.{FileRead, IsRead}
+use Rattle.cif_file.specs.MadeChanges.{AreNotesOf}
 
 -- a file that was read, the place and the day for which something of it was kept, and the kept
 -- changes
@@ -29,7 +29,8 @@ thin_of_parts place day all parts = record {
   kept = map change_meant parts.changes.items;
 }
 
--- the parts are kept of a file that was read, and the places that the kept changes name are noted
+-- the parts are kept of a file that was read, and the places that the kept changes name are noted, if
+-- there are notes
 pub record AreThinParts (place : List ℕ) (day : ℕ) (all : List Change) (parts : FileParts) : Type 0 where
   pub read : IsThinRead (thin_of_parts place day all parts)
-  pub noted : HasNoted (items_put (map change_meant parts.changes.items)) parts.notes
+  pub noted : AreNotesOf (map change_meant parts.changes.items) parts.notes

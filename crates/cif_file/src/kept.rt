@@ -1,4 +1,4 @@
-//! The changes of a file's records, kept, with the places that they name.
+//! The changes of a file's records, kept, with the places that they name, if these are noted.
 ghost use Rattle.std.specs.Prelude.{◌≡◌, []};
 ghost use Rattle.cif_file.specs.KeeperRead.{KeepsAll};
 
@@ -18,14 +18,14 @@ pub(crate) struct FileSoFar {
 }
 
 impl FileSoFar {
-    /// No line and no change.
-    pub(crate) fn new(alloc: Global) -> FileSoFar
+    /// No line and no change. `noted` says whether the places that changes name are to be noted.
+    pub(crate) fn new(alloc: Global, noted: bool) -> FileSoFar
         ensures { KeepsAll result [] [] }
     {
         FileSoFar {
             alloc,
             lines: Vec::new(alloc),
-            made: Made::new(alloc),
+            made: Made::new(alloc, noted),
         }
     }
 

@@ -42,6 +42,6 @@ pub use parser::FileParser;
 pub use parts::FileParts;
 pub use pieces::read_pieces;
 pub use place::PlaceDay;
-pub use read::{read_file, read_thin};
+pub use read::{read_file, read_file_noting, read_thin};
 pub use records::MOST_RECORDS;
 pub use thin_file::ThinFile;

@@ -1,38 +1,37 @@
-//! The changes that a file's records make, with the places that they name.
-ghost use Rattle.std.specs.Prelude.{[], ◌∷◌, OnOk};
+//! The changes that a file's records make, with the places that they name, if these are noted.
+ghost use Rattle.std.specs.Prelude.{List, [], ◌∷◌, ◌++◌, OnOk};
+ghost use Rattle.docker_model.specs.file.Change as model;
 ghost use Rattle.cif_change.specs.Meaning.{change_meant};
-ghost use Rattle.cif_file.specs.MadeChanges.{HasMade, Makes};
+ghost use Rattle.cif_file.specs.MadeChanges.{AreNotesOf, HasMade, Makes};
 ghost use Rattle.cif_file.specs.SingleChanges.{listed};
 
 use crate::single::SingleChanges;
 use cif_change::{Change, Notes};
 use std::alloc::{AllocError, Global};
 
-/// The changes that were made, and the notes of the places that they name.
+/// The changes that were made, and the notes of the places that they name, if these are noted.
 #[derive(Debug, Drop)]
 pub(crate) struct Made {
     pub(crate) changes: Vec<Change>,
-    pub(crate) notes: Notes,
+    pub(crate) notes: Option<Notes>,
 }
 
 impl Made {
-    /// No change.
-    pub(crate) fn new(alloc: Global) -> Made
+    /// No change. `noted` says whether places are to be noted.
+    pub(crate) fn new(alloc: Global, noted: bool) -> Made
         ensures { HasMade result [] }
     {
         Made {
             changes: Vec::new(alloc),
-            notes: Notes::new(alloc),
+            notes: first_notes(alloc, noted),
         }
     }
 
-    /// Appends a change, and notes its places while its lines are at hand.
+    /// Appends a change, and notes its places while its lines are at hand, if places are noted.
     pub(crate) fn push(&mut self, change: Change) -> Result<(), AllocError>
         ensures { OnOk result (Makes self.old (change_meant change ∷ []) self.new) }
     {
-        if self.notes.note_change(&change).is_err() {
-            return Err(AllocError);
-        }
+        note(&mut self.notes, &change)?;
         self.changes.push(change)?;
         Ok(())
     }
@@ -46,5 +45,26 @@ impl Made {
             self.push(change)?;
         }
         self.push(last)
+    }
+}
+
+/// The notes of no change, if places are to be noted.
+fn first_notes(alloc: Global, noted: bool) -> Option<Notes>
+    ensures { AreNotesOf [] result }
+{
+    if noted { Some(Notes::new(alloc)) } else { None }
+}
+
+/// Notes the places of the next change, if places are noted.
+fn note(notes: &mut Option<Notes>, change: &Change) -> Result<(), AllocError>
+    ensures { OnOk result ((before : List model.Change) → AreNotesOf before notes.old
+        → AreNotesOf (before ++ change_meant change.now ∷ []) notes.new) }
+{
+    match notes {
+        Some(notes) => match notes.note_change(change) {
+            Ok(()) => Ok(()),
+            Err(_) => Err(AllocError),
+        },
+        None => Ok(()),
     }
 }

@@ -166,7 +166,7 @@ impl FileParser {
         ensures { HasRead result limit [] }
     {
         FileParser {
-            reading: FileReading::new(FileSoFar::new(alloc), limit),
+            reading: FileReading::new(FileSoFar::new(alloc, true), limit),
             fault: None,
         }
     }

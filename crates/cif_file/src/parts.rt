@@ -9,6 +9,6 @@ pub struct FileParts {
     pub(crate) records: u32,
     /// The changes that its records make, in their order.
     pub changes: Vec<Change>,
-    /// The places that the changes name. They were noted as the records were read.
-    pub notes: Notes,
+    /// The places that the changes name, if they were noted as the records were read.
+    pub notes: Option<Notes>,
 }

@@ -36,7 +36,30 @@ pub fn read_file<S: Source>(alloc: Global, source: &mut S, limit: u32) -> Result
     ensures failures { CountsFailure (result ≡ Err ReadFault.Source)
         (S.failures source.old) (S.failures source.new) }
 {
-    match read_source(alloc, source, FileSoFar::new(alloc), limit) {
+    read_file_noting(alloc, source, limit, true)
+}
+
+/// Like `read_file`. Only if `noted` is true, it notes the places that the changes name. Without
+/// these notes the state of the file has no index, and is made with less time and memory.
+pub fn read_file_noting<S: Source>(
+    alloc: Global,
+    source: &mut S,
+    limit: u32,
+    noted: bool,
+) -> Result<CifFile, ReadFault>
+    requires failures { S.failures source.old < 2 ^ 64 - 1 }
+    requires limit { limit ≤ MOST_RECORDS }
+    ensures ok { IfOk result (ReadsText limit (S.left source.old)) }
+    ensures file { (fault : _) → result ≡ Err (ReadFault.File fault) →
+        RefusesText limit (S.left source.old) fault }
+    ensures memory { result ≡ Err ReadFault.Memory →
+        WantsMemory PIECE limit (S.left source.old) (S.left source.new) }
+    ensures end { IsOk result → IsEnd (S.left source.new) }
+    ensures no_further { ReadsNoFurther PIECE limit (S.left source.old) (S.left source.new) }
+    ensures failures { CountsFailure (result ≡ Err ReadFault.Source)
+        (S.failures source.old) (S.failures source.new) }
+{
+    match read_source(alloc, source, FileSoFar::new(alloc, noted), limit) {
         Ok(ended) => Ok(ended.into_file()),
         Err(fault) => Err(fault),
     }

@@ -28,7 +28,7 @@ pub(crate) struct Thinned {
 }
 
 impl Thinned {
-    /// No change.
+    /// No change. Places aren't noted: the docker is found by a walk over what is kept.
     pub(crate) fn new(alloc: Global, place: Tiploc, day: Day) -> Thinned
         ensures { HasThinned place day result [] }
     {
@@ -37,7 +37,7 @@ impl Thinned {
             place,
             day,
             keys: BTreeSet::new(alloc),
-            made: Made::new(alloc),
+            made: Made::new(alloc, false),
         }
     }
 

@@ -17,5 +17,20 @@ pub fn migrate<S: Source>(alloc: Global, source: &mut S, limit: u64) -> Result<S
     ensures { EndsReading S.left S.failures dks_1 limit
         (ReadsState dks_1 limit (S.left source.old)) source.old source.new result }
 {
-    read_format(alloc, Format::Dks1, Whole::new(alloc), source, limit)
+    migrate_noting(alloc, source, limit, true)
+}
+
+/// Like `migrate`. Only if `noted` is true, it notes the places that the entries name. Without these
+/// notes the state has no index, and is made with less time and memory.
+pub fn migrate_noting<S: Source>(
+    alloc: Global,
+    source: &mut S,
+    limit: u64,
+    noted: bool,
+) -> Result<State, ReadFault>
+    requires { S.failures source.old < 2 ^ 64 - 1 }
+    ensures { EndsReading S.left S.failures dks_1 limit
+        (ReadsState dks_1 limit (S.left source.old)) source.old source.new result }
+{
+    read_format(alloc, Format::Dks1, Whole::new(alloc, noted), source, limit)
 }

@@ -51,7 +51,22 @@ pub fn read_state<S: Source>(alloc: Global, source: &mut S, limit: u64) -> Resul
     ensures { EndsReading S.left S.failures dks_2 limit
         (ReadsState dks_2 limit (S.left source.old)) source.old source.new result }
 {
-    read_format(alloc, Format::Dks2, Whole::new(alloc), source, limit)
+    read_state_noting(alloc, source, limit, true)
+}
+
+/// Like `read_state`. Only if `noted` is true, it notes the places that the entries name. Without
+/// these notes the state has no index, and is made with less time and memory.
+pub fn read_state_noting<S: Source>(
+    alloc: Global,
+    source: &mut S,
+    limit: u64,
+    noted: bool,
+) -> Result<State, ReadFault>
+    requires { S.failures source.old < 2 ^ 64 - 1 }
+    ensures { EndsReading S.left S.failures dks_2 limit
+        (ReadsState dks_2 limit (S.left source.old)) source.old source.new result }
+{
+    read_format(alloc, Format::Dks2, Whole::new(alloc, noted), source, limit)
 }
 
 /// Like `read_state`, for a text of a format. The parts are given to a keeper that was given none

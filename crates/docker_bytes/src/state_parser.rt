@@ -35,7 +35,7 @@ impl StateParser {
         ensures { HasRead result dks_2 limit [] }
     {
         StateParser {
-            parser: Parser::new(alloc, Format::Dks2, limit, Whole::new(alloc)),
+            parser: Parser::new(alloc, Format::Dks2, limit, Whole::new(alloc, true)),
         }
     }
 

@@ -58,7 +58,7 @@ pub(crate) fn read_content<S: Source, T: Source>(
         (T.failures second.old) (T.failures second.new) }
 {
     match sources {
-        Sources::None => Ok(Content::Office(Office::new(alloc))),
+        Sources::None => Ok(Content::Office(Office::unindexed(alloc))),
         Sources::CheckedFile => Ok(Content::File(counts_of_file(alloc, first)?)),
         Sources::TakenFile => Ok(Content::Office(office_of_file(alloc, first)?)),
         Sources::State => Ok(Content::Office(office_of_state(alloc, first)?)),
@@ -89,7 +89,7 @@ fn office_of_file<S: Source>(alloc: Global, source: &mut S) -> Result<Office, Of
     ensures counted { (second : ℕ) → CountsSources result
         (S.failures source.old) (S.failures source.new) second second }
 {
-    let mut office = Office::new(alloc);
+    let mut office = Office::unindexed(alloc);
     office.take(source, MOST_RECORDS)?;
     Ok(office)
 }
@@ -100,7 +100,7 @@ fn office_of_state<S: Source>(alloc: Global, source: &mut S) -> Result<Office, O
     ensures { EndsReadingState S.left S.failures dks_2 most_bytes
         (ReadsState dks_2 most_bytes (S.left source.old)) source.old source.new result }
 {
-    let mut office = Office::new(alloc);
+    let mut office = Office::unindexed(alloc);
     office.reload(source, MOST_BYTES)?;
     Ok(office)
 }
@@ -111,7 +111,7 @@ fn office_of_older_state<S: Source>(alloc: Global, source: &mut S) -> Result<Off
     ensures { EndsReadingState S.left S.failures dks_1 most_bytes
         (ReadsState dks_1 most_bytes (S.left source.old)) source.old source.new result }
 {
-    let mut office = Office::new(alloc);
+    let mut office = Office::unindexed(alloc);
     office.migrate(source, MOST_BYTES)?;
     Ok(office)
 }

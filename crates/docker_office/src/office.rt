@@ -14,18 +14,20 @@ ghost use Rattle.docker_office.specs.OfficeReads.{EndsReadingState, EndsTakingFi
 
 use crate::fault::OfficeFault;
 use crate::files::write_files;
-use cif_file::{MOST_RECORDS, read_file};
+use cif_file::{MOST_RECORDS, read_file_noting};
 use cif_line::{Day, Memory, Sink, Source, Tiploc};
-use docker_bytes::{join_state, migrate, read_state, write_state};
+use docker_bytes::{join_state, migrate_noting, read_state_noting, write_state};
 use docker_day::{Merge, State, docker, write_docker};
 use std::alloc::Global;
 use std::marker::Model;
 use std::mem;
 
-/// An office: the state of the files that it knows, under its horizon.
+/// An office: the state of the files that it knows, under its horizon, and whether what it reads is
+/// to have an index.
 #[derive(Debug, Drop)]
 pub struct Office {
     alloc: Global,
+    noted: bool,
     state: State,
 }
 
@@ -45,7 +47,21 @@ impl Office {
     {
         Office {
             alloc,
+            noted: true,
             state: State::empty(alloc),
+        }
+    }
+
+    /// Like `new`. The state of this office has no index, and what it reads is read with less time
+    /// and memory. So it serves best for what prints no docker.
+    pub fn unindexed(alloc: Global) -> Office
+        ensures empty { result ≡ no_state }
+        ensures summary { IsSummary [] 0 result }
+    {
+        Office {
+            alloc,
+            noted: false,
+            state: State::unindexed(alloc),
         }
     }
 
@@ -74,7 +90,7 @@ impl Office {
             → KnowsFileToo limit (S.left source.old) files horizon self.new }
         ensures unchanged { IsErr result → self.new ≡ self.old }
     {
-        let file = read_file(self.alloc, source, limit)?;
+        let file = read_file_noting(self.alloc, source, limit, self.noted)?;
         let Ok(taken) = State::of_file(self.alloc, file) else {
             return Err(OfficeFault::Memory);
         };
@@ -128,7 +144,7 @@ impl Office {
             → HoldsState dks_2 limit (S.left source.old) sent → self.new ≡ sent }
         ensures unchanged { IsErr result → self.new ≡ self.old }
     {
-        self.state = read_state(self.alloc, source, limit)?;
+        self.state = read_state_noting(self.alloc, source, limit, self.noted)?;
         Ok(())
     }
 
@@ -143,7 +159,7 @@ impl Office {
             source.old source.new result }
         ensures unchanged { IsErr result → self.new ≡ self.old }
     {
-        self.state = migrate(self.alloc, source, limit)?;
+        self.state = migrate_noting(self.alloc, source, limit, self.noted)?;
         Ok(())
     }
 

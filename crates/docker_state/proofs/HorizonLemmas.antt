@@ -4,17 +4,17 @@ use Rattle.std.proofs.Math.Nat.{max-eq_left, max-eq_right}
 use Rattle.docker_model.specs.state.Lapse.{HasNotToLapse, lapse_entries}
 use Rattle.docker_model.specs.records.Date.{IsDay}
 use Rattle.docker_model.specs.state.State.{HaveLapsed, IsValid, raise_horizon, lapse_state}
-use Rattle.std.specs.Prelude.{max}
+use Rattle.std.specs.Prelude.{max, Option}
 use Rattle.std.proofs.lemmas.List.Elements.{recursion_from_All}
 use Rattle.state_laws.proofs.states.KeptEntries.{entries_stay}
 use Rattle.state_laws.proofs.joins.JoinValid.{raised_is_valid}
 use Rattle.docker_model.specs.file.Change as model
 use Rattle.docker_model.specs.state.Op as ops
 use Rattle.state_index.specs.declared.index.Index.{Index}
-use Rattle.state_index.specs.Spots.{IsIndexOf}
 use Rattle.cif_file.specs.Key.{Key}
 use Rattle.docker_join.specs.declared.entry.Entry.{Entry}
 use Rattle.docker_state.specs.declared.item.LedgerItem.{LedgerItem}
+use Rattle.docker_state.specs.Indexed.{IsIndexIfAny}
 use Rattle.docker_state.specs.Meaning.{item_meant, row_meant, state_meant}
 
 module _ (own day : ℕ) (low : own ≤ day) (ledger : List LedgerItem) (rows after : List (Key × Entry))
@@ -38,15 +38,15 @@ under_own own day low rows have =
 
 -- after rows have lapsed, the index is the index of the lapsed rows
 pub lapsed_index : (rows after : List (Key × Entry)) (horizon : ℕ) → map row_meant after ≡ lapse_entries horizon (map row_meant rows)
-    → (slice : List (Key × Entry)) → slice ≡ after → (index later : Index) → IsIndexOf (map row_meant rows) index
-    → ((before : List (model.Key × ops.Entry)) (h : ℕ) → map row_meant slice ≡ lapse_entries h before → IsIndexOf before index
-    → IsIndexOf (map row_meant slice) later)
-    → IsIndexOf (map row_meant after) later
+    → (slice : List (Key × Entry)) → slice ≡ after → (index later : Option Index) → IsIndexIfAny (map row_meant rows) index
+    → ((before : List (model.Key × ops.Entry)) (h : ℕ) → map row_meant slice ≡ lapse_entries h before → IsIndexIfAny before index
+    → IsIndexIfAny (map row_meant slice) later)
+    → IsIndexIfAny (map row_meant after) later
 lapsed_index rows after horizon lapsed slice same index later is lapses =
-    subst (λ (xs : List (Key × Entry)). IsIndexOf (map row_meant xs) later) same
+    subst (λ (xs : List (Key × Entry)). IsIndexIfAny (map row_meant xs) later) same
     (lapses (map row_meant rows) horizon (ap (map row_meant) same ∙ lapsed) is)
 
 -- if no row lapsed, the index stays the index of the rows
-pub same_index : (rows after : List (Key × Entry)) → after ≡ rows → (index : Index) → IsIndexOf (map row_meant rows) index
-    → IsIndexOf (map row_meant after) index
-same_index rows after same index is = subst (λ (xs : List (Key × Entry)). IsIndexOf (map row_meant xs) index) (sym same) is
+pub same_index : (rows after : List (Key × Entry)) → after ≡ rows → (index : Option Index) → IsIndexIfAny (map row_meant rows) index
+    → IsIndexIfAny (map row_meant after) index
+same_index rows after same index is = subst (λ (xs : List (Key × Entry)). IsIndexIfAny (map row_meant xs) index) (sym same) is

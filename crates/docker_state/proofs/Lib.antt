@@ -9,6 +9,9 @@ pub mod LastRows
 pub mod GreatestRows
 pub mod LastMade
 pub mod FileState
+pub mod PlainRows
+pub mod Indexes
+pub mod SiftedRows
 pub mod PartsLemmas
 pub mod LiveTable
 pub mod HorizonLemmas

@@ -1,6 +1,7 @@
 -- A valid state with one more good entry is valid.
 use Rattle.std.proofs.Common.{◌≡◌, List, [], ◌∷◌, ◌++◌, map, ap, sym, ◌∙◌, subst}
 use Rattle.std.proofs.lemmas.List.{map-append}
+use Rattle.std.specs.Prelude.{Option}
 use Rattle.docker_model.specs.file.Change as model
 use Rattle.docker_model.specs.state.Op as ops
 use Rattle.docker_model.specs.state.State.{State, IsValid, IsOpOf}
@@ -12,8 +13,9 @@ use Rattle.cif_file.specs.Meaning.{key_meant}
 use Rattle.docker_join.specs.declared.entry.Entry.{Entry}
 use Rattle.docker_join.specs.Meaning.{entry_meant, op_meant}
 use Rattle.state_index.specs.Notes.{Notes}
-use Rattle.state_index.specs.Noted.{Item, HasNoted, items_of}
+use Rattle.state_index.specs.Noted.{Item, items_of}
 use Rattle.docker_state.specs.declared.item.LedgerItem.{LedgerItem}
+use Rattle.docker_state.specs.Indexed.{HasNotedIfAny}
 use Rattle.docker_state.specs.Meaning.{item_meant, row_meant, state_meant}
 
 -- the state of the parts with one more good entry is valid
@@ -28,10 +30,11 @@ valid_with_entry ledger rows state view valid key entry here of after pushed =
     (subst (λ (s : State). IsStampHere s (key_meant key) (entry_meant entry).stamp) (sym view) here) of (none_has_to (entry_meant entry).op))
 
 -- if the places of the rows and of one more entry are noted, so are the places of all of them
-pub noted_with_entry : (rows after : List (Key × Entry)) (key : Key) (entry : Entry) (notes : Notes) → after ≡ rows ++ (key, entry) ∷ []
-    → HasNoted (items_of (map row_meant rows) ++ (key_meant key, op_meant entry.op) ∷ []) notes → HasNoted (items_of (map row_meant after)) notes
+pub noted_with_entry : (rows after : List (Key × Entry)) (key : Key) (entry : Entry) (notes : Option Notes) → after ≡ rows ++ (key, entry) ∷ []
+    → HasNotedIfAny (items_of (map row_meant rows) ++ (key_meant key, op_meant entry.op) ∷ []) notes
+    → HasNotedIfAny (items_of (map row_meant after)) notes
 noted_with_entry rows after key entry notes pushed has =
-    subst (λ (items : List Item). HasNoted items notes)
+    subst (λ (items : List Item). HasNotedIfAny items notes)
     (sym (ap (λ (all : List (Key × Entry)). items_of (map row_meant all)) pushed
     ∙ ap items_of (map-append row_meant rows ((key, entry) ∷ []))
     ∙ map-append {B = Item} (λ (row : model.Key × ops.Entry). (row.0, row.1.op)) (map row_meant rows) (row_meant (key, entry) ∷ []))) has

@@ -1,14 +1,37 @@
--- A state whose rows have an index.
-use Rattle.std.specs.Prelude.{ℕ, List, map}
+-- A state whose rows may have an index.
+use Rattle.std.specs.Prelude.{ℕ, List, map, Option, IfSome}
+use Rattle.docker_model.specs.file.Change as model
+use Rattle.docker_model.specs.state.Op as ops
 use Rattle.docker_model.specs.state.State.{IsValid}
 use Rattle.cif_file.specs.Key.{Key}
 use Rattle.docker_join.specs.declared.entry.Entry.{Entry}
+use Rattle.state_index.specs.Notes.{Notes}
+use Rattle.state_index.specs.Noted.{Item, ArePicked, HasNoted, items_of}
+use Rattle.state_index.specs.Rooms.{HasRoomFor}
+use Rattle.state_index.specs.declared.room.Room.{Room}
 use Rattle.state_index.specs.declared.index.Index.{Index}
 use Rattle.state_index.specs.Spots.{IsIndexOf}
 use Rattle.docker_state.specs.declared.item.LedgerItem.{LedgerItem}
 use Rattle.docker_state.specs.Meaning.{row_meant, state_meant}
 
--- the state of a horizon, a ledger and rows is valid, and the index is the index of the rows
-pub record IsIndexed (horizon : ℕ) (ledger : List LedgerItem) (rows : List (Key × Entry)) (index : Index) : Type 0 where
+-- the index is the index of these rows, if there is one
+abbrev pub IsIndexIfAny : List (model.Key × ops.Entry) → Option Index → Type 0
+IsIndexIfAny rows index = IfSome index (IsIndexOf rows)
+
+-- these items are noted, if there are notes
+abbrev pub HasNotedIfAny : List Item → Option Notes → Type 0
+HasNotedIfAny items notes = IfSome notes (HasNoted items)
+
+-- there is room for the index of these rows, if there are notes and room
+abbrev pub HasRoomIfAny : List (model.Key × ops.Entry) → Option Notes → Option Room → Type 0
+HasRoomIfAny rows notes room = IfSome notes (λ noted. IfSome room (HasRoomFor rows noted.names.list.items))
+
+-- some items are noted, if there are notes, and these rows are picked of the items in this order
+abbrev pub ArePickedNotes : List ℕ → List (model.Key × ops.Entry) → Option Notes → Type 0
+ArePickedNotes order rows notes = IfSome notes (λ noted. (items : List Item) × HasNoted items noted × ArePicked items order (items_of rows))
+
+-- the state of a horizon, a ledger and rows is valid, and the index is the index of the rows, if
+-- there is one
+pub record IsIndexed (horizon : ℕ) (ledger : List LedgerItem) (rows : List (Key × Entry)) (index : Option Index) : Type 0 where
   pub valid : IsValid (state_meant horizon ledger rows)
-  pub indexed : IsIndexOf (map row_meant rows) index
+  pub indexed : IsIndexIfAny (map row_meant rows) index

@@ -6,5 +6,7 @@ pub mod MadeState
 pub mod Staging
 pub mod UidPiece
 pub mod Indexed
+pub mod PlaceRows
+pub mod Walked
 pub mod Timetables
 pub use Rattle.state_index.specs.Counts

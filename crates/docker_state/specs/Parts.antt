@@ -7,14 +7,15 @@ use Rattle.docker_model.specs.state.State.{IsValid}
 use Rattle.cif_file.specs.Key.{Key as Kept}
 use Rattle.docker_join.specs.declared.entry.Entry.{Entry as Row}
 use Rattle.state_index.specs.Notes.{Notes}
-use Rattle.state_index.specs.Noted.{HasNoted, items_of}
+use Rattle.state_index.specs.Noted.{items_of}
 use Rattle.docker_state.specs.declared.item.LedgerItem.{LedgerItem}
+use Rattle.docker_state.specs.Indexed.{HasNotedIfAny}
 use Rattle.docker_state.specs.Meaning.{row_meant, state_meant}
 
--- the state of ledger items and rows is valid, and what the rows name is noted
-pub record AreParts (ledger : List LedgerItem) (rows : List (Kept × Row)) (notes : Notes) : Type 0 where
+-- the state of ledger items and rows is valid, and what the rows name is noted, if there are notes
+pub record AreParts (ledger : List LedgerItem) (rows : List (Kept × Row)) (notes : Option Notes) : Type 0 where
   pub valid : IsValid (state_meant 0 ledger rows)
-  pub noted : HasNoted (items_of (map row_meant rows)) notes
+  pub noted : HasNotedIfAny (items_of (map row_meant rows)) notes
 
 -- the key of the last entry, if there is one
 abbrev pub last_key : List (Key × Entry) → Option Key

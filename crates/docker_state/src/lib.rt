@@ -4,12 +4,15 @@
 
 mod covers;
 mod floor;
+mod indexing;
 mod item;
 mod ledger;
 mod live;
 mod near;
 mod parts;
+mod place_rows;
 mod rows;
+mod sifted;
 mod staging;
 mod state;
 mod timetable;
@@ -20,8 +23,8 @@ pub use docker_join::{Merge, Op};
 pub use item::LedgerItem;
 pub use live::Live;
 pub use parts::Parts;
+pub use place_rows::{Numbered, PlaceRows};
 pub use staging::Staging;
 pub use state::State;
-pub use state_index::{Numbered, PlaceRows};
 pub use timetable::Timetable;
 pub use timetable_rows::{TimetableRows, UidSchedules};

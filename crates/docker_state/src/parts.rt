@@ -8,12 +8,13 @@ ghost use Rattle.docker_join.specs.Meaning.{entry_meant};
 ghost use Rattle.docker_state.specs.Meaning.{item_meant, row_meant};
 ghost use Rattle.docker_state.specs.Parts.{last_key};
 
+use crate::indexing::{index_of_notes, note_if};
 use crate::item::LedgerItem;
 use crate::state::State;
 use cif_file::Key;
 use cif_line::Memory;
 use docker_join::Entry;
-use state_index::{Notes, Room, note_row};
+use state_index::Notes;
 use std::alloc::Global;
 use std::marker::Model;
 
@@ -23,7 +24,7 @@ use std::marker::Model;
 pub struct Parts {
     ledger: Vec<LedgerItem>,
     entries: Vec<(Key, Entry)>,
-    notes: Notes,
+    notes: Option<Notes>,
 }
 
 impl Model for Parts {
@@ -47,7 +48,18 @@ impl Parts {
         Parts {
             ledger: Vec::new(alloc),
             entries: Vec::new(alloc),
-            notes: Notes::new(alloc),
+            notes: Some(Notes::new(alloc)),
+        }
+    }
+
+    /// No parts yet. The state of the parts will have no index.
+    pub fn unindexed(alloc: Global) -> Parts
+        ensures { result ≡ record { horizon = 0; ledger = []; entries = [] } }
+    {
+        Parts {
+            ledger: Vec::new(alloc),
+            entries: Vec::new(alloc),
+            notes: None,
         }
     }
 
@@ -77,7 +89,7 @@ impl Parts {
         ensures err { IsErr result → self.new ≡ self.old }
     {
         self.entries.reserve(1)?;
-        note_row(&mut self.notes, &key, &entry.op)?;
+        note_if(&mut self.notes, &key, &entry.op)?;
         self.entries.push_reserved((key, entry));
         Ok(())
     }
@@ -106,12 +118,18 @@ impl Parts {
         }
     }
 
-    /// The state of the parts. If memory runs out, the parts are dropped. They are also dropped if
-    /// there are more than 4,294,967,295 entries or places, which are numbered in 32 bits.
+    /// The state of the parts. If memory runs out, the parts are dropped. If the state is to have an
+    /// index, they are also dropped if there are more than 4,294,967,295 entries or places, which are
+    /// numbered in 32 bits.
     pub fn finish(self) -> Result<State, Memory>
         ensures { IfOk result (λ state. state ≡ self) }
     {
-        let room = Room::for_notes(*self.entries.allocator(), &self.notes)?;
-        Ok(State::of_rows(self.ledger, self.entries, self.notes, room))
+        let Parts {
+            ledger,
+            entries,
+            notes,
+        } = self;
+        let index = index_of_notes(*entries.allocator(), notes, entries.as_slice())?;
+        Ok(State::of_rows(ledger, entries, index))
     }
 }

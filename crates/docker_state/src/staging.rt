@@ -13,13 +13,13 @@ ghost use Rattle.docker_state.specs.Meaning.{floor_meant, item_meant};
 ghost use Rattle.docker_state.specs.Staging.{IsAboveStaged, IsOffered, HasNothingNew, with_staged};
 
 use crate::floor::{common_floor, floor_of, is_kept};
+use crate::indexing::index_if;
 use crate::item::LedgerItem;
 use crate::ledger::{has_kept_items, is_above_all};
 use crate::state::State;
 use cif_file::Key;
 use cif_line::Memory;
 use docker_join::{Entry, FileStamp, Merge};
-use state_index::{Room, notes_of_rows};
 use std::alloc::Global;
 use std::marker::Model;
 use std::mem;
@@ -176,9 +176,8 @@ impl State {
             return Ok(());
         }
         let alloc = *staging.staged.allocator();
-        let notes = notes_of_rows(alloc, staging.staged.as_slice())?;
-        let room = Room::for_notes(alloc, &notes)?;
-        let received = State::of_rows(staging.items, staging.staged, notes, room);
+        let index = index_if(alloc, staging.staged.as_slice(), self.is_indexed())?;
+        let received = State::of_rows(staging.items, staging.staged, index);
         let own = mem::replace(self, State::empty(alloc));
         match own.join(alloc, received) {
             Ok(joined) => {

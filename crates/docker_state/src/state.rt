@@ -1,11 +1,9 @@
 //! The state of files.
-ghost use Rattle.std.specs.Prelude.{◌≡◌, ℕ, ◌+◌, ◌≤◌, List, [], ◌∷◌, ◌++◌, ◌↔◌, map, max, vec_len, vec_capacity, Contains, IfOk, IfErr, IfSome};
+ghost use Rattle.std.specs.Prelude.{◌≡◌, ℕ, ◌+◌, ◌≤◌, List, [], ◌∷◌, ◌++◌, ◌↔◌, map, max, vec_len, vec_capacity, Contains, IfOk, IfErr};
 ghost use Rattle.docker_model.specs.file.Change as model;
 ghost use Rattle.docker_model.specs.state.State as states;
 ghost use Rattle.state_laws.specs.Index.{AreCalling, AreLinked, AreOfUid};
 ghost use Rattle.state_index.specs.Counts.{IsCallingCount};
-ghost use Rattle.state_index.specs.Noted.{AreNoted, HasNoted, items_of, items_put};
-ghost use Rattle.state_index.specs.Rooms.{HasRoomFor};
 ghost use Rattle.state_index.specs.Spots.{IsIndexOf};
 ghost use Rattle.docker_model.specs.state.State.{entry_at, live_table, raise_horizon, HaveLapsed, IsValid, IsJoin};
 ghost use Rattle.docker_model.specs.records.Date.{IsDay};
@@ -19,34 +17,40 @@ ghost use Rattle.docker_model.specs.state.Summary.{IsSummary, HaveDistinctMoment
 ghost use Rattle.docker_model.specs.state.Table as tables;
 ghost use Rattle.docker_model.specs.state.Table.{IsPlainTable};
 ghost use Rattle.cif_file.specs.FileRead.{IsOfRecords};
+ghost use Rattle.cif_file.specs.MadeChanges.{AreNotesOf};
 ghost use Rattle.cif_file.specs.Meaning.{change_meant};
 ghost use Rattle.docker_laws.specs.Thinning.{IsStateOfChanges};
+ghost use Rattle.docker_state.specs.Indexed.{IsIndexIfAny};
 ghost use Rattle.docker_state.specs.MadeState.{HaveRecords, IsMadeState, MakeValid};
 ghost use Rattle.docker_state.specs.Live.{live_rows, AreInKeyOrder};
 ghost use Rattle.docker_state.specs.Meaning.{floor_meant, item_meant, row_meant, state_meant};
 
 use crate::floor::{common_floor, floor_of};
+use crate::indexing::{lapse_index, picked_index, room_for_notes};
 use crate::item::{LedgerItem, item_of};
 use crate::ledger::{kept_items, room_for, union_of};
 use crate::live::Live;
 use crate::near::entry_near;
-use crate::rows::{are_many, greatest_rows, kept_rows, made_rows};
+use crate::place_rows::{PlaceRows, Walk};
+use crate::rows::{are_many, greatest_rows, kept_rows, last_greatest, made_rows, rows_made};
+use crate::sifted::{SiftedRows, count_calls};
 use crate::uid_rows::rows_of_uid;
 use cif_file::{CifFile, FileParts, Key, ThinFile};
 use cif_line::{Day, Memory, Tiploc, Uid};
 use docker_join::{Entry, FileStamp, Merge, Table, join_rows, lapse_rows};
-use state_index::{Index, Moves, Notes, PlaceRows, Room};
+use state_index::{Index, Moves};
 use std::alloc::Global;
 use std::marker::Model;
 
 /// What files say, from the newest full extract on: the ledger of the known files, and for each key
-/// the greatest entry. Always valid.
+/// the greatest entry. Always valid. Its rows may have an index by place. Without one, the rows at a
+/// place are found by a walk over all rows.
 #[derive(Debug, Drop)]
 pub struct State {
     horizon: u16,
     ledger: Vec<LedgerItem>,
     entries: Table<Entry>,
-    index: Index,
+    index: Option<Index>,
 }
 
 impl Model for State {
@@ -63,21 +67,17 @@ impl Model for State {
 }
 
 impl State {
-    /// The state of ledger items and rows, which are valid, without a horizon. Its index is made
-    /// from what was noted of the rows, in the room for it.
+    /// The state of ledger items and rows, which are valid, without a horizon, and of the index of
+    /// the rows, if there is one.
     pub(crate) fn of_rows(
         ledger: Vec<LedgerItem>,
         rows: Vec<(Key, Entry)>,
-        notes: Notes,
-        room: Room,
+        index: Option<Index>,
     ) -> State
         requires valid { IsValid (state_meant 0 ledger.items rows.items) }
-        requires room { HasRoomFor (map row_meant rows.items) notes.names.list.items room }
-        requires noted { AreNoted notes.names.list.items notes.numbers.items
-            (items_of (map row_meant rows.items)) notes.pieces.items }
+        requires index { IsIndexIfAny (map row_meant rows.items) index }
         ensures { result ≡ state_meant 0 ledger.items rows.items }
     {
-        let index = Index::of_rows(room, notes, rows.as_slice());
         State {
             horizon: 0,
             ledger,
@@ -95,13 +95,33 @@ impl State {
             horizon: 0,
             ledger: Vec::new(alloc),
             entries: Table::new(alloc),
-            index: Index::new(alloc),
+            index: Some(Index::new(alloc)),
         }
     }
 
-    /// The state of one file. If memory runs out, no change was moved yet, and the file comes back
-    /// as it was. A file of more than 4,294,967,295 changes or places, which are numbered in 32
-    /// bits, also comes back.
+    /// The state of no files, without an index. Its joins have none either, unless they are the
+    /// other state.
+    pub fn unindexed(alloc: Global) -> State
+        ensures empty { result ≡ record { horizon = 0; ledger = []; entries = [] } }
+        ensures summary { IsSummary [] 0 result }
+    {
+        State {
+            horizon: 0,
+            ledger: Vec::new(alloc),
+            entries: Table::new(alloc),
+            index: None,
+        }
+    }
+
+    /// Whether the rows have an index.
+    pub(crate) fn is_indexed(&self) -> bool {
+        self.index.is_some()
+    }
+
+    /// The state of one file. It has an index if the places of the file's changes were noted. If
+    /// memory runs out, no change was moved yet, and the file comes back as it was. With an index, a
+    /// file of more than 4,294,967,295 changes or places, which are numbered in 32 bits, also comes
+    /// back.
     pub fn of_file(alloc: Global, file: CifFile) -> Result<State, CifFile>
         ensures ok { (records : List (List ℕ)) → IsOfRecords file records
             → IfOk result (IsSummary (records ∷ []) 0) }
@@ -118,8 +138,7 @@ impl State {
 
     /// The state of what was kept of a file for the docker of a place on a day. It has the same
     /// docker there on that day as the state of the file, and serves for nothing else. If memory
-    /// runs out, what was kept is dropped. `Memory` is also the answer to more than 4,294,967,295
-    /// kept changes or places.
+    /// runs out, what was kept is dropped.
     pub fn of_thin(alloc: Global, file: ThinFile) -> Result<State, Memory>
         ensures { (records : List (List ℕ)) → IsOfRecords file.file records
             → IfOk result (IsStateOfChanges records file.kept) }
@@ -132,11 +151,61 @@ impl State {
     }
 
     /// The state that changes of the file with this ledger item make. If memory runs out, no change
-    /// was moved yet, and the parts come back as they were. More than 4,294,967,295 changes or
-    /// places, which are numbered in 32 bits, also come back.
+    /// was moved yet, and the parts come back as they were.
     fn of_changes(alloc: Global, item: LedgerItem, parts: FileParts) -> Result<State, FileParts>
         requires records { HaveRecords (map change_meant parts.changes.items) }
-        requires noted { HasNoted (items_put (map change_meant parts.changes.items)) parts.notes }
+        requires noted { AreNotesOf (map change_meant parts.changes.items) parts.notes }
+        requires valid { MakeValid (item_meant item) (map change_meant parts.changes.items) }
+        ensures ok { IfOk result
+            (IsMadeState (item_meant item) (map change_meant parts.changes.items)) }
+        ensures err { IfErr result (λ back. back ≡ parts) }
+    {
+        if parts.notes.is_some() {
+            State::of_noted_changes(alloc, item, parts)
+        } else {
+            State::of_plain_changes(alloc, item, parts)
+        }
+    }
+
+    /// The state, without an index, that changes of the file with this ledger item make.
+    fn of_plain_changes(
+        alloc: Global,
+        item: LedgerItem,
+        parts: FileParts,
+    ) -> Result<State, FileParts>
+        requires records { HaveRecords (map change_meant parts.changes.items) }
+        requires valid { MakeValid (item_meant item) (map change_meant parts.changes.items) }
+        ensures ok { IfOk result
+            (IsMadeState (item_meant item) (map change_meant parts.changes.items)) }
+        ensures err { IfErr result (λ back. back ≡ parts) }
+    {
+        let count = parts.changes.len();
+        let Ok(mut ledger) = Vec::with_capacity(alloc, 1) else {
+            return Err(parts);
+        };
+        let Ok(made) = Vec::with_capacity(alloc, count) else {
+            return Err(parts);
+        };
+        let Ok(rows) = Vec::with_capacity(alloc, count) else {
+            return Err(parts);
+        };
+        ledger.push_reserved(item);
+        let FileParts { changes, .. } = parts;
+        let made = rows_made(changes, &item.stamp(), made);
+        let rows = last_greatest(made, rows);
+        Ok(State::of_rows(ledger, rows, None))
+    }
+
+    /// The state, with its index, that changes of the file with this ledger item make. If there are
+    /// more than 4,294,967,295 changes or places, which are numbered in 32 bits, they also come
+    /// back.
+    fn of_noted_changes(
+        alloc: Global,
+        item: LedgerItem,
+        parts: FileParts,
+    ) -> Result<State, FileParts>
+        requires records { HaveRecords (map change_meant parts.changes.items) }
+        requires noted { AreNotesOf (map change_meant parts.changes.items) parts.notes }
         requires valid { MakeValid (item_meant item) (map change_meant parts.changes.items) }
         ensures ok { IfOk result
             (IsMadeState (item_meant item) (map change_meant parts.changes.items)) }
@@ -161,15 +230,15 @@ impl State {
         let Ok(pieces) = Vec::with_capacity(alloc, count) else {
             return Err(parts);
         };
-        let Ok(room) = Room::for_notes(alloc, &parts.notes) else {
+        let Ok(room) = room_for_notes(alloc, &parts.notes) else {
             return Err(parts);
         };
         ledger.push_reserved(item);
         let FileParts { changes, notes, .. } = parts;
         let made = made_rows(changes, &item.stamp(), made);
         let (rows, order) = greatest_rows(made, rows, order);
-        let notes = notes.picked(order.as_slice(), pieces);
-        Ok(State::of_rows(ledger, rows, notes, room))
+        let index = picked_index(room, notes, order.as_slice(), pieces, rows.as_slice());
+        Ok(State::of_rows(ledger, rows, index))
     }
 
     /// The horizon: a day number from 0 for 1960-01-01. Nothing that is put ends before that day. 0
@@ -201,7 +270,7 @@ impl State {
         if self.horizon < horizon {
             self.horizon = horizon;
             if self.entries.lapse(horizon) {
-                self.index.lapse(self.entries.as_slice());
+                lapse_index(&mut self.index, self.entries.as_slice());
             }
         }
     }
@@ -266,27 +335,40 @@ impl State {
     }
 
     /// The live schedules that call at a TIPLOC, by an LO, an LI or an LT: each once, with its
-    /// lines, in the order of the keys. They are found by a binary search, without memory.
+    /// lines, in the order of the keys. They are found by a binary search in the index, without
+    /// memory. A state without an index finds them by a walk over all rows.
     pub fn calling(&self, tiploc: &Tiploc) -> PlaceRows<'_>
         ensures { AreCalling (live_table self.now) tiploc.now result }
     {
-        self.index.calling(self.entries.as_slice(), tiploc)
+        let rows = self.entries.as_slice();
+        match &self.index {
+            Some(index) => { PlaceRows::of(Walk::Marked(index.calling(rows, tiploc).numbered())) }
+            None => PlaceRows::of(Walk::Sifted(SiftedRows::of(rows, tiploc, false))),
+        }
     }
 
     /// How many live schedules call at a TIPLOC, by an LO, an LI or an LT: each counts once. The
-    /// index has them side by side, so no schedule is looked at.
+    /// index has them side by side, so no schedule is looked at. Without an index all rows are.
     pub fn count_calling(&self, tiploc: &Tiploc) -> usize
         ensures { IsCallingCount (live_table self.now) tiploc.now result }
     {
-        self.index.count_calling(tiploc)
+        match &self.index {
+            Some(index) => index.count_calling(tiploc),
+            None => count_calls(self.entries.as_slice(), tiploc),
+        }
     }
 
     /// The live associations at a location: each with its line, in the order of the keys. They are
-    /// found by a binary search, without memory.
+    /// found by a binary search in the index, without memory. A state without an index finds them by
+    /// a walk over all rows.
     pub fn linked(&self, tiploc: &Tiploc) -> PlaceRows<'_>
         ensures { AreLinked (live_table self.now) tiploc.now result }
     {
-        self.index.linked(self.entries.as_slice(), tiploc)
+        let rows = self.entries.as_slice();
+        match &self.index {
+            Some(index) => PlaceRows::of(Walk::Marked(index.linked(rows, tiploc).numbered())),
+            None => PlaceRows::of(Walk::Sifted(SiftedRows::of(rows, tiploc, true))),
+        }
     }
 
     /// The live schedules of a UID: each with its lines, in the order of the keys. They are found
@@ -306,21 +388,38 @@ impl State {
         Live::of(rows_of_uid(self.entries.as_slice(), uid, near))
     }
 
-    /// The index of the rows of the join with another state. It is made before a row is moved. None
-    /// if memory runs out.
-    fn index_of_join(&self, alloc: Global, other: &State) -> Option<Index>
-        ensures { IfSome result (λ index. (joined : states.State) → IsJoin self.now other.now joined
-            → IsIndexOf joined.entries index) }
+    /// The index of the rows of the join with another state, if both have one. It is made before a
+    /// row is moved. `Memory` if the allocator refuses it.
+    fn index_of_join(&self, alloc: Global, other: &State) -> Result<Option<Index>, Memory>
+        ensures { IfOk result (λ index. (joined : states.State) → IsJoin self.now other.now joined
+            → IsIndexIfAny joined.entries index) }
+    {
+        match (&self.index, &other.index) {
+            (Some(own), Some(theirs)) => self.joined_index(alloc, other, own, theirs),
+            _ => Ok(None),
+        }
+    }
+
+    /// The index of the rows of the join with another state, from the indexes of both.
+    fn joined_index(
+        &self,
+        alloc: Global,
+        other: &State,
+        own: &Index,
+        theirs: &Index,
+    ) -> Result<Option<Index>, Memory>
+        requires own { IsIndexOf self.now.entries own.now }
+        requires theirs { IsIndexOf other.now.entries theirs.now }
+        ensures { IfOk result (λ index. (joined : states.State) → IsJoin self.now other.now joined
+            → IsIndexIfAny joined.entries index) }
     {
         let (first, second) = (self.entries.as_slice(), other.entries.as_slice());
-        let moves = Moves::with_room(alloc, first.len(), second.len()).ok()?;
+        let moves = Moves::with_room(alloc, first.len(), second.len())?;
         let floor = self.floor_with(other);
         let horizon = self.horizon.max(other.horizon);
         let moves = moves.of_tables(first, second, &floor, horizon);
-        match Index::of_join(alloc, &self.index, &other.index, &moves) {
-            Ok(index) => Some(index),
-            Err(_) => None,
-        }
+        let index = Index::of_join(alloc, own, theirs, &moves)?;
+        Ok(Some(index))
     }
 
     /// The parts of the state, with room for `more` rows after its own. Its index is dropped. If
@@ -377,7 +476,7 @@ impl State {
         ensures ok { IfOk result (IsJoin self other) }
         ensures err { IfErr result (λ both. (both.0 ≡ self) × (both.1 ≡ other)) }
     {
-        let Some(index) = self.index_of_join(alloc, &other) else {
+        let Ok(index) = self.index_of_join(alloc, &other) else {
             return Err((self, other));
         };
         let Some(items) = room_for(alloc, self.ledger.len(), other.ledger.len()) else {
@@ -455,9 +554,9 @@ impl Merge for State {
     /// one state has all that the other would bring, the join is that state under the greater
     /// horizon, and the other's memory is freed. The state of a full extract that is newer than
     /// each file of the other is such a state, and then no row of the other is looked at. If memory
-    /// runs out, nothing was moved yet, and both states come back as they were. Two states with
-    /// more than 4,294,967,295 rows or places together, which are numbered in 32 bits, also come
-    /// back.
+    /// runs out, nothing was moved yet, and both states come back as they were. The join has an
+    /// index if both states have one. Then two states with more than 4,294,967,295 rows or places
+    /// together, which are numbered in 32 bits, also come back.
     fn join(self, alloc: Global, other: State) -> Result<State, (State, State)>
         ensures ok { IfOk result (IsJoin self other) }
         ensures err { IfErr result (λ both. (both.0 ≡ self) × (both.1 ≡ other)) }

@@ -23,7 +23,7 @@ abbrev pub items_of : List LedgerItem → Option Staging → List stamps.LedgerI
 items_of items None = map item_meant items
 items_of items (Some staging) = staging.items
 
--- what was given
+-- the ledger items and entries that were given, as a state
 abbrev pub given_of : {R : Type 0} → Receiving R → State
 given_of it = given_state (items_of it.items.items it.staging) it.given.entries
 

@@ -105,7 +105,8 @@ impl<K: Keeper> PartsSoFar<K> {
 }
 
 impl<K: Maker> PartsSoFar<K> {
-    /// What the keeper makes of the parts, with the horizon that was read.
+    /// What the keeper makes of the parts, with the horizon that was read. If memory runs out, the
+    /// parts are dropped.
     pub fn finish(self) -> Result<K::Made, Memory>
         requires { IsValid self }
         ensures { IfOk result (λ made. K.makes made self) }

@@ -27,13 +27,25 @@ impl Model for Whole {
 }
 
 impl Whole {
-    /// No parts yet.
-    pub fn new(alloc: Global) -> Whole
+    /// No parts yet. `noted` says whether the places of the parts are to be noted, so that the state
+    /// has an index.
+    pub fn new(alloc: Global, noted: bool) -> Whole
         ensures { result ≡ record { horizon = 0; ledger = []; entries = [] } }
     {
         Whole {
-            parts: Parts::new(alloc),
+            parts: no_parts(alloc, noted),
         }
+    }
+}
+
+/// No parts yet. `noted` says whether their places are to be noted.
+fn no_parts(alloc: Global, noted: bool) -> Parts
+    ensures { result ≡ record { horizon = 0; ledger = []; entries = [] } }
+{
+    if noted {
+        Parts::new(alloc)
+    } else {
+        Parts::unindexed(alloc)
     }
 }
 

@@ -3,8 +3,8 @@
 use super::compare::same;
 use super::shown::{add, add_body, add_key, add_number};
 use super::{joined, pair, set_on, state};
-use cif_file::{Body, Key};
-use cif_line::{Tiploc, Uid};
+use cif_file::{Body, Key, read_file_noting};
+use cif_line::{Bytes, Tiploc, Uid};
 use docker_state::{PlaceRows, State};
 use std::alloc::Global;
 use std::process::Abort;
@@ -140,6 +140,26 @@ fn places(rt: HostRuntime) {
     found_is(&rt, alloc, &both, "ASHFELD", AT_ASHFELD);
     let lapsed = set_on(&rt, alloc, FILE, &["2024-06-11"]);
     found_is(&rt, alloc, &lapsed, "COLWELL", &[]);
+}
+
+/// The state of a file of these records, without an index.
+fn unindexed(rt: &impl Abort, alloc: Global, records: &[&[u8]]) -> State {
+    let text = text(alloc, records, b"\n").expect(rt, "memory");
+    let mut source = Bytes::new(text.as_slice(), 4096);
+    let file = read_file_noting(alloc, &mut source, 1000, false).expect(rt, "a file");
+    State::of_file(alloc, file).expect(rt, "memory")
+}
+
+#[test]
+fn places_without_an_index(rt: HostRuntime) {
+    let alloc = rt.alloc();
+    let one = unindexed(&rt, alloc, FILE);
+    found_is(&rt, alloc, &one, "COLWELL", AT_COLWELL);
+    found_is(&rt, alloc, &one, "ELM", AT_ELM);
+    let later = unindexed(&rt, alloc, &[HD_10B, BS_C30002_DELETED, BS, LO, LT, ZZ]);
+    let both = joined(&rt, alloc, later, one);
+    found_is(&rt, alloc, &both, "COLWELL", LEFT_AT_COLWELL);
+    found_is(&rt, alloc, &both, "ASHFELD", AT_ASHFELD);
 }
 
 #[test]

@@ -14,7 +14,7 @@ returns-clause-reads g c = λ second.
       first_few = took.no_further;
       second_few = refl;
       ends = (
-        subst (λ (own : State). TakesFile most_records (g.S.Source.left c.args.source.now) own c.take.new.self) c.new-office.ensures.empty took.outcome.0,
+        subst (λ (own : State). TakesFile most_records (g.S.Source.left c.args.source.now) own c.take.new.self) c.unindexed-office.ensures.empty took.outcome.0,
         took.outcome.1,
       );
     }
@@ -27,7 +27,7 @@ returns-in_err-take-clause-reads g c = λ second.
     let same = err_from_is_err_and c.from_residual.result c.from_residual.ensures.1 in
     let took = c.in_err-take.ensures.takes in
     let first = g.S.Source.left c.args.source.now in
-    rw (same.1, same.2) (file_refused_alone (λ (_ : ⊤). TakesFile most_records first c.new-office.result c.take.new.self) first
+    rw (same.1, same.2) (file_refused_alone (λ (_ : ⊤). TakesFile most_records first c.unindexed-office.result c.take.new.self) first
     (g.S.Source.left c.take.new.source)
     second _ took.no_further took.outcome)
 

@@ -12,6 +12,6 @@ invariant_of-self-2 c =
     record {
       valid = valid_with_entry c.self.inside.ledger.items c.self.inside.entries.items c.args.self.now c.self.view_is c.self.invariant.valid
           c.args.key c.args.entry c.requires.here c.requires.op c.push_reserved.new.self.items pushed;
-      noted = noted_with_entry c.self.inside.entries.items c.push_reserved.new.self.items c.args.key c.args.entry c.note_row.new.notes pushed
-          (c.in_ok-note_row.ensures.ok refl (items_of (map row_meant c.self.inside.entries.items)) c.self.invariant.noted);
+      noted = noted_with_entry c.self.inside.entries.items c.push_reserved.new.self.items c.args.key c.args.entry c.note_if.new.notes pushed
+          (c.in_ok-note_if.ensures.ok refl (items_of (map row_meant c.self.inside.entries.items)) c.self.invariant.noted);
     }

@@ -4,7 +4,7 @@ use Rattle.state_laws.specs.Staging.{staged_state}
 use Rattle.state_laws.proofs.joins.StagedState.{join_with_staged}
 use Rattle.cif_file.specs.Key.{Key}
 use Rattle.docker_join.specs.declared.entry.Entry.{Entry}
-use Rattle.state_index.specs.Noted.{HasNoted, items_of}
+use Rattle.docker_state.specs.Indexed.{IsIndexIfAny}
 use Rattle.docker_state.specs.Meaning.{item_meant, row_meant}
 use Rattle.docker_state.specs.Staging.{Staging}
 use Rattle.docker_state.proofs.StagingLemmas.{nothing_new_is_join, something_new}
@@ -38,14 +38,9 @@ returns-clause-nothing_new c = λ none.
     absurd (something_new c.has_nothing_new.result (map item_meant c.ledger.result.now) c.args.self.now.ledger c.ledger.ensures.items c.args.staging
     c.has_nothing_new.ensures c.if-has_nothing_new.false none)
 
-pub of_rows-received-requires-clause-room : goal.of_rows-received-requires-clause-room
-of_rows-received-requires-clause-room c =
-    c.in_ok-room.ensures.rows (map row_meant c.staging.inside.staged.items)
-    (subst (λ (rows : List (Key × Entry)). HasNoted (items_of (map row_meant rows)) c.in_ok-notes.notes) c.as_slice.ensures.value c.in_ok-notes.ensures)
-
-pub of_rows-received-requires-clause-noted : goal.of_rows-received-requires-clause-noted
-of_rows-received-requires-clause-noted c =
-    (subst (λ (rows : List (Key × Entry)). HasNoted (items_of (map row_meant rows)) c.in_ok-notes.notes) c.as_slice.ensures.value c.in_ok-notes.ensures).are
+pub of_rows-received-requires-clause-index : goal.of_rows-received-requires-clause-index
+of_rows-received-requires-clause-index c =
+    subst (λ (rows : List (Key × Entry)). IsIndexIfAny (map row_meant rows) c.in_ok-index.index) c.as_slice.ensures.value c.in_ok-index.ensures
 
 -- `auto` proves these goals too. Written out, they let a wrong body fail without a long search.
 pub returns-clause-err : goal.returns-clause-err

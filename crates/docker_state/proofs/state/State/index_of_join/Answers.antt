@@ -1,35 +1,16 @@
-use Rattle.std.proofs.Common.{List, ◌++◌, map, sym, subst}
-use Rattle.docker_model.specs.state.State.{State, IsJoin}
-use Rattle.docker_model.specs.state.Stamp.{IsFloor}
-use Rattle.cif_file.specs.Key.{Key}
-use Rattle.docker_join.specs.declared.entry.Entry.{Entry}
-use Rattle.state_index.specs.Joined.{AreJoined, AreMoves}
-use Rattle.docker_state.specs.Meaning.{floor_meant, item_meant, row_meant, state_meant}
-use Rattle.docker_state.proofs.StateJoin.{rows_joined}
+use Rattle.std.proofs.Common.{map, subst}
+use Rattle.docker_model.specs.state.State.{State}
+use Rattle.state_index.specs.Spots.{IsIndexOf}
+use Rattle.docker_state.specs.Indexed.{IsIndexIfAny}
+use Rattle.docker_state.specs.Meaning.{row_meant}
 use Rattle.docker_state.proofs.state.State.index_of_join.Goals as goal
 
-pub returns-in-Ok : goal.returns-in-Ok
-returns-in-Ok c = λ joined is.
-    let one = state_meant c.self.inside.horizon c.self.inside.ledger.items c.self.inside.entries in
-    let two = state_meant c.other.inside.horizon c.other.inside.ledger.items c.other.inside.entries in
-    let join : IsJoin one two joined =
-    subst (λ (s : State). IsJoin s two joined) (sym c.self.view_is) (subst (λ (s : State). IsJoin c.args.self.now s joined) (sym c.other.view_is) is) in
-    let rows =
-    rows_joined c.self.inside.horizon c.other.inside.horizon c.self.inside.ledger.items c.other.inside.ledger.items c.self.inside.entries c.other.inside.entries
-    c.self.invariant.valid c.other.invariant.valid (floor_meant c.floor_with-floor.result)
-    (subst (λ (s : State). IsFloor (s.ledger ++ map item_meant c.other.inside.ledger.items) (floor_meant c.floor_with-floor.result)) (sym c.self.view_is)
-    (subst (λ (s : State). IsFloor (c.args.self.now.ledger ++ s.ledger) (floor_meant c.floor_with-floor.result))
-    (sym c.other.view_is) c.floor_with-floor.ensures))
-    c.max-horizon.result c.max-horizon.ensures joined join in
-    let moves : AreMoves (map row_meant c.as_slice-first.result.now) (map row_meant c.as_slice-second.result.now) joined.entries c.of_tables-moves.result =
-    c.of_tables-moves.ensures joined.entries
-    (subst (λ (xs : List (Key × Entry)). AreJoined xs c.as_slice-second.result.now (floor_meant c.floor_with-floor.result) c.max-horizon.result joined.entries)
-    (sym c.as_slice-first.ensures.rows)
-    (subst (λ (xs : List (Key × Entry)). AreJoined c.self.inside.entries xs (floor_meant c.floor_with-floor.result) c.max-horizon.result joined.entries)
-    (sym c.as_slice-second.ensures.rows) rows)) in
-    c.in-Ok.ensures (map row_meant c.self.inside.entries) (map row_meant c.other.inside.entries) joined.entries
-    (subst (λ (xs : List (Key × Entry)). AreMoves (map row_meant xs) (map row_meant c.other.inside.entries) joined.entries c.of_tables-moves.result)
-    c.as_slice-first.ensures.rows
-    (subst (λ (xs : List (Key × Entry)). AreMoves (map row_meant c.as_slice-first.result.now) (map row_meant xs) joined.entries c.of_tables-moves.result)
-    c.as_slice-second.ensures.rows moves))
-    c.self.invariant.indexed c.other.invariant.indexed
+pub joined_index-requires-clause-own : goal.joined_index-requires-clause-own
+joined_index-requires-clause-own c =
+    subst (λ (s : State). IsIndexOf s.entries c.in-Some-Some.own) c.self.view_is
+    (subst (IsIndexIfAny (map row_meant c.self.inside.entries)) c.in-Some-Some.is-0 c.self.invariant.indexed)
+
+pub joined_index-requires-clause-theirs : goal.joined_index-requires-clause-theirs
+joined_index-requires-clause-theirs c =
+    subst (λ (s : State). IsIndexOf s.entries c.in-Some-Some.theirs) c.other.view_is
+    (subst (IsIndexIfAny (map row_meant c.other.inside.entries)) c.in-Some-Some.is-1 c.other.invariant.indexed)

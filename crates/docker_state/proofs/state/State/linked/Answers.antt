@@ -1,9 +1,20 @@
-use Rattle.std.proofs.Common.{map, ap, sym, ◌∙◌}
-use Rattle.docker_model.specs.state.State.{State}
+use Rattle.std.proofs.Common.{◌∙◌, true, map, ap, sym, subst}
+use Rattle.docker_model.specs.state.State.{State, IsValid, live_table}
+use Rattle.state_laws.specs.Index.{AreLinked}
 use Rattle.docker_state.specs.Meaning.{row_meant}
+use Rattle.docker_state.specs.PlaceRows.{rows_here}
+use Rattle.docker_state.proofs.SiftedRows.{linked_sifted}
 use Rattle.docker_state.proofs.state.State.linked.Goals as goal
 
-pub returns : goal.returns
-returns c =
-    c.linked.ensures c.args.self.now
-    (ap (λ (s : State). s.entries) (sym c.self.view_is) ∙ ap (map row_meant) (sym c.as_slice.ensures.rows))
+pub returns-in-Some : goal.returns-in-Some
+returns-in-Some c =
+    subst (AreLinked (live_table c.args.self.now) c.args.tiploc.now) (sym (c.of.ensures ∙ c.numbered.ensures))
+    (c.linked.ensures c.args.self.now
+    (ap (λ (s : State). s.entries) (sym c.self.view_is) ∙ ap (map row_meant) (sym c.as_slice-rows.ensures.rows)))
+
+pub returns-in-None : goal.returns-in-None
+returns-in-None c =
+    subst (AreLinked (live_table c.args.self.now) c.args.tiploc.now)
+    (sym (c.of-in-None-2.ensures ∙ c.of-in-None.ensures
+    ∙ ap (rows_here true c.args.tiploc.now) (ap (map row_meant) c.as_slice-rows.ensures.rows ∙ ap (λ (s : State). s.entries) c.self.view_is)))
+    (linked_sifted c.args.self.now (subst IsValid c.self.view_is c.self.invariant.valid) c.args.tiploc.now)

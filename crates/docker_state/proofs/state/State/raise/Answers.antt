@@ -9,7 +9,7 @@ invariant_of-self c = record {
   valid = raised_valid c.self.inside.horizon c.args.horizon (omega arith) c.self.inside.ledger.items c.self.inside.entries c.lapse.new.self
       c.lapse.ensures.lapsed c.requires c.self.invariant.valid;
   indexed = lapsed_index c.self.inside.entries c.lapse.new.self c.args.horizon c.lapse.ensures.lapsed c.as_slice.result.now c.as_slice.ensures.rows
-      c.self.inside.index c.lapse-then-lapse.new.self c.self.invariant.indexed c.lapse-then-lapse.ensures;
+      c.self.inside.index c.lapse_index.new.index c.self.invariant.indexed c.lapse_index.ensures;
 }
 
 pub invariant_of-self-else-lapse : goal.invariant_of-self-else-lapse

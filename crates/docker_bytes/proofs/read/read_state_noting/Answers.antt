@@ -3,7 +3,7 @@ use Rattle.docker_model.specs.state.StateText.{dks_2}
 use Rattle.docker_bytes.specs.ReadEnds.{as_it_is}
 use Rattle.docker_bytes.specs.SourceRead.{ReadsMade, ReadsState, WantsMemory}
 use Rattle.docker_bytes.proofs.ReadLemmas.{ends_with, read_itself}
-use Rattle.docker_bytes.proofs.read.read_state.Goals as goal
+use Rattle.docker_bytes.proofs.read.read_state_noting.Goals as goal
 
 pub returns : goal.returns
 returns g c =

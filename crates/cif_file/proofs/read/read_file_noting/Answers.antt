@@ -4,7 +4,7 @@ use Rattle.std.specs.Prelude.{⊤}
 use Rattle.cif_file.specs.SourceRead.{ReadsText}
 use Rattle.cif_file.proofs.EndedLemmas.{reads_text, reads_parts}
 use Rattle.cif_file.proofs.ReadLemmas.{wants_any}
-use Rattle.cif_file.proofs.read.read_file.Goals as goal
+use Rattle.cif_file.proofs.read.read_file_noting.Goals as goal
 
 pub into_file-requires : goal.into_file-requires
 into_file-requires g c = reads_parts c.args.limit (g.S.Source.left c.args.source.now) c.in-Ok.ended c.requires.limit c.in-Ok.ensures.ok

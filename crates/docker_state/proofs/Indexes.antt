@@ -1,0 +1,15 @@
+-- A state's index, if there is one.
+use Rattle.std.proofs.Common.{◌≡◌, ℕ, List, map, ap, sym, ◌∙◌, subst, Some, None}
+use Rattle.std.specs.Prelude.{Option}
+use Rattle.docker_model.specs.file.Change as model
+use Rattle.docker_model.specs.state.Op as ops
+use Rattle.cif_file.specs.MadeChanges.{AreNotesOf}
+use Rattle.state_index.specs.Notes.{Notes}
+use Rattle.state_index.specs.Noted.{ArePicked, items_of, items_put}
+use Rattle.docker_state.specs.Indexed.{ArePickedNotes}
+
+-- rows that are picked of changes, which are noted, are picked of the notes
+pub picked_of_changes : (changes : List model.Change) (notes : Option Notes) (order : List ℕ) (rows : List (model.Key × ops.Entry))
+    → AreNotesOf changes notes → ArePicked (items_put changes) order (items_of rows) → ArePickedNotes order rows notes
+picked_of_changes changes None order rows noted picked = tt
+picked_of_changes changes (Some notes) order rows noted picked = (items_put changes, noted, picked)

@@ -1,0 +1,91 @@
+-- Rows that changes make, without numbers, and the last row of each key's run.
+use Rattle.std.proofs.Common.{◌≡◌, ℕ, suc, ◌<◌, List, [], ◌∷◌, ◌++◌, map, length, get_or, refl, ap, sym, ◌∙◌, subst, Contains, All, Bool, false, cond, Some, arith}
+use Rattle.std.specs.Prelude.{slice_get, ◌↔◌}
+use Rattle.std.specs.List.{AllByRecursion}
+use Rattle.std.specs.List.Sorted.{IsSorted, IsPermutation}
+use Rattle.std.specs.Ordering.{is_lt}
+use Rattle.std.proofs.lemmas.List.{map-append}
+use Rattle.std.proofs.lemmas.List.Elements.{All-contains}
+use Rattle.std.proofs.lemmas.List.Sorted.{ranks_by, sorted_far, Contains-permutation, IsPermutation-sym, IsPermutation-map}
+use Rattle.docker_model.specs.file.Change as model
+use Rattle.docker_model.specs.state.Stamp.{FileStamp}
+use Rattle.docker_model.specs.state.Op as ops
+use Rattle.docker_model.specs.state.Order.{IsAtMost}
+use Rattle.docker_model.specs.state.State.{IsGreatestAmong}
+use Rattle.cif_file.specs.Key.{Key}
+use Rattle.cif_file.specs.Meaning.{key_meant}
+use Rattle.docker_join.specs.declared.entry.Entry.{Entry}
+use Rattle.docker_join.specs.Meaning.{op_meant}
+use Rattle.docker_join.specs.Records.{HasRecords}
+use Rattle.docker_join.specs.Rows.{AreAscending}
+use Rattle.docker_state.specs.Meaning.{row_meant}
+use Rattle.docker_state.specs.Rows.{is_of_key, last_rows, made_by}
+use Rattle.docker_state.proofs.LastRows.{by_entry, AreSorted, lasts_ascend}
+use Rattle.docker_state.proofs.GreatestRows.{by_entry_total, not_under, last_is_greatest, greatest_is_last}
+
+-- one more change makes one more row
+pub one_row_more : (file : FileStamp) (changes : List model.Change) (change : model.Change) (rows after : List (Key × Entry)) (row : Key × Entry)
+    → after ≡ rows ++ row ∷ [] → row_meant row ≡ made_by file change → map row_meant rows ≡ map (made_by file) changes
+    → map row_meant after ≡ map (made_by file) (changes ++ change ∷ [])
+one_row_more file changes change rows after row pushed same before =
+    ap (map row_meant) pushed ∙ map-append row_meant rows (row ∷ []) ∙ (λ i. before i ++ same i ∷ []) ∙ sym (map-append (made_by file) changes (change ∷ []))
+
+-- a row whose key the next row doesn't have is a last one
+pub one_apart_more : (row : Key × Entry) (behind : List (Key × Entry)) → is_of_key (slice_get behind 0) (key_meant row.0) ≡ false
+    → last_rows behind ≡ behind → last_rows (row ∷ behind) ≡ row ∷ behind
+one_apart_more row [] apart rest = refl
+one_apart_more row (next ∷ rows) apart rest =
+    (λ i. cond (apart i) (last_rows (next ∷ rows)) (row ∷ last_rows (next ∷ rows))) ∙ ap (λ (xs : List (Key × Entry)). row ∷ xs) rest
+
+all_at : (P : Key × Entry → Type 0) (xs : List (Key × Entry)) → ((j : ℕ) (d : Key × Entry) → j < length xs → P (get_or xs j d)) → AllByRecursion P xs
+all_at P [] each = tt
+all_at P (x ∷ xs) each = (each 0 x (omega arith), all_at P xs (λ j d within. each (suc j) d (omega arith)))
+
+from_far : (xs : List (Key × Entry)) → ((i j : ℕ) (d : Key × Entry) → i < j → j < length xs → is_lt (by_entry (get_or xs j d) (get_or xs i d)) ≡ false)
+    → AreSorted xs
+from_far [] far = tt
+from_far (x ∷ xs) far = (
+  all_at (IsAtMost by_entry x) xs (λ j d within. not_under x (get_or xs j d) (far 0 (suc j) d (omega arith) (omega arith))),
+  from_far xs (λ i j d before within. far (suc i) (suc j) d (omega arith) (omega arith)),
+)
+
+-- sorted rows, each above none of the later ones
+pub rows_sorted : (xs : List (Key × Entry)) → IsSorted by_entry xs → AreSorted xs
+rows_sorted xs up = from_far xs
+    (λ i j d before within. sorted_far (λ x y. is_lt (by_entry x y)) (ranks_by by_entry_total (λ m. m)) xs up i j d (omega arith) within)
+
+-- what is the greatest among rows is the greatest in every order of them
+along : (xs ys : List (model.Key × ops.Entry)) → ((pair : model.Key × ops.Entry) → Contains xs pair → Contains ys pair)
+    → ((pair : model.Key × ops.Entry) → Contains ys pair → Contains xs pair)
+    → (key : model.Key) (entry : ops.Entry) → IsGreatestAmong xs key entry → IsGreatestAmong ys key entry
+along xs ys to from key entry best = record { among = to (key, entry) best.among; greatest = λ other among. best.greatest other (from (key, other) among) }
+
+module _ (old new out : List (Key × Entry)) (sorted : IsSorted by_entry new) (moved : IsPermutation old new) (last : out ≡ last_rows new) where
+  -- the last rows of sorted rows ascend
+  pub lasts_in_order : AreAscending out
+  lasts_in_order = subst (λ (rows : List (Key × Entry)). AreAscending rows) (sym last) (lasts_ascend new (rows_sorted new sorted))
+
+  -- they have the greatest entry of each key
+  pub lasts_are_greatest : All (λ (row : Key × Entry). HasRecords (op_meant row.1.op)) old → (key : model.Key) (entry : ops.Entry)
+      → Contains (map row_meant out) (key, entry) ↔ IsGreatestAmong (map row_meant old) key entry
+  lasts_are_greatest have key entry = (
+    λ among. along (map row_meant new) (map row_meant old) from to key entry
+        (last_is_greatest new (rows_sorted new sorted) records key entry
+        (subst (λ (rows : List (Key × Entry)). Contains (map row_meant rows) (key, entry)) last among)),
+    λ best. subst (λ (rows : List (Key × Entry)). Contains (map row_meant rows) (key, entry)) (sym last)
+        (greatest_is_last new (rows_sorted new sorted) records key entry (along (map row_meant old) (map row_meant new) to from key entry best)),
+  )
+    where
+      meant : IsPermutation (map row_meant old) (map row_meant new)
+      meant = IsPermutation-map row_meant old new moved
+
+      to : (pair : model.Key × ops.Entry) → Contains (map row_meant old) pair → Contains (map row_meant new) pair
+      to pair among = Contains-permutation (map row_meant old) (map row_meant new) pair meant among
+
+      from : (pair : model.Key × ops.Entry) → Contains (map row_meant new) pair → Contains (map row_meant old) pair
+      from pair among =
+          Contains-permutation (map row_meant new) (map row_meant old) pair (IsPermutation-sym (map row_meant old) (map row_meant new) meant) among
+
+      records : (row : Key × Entry) → Contains new row → HasRecords (op_meant row.1.op)
+      records row among =
+          All-contains (λ (r : Key × Entry). HasRecords (op_meant r.1.op)) old row have (Contains-permutation new old row (IsPermutation-sym old new moved) among)

@@ -1,0 +1,118 @@
+//! The index of a state's rows, if it is to have one.
+ghost use Rattle.std.specs.Prelude.{◌≡◌, ◌≤◌, ◌++◌, [], ◌∷◌, ℕ, List, length, map, vec_len, vec_capacity, IsOk, IsErr, IfOk};
+ghost use Rattle.docker_model.specs.file.Change as model;
+ghost use Rattle.docker_model.specs.state.Op as ops;
+ghost use Rattle.docker_model.specs.state.Lapse.{lapse_entries};
+ghost use Rattle.docker_model.specs.state.State.{AreAscending};
+ghost use Rattle.cif_file.specs.MadeChanges.{AreNotesOf};
+ghost use Rattle.cif_file.specs.Meaning.{key_meant};
+ghost use Rattle.docker_join.specs.Meaning.{op_meant};
+ghost use Rattle.state_index.specs.Noted.{Item, items_of};
+ghost use Rattle.state_index.specs.Rooms.{AreMadeBy};
+ghost use Rattle.docker_state.specs.Indexed.{ArePickedNotes, HasNotedIfAny, HasRoomIfAny, IsIndexIfAny};
+ghost use Rattle.docker_state.specs.Meaning.{row_meant};
+
+use cif_file::Key;
+use cif_line::Memory;
+use docker_join::{Entry, Op};
+use state_index::{Index, Notes, Piece, Room, note_row, notes_of_rows};
+use std::alloc::Global;
+
+/// The index of rows, from their notes, if there are notes. `Memory` if the allocator refuses it.
+pub(crate) fn index_of_notes(
+    alloc: Global,
+    notes: Option<Notes>,
+    rows: &[(Key, Entry)],
+) -> Result<Option<Index>, Memory>
+    requires { HasNotedIfAny (items_of (map row_meant rows.now)) notes }
+    ensures { IfOk result (IsIndexIfAny (map row_meant rows.now)) }
+{
+    match notes {
+        Some(notes) => {
+            let room = Room::for_notes(alloc, &notes)?;
+            Ok(Some(Index::of_rows(room, notes, rows)))
+        }
+        None => Ok(None),
+    }
+}
+
+/// The index of rows, if it is wanted. `Memory` if the allocator refuses it.
+pub(crate) fn index_if(
+    alloc: Global,
+    rows: &[(Key, Entry)],
+    wanted: bool,
+) -> Result<Option<Index>, Memory>
+    ensures { IfOk result (IsIndexIfAny (map row_meant rows.now)) }
+{
+    if !wanted {
+        return Ok(None);
+    }
+    let notes = notes_of_rows(alloc, rows)?;
+    index_of_notes(alloc, Some(notes), rows)
+}
+
+/// Notes the next row, a key with its op, if rows are noted. If it returns `Memory`, the row isn't
+/// noted.
+pub(crate) fn note_if(notes: &mut Option<Notes>, key: &Key, op: &Op) -> Result<(), Memory>
+    ensures ok { IsOk result → (items : List Item) → HasNotedIfAny items notes.old
+        → HasNotedIfAny (items ++ (key_meant key.now, op_meant op.now) ∷ []) notes.new }
+    ensures err { IsErr result → (items : List Item) → HasNotedIfAny items notes.old
+        → HasNotedIfAny items notes.new }
+{
+    match notes {
+        Some(notes) => note_row(notes, key, op),
+        None => Ok(()),
+    }
+}
+
+/// Room for the index of the rows that noted changes make, one for each key, if they are noted.
+/// `Memory` if the allocator refuses it.
+pub(crate) fn room_for_notes(alloc: Global, notes: &Option<Notes>) -> Result<Option<Room>, Memory>
+    ensures { (changes : List model.Change) (rows : List (model.Key × ops.Entry))
+        → AreNotesOf changes notes.now → AreAscending rows → AreMadeBy changes rows
+        → IfOk result (HasRoomIfAny rows notes.now) }
+{
+    match notes {
+        Some(notes) => {
+            let room = Room::for_notes(alloc, notes)?;
+            Ok(Some(room))
+        }
+        None => Ok(None),
+    }
+}
+
+/// The index of rows, in the room for it, if they are noted. Their notes are at these numbers of
+/// all that was noted, and their pieces go into `pieces`, which is empty and has room for them.
+pub(crate) fn picked_index(
+    room: Option<Room>,
+    notes: Option<Notes>,
+    order: &[u32],
+    pieces: Vec<Piece>,
+    rows: &[(Key, Entry)],
+) -> Option<Index>
+    requires room { HasRoomIfAny (map row_meant rows.now) notes room }
+    requires noted { ArePickedNotes order.now (map row_meant rows.now) notes }
+    requires none { pieces.items ≡ [] }
+    requires empty { vec_len pieces ≡ 0 }
+    requires place { length order.now ≤ vec_capacity pieces }
+    ensures { IsIndexIfAny (map row_meant rows.now) result }
+{
+    match (room, notes) {
+        (Some(room), Some(notes)) => {
+            let notes = notes.picked(order, pieces);
+            Some(Index::of_rows(room, notes, rows))
+        }
+        _ => None,
+    }
+}
+
+/// Takes the marks of rows that have lapsed out of the index, if there is one.
+pub(crate) fn lapse_index(index: &mut Option<Index>, rows: &[(Key, Entry)])
+    ensures { (before : List (model.Key × ops.Entry)) (horizon : ℕ)
+        → map row_meant rows.now ≡ lapse_entries horizon before
+        → IsIndexIfAny before index.old → IsIndexIfAny (map row_meant rows.now) index.new }
+{
+    if let Some(index) = index {
+        index.lapse(rows);
+    }
+}

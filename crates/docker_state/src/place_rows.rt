@@ -1,0 +1,112 @@
+//! The live rows at a place, by an index or by a walk over all rows.
+ghost use Rattle.std.specs.Prelude.{◌≡◌};
+ghost use Rattle.std.specs.Iterator.{YieldsFirstBy, item_count};
+ghost use Rattle.cif_file.specs.Meaning.{key_meant, body_meant};
+ghost use Rattle.docker_state.specs.Walked.{rows_walked};
+
+use crate::sifted::SiftedRows;
+use cif_file::{Body, Key};
+use state_index::Numbered as MarkedRows;
+use std::marker::Model;
+
+/// A walk over the live rows at a place.
+#[derive(Clone, Debug, Drop)]
+pub(crate) enum Walk<'a> {
+    /// Over the rows that an index names.
+    Marked(MarkedRows<'a>),
+    /// Over all rows.
+    Sifted(SiftedRows<'a>),
+}
+
+impl<'a> Walk<'a> {
+    /// The next row, with its index.
+    fn next(&mut self) -> Option<(usize, &'a Key, &'a Body)>
+        ensures { YieldsFirstBy (λ row. (key_meant row.1.now, body_meant row.2.now))
+            rows_walked self.old result self.new }
+    {
+        match self {
+            Walk::Marked(rows) => rows.next(),
+            Walk::Sifted(rows) => rows.next(),
+        }
+    }
+}
+
+/// Walks over the live rows at a place, in key order. It gives each row's index, key and body. No
+/// clause says that the index is right: it only says where to look first, and no result depends on
+/// it.
+#[derive(Clone, Debug, Drop)]
+pub struct Numbered<'a> {
+    walk: Walk<'a>,
+}
+
+impl<'a> Model for Numbered<'a> {
+    ghost use Rattle.std.specs.Prelude.{List};
+    ghost use Rattle.state_laws.specs.Row.{Row};
+    ghost use Rattle.docker_state.specs.Walked.{rows_walked};
+
+    ghost Value = { List Row };
+
+    ghost view = { λ numbered. rows_walked numbered.walk };
+}
+
+impl<'a> Iterator for Numbered<'a> {
+    type Item = (usize, &'a Key, &'a Body);
+
+    ghost next_gives = { YieldsFirstBy
+        (λ row. (key_meant row.1.now, body_meant row.2.now)) (λ numbered. numbered) };
+
+    ghost remaining = { item_count (λ numbered. numbered) };
+
+    fn next(&mut self) -> Option<(usize, &'a Key, &'a Body)> {
+        self.walk.next()
+    }
+}
+
+/// Walks over the live rows at a place, in key order. It gives each row's key and body.
+#[derive(Clone, Debug, Drop)]
+pub struct PlaceRows<'a> {
+    numbered: Numbered<'a>,
+}
+
+impl<'a> Model for PlaceRows<'a> {
+    ghost use Rattle.std.specs.Prelude.{List};
+    ghost use Rattle.state_laws.specs.Row.{Row};
+
+    ghost Value = { List Row };
+
+    ghost view = { λ rows. rows.numbered };
+}
+
+impl<'a> PlaceRows<'a> {
+    /// The rows of a walk.
+    pub(crate) fn of(walk: Walk<'a>) -> PlaceRows<'a>
+        ensures { result ≡ rows_walked walk.entry }
+    {
+        PlaceRows {
+            numbered: Numbered { walk },
+        }
+    }
+
+    /// The same walk, with each row's index, counted from 0.
+    pub fn numbered(self) -> Numbered<'a>
+        ensures { result ≡ self.entry }
+    {
+        self.numbered
+    }
+}
+
+impl<'a> Iterator for PlaceRows<'a> {
+    type Item = (&'a Key, &'a Body);
+
+    ghost next_gives = { YieldsFirstBy
+        (λ row. (key_meant row.0.now, body_meant row.1.now)) (λ rows. rows) };
+
+    ghost remaining = { item_count (λ rows. rows) };
+
+    fn next(&mut self) -> Option<(&'a Key, &'a Body)> {
+        match self.numbered.next() {
+            Some((_, key, body)) => Some((key, body)),
+            None => None,
+        }
+    }
+}
