@@ -162,7 +162,7 @@ def defined_in(path):
 
 
 def file_of(crate, module):
-    """The file of definitions that `Rattle.crate.specs.module` leads to. A crate re-exports files of other crates in its list."""
+    """The file of definitions that `Rattle.crate.specs.module` leads to. A crate's `Lib.antt` may name a file of another crate."""
     path = ROOT / "crates" / crate / "specs" / (module.replace(".", "/") + ".antt")
     listing = ROOT / "crates" / crate / "specs" / "Lib.antt"
     if path.is_file() or not listing.is_file():

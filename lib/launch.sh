@@ -13,10 +13,10 @@ memory_of_a_check=$((5 * 1024 * 1024))
 
 # What is under way: for each process its crate, and the second in which it began.
 declare -A under_way=() began=()
-# The crates that wait, in the order in which they should begin; for each crate the crates that it
-# cites; and the crates that are proved.
+# The crates that wait, in the order in which they should begin, and the crates that are proved. For
+# each crate the crates that it cites, and the checksum of what its proof rests on.
 declare -a waiting=()
-declare -A cites=() is_proved=()
+declare -A cites=() is_proved=() sums=()
 # A process that ends soon, while a crate waits for memory.
 pause=
 
@@ -48,6 +48,25 @@ plan() {
         }
     }' "$root/crates.txt"
 }
+
+# The checksum of what a crate's proof rests on: the kit, the crate's line in crates.txt, its sources
+# and proofs, and the checksums of the crates that it cites. Those have to be known.
+sum_of() {
+  local crate=$1 kit=$2 cited
+  {
+    echo "$kit"
+    grep "^$crate:" "$root/crates.txt"
+    for cited in ${cites[$crate]}; do echo "$cited ${sums[$cited]}"; done
+    cd "$root/crates/$crate"
+    find . -name out -prune -o \( -name '*.rt' -o -name '*.antt' \) -print0 | LC_ALL=C sort -z | xargs -0r sha256sum
+  } | sha256sum
+}
+
+# Whether an earlier launch has proved a crate as it is now.
+was_proved() { [ "$(cat "$root/crates/$1/out/proved" 2>/dev/null)" = "${sums[$1]}" ]; }
+
+# Keeps that a crate is proved as it was when the launch began.
+keep_proved() { mkdir -p "$root/crates/$1/out" && echo "${sums[$1]}" >"$root/crates/$1/out/proved"; }
 
 # Whether a program is older than one of its sources, or isn't there.
 is_old() {
@@ -125,18 +144,21 @@ time_since() {
 }
 
 # Proves the crates of a program in lanes: one for each two processors, and at least two. A crate
-# begins when the crates that it cites are proved. After a failure no other crate begins, and the
-# checks that are under way run to their end.
+# begins when the crates that it cites are proved. A crate that an earlier launch has proved isn't
+# asked again. After a failure no other crate begins, and the checks that are under way run to their
+# end.
 prove() {
-  local program=$1 logs=$2 start=$SECONDS failed='' crate rest total lanes ended status
+  local program=$1 logs=$2 start=$SECONDS failed='' kit crate rest total lanes ended status
+  kit=$(rt version)
   while read -r crate rest; do
-    waiting+=("$crate")
     cites[$crate]=$rest
+    sums[$crate]=$(sum_of "$crate" "$kit")
+    if was_proved "$crate"; then is_proved[$crate]=yes; else waiting+=("$crate"); fi
   done < <(plan "$program")
-  total=${#waiting[@]}
+  total=$((${#waiting[@]} + ${#is_proved[@]}))
   lanes=$(($(nproc) / 2))
   ((lanes >= 2)) || lanes=2
-  say "proving $total crates and building the program: the first time up to an hour on four processors, later only what changed"
+  say "proving ${#waiting[@]} crates of $total and building the program: the first time up to an hour on four processors, later only what changed"
   while begin_more "${failed:-$lanes}" "$logs"; ((${#under_way[@]} > 0)); do
     status=0
     wait -n -p ended || status=$?
@@ -145,6 +167,7 @@ prove() {
     unset "under_way[$ended]"
     if ((status == 0)); then
       is_proved[$crate]=yes
+      keep_proved "$crate"
       say "$crate is proved (${#is_proved[@]} of $total, $((SECONDS - began[$ended])) s; $(time_since "$start") so far)"
     else
       failed=0

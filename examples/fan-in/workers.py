@@ -1,5 +1,5 @@
 #!/usr/bin/python3
-"""Merges states by the workers of a Dask cluster: whichever two are there first are merged next, so that the tree is another in each run.
+"""Merges states by the workers of a Dask cluster. Whichever two are there first are merged next, so the tree differs from run to run.
 
   workers.py [--scheduler ADDRESS] DOCKER FOLDER TARGET STATE..
 

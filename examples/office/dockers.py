@@ -42,8 +42,12 @@ PATIENCE = 300
 UNKNOWN = 5
 # The status with which a desk refuses a line that it doesn't know.
 NO_REQUEST = 2
-# What is asked once of each STATE.
+# The status of an answer to good words that says that nobody knows the request.
+LACKING = (UNKNOWN, NO_REQUEST)
+# What is asked once of each STATE; and of `permanent`, that a desk doesn't know it.
 LISTS = (("files",), ("known",), ("places",))
+# How many bytes of requests are sent together: no pipe takes less.
+TOGETHER = 4096
 
 
 class Answer(NamedTuple):
@@ -121,6 +125,21 @@ def advice(line):
     return next((f"{means}. {what}" for name, means, what in (cause.split("\t") for cause in causes) if name == fault), "")
 
 
+def wrong_place(word):
+    """The answer to a word that is no place; None if it is one."""
+    return None if is_tiploc(word) else Answer(2, f"{word!r} is no place: a code has one to seven characters\n".encode())
+
+
+def wrong_day(word):
+    """The answer to a word that is no day; None if it is one."""
+    return None if is_date(word) else Answer(2, f"{word!r} is no day: write YYYY-MM-DD, from 1960 to 2059\n".encode())
+
+
+def wrong_train(uid, date):
+    """The answer to words that name no train on a day; None if they do."""
+    return wrong_day(date) if UID.fullmatch(uid) else Answer(2, f"{uid!r} is no UID: it has six characters\n".encode())
+
+
 def identity(path):
     """The identity of the file at a path: another file that takes its place has another."""
     try:
@@ -143,11 +162,13 @@ class Reader:
 
     def print_docker(self, tiploc, date):
         """The docker of a place on a day."""
-        if not is_tiploc(tiploc):
-            return Answer(2, f"{tiploc!r} is no place: a code has one to seven characters\n".encode())
-        if not is_date(date):
-            return Answer(2, f"{date!r} is no day: write YYYY-MM-DD, from 1960 to 2059\n".encode())
-        return self.ask(("print", tiploc, date))
+        return wrong_place(tiploc) or wrong_day(date) or self.ask(("print", tiploc, date))
+
+    def permanent(self, tiploc, date):
+        """The docker of a place on a day without short-term schedules and associations. Only `desk` knows it, as `places`."""
+        if not self.has_trains:
+            return Answer(UNKNOWN, b"what is permanent needs the program desk\n")
+        return wrong_place(tiploc) or wrong_day(date) or self.ask(("permanent", tiploc, date))
 
     def files(self):
         """The list of files that STATE is made of."""
@@ -163,11 +184,17 @@ class Reader:
 
     def train(self, uid, date):
         """The schedule of a UID on a day. Only `desk` knows it."""
-        if UID.fullmatch(uid) is None:
-            return Answer(2, f"{uid!r} is no UID: it has six characters\n".encode())
-        if not is_date(date):
-            return Answer(2, f"{date!r} is no day: write YYYY-MM-DD, from 1960 to 2059\n".encode())
-        return self.ask(("train", uid, date)) if self.has_trains else Answer(UNKNOWN, b"a train by itself needs the program desk\n")
+        if not self.has_trains:
+            return wrong_train(uid, date) or Answer(UNKNOWN, b"a train by itself needs the program desk\n")
+        return wrong_train(uid, date) or self.ask(("train", uid, date))
+
+    def trains(self, wanted):
+        """The schedules of many UIDs, each with its day. They are asked for together."""
+        if not self.has_trains:
+            return [self.train(*one) for one in wanted]
+        refused = [wrong_train(*one) for one in wanted]
+        answers = iter(self.ask_all([("train", *one) for one, fault in zip(wanted, refused) if fault is None]))
+        return [fault or next(answers) for fault in refused]
 
     def close(self):
         """Ends what was started."""
@@ -220,6 +247,25 @@ class Ended(Exception):
     """The process of `desk` is gone, or what it wrote is no answer."""
 
 
+def line_of(request):
+    """A request as the line that `desk` reads."""
+    return " ".join(request).encode("ascii") + b"\n"
+
+
+def together(requests):
+    """Parts of some requests. A pipe that is empty takes each part whole, so that to send it waits for nobody to read answers."""
+    part, size = [], 0
+    for request in requests:
+        length = len(line_of(request))
+        if size + length > TOGETHER:
+            yield part
+            part, size = [], 0
+        part.append(request)
+        size += length
+    if part:
+        yield part
+
+
 class Desk(Reader):
     """One process of `desk`, without --write, so that nothing that is asked changes STATE. It is started with the first request, and again
     where it ended."""
@@ -234,26 +280,39 @@ class Desk(Reader):
         self.lists = {}
 
     def ask(self, request):
+        return self.tried(lambda: [self.kept(request) or self.answered(request)], 1)[0]
+
+    def ask_all(self, requests):
+        """The answers to many requests. They are sent together, so that none waits for the answer to another."""
+        return self.tried(lambda: [answer for part in together(requests) for answer in self.exchange(part)], len(requests))
+
+    def tried(self, asks, number):
+        """A number of answers, asked again if the process ended. If there is a fault, it is each answer."""
         with self.turn:
             for _ in range(2):
                 try:
                     fault = self.renewed()
-                    return fault or self.lists.get(request) or self.answered(request)
+                    if fault is None:
+                        return asks()
                 except Ended:
                     fault = self.end()
-                    if fault is not None:
-                        return fault
-            return Answer(4, b"desk: ended twice without an answer\n")
+                if fault is not None:
+                    return [fault] * number
+            return [Answer(4, b"desk: ended twice without an answer\n")] * number
 
     def at_hand(self, tiploc, date):
         """The docker of a place, if asking for it reads no STATE: here always."""
         return self.print_docker(tiploc, date)
 
+    def kept(self, request):
+        """The list that a request asks for, if it was read since STATE changed, or that the process doesn't know the request."""
+        return self.lists.get(request) or self.lists.get(request[:1])
+
     def answered(self, request):
         """The answer of the process. A list is kept until STATE changes, and so is that there is none."""
-        answer = self.exchange(" ".join(request))
-        if request in LISTS and answer.status in (0, NO_REQUEST):
-            self.lists[request] = answer
+        answer = self.exchange([request])[0]
+        if request in LISTS and answer.status in (0, NO_REQUEST) or request[0] == "permanent" and answer.status == NO_REQUEST:
+            self.lists[request[:1]] = answer
         return answer
 
     def renewed(self):
@@ -265,7 +324,7 @@ class Desk(Reader):
             self.start()
         elif now != self.seen:
             if grew(self.knowledge, known):
-                answer = self.exchange("renew")
+                answer = self.exchange([("renew",)])[0]
                 if answer.status != 0:
                     return answer
             else:
@@ -278,26 +337,29 @@ class Desk(Reader):
     def start(self):
         self.process = subprocess.Popen([self.program, self.state], stdin=subprocess.PIPE, stdout=subprocess.PIPE, stderr=subprocess.PIPE)
 
-    def exchange(self, line):
-        """Sends a line and reads its answer: a header `STATUS LINES BYTES`, and that number of bytes."""
+    def exchange(self, requests):
+        """Sends requests, a line each, and reads their answers."""
         watch = threading.Timer(PATIENCE, self.process.kill)
         watch.start()
         try:
-            self.process.stdin.write(line.encode("ascii") + b"\n")
+            self.process.stdin.write(b"".join(map(line_of, requests)))
             self.process.stdin.flush()
-            header = self.process.stdout.readline(64)
-            found = re.fullmatch(rb"([0-4]) (\d+) (\d+)\n", header)
-            if found is None:
-                raise Ended
-            status, lines, length = (int(number) for number in found.groups())
-            text = self.process.stdout.read(length)
-            if len(text) != length or text.count(b"\n") != lines:
-                raise Ended
-            return Answer(status, text)
+            return [self.read() for _ in requests]
         except OSError as error:
             raise Ended from error
         finally:
             watch.cancel()
+
+    def read(self):
+        """Reads an answer: a header `STATUS LINES BYTES`, and that number of bytes."""
+        found = re.fullmatch(rb"([0-4]) (\d+) (\d+)\n", self.process.stdout.readline(64))
+        if found is None:
+            raise Ended
+        status, lines, length = (int(number) for number in found.groups())
+        text = self.process.stdout.read(length)
+        if len(text) != length or text.count(b"\n") != lines:
+            raise Ended
+        return Answer(status, text)
 
     def end(self):
         """Ends the process. If it ended by itself with a line on standard error, as where STATE is refused, that is its fault."""
@@ -308,12 +370,13 @@ class Desk(Reader):
             process.stdin.close()
         except OSError:
             pass
-        process.stdout.close()
+        # It may have answers to write still. If nobody could read them, it would end with a fault.
         try:
             process.wait(timeout=1)
         except subprocess.TimeoutExpired:
             process.kill()
             process.wait()
+        process.stdout.close()
         told = process.stderr.read()
         process.stderr.close()
         return Answer(process.returncode, told) if 1 <= process.returncode <= 4 and told else None
@@ -343,8 +406,8 @@ def knowledge(path):
 
 
 def grew(before, after):
-    """Whether a state has all that another had, so that their join is that state: no lower horizon, and each file that still counts. Of a
-    state that can't be read it is left to `desk` to say what is wrong."""
+    """Whether a state has all that another had, so that their join is that state: no lower horizon, and each file that still counts. If
+    either can't be read, the answer is yes, and `desk` says what is wrong."""
     if before is None or after is None:
         return True
     floor = next((item[:11] for item in after.items if item[11:12] == b"F"), b"")

@@ -5,9 +5,11 @@
 //   INTERRUPT=1  each read and each write is interrupted once before it moves a byte
 //   UNLOCKED=1   each lock is granted, and holds nothing
 // The first time that one of these happens, the file that TOLD names is made, and has the call's
-// name. The file that WRONG names is made, and has the call's name, if a file is opened under the
-// number of a standard stream, is read again after its end, is written nothing, or is renamed
-// before all that was written is flushed.
+// name. The file that WRONG names is made, with the call's name, if a call does one of these:
+//   it opens a file under the number of a standard stream
+//   it reads a file again after its end
+//   it writes nothing to a file
+//   it renames a file before all that was written is flushed
 #define _GNU_SOURCE
 #include <dlfcn.h>
 #include <errno.h>

@@ -39,7 +39,7 @@ class Browser:
         self.ask("/url", {"url": address})
 
     def run(self, script, *words):
-        """What a function's body of JavaScript gives in the page."""
+        """What the page returns for the body of a JavaScript function."""
         return self.ask("/execute/sync", {"script": script, "args": list(words)})
 
     def keys(self, text):

@@ -25,7 +25,9 @@ NAMES = {"ASHFELD": "Ashfeld Junction", "BRAYTON": "Brayton", "CORHAM": "Corham 
 # What a page says for each kind, and for what an association leads to.
 WORDS = {"A": "arrives", "P": "passes", "D": "departs", "J": "is joined", "V": "divides", "N": "goes on"}
 LEADS = {"J": "by", "V": "into", "N": "as"}
-ROWS = "return [...document.querySelectorAll('#day tr')].map(row => [...row.cells].map(cell => cell.textContent))"
+# The cells of each row, without what differs.
+CELLS = "row => [...row.cells].slice(0, row.cells.length - document.querySelectorAll('#docker thead .change').length).map(cell => cell.textContent)"
+ROWS = f"return [...document.querySelectorAll('#day tr')].map({CELLS})"
 SHOWN = "return [...document.querySelectorAll('#day tr')].map(row => row.getBoundingClientRect()).map(box => box.height ? [box.top, box.bottom] : null)"
 
 
@@ -33,13 +35,17 @@ def run(*words):
     return subprocess.run([DOCKER, *words], stdin=subprocess.DEVNULL, capture_output=True, check=True).stdout
 
 
-def knows_places():
-    """Whether the program `desk` knows `places`: one of an older version doesn't."""
+def knows(request):
+    """Whether the program `desk` knows a request: one of an older version doesn't."""
     if REAL is None:
         return False
     with tempfile.TemporaryDirectory() as folder:
         run("new", f"{folder}/STATE")
-        return subprocess.run([REAL, f"{folder}/STATE"], input=b"places\n", capture_output=True, check=False).stdout.startswith(b"0 ")
+        return subprocess.run([REAL, f"{folder}/STATE"], input=f"{request}\n".encode(), capture_output=True, check=False).stdout.startswith(b"0 ")
+
+
+def knows_places():
+    return knows("places")
 
 
 def rows_of(text, names=None):
@@ -50,7 +56,8 @@ def rows_of(text, names=None):
         suffix, platform, track, path, public = line[22].strip(), line[24:27].strip(), line[28:31].strip(), line[32:35].strip(), line[36:40].strip()
         clock = at[:2] + ":" + at[2:4] + at[4].replace("H", "½").strip()
         if kind in LEADS:
-            ends = [f"{LEADS[kind]} {line[49:53]} {line[41:47]}"]
+            other, identity = line[41:47], line[49:53]
+            ends = [f"{LEADS[kind]} {other}, which doesn't run" if identity == "????" else f"{LEADS[kind]} {identity} {other}"]
         else:
             ends = [names.get(code, code) for code in (line[41:48].strip(), line[49:56].strip())]
         rows.append([clock, WORDS[kind], train, platform, path, track, public and public[:2] + ":" + public[2:], *ends, uid, suffix, stp])

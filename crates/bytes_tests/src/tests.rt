@@ -80,7 +80,7 @@ fn known_text(rt: &impl Abort, alloc: Global) -> Vec<u8> {
     joined_text(rt, alloc, &[MARK, ONE, ITEM, ONE, HEAD, BS, LO, LT])
 }
 
-/// The state of that file.
+/// The state of the file of 9 June with its schedule.
 fn known_state(rt: &impl Abort, alloc: Global) -> State {
     state(rt, alloc, &[HD, BS, LO, LT, ZZ])
 }
@@ -228,7 +228,7 @@ type Row = (&'static [&'static [u8]], u64, StateCause);
 /// Where the parts of the text of a schedule begin, for cutting it.
 const BEGINNINGS: [u64; 6] = [0, 4, 6, 14, 33, 41];
 
-/// The last of these places that isn't after a length. They ascend from 0.
+/// The last of these places that isn't after a length. The places ascend from 0.
 fn last_place(places: &[u64], len: usize) -> u64 {
     let mut last = 0;
     for place in places {

@@ -1,8 +1,10 @@
--- The lines that the reader of a schedule has taken, according to what it keeps.
-use Rattle.std.proofs.Common.{◌≡◌, ℕ, ◌+◌, ◌≤◌, ◌<◌, Bool, true, false, cond, List, [], ◌∷◌, ◌++◌, map, subst, refl, ap, sym, ◌∙◌, Some, None, arith, append-nil, append_assoc}
+-- The lines that the reader of a schedule has taken, and what the reader keeps of them.
+use Rattle.std.proofs.Common.{◌≡◌, ℕ, ◌+◌, ◌≤◌, ◌<◌, Bool, true, false, cond, List, [], ◌∷◌, ◌++◌, map}
+use Rattle.std.proofs.Common.{subst, refl, ap, sym, ◌∙◌, Some, None, arith, append-nil, append_assoc}
 use Rattle.std.specs.Prelude.{Option, IsTrue, ◌↔◌, ◌||◌, ◌&&◌, nat_le, is_some, is_none, IsOk, OnOk, IfErr, Result, Ok, Err}
 use Rattle.std.proofs.lemmas.Bool.{false≢true, le-leb, leb-true}
-use Rattle.docker_model.specs.records.Record.{Kind, kind_of, IsRecord, HasKind, basic_schedule, origin_location, intermediate_location, terminating_location, columns}
+use Rattle.docker_model.specs.records.Record.{Kind, kind_of, IsRecord, HasKind, basic_schedule, origin_location}
+use Rattle.docker_model.specs.records.Record.{intermediate_location, terminating_location, columns}
 use Rattle.docker_model.specs.records.Clock.{half_minutes, scheduled_time}
 use Rattle.docker_model.specs.file.File.{first_record, IsSchedule, BeginsSchedule}
 use Rattle.docker_model.specs.records.Field.{is_deletion, HasGoodFields, leftmost_bad_field}
@@ -17,8 +19,10 @@ use Rattle.cif_laws.specs.RecordTest.{is_record, has_good_fields}
 use Rattle.cif_laws.proofs.lists.BoolsAndOptions.{test_by_none, and_true}
 use Rattle.cif_laws.proofs.records.RecordTests.{record_iff_test, midnights_step, last_time_step, no_times, no_times_before}
 use Rattle.cif_laws.specs.TimesSoFar.{last_of, falls_after, later_or}
-use Rattle.cif_laws.specs.ScheduleStage.{Stage, after_basic, after_details, in_journey, after_journey, stage_after, is_basic_kind, stage_of, may_lack, may_end, is_first_line, is_sound_next, next_stage}
-use Rattle.cif_laws.proofs.schedules.ScheduleStages.{no_stage_of_none, stage_of_more, first_line_iff_test, schedule_iff_stage, begins_iff_stage, sound_next_by_count}
+use Rattle.cif_laws.specs.ScheduleStage.{Stage, after_basic, after_details, in_journey, after_journey, stage_after}
+use Rattle.cif_laws.specs.ScheduleStage.{is_basic_kind, stage_of, may_lack, may_end, is_first_line, is_sound_next, next_stage}
+use Rattle.cif_laws.proofs.schedules.ScheduleStages.{no_stage_of_none, stage_of_more, first_line_iff_test}
+use Rattle.cif_laws.proofs.schedules.ScheduleStages.{schedule_iff_stage, begins_iff_stage, sound_next_by_count}
 use Rattle.cif_laws.proofs.schedules.ScheduleCauses.{first_line_fault, begins_next_stage, schedule_fault}
 use Rattle.cif_change.specs.declared.cause.FileCause.{FileCause}
 use Rattle.cif_change.specs.Cause.{cause_meant}
@@ -45,7 +49,7 @@ whole_iff lines stage at = (
   λ may. (schedule_iff_stage lines).1 (stage, record { found = at; may = may }),
 )
 
--- a test by the stage and the flag is the test of the lines themselves
+-- the test by the stage and the flag is the test of the lines
 may_end_same : (stage : Stage) (lines : Lines) (lacking : Bool) → lacking ≡ may_lack (first_record lines)
     → may_end_by (Some stage) lacking ≡ may_end stage lines
 may_end_same after_basic lines lacking same = same
@@ -64,7 +68,7 @@ complete_iff journey lines has = by journey.stage refl
         let same = may_end_same stage lines journey.lacking has.lacking_is in
         (λ test. iff.1 (sym same ∙ test), λ is. same ∙ iff.0 is)
 
--- the lines are a schedule if and only if this test passes
+-- lines are a schedule if and only if the test by the stage and the flag passes
 pub complete_by : (journey : JourneyState) (lines : Lines) (result : Bool) → result ≡ may_end_by journey.stage journey.lacking → HasLines journey lines
     → IsTrue result ↔ IsSchedule lines
 complete_by journey lines result told has =
@@ -108,13 +112,13 @@ fault_by journey lines line has is nowhere = by journey.stage refl nowhere
         (subst (λ l. IsScheduleFault l line (first_line_cause line)) (sym (has.fresh h)) (first (is_first_line line) refl told))
     by (Some stage) h told = subst (λ s. IsScheduleFault lines line (cause_by s line)) (sym h) (schedule_fault lines stage line (sym has.stage_is ∙ h) is told)
 
--- a line that leads to no stage is refused for this cause
+-- a line that leads to no stage is refused, and `cause_by` is its cause
 pub refused_by : (journey : JourneyState) (lines : Lines) (line : List ℕ) (cause : fault.FileCause) → HasLines journey lines → IsRecord line
     → next_by journey.stage lines line ≡ None → cause_by journey.stage line ≡ cause → IsScheduleFault lines line cause
 refused_by journey lines line cause has is nowhere same = subst (IsScheduleFault lines line) same (fault_by journey lines line has is nowhere)
 
--- a result that is `Ok` if and only if there is a next stage says whether some schedule begins with
--- these lines
+-- if a result is `Ok` exactly when there is a next stage, it is `Ok` exactly when some schedule
+-- begins with these lines
 pub judged_ok : {A : Type 0} (answer : Result A FileCause) (journey : JourneyState) (lines : Lines) (line : List ℕ) → HasLines journey lines → IsRecord line
     → IsOk answer ↔ (is_some (next_by journey.stage lines line) ≡ true) → IsOk answer ↔ BeginsSchedule (lines ++ line ∷ [])
 judged_ok answer journey lines line has is iff = (
@@ -131,7 +135,7 @@ judged_ok answer journey lines line has is iff = (
     from None h begins = absurd ((fault_by journey lines line has is h).here begins)
     from (Some next) h begins = iff.1 (λ i. is_some (h i))
 
--- the cause of such a result is why the line is refused
+-- if a result is an error exactly when there is no next stage, its cause is why the line is refused
 pub judged_err : {A : Type 0} (answer : Result A FileCause) (journey : JourneyState) (lines : Lines) (line : List ℕ) (told : fault.FileCause)
     → HasLines journey lines → IsRecord line
     → IsOk answer ↔ (is_some (next_by journey.stage lines line) ≡ true) → told ≡ cause_by journey.stage line
@@ -145,7 +149,7 @@ judged_err (Err cause) journey lines line told has is iff same err =
     by None h = fault_by journey lines line has is h
     by (Some next) h = let bad = iff.1 (λ i. is_some (h i)) in absurd cc
 
--- whether a first line leads to a stage
+-- a first line leads to a stage if and only if it passes the test of a first line
 pub first_test : (journey : JourneyState) (lines : Lines) (line : List ℕ) → journey.stage ≡ None
     → is_some (next_by journey.stage lines line) ≡ is_first_line line
 first_test journey lines line at = (λ i. is_some (next_by (at i) lines line)) ∙ by (is_first_line line)
@@ -165,7 +169,7 @@ pub leads_on : (stage : Option Stage) (kind : Option Kind) (next : Stage) → st
 leads_on None kind next led = absurd cc
 leads_on (Some here) kind next led = record { here = here; at = refl; after = led }
 
--- whether a later line leads to a stage, if its kind may come next
+-- a later line whose kind may come next leads to a stage if and only if the line is sound
 pub next_test : (journey : JourneyState) (lines : Lines) (line : List ℕ) (next : Stage) → IsRecord line → stage_then journey.stage (kind_of line) ≡ Some next
     → is_some (next_by journey.stage lines line) ≡ is_sound_next lines line
 next_test journey lines line next is led =
@@ -178,7 +182,7 @@ next_test journey lines line next is led =
     by true = refl
     by false = refl
 
--- why a line is refused whose kind may come next: its leftmost bad field, or a third midnight
+-- a line whose kind may come next is refused for its leftmost bad field, or for a third midnight
 pub next_cause : (journey : JourneyState) (line : List ℕ) (next : Stage) → stage_then journey.stage (kind_of line) ≡ Some next
     → field_cause line ≡ cause_by journey.stage line
 next_cause journey line next led =
@@ -192,11 +196,11 @@ next_cause journey line next led =
         (λ i. cond (is_none (h i)) bad_kind (cond (is_none (stage_after here (kind_of line))) bad_place (field_cause line)))
         ∙ (λ i. cond (is_none (after i)) bad_place (field_cause line))
 
--- an equivalence with a test, for an equal test
+-- a fact that is equivalent to one test is equivalent to an equal test
 pub iff_along : (P : Type 0) (a b : Bool) → a ≡ b → P ↔ (b ≡ true) → P ↔ (a ≡ true)
 iff_along P a b same iff = (λ p. same ∙ iff.0 p, λ test. iff.1 (sym same ∙ test))
 
--- a record of no kind is refused, and so is one that can't come after these lines
+-- a record of no kind is refused after any lines
 pub unknown_kind : (journey : JourneyState) (lines : Lines) (line : List ℕ) → HasLines journey lines → IsRecord line → kind_of line ≡ None
     → IsScheduleFault lines line fault.bad_kind
 unknown_kind journey lines line has is none = refused_by journey lines line fault.bad_kind has is (nowhere journey.stage) (cause journey.stage)
@@ -239,7 +243,8 @@ out_of_place journey lines line stage kind has is at known none =
 
 -- ---- the times of one more line
 
--- how often two runs of times pass midnight, one after the other
+-- times in two parts pass midnight as often as the first part, and then the second after the
+-- first's last time
 pub falls_in_turn : (last first : Option ℕ) (rest : List ℕ) → falls_after last (time_list first ++ rest) ≡ falls_after last (time_list first) + falls_after
     (later_or first last) rest
 falls_in_turn None None rest = omega arith
@@ -247,7 +252,8 @@ falls_in_turn (Some last) None rest = omega arith
 falls_in_turn None (Some time) rest = omega arith
 falls_in_turn (Some last) (Some time) rest = omega arith
 
--- the last time of two runs, one after the other
+-- the last time after three optional times is the last of them that there is, or the earlier last
+-- time
 pub last_in_turn : (last first second third : Option ℕ) → later_or third (later_or second (later_or first last)) ≡ later_or
     (last_of (time_list first ++ time_list second ++ time_list third)) last
 last_in_turn last None None None = refl
@@ -264,7 +270,7 @@ one_line line = ap (map (λ (time : Occasion × ℕ). time.1)) (append-nil (time
 
 -- ---- what the reader keeps after one more line
 
--- the first line stays the same, as there was one before
+-- one more line leaves the first line as it is
 first_stays : (lines : Lines) (stage : Stage) (line : List ℕ) → stage_of lines ≡ Some stage → first_record (lines ++ line ∷ []) ≡ first_record lines
 first_stays [] stage line at = cc
 first_stays (basic ∷ rest) stage line at = refl
@@ -326,7 +332,7 @@ sound_goes_on journey lines line stage next more later has is at kept after fiel
       last_is = λ _. last ∙ (λ i. later_or (last_of (times_along (line ∷ []))) (has.last_is kept i)) ∙ sym (last_time_step lines line);
     }
 
--- how often three times pass midnight, one after the other
+-- three optional times pass midnight as often as each of them in turn
 pub falls_of_three : (falls : ℕ) (last first second third : Option ℕ)
     → ((falls + falls_after last (time_list first)) + falls_after (later_or first last) (time_list second)) + falls_after
     (later_or second (later_or first last)) (time_list third)
@@ -353,7 +359,7 @@ terminus_time line is good =
     (λ i. map (λ (time : Occasion × ℕ). time.1) (times_by_kind (is i) line))
     ∙ ap (λ time. map (λ (t : Occasion × ℕ). t.1) (timed arrival time)) (time_there (columns 11 15 line) (good_fields terminating_location line is good).1.0)
 
--- the times of a call: at most three
+-- a call has at most three times
 pub call_times : (line : List ℕ) (first second third : Option ℕ) → HasKind intermediate_location line
     → first ≡ scheduled_time (columns 11 15 line) → second ≡ scheduled_time (columns 21 25 line) → third ≡ scheduled_time (columns 16 20 line)
     → map (λ (time : Occasion × ℕ). time.1) (times_of line) ≡ time_list first ++ time_list second ++ time_list third
@@ -379,7 +385,7 @@ call_times line first second third is one two three =
 pub first_line_is : (line : List ℕ) → IsRecord line → HasKind basic_schedule line → HasGoodFields line → is_first_line line ≡ true
 first_line_is line is kind fields = (first_line_iff_test line).0 (record { is = is; kind = kind; fields = fields })
 
--- what the reader keeps after a basic schedule
+-- the stage after a basic schedule, the flags and no times are what the reader keeps of it
 pub basic_read : (line : List ℕ) (journey : JourneyState) → is_first_line line ≡ true → journey.stage ≡ Some after_basic
     → journey.deletion ≡ is_deletion line → journey.lacking ≡ may_lack line
     → journey.falls ≡ 0 → journey.last ≡ None → HasLines journey (line ∷ [])
@@ -397,7 +403,7 @@ basic_read line journey first at deletion lacking falls last =
 
 -- ---- one more line whose kind may come next
 
--- what the reader keeps after a line of a deletion
+-- after a line of a deletion, the reader keeps the next stage, and otherwise what it kept before
 pub deletion_read : (journey : JourneyState) (lines : Lines) (line : List ℕ) (next : Stage) → HasLines journey lines → IsRecord line
     → stage_then journey.stage (kind_of line) ≡ Some next
     → journey.deletion ≡ true → HasLines (record journey { stage = Some next }) (lines ++ line ∷ [])
@@ -423,21 +429,21 @@ sound_test journey lines line first second third more later has kept fields told
     sound_by_falls journey lines line more has kept (timed_falls journey line first second third more later told)
     ∙ (λ i. test_by_none (leftmost_bad_field line) fields i && nat_le more 2)
 
--- at most two midnights make the line sound
+-- if the schedule passes midnight at most twice, the line is sound
 pub sound_by_few : (journey : JourneyState) (lines : Lines) (line : List ℕ) (first second third : Option ℕ) (more : ℕ) (later : Option ℕ)
     → HasLines journey lines → journey.deletion ≡ false
     → HasGoodFields line → IsTimed journey line first second third more later → more ≤ 2 → is_sound_next lines line ≡ true
 sound_by_few journey lines line first second third more later has kept fields told few =
     sound_test journey lines line first second third more later has kept fields told ∙ le-leb more 2 few
 
--- a third midnight makes it unsound
+-- if the schedule passes midnight a third time, the line isn't sound
 pub unsound_by_many : (journey : JourneyState) (lines : Lines) (line : List ℕ) (first second third : Option ℕ) (more : ℕ) (later : Option ℕ)
     → HasLines journey lines → journey.deletion ≡ false
     → HasGoodFields line → IsTimed journey line first second third more later → 2 < more → ¬ (is_sound_next lines line ≡ true)
 unsound_by_many journey lines line first second third more later has kept fields told many sound =
     let few = leb-true more 2 (sym (sound_test journey lines line first second third more later has kept fields told) ∙ sound) in omega arith
 
--- what the reader keeps after a sound line
+-- after a sound line, the reader keeps the next stage, the count of midnights and the last time
 pub sound_read : (journey : JourneyState) (lines : Lines) (line : List ℕ) (next : Stage) (first second third : Option ℕ) (more : ℕ) (later : Option ℕ)
     → HasLines journey lines → IsRecord line
     → stage_then journey.stage (kind_of line) ≡ Some next → journey.deletion ≡ false → HasGoodFields line
@@ -455,7 +461,7 @@ pub of_ok : {A E P : Type 0} (answer : Result A E) → OnOk answer P → IsOk an
 of_ok (Ok value) holds is = holds
 of_ok (Err cause) holds is = absurd (false≢true is)
 
--- a cause refuses the line if it does so after all lines that the reader may have taken
+-- a cause refuses the line if it refuses the line after any lines that the reader may have taken
 pub faults_line : {A : Type 0} (answer : Result A FileCause) (journey : JourneyState) (line : List ℕ)
     → ((lines : Lines) → HasLines journey lines → IfErr answer (λ cause. IsScheduleCause lines line (cause_meant cause)))
     → IfErr answer (FaultsLine journey line)

@@ -1,5 +1,6 @@
--- What is noted stays noted when more comes, and each row notes its places.
-use Rattle.std.proofs.Common.{◌≡◌, ℕ, zero, suc, ◌+◌, ◌-◌, ◌≤◌, ◌<◌, List, [], ◌∷◌, ◌++◌, map, take, drop, length, get_or, refl, ap, sym, ◌∙◌, subst, Bool, true, false, cond, Some, None, inl, inr, ◌⊎◌, arith, append-nil}
+-- Notes stay as they are when more is noted, and each row notes its places.
+use Rattle.std.proofs.Common.{◌≡◌, ℕ, zero, suc, ◌+◌, ◌-◌, ◌≤◌, ◌<◌, List, [], ◌∷◌, ◌++◌, map, take, drop, length, get_or, refl}
+use Rattle.std.proofs.Common.{ap, sym, ◌∙◌, subst, Bool, true, false, cond, Some, None, inl, inr, ◌⊎◌, arith, append-nil}
 use Rattle.std.specs.Prelude.{slice_get, min}
 use Rattle.std.proofs.lemmas.Bool.{cases_lt}
 use Rattle.std.proofs.lemmas.List.{length-append, length-drop, map-append, append_assoc, drop-append-le, drop_all}
@@ -44,7 +45,7 @@ keeps_len [] ys keeps = omega arith
 keeps_len (x ∷ xs) [] keeps = absurd (none_some x (keeps 0 x refl))
 keeps_len (x ∷ xs) (y ∷ ys) keeps = let rest = keeps_len xs ys (λ i z is. keeps (suc i) z is) in omega arith
 
--- a part of the list stays the same
+-- a part of a list stays the same in a longer list
 part_kept : (f n : ℕ) (xs ys : List ℕ) → Keeps xs ys → f + n ≤ length xs → take n (drop f ys) ≡ take n (drop f xs)
 part_kept zero zero xs ys keeps within = refl
 part_kept zero (suc n) [] ys keeps within = absurd (omega arith)
@@ -121,7 +122,7 @@ row_noted old new item piece keeps kept next pushed items has = record {
       );
 }
 
--- more names and numbers don't matter, as long as no row is added
+-- more names and numbers don't change what is noted, as long as no row is added
 pub none_noted : (old new : Notes) → Keeps old.names.list.items new.names.list.items → Keeps old.numbers.items new.numbers.items
     → new.pieces.items ≡ old.pieces.items → (items : List Item) → HasNoted items old → HasNoted items new
 none_noted old new keeps kept same items has = record {
@@ -178,7 +179,7 @@ none_row old new piece same_names same_numbers none pushed items key op not_put 
     (none_next new.names.list.items new.numbers.items key op not_put)))
     pushed items has
 
--- all numbers that are new
+-- the numbers that are new are all numbers after the old ones
 came_all : (old new : List ℕ) (count : ℕ) → count ≡ length new - length old → take count (drop (length old) new) ≡ drop (length old) new
 came_all old new count is = by (drop (length old) new) (let len = length-drop (length old) new in omega arith)
   where
@@ -193,7 +194,7 @@ module _ (names : List (List ℕ)) (old new : List ℕ) (kept : Keeps old new) (
   came : take count (drop (length old) new) ≡ drop (length old) new
   came = came_all old new count count_is
 
-  -- the piece of a schedule: the numbers of the places at which it calls
+  -- the piece of a schedule has the numbers of the places at which the schedule calls
   pub calls_next : (key : ScheduleKey) (lines : List (List ℕ)) → AreRanks names (map (columns 3 9) (location_lines lines)) (drop (length old) new)
       → IsNext names old new (schedule_key key, put_with (schedule_body lines)) (record { is_link = false; from = length old; count = count })
   calls_next key lines are = record {
@@ -236,7 +237,7 @@ keeps_front (x ∷ xs) (y ∷ ys) keeps =
     let rest = keeps_front xs ys (λ i z is. keeps (suc i) z is) in
     λ i. same i ∷ rest i
 
--- the numbers that came first and those that came after them are the new ones
+-- the numbers that came first, and the numbers after them, are the new numbers
 came_since : (first old new more : List ℕ) → Keeps first old → Keeps old new
     → drop (length first) old ++ (drop (length old) new ++ more) ≡ drop (length first) new ++ more
 came_since first old new more one two =
@@ -253,7 +254,7 @@ one_more names places place (n ∷ []) more are rest =
     let first : slice_get names n ≡ Some place = cc in
     λ i. first i ∷ rest i
 
--- the places of the rest are still to be noted, after those that are noted
+-- the places of the remaining lines are still to be noted, after the places that are noted
 abbrev pub IsLeft : List (List ℕ) → List (List ℕ) → List (List ℕ) → List ℕ → List ℕ → Type 0
 IsLeft names all rest first numbers = (others : List (List ℕ)) (more : List ℕ) → Keeps names others → AreRanks others rest more
     → AreRanks others all (drop (length first) numbers ++ more)
@@ -281,7 +282,7 @@ location_first rest behind line whole is =
     ap (λ (lines : List (List ℕ)). map (columns 3 9) (location_lines lines)) whole
     ∙ (λ i. map (columns 3 9) (cond (is i) (line ∷ location_lines behind) (location_lines behind)))
 
--- any other line gives none
+-- a line that isn't a location record gives no place
 pub location_other : (rest behind : List (List ℕ)) (line : List ℕ) → rest ≡ line ∷ behind → is_location (kind_of line) ≡ false
     → map (columns 3 9) (location_lines rest) ≡ map (columns 3 9) (location_lines behind)
 location_other rest behind line whole is =
@@ -309,7 +310,7 @@ pub record AreNotedBefore (all rest : List Item) (notes : Notes) : Type 0 where
   pub noted : HasNoted (front_of all rest) notes
   pub whole : front_of all rest ++ rest ≡ all
 
--- at first none is noted
+-- at first no item is noted
 pub none_before : (all : List Item) (notes : Notes) → HasNoted [] notes → AreNotedBefore all all notes
 none_before all notes none =
     let front : front_of all all ≡ [] = front_is [] all all refl in
@@ -337,7 +338,7 @@ all_noted all (item ∷ rest) notes none before = absurd (omega arith)
 
 -- ---- changes
 
--- one more change is noted, if its key with the op that it leaves there is
+-- if a change's key is noted with the op that the change leaves, the change is noted
 pub change_noted : (notes : Notes) (made : List model.Change) (change : model.Change) (op : Op) → op_of change.act ≡ op
     → HasNoted (items_put made ++ (change.key, op) ∷ []) notes → HasNoted (items_put (made ++ change ∷ [])) notes
 change_noted notes made change op is has =

@@ -1,5 +1,6 @@
 -- Lines are equal if their blocks of sixteen bytes are.
-use Rattle.std.proofs.Common.{◌≡◌, ℕ, ◌+◌, ◌*◌, ◌%◌, ◌^◌, ◌≤◌, nat_eq, Bool, true, false, cond, not, ◌&&◌, List, [], ◌∷◌, ◌++◌, map, length, take, drop, w8, refl, sym, ap, subst, ◌∙◌, arith}
+use Rattle.std.proofs.Common.{◌≡◌, ℕ, ◌+◌, ◌*◌, ◌%◌, ◌^◌, ◌≤◌, nat_eq, Bool, true, false, cond, not, ◌&&◌, List}
+use Rattle.std.proofs.Common.{[], ◌∷◌, ◌++◌, map, length, take, drop, w8, refl, sym, ap, subst, ◌∙◌, arith}
 use Rattle.std.specs.Prelude.{◌↔◌, IsTrue}
 use Rattle.std.proofs.lemmas.Bool.{eqb-true}
 use Rattle.std.proofs.lemmas.Bool.Decides.{nat_tests}
@@ -19,7 +20,7 @@ lane a b = cond (differ a b) 255 0
 one_set : (m : ℕ) → nat_eq (1 + 2 * m) 0 ≡ false
 one_set m = grind (arith, nat_tests)
 
--- twice a number is 0 if and only if the number is
+-- twice a number is 0 if and only if the number is 0
 twice : (m : ℕ) → nat_eq (0 + 2 * m) 0 ≡ nat_eq m 0
 twice m = grind (arith, nat_tests)
 
@@ -62,7 +63,8 @@ no_lane_of_same xs ys few same =
     subst (λ (other : List ℕ). nat_eq (mask_l (map (top 7) (zip2 lane xs other)) % 2 ^ 64) 0 ≡ true) same
     (ap (λ m. nat_eq m 0) (mask_of_lanes xs xs refl few) ∙ none_of_same xs)
 
--- two lists are equal from an index on if the next sixteen bytes are, and all that come after them
+-- two lists are equal from an index on if the next sixteen bytes are equal, and all bytes after
+-- them
 same_rest : (xs ys : List ℕ) (at : ℕ) → take 16 (drop at xs) ≡ take 16 (drop at ys) → drop (at + 16) xs ≡ drop (at + 16) ys → drop at xs ≡ drop at ys
 same_rest xs ys at block rest = chunk-drop at 16 xs ∙ (λ i. block i ++ rest i) ∙ sym (chunk-drop at 16 ys)
 

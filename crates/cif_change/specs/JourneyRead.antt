@@ -73,7 +73,7 @@ may_end_by (Some in_journey) lacking = false
 may_end_by (Some _) lacking = lacking
 may_end_by None lacking = false
 
--- progress as clauses see it
+-- the reader's progress, as clauses see it
 abbrev pub progress_meant : Progress → JourneyState
 progress_meant progress = record {
   stage = option_map stage_meant progress.stage;

@@ -18,6 +18,7 @@ abbrev pub link_places : Key → Op → List (List ℕ)
 link_places (association_key key) (put_with (association_body line)) = key.location ∷ []
 link_places _ _ = []
 
--- the first list's names stand at these indexes of the second
+-- the names of the second list stand at these indexes of the first: in `a`, `b`, `c` the names `a`,
+-- `c` stand at 0 and 2
 abbrev pub AreRanks : List (List ℕ) → List (List ℕ) → List ℕ → Type 0
 AreRanks others names ranks = map (slice_get others) ranks ≡ map Some names

@@ -11,7 +11,7 @@ use std::fmt;
 /// The cause of a fault.
 #[derive(Clone, Copy, PartialEq, Eq, Debug)]
 pub enum FileCause {
-    /// The line hasn't 80 bytes.
+    /// The line doesn't have 80 bytes.
     Length,
     /// A byte of the line isn't printable. Holds the leftmost such column, from 1.
     Byte(u8),

@@ -1,4 +1,4 @@
-//! Changes, what they put at keys, and the order of both.
+//! Changes, and the bodies that they put keys with. Bodies and acts have an order.
 ghost use Rattle.std.specs.Prelude.{◌≡◌, ◌↔◌, ◌+◌, ◌-◌, ◌<◌, ◌≤◌, IsTrue};
 ghost use Rattle.std.specs.Ordering.{on, as_partial_cmp, eq_by_cmp};
 ghost use Rattle.std.specs.Cmp.{partial_equiv_from_equiv, on_equiv, on_total, eq_by_cmp_equiv, partial_order_from_total};
@@ -18,8 +18,8 @@ use crate::same::{are_same_lines, compare_lines, is_same_line};
 use cif_line::{Line, NO_END, Until};
 use std::cmp::Ordering;
 
-/// What is put at a key. In the order of bodies one that ends earlier is less. Of two that end
-/// together, the joined bytes of their lines decide, and then the kind of key.
+/// The body that a key is put with. A body that ends earlier is less. If two end together, the
+/// joined bytes of their lines decide, and then the kind of key.
 #[derive(Debug, Drop)]
 pub enum Body {
     /// Columns 10 to 72 of a TIPLOC's record.
@@ -164,12 +164,12 @@ impl Ord for Body {
     }
 }
 
-/// What a change does at its key. In the order of acts a deletion is less than any put.
+/// What a change does to its key. A deletion is less than any put.
 #[derive(Debug, Drop)]
 pub enum Act {
     /// The key is deleted.
     Delete,
-    /// The key has this body from now on, whether it was there before or not.
+    /// The key is put with this body, whether or not it was there before.
     Put(Body),
 }
 

@@ -35,7 +35,7 @@ impl Journey {
     }
 
     /// Takes the next line. It is refused if no schedule begins with the earlier lines and this
-    /// one. The cause is the first that applies: `Kind`, if its identity isn't any record's;
+    /// one. The cause is the first that applies: `Kind`, if no kind of record has its identity;
     /// `Place`, if its kind can't come next; `Field`, for its leftmost bad field; `Midnights`, at
     /// the third midnight. Within a deletion's journey the last two don't apply. A refused line
     /// changes nothing.

@@ -31,7 +31,7 @@ pub struct AssocKey {
     pub associated: Uid,
     /// The first day of the association.
     pub start: Day,
-    /// Where the trains meet.
+    /// The TIPLOC at which the trains are associated.
     pub location: Tiploc,
     /// The base train's location suffix, which distinguishes its calls at that place.
     pub suffix: u8,

@@ -7,7 +7,7 @@ ghost use Rattle.cif_change.specs.JourneyRead.{stage_meant, may_end_by, is_over_
 
 use cif_line::Kind;
 
-/// How far a schedule's lines have come.
+/// How far a reader has come in a schedule.
 #[derive(Clone, Copy, PartialEq, Eq, Debug)]
 pub(crate) enum ScheduleStage {
     /// After its basic schedule.

@@ -15,7 +15,7 @@ Takes-append None middle new front back first second = rw first at second
 Takes-append (Some taken) middle new front back first second =
     (rw first at second) ∙ ap Some (append_assoc taken front back)
 
--- if the first `done` bytes of a piece are taken, a write of `n` more makes it `done + n`
+-- if the first `done` bytes of a piece were taken, a write of `n` more takes the first `done + n`
 pub Takes-take : (old middle new : Option (List ℕ)) (piece : List ℕ) (done n : ℕ) →
     Takes old (take done piece) middle → Takes middle (take n (drop done piece)) new →
     Takes old (take (done + n) piece) new
@@ -26,13 +26,13 @@ Takes-take old middle new piece done n first second =
 pub take-drop_all : (n : ℕ) (xs : List ℕ) → take (length xs - n) (drop n xs) ≡ drop n xs
 take-drop_all n xs = grind (arith, common_steps)
 
--- a text repeated m times, and then n more times
+-- a text repeated `m + n` times is the text repeated `m` times, and then `n` times
 concat-replicate_add : (m n : ℕ) (text : List ℕ) →
     concat (replicate (m + n) text) ≡ concat (replicate m text) ++ concat (replicate n text)
 concat-replicate_add m n text =
     ap concat (sym (replicate-append-replicate m n text)) ∙ concat-append (replicate m text) (replicate n text)
 
--- the bytes of two reads of an endless source, one after the other
+-- two reads of an endless source give their bytes one after the other
 pub Goes-append : (old middle new : Round) (front back : List ℕ) →
     Goes old front middle → Goes middle back new → Goes old (front ++ back) new
 Goes-append old middle new front back (again, step, m, first) (again', step', n, second) =
@@ -57,19 +57,19 @@ one_more_is_other before after same more = grind (arith, common_steps)
 false_is_not_true : false ≢ true
 false_is_not_true is = cc
 
--- a count that rises by one with an error
+-- a count that stays without an error, and rises by one with an error, counts failures
 pub counts_error : {A E : Type 0} (result : Result A E) (before after : ℕ) →
     OnOk result (after ≡ before) → OnErr result (after ≡ before + 1) → CountsFailure (IsErr result) before after
 counts_error (Ok value) before after same more =
     ((λ error. absurd (false_is_not_true error), λ one_more. absurd (one_more_is_other before after same one_more)), λ no_error. same)
 counts_error (Err fault) before after same more = ((λ error. more, λ one_more. refl), λ no_error. absurd (no_error refl))
 
--- without an error it is the same
+-- without an error, a count of failures stays the same
 pub same_if_ok : {A E : Type 0} (result : Result A E) (before after : ℕ) → CountsFailure (IsErr result) before after → OnOk result (after ≡ before)
 same_if_ok (Ok value) before after counted = counted.1 false_is_not_true
 same_if_ok (Err fault) before after counted = tt
 
--- with an error it is one more
+-- with an error, a count of failures rises by one
 pub one_more_if_err : {A E : Type 0} (result : Result A E) (before after : ℕ) → CountsFailure (IsErr result) before after → OnErr result (after ≡ before + 1)
 one_more_if_err (Ok value) before after counted = tt
 one_more_if_err (Err fault) before after counted = counted.0.0 refl

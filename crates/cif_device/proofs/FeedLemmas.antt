@@ -1,5 +1,6 @@
 -- Feeding a taker from a source: the taker has taken what the source gave.
-use Rattle.std.proofs.Common.{◌≡◌, ℕ, ◌+◌, ◌<◌, ◌≤◌, List, [], ◌∷◌, ◌++◌, length, take, drop, Some, None, refl, sym, ◌∙◌, ap, subst, arith, append_assoc, append-nil, length-append, ◌^◌, Err, Result, Fits, w64, Ok}
+use Rattle.std.proofs.Common.{◌≡◌, ℕ, ◌+◌, ◌<◌, ◌≤◌, List, [], ◌∷◌, ◌++◌, length, take, drop, Some, None, refl, sym, ◌∙◌}
+use Rattle.std.proofs.Common.{ap, subst, arith, append_assoc, append-nil, length-append, ◌^◌, Err, Result, Fits, w64, Ok}
 use Rattle.std.specs.Prelude.{Option, option_map, Bool, true, false}
 use Rattle.std.proofs.lemmas.List.{length-take-le, take-append-le, take-take}
 use Rattle.cif_device.specs.Device.{Reads, IsEnd, Ends}
@@ -12,7 +13,7 @@ pub lost_nothing : (left : Option (List ℕ)) → Reads left [] left
 lost_nothing None = refl
 lost_nothing (Some bytes) = refl
 
--- what the source gave before, and with one more read
+-- one more read adds its piece to what the source gave before
 pub lost_more : (initial now next : Option (List ℕ)) (text piece : List ℕ) → Reads initial text now → Reads now piece next → Reads initial (text ++ piece) next
 lost_more initial now None text piece first more = first ∙ ap (option_map (λ rest. text ++ rest)) more
 lost_more initial now (Some rest) text piece first more =
@@ -24,7 +25,7 @@ pub at_start : {T Terms : Type 0} (takes : Taking T Terms) (terms : Terms) (text
 at_start takes terms text left taker taken =
     record { bytes = []; size = refl; lost = lost_nothing left; taken = subst (takes taker terms) (sym (append-nil text)) taken }
 
--- the taker was fed one more piece
+-- if the taker takes one more piece, it was fed the text so far and the piece
 pub next_turn : {T Terms : Type 0} (takes : Taking T Terms) (fed n : ℕ) (terms : Terms) (text : List ℕ) (initial now next : Option (List ℕ)) (before after : T)
     (piece : List ℕ) → (at : HasFed takes fed terms text initial now before) → length piece ≡ n → Reads now piece next
     → takes after terms ((text ++ at.bytes) ++ piece) → HasFed takes (fed + n) terms text initial next after
@@ -54,25 +55,25 @@ pub fed_where_failed : {T Terms : Type 0} (takes : Taking T Terms) (fed : ℕ) (
 fed_where_failed takes fed terms text initial now next taker at same =
     (fed, subst (λ left. HasFed takes fed terms text initial left taker) (sym same) at)
 
--- the source gave one more piece
+-- if the source gives one more piece, it has lost at most one piece more than was taken
 pub one_more : {T Terms : Type 0} (takes : Taking T Terms) (fed : ℕ) (terms : Terms) (text : List ℕ) (initial now next : Option (List ℕ)) (taker : T)
     (piece : List ℕ) → HasFed takes fed terms text initial now taker → Reads now piece next → length piece ≤ 65536
     → LosesOnePieceMore takes 65536 terms text initial next
 one_more takes fed terms text initial now next taker piece at more few =
     record { bytes = at.bytes; piece = piece; lost = lost_more initial now next at.bytes piece at.lost more; few = few; taker = taker; taken = at.taken }
 
--- the source gave no more piece
+-- if the source gives no more, it has lost at most one piece more than was taken
 pub no_more : {T Terms : Type 0} (takes : Taking T Terms) (fed : ℕ) (terms : Terms) (text : List ℕ) (initial now next : Option (List ℕ)) (taker : T)
     → HasFed takes fed terms text initial now taker → next ≡ now → LosesOnePieceMore takes 65536 terms text initial next
 no_more takes fed terms text initial now next taker at same =
     one_more takes fed terms text initial now next taker [] at (subst (Reads now []) (sym same) (lost_nothing now)) (omega arith)
 
--- nothing was read
+-- if nothing was read, the source has lost at most one piece more than was taken
 pub nothing_read : {T Terms : Type 0} (takes : Taking T Terms) (terms : Terms) (text : List ℕ) (left : Option (List ℕ)) (taker : T) → takes taker terms text
     → LosesOnePieceMore takes 65536 terms text left left
 nothing_read takes terms text left taker taken = no_more takes 0 terms text left left left taker (at_start takes terms text left taker taken) refl
 
--- a piece was refused
+-- if one more piece is refused, the taker has refused it after all that was taken
 pub refused_behind : {T Terms Fault : Type 0} (takes : Taking T Terms) (refuses : Refusing T Terms Fault) (fed : ℕ) (terms : Terms) (text : List ℕ)
     (initial now next : Option (List ℕ)) (before after : T) (piece : List ℕ) (fault : Fault) → (at : HasFed takes fed terms text initial now before)
     → Reads now piece next → length piece ≤ 65536 → refuses after terms (text ++ at.bytes) piece fault

@@ -12,9 +12,9 @@ abbrev pub IsEnd : Option (List ℕ) → Type 0
 IsEnd None = ⊤
 IsEnd (Some left) = left ≡ []
 
--- One read of n bytes into this much room: how the marks for a reported end, and for a read after
--- it, change. If there is room, a read of no byte reports the end. A read of some bytes doesn't.
--- Any read after the end was reported sets the second mark.
+-- one read of n bytes into this much room: how the marks for a reported end, and for a read after
+-- it, change. If there is room, a read of no byte reports the end, and a read of some bytes
+-- doesn't. Any read after the end was reported sets the second mark
 abbrev pub Ends : ℕ → ℕ → Bool → Bool → Bool → Bool → Type 0
 Ends n room ended now_ended passed now_passed = (n ≡ 0 → 0 < room → now_ended ≡ true)
     × (0 < n → now_ended ≡ ended)
@@ -69,8 +69,8 @@ pub record Round : Type 0 where
   pub again : List ℕ
   pub step : ℕ
 
--- these bytes were read, and the source had to begin the other text some number of times for it.
--- The other text and the step stay
+-- the source gave these bytes, and began the other text as often as that took. The other text and
+-- the step stay. With `a` left and `bc` over and over, `abcb` leaves `c`
 abbrev pub Goes : Round → List ℕ → Round → Type 0
 Goes old bytes new = (new.again ≡ old.again) × (new.step ≡ old.step)
     × (times : ℕ) × (old.left ++ concat (replicate times old.again) ≡ bytes ++ new.left)

@@ -32,7 +32,7 @@ pub trait Taker {
     // It has taken this text under these terms, and refused no piece of it.
     ghost takes: { Self → Terms → List ℕ → Type 0 };
 
-    // What it is after it took a text and refused a piece, and what the fault says of both.
+    // It had taken this text under these terms, and then refused this piece with this fault.
     ghost refuses: { Self → Terms → List ℕ → List ℕ → Self.Fault → Type 0 };
 
     /// Takes the next bytes of the text.

@@ -42,7 +42,7 @@ impl<D> Fuse<D> {
         }
     }
 
-    /// The device whose bytes pass.
+    /// The device within it.
     pub fn device(&self) -> &D
         ensures { result.now ≡ self.now.device }
     {

@@ -1,5 +1,6 @@
 //! The devices that bytes come from and go to: what a source and a sink promise, and a source and a
-//! sink in memory. A whole piece is written here, and a source is fed to whatever takes its text.
+//! sink in memory. `write_all` writes a whole piece, and `feed_all` feeds a source to whatever
+//! takes its text.
 #![tactic(auto)]
 
 mod device;

@@ -1,5 +1,6 @@
 //! A source and a sink in memory.
-ghost use Rattle.std.specs.Prelude.{◌≡◌, ◌+◌, ◌-◌, ◌^◌, ◌<◌, ◌≤◌, ◌↔◌, min, [], ◌∷◌, ◌++◌, length, take, false, Some, Ok, IsTrue, IfOk, IsOk, IsErr, OnOk, OnErr};
+ghost use Rattle.std.specs.Prelude.{◌≡◌, ◌+◌, ◌-◌, ◌^◌, ◌<◌, ◌≤◌, ◌↔◌, min, [], ◌∷◌, ◌++◌, length};
+ghost use Rattle.std.specs.Prelude.{take, false, Some, Ok, IsTrue, IfOk, IsOk, IsErr, OnOk, OnErr};
 ghost use Rattle.cif_device.specs.Device.{Ends, read_count, room_left};
 
 use crate::device::{Failed, Memory, Sink, Source};

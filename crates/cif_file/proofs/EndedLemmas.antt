@@ -35,7 +35,7 @@ few_acts _ line following = omega arith
 as_change : ℕ → Key × Act → Change
 as_change n act = record { number = n; key = act.0; act = act.1 }
 
--- a record makes at most two
+-- a record makes at most two changes
 few_changes : (n : ℕ) (records : List (List ℕ)) → length (changes_from n records) ≤ 2 * length records
 unfolding as_change
 few_changes n [] = omega arith
@@ -63,7 +63,7 @@ is_read limit text ended few is =
     let within = is.is_text.within in
     record { records = is.records; of_records = file.of_records; is_file = is.is_text.is; few = omega arith }
 
--- its parts belong to it, and the places that its changes name are noted
+-- the returned parts belong to the file, and the places that its changes name are noted
 are_parts : (limit : ℕ) (text : List ℕ) (ended : Ended FileSoFar) → limit ≤ most_records → IsEndedText KeepsAll limit text ended
     → ArePartsOfFile (parts_ended ended)
 are_parts limit text ended few is = record {
@@ -90,7 +90,7 @@ pub reads_parts : (limit : ℕ) (left : Option (List ℕ)) (ended : Ended FileSo
     → ArePartsOfFile (parts_ended ended)
 reads_parts limit left ended few reads = are_parts limit reads.text ended few reads.of_text
 
--- ---- its counts
+-- ---- the file's counts
 
 pub of_count : (limit : ℕ) (text : List ℕ) (ended : Ended Tally) → limit ≤ most_records → IsEndedText CountsChanges limit text ended
     → IsCountOfFileText (count_ended ended) limit text

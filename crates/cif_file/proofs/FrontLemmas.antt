@@ -1,5 +1,6 @@
--- The records that the reader of a file has taken, by what it keeps of them.
-use Rattle.std.proofs.Common.{◌≡◌, ℕ, ◌+◌, ◌<◌, inl, inr, Bool, true, false, cond, List, [], ◌∷◌, ◌++◌, length, map, subst, refl, ap, sym, ◌∙◌, Some, None, arith, append-nil, append_assoc, length-append, take}
+-- What the reader of a file keeps of the records that it has taken.
+use Rattle.std.proofs.Common.{◌≡◌, ℕ, ◌+◌, ◌<◌, inl, inr, Bool, true, false, cond, List, [], ◌∷◌, ◌++◌, length, map, subst}
+use Rattle.std.proofs.Common.{refl, ap, sym, ◌∙◌, Some, None, arith, append-nil, append_assoc, length-append, take}
 use Rattle.std.specs.Prelude.{Option, IsTrue, ◌↔◌, ◌&&◌, is_some, is_none, option_map, slice_index_or, OnOk, Result, Ok, Err}
 use Rattle.std.specs.List.{prefix_len}
 use Rattle.std.proofs.lemmas.List.{take-append-le}
@@ -7,18 +8,22 @@ use Rattle.std.proofs.lemmas.List.Sums.{prefix_len-le-length}
 use Rattle.docker_model.specs.records.Record.{Kind, header, basic_schedule, trailer, kind_of, IsRecord, HasKind}
 use Rattle.docker_model.specs.file.File.{first_record, follows_basic, IsFile, IsSchedule, BeginsSchedule}
 use Rattle.docker_model.specs.records.Field.{HasGoodFields, leftmost_bad_field, is_deletion, as_new}
-use Rattle.docker_model.specs.file.Change.{Change, Key, Act, Body, schedule_rest, acts_by_kind, changes_of_record, changes_from, changes, schedule_named, schedule_body, delete, put}
+use Rattle.docker_model.specs.file.Change.{Change, Key, Act, Body, schedule_rest, acts_by_kind, changes_of_record}
+use Rattle.docker_model.specs.file.Change.{changes_from, changes, schedule_named, schedule_body, delete, put}
 use Rattle.docker_model.specs.file.FileFault as fault
 use Rattle.docker_model.specs.file.FileFault.{bad_place, bad_kind, bad_field}
 use Rattle.cif_laws.proofs.files.UnitChanges.{unit_then, schedule_change}
 use Rattle.cif_laws.specs.RecordTest.{is_record, has_good_fields}
 use Rattle.cif_laws.proofs.lists.BoolsAndOptions.{test_by_none, none_by_test}
-use Rattle.cif_laws.specs.ScheduleStage.{Stage, after_basic, after_details, in_journey, after_journey, stage_after, stage_of, may_end, is_sound_next, next_stage}
+use Rattle.cif_laws.specs.ScheduleStage.{Stage, after_basic, after_details, in_journey, after_journey}
+use Rattle.cif_laws.specs.ScheduleStage.{stage_after, stage_of, may_end, is_sound_next, next_stage}
 use Rattle.cif_laws.proofs.schedules.ScheduleStages.{stage_of_more, stage_of_first, first_line_iff_test, schedule_iff_stage, begins_iff_stage, no_stage_of_none}
-use Rattle.cif_laws.specs.FileStage.{Place, before_header, between_units, in_schedule, after_end, unit_by_kind, place_in, in_stage_or, is_header_kind, place_by_kind, is_sound_at, next_place, IsPlaceOf}
+use Rattle.cif_laws.specs.FileStage.{Place, before_header, between_units, in_schedule, after_end, unit_by_kind, place_in}
+use Rattle.cif_laws.specs.FileStage.{in_stage_or, is_header_kind, place_by_kind, is_sound_at, next_place, IsPlaceOf}
 use Rattle.cif_laws.proofs.files.FileStages.{test_by_next, next_by_test, next_behind, stage_stops, file_iff_place, one_place, place_of_more, at_of_place}
 use Rattle.cif_laws.specs.RecordCause.{cause_of, kind_cause, place_cause, field_cause, with_column, is_after_end}
-use Rattle.cif_laws.proofs.schedules.ScheduleCauses.{no_unit_by_kind, next_place_of_stage, cause_of_record, cause_in_schedule, cause_behind_schedule, fault_of_schedule}
+use Rattle.cif_laws.proofs.schedules.ScheduleCauses.{no_unit_by_kind, next_place_of_stage, cause_of_record}
+use Rattle.cif_laws.proofs.schedules.ScheduleCauses.{cause_in_schedule, cause_behind_schedule, fault_of_schedule}
 use Rattle.cif_line.specs.declared.kind_of_record.Kind as code
 use Rattle.cif_line.specs.declared.kind_of_record.Kind.TheVariants.{Header}
 use Rattle.cif_line.specs.Kind.{meaning}
@@ -52,8 +57,7 @@ numbered : (n : ℕ) (line : List ℕ) (following others : Lines) → schedule_r
     → changes_of_record n line following ≡ changes_of_record n line others
 numbered n line following others same = ap (map (as_change n)) (acts_alike (kind_of line) line following others same)
 
--- whether a line follows a basic schedule; one that doesn't ends the lines of the schedule before
--- it
+-- whether a line can follow a basic schedule. A line that can't ends the schedule before it
 abbrev follows : List ℕ → Bool
 follows line = follows_basic (kind_of line)
 
@@ -75,7 +79,7 @@ changes_append n (record_first ∷ records) line more stops =
     ∙ sym (append_assoc (changes_of_record n record_first records) (changes_from (n + 1) records) (changes_from (n + 1 + length records) (line ∷ more)))
     ∙ ap (λ k. (changes_of_record n record_first records ++ changes_from (n + 1) records) ++ changes_from k (line ∷ more)) (omega arith)
 
--- the changes with one more record, which begins a unit
+-- one more record that begins a unit adds its changes to the changes before it
 pub changes_anew : (records : Lines) (line : List ℕ) → follows_basic (kind_of line) ≡ false
     → changes (records ++ line ∷ []) ≡ changes records ++ changes_of_record (length records + 1) line []
 changes_anew records line stops =
@@ -85,7 +89,7 @@ changes_anew records line stops =
 
 -- ---- lists
 
--- if there are records, more after them leave the first as it is
+-- if there are records, adding more leaves the first one as it is
 header_stays : (records more : Lines) → 0 < length records → header_of (records ++ more) ≡ header_of records
 header_stays [] more some = absurd (omega arith)
 header_stays (first ∷ records) more some = refl
@@ -100,7 +104,7 @@ some_lines (basic ∷ others) stage at = omega arith
 
 -- ---- a schedule that is whole
 
--- lines that have a stage are a schedule if and only if it may end at that stage
+-- lines that have a stage are a schedule if and only if a schedule may end at that stage
 whole_iff : (lines : Lines) (stage : Stage) → stage_of lines ≡ Some stage → IsSchedule lines ↔ (may_end stage lines ≡ true)
 whole_iff lines stage at = (
   λ is.
@@ -137,7 +141,7 @@ changes_closed opened (basic ∷ others) before has number named is =
 
 -- ---- what is kept
 
--- if the keeper and the changes stay the same, they are still kept
+-- an equal keeper keeps equal changes
 same_keeper : {K : Type 0} (keeps : Keeps K) (old new : K) (lines : Lines) (made more : List Change) → new ≡ old → made ≡ more → keeps old lines made
     → keeps new lines more
 same_keeper keeps old new lines made more same equal kept =
@@ -153,7 +157,7 @@ anew_by_unit line begins = by (follows_basic (kind_of line)) refl
     by false h = h
     by true h = let bad : false ≡ true = (λ i. is_some (sym (no_unit_by_kind (kind_of line) line h) i)) ∙ begins in cc
 
--- after whole units, it leads to its own place
+-- after whole units, a good record that begins a unit leads to the place that its kind gives
 pub place_over : {K : Type 0} (keeps : Keeps K) (front : Front K) (records : Lines) (line : List ℕ) (next : Place) → (over : IsOver keeps front records)
     → IsRecord line → HasGoodFields line
     → unit_by_kind (kind_of line) line ≡ Some next
@@ -165,7 +169,7 @@ place_over keeps front records line next over is fields begins =
 
 -- ---- one more unit
 
--- the trailer is taken
+-- after whole units, the reader takes the trailer
 pub trailer_added : {K : Type 0} (keeps : Keeps K) (old new : Front K) (records : Lines) (line : List ℕ) → IsOver keeps old records → IsRecord line
     → HasKind trailer line → HasGoodFields line
     → new.header ≡ old.header → new.stage ≡ AfterEnd → new.keeper ≡ old.keeper → HasRecords keeps new (records ++ line ∷ [])
@@ -182,7 +186,7 @@ trailer_added keeps old new records line over is kind fields same_header place m
   );
 }
 
--- a single record is taken
+-- after whole units, the reader takes a record that is a unit by itself
 pub single_added : {K : Type 0} (keeps : Keeps K) (old new : Front K) (records : Lines) (line : List ℕ) (number : ℕ) → IsOver keeps old records
     → IsRecord line → HasGoodFields line
     → unit_by_kind (kind_of line) line ≡ Some between_units
@@ -200,7 +204,7 @@ single_added keeps old new records line number over is fields begins counted sam
   );
 }
 
--- a basic schedule is taken
+-- after whole units, the reader takes a basic schedule
 pub basic_added : {K : Type 0} (keeps : Keeps K) (old new : Front K) (opened : Opened) (records : Lines) (line : List ℕ) → IsOver keeps old records
     → IsRecord line → HasKind basic_schedule line
     → HasGoodFields line
@@ -293,7 +297,8 @@ followed opened line BetweenUnits gone = absurd gone
 followed opened line (InSchedule later) gone = record { later = later; place = refl; number = gone.0; named = gone.1; read = gone.2 }
 followed opened line AfterEnd gone = absurd gone
 
--- a line that continues the schedule that is being read
+-- a line that continues the schedule that is being read comes right after the schedule's earlier
+-- lines
 pub stands_before : {K : Type 0} (keeps : Keeps K) (front new : Front K) (opened : Opened) (records : Lines) (line : List ℕ) → HasRecords keeps front records
     → front.stage ≡ InSchedule opened → new.header ≡ front.header → new.keeper ≡ front.keeper → IsRecord line
     → follows_basic (kind_of line) ≡ true → (after : IsFollowed opened line new.stage)
@@ -322,7 +327,7 @@ stage_begun : (lines : Lines) (line : List ℕ) → BeginsSchedule (lines ++ lin
 stage_begun [] line begins = (begins_iff_stage line []).0 begins
 stage_begun (basic ∷ others) line begins = (begins_iff_stage basic (others ++ line ∷ [])).0 begins
 
--- with the line, the place is the place of the schedule's next stage
+-- after the line, the place is the place of the schedule's next stage
 place_followed : {K : Type 0} (keeps : Keeps K) (front : Front K) (opened : Opened) (line : List ℕ) (records : Lines)
     (before : StandsBefore keeps front opened line records) (next : Stage)
     → stage_of (before.lines ++ line ∷ []) ≡ Some next → IsPlaceOf (records ++ line ∷ []) (place_in next (before.lines ++ line ∷ []))
@@ -351,13 +356,14 @@ header_followed keeps front opened line records before =
     let size = ap (λ (l : Lines). length l) before.whole ∙ length-append before.before before.lines in
     before.header_is ∙ sym (header_stays records (line ∷ []) (omega arith))
 
--- a line was added to lines, of which there are some
+-- a keeper that adds a line to a schedule's lines, of which there are some, keeps the longer
+-- schedule
 pub added_to : {K : Type 0} (keeps : Keeps K) (old new : K) (lines : Lines) (line : List ℕ) (made : List Change) → 0 < length lines
     → AddsLine keeps old line new → keeps old lines made → keeps new (lines ++ line ∷ []) made
 added_to keeps old new [] line made some added kept = absurd (omega arith)
 added_to keeps old new (basic ∷ others) line made some added kept = added basic others made kept
 
--- a line that leaves the schedule open
+-- the reader takes a line that leaves the schedule open
 pub line_added : {K : Type 0} (keeps : Keeps K) (old new : Front K) (opened : Opened) (line : List ℕ) (records : Lines)
     → StandsBefore keeps old opened line records
     → is_over_by (progress_meant opened.progress).stage ≡ false
@@ -387,7 +393,7 @@ line_added keeps old new opened line records before inside same_header place add
           });
     }
 
--- a line that ends the schedule
+-- the reader takes a line that ends the schedule
 pub line_closed : {K : Type 0} (keeps : Keeps K) (old new : Front K) (opened : Opened) (line : List ℕ) (records : Lines)
     → StandsBefore keeps old opened line records
     → is_over_by (progress_meant opened.progress).stage ≡ true
@@ -423,7 +429,7 @@ next_of_unit line begins = by (unit_by_kind (kind_of line) line) refl
     by None h = absurd (let bad : false ≡ true = (λ i. is_some (sym h i)) ∙ begins in cc)
     by (Some next) h = (next, h)
 
--- after whole units
+-- after whole units, a good record that begins a unit can follow
 pub unit_goes_on : {K : Type 0} (keeps : Keeps K) (front : Front K) (records : Lines) (line : List ℕ) → HasRecords keeps front records
     → front.stage ≡ BetweenUnits → IsRecord line
     → HasGoodFields line
@@ -432,7 +438,7 @@ unit_goes_on keeps front records line has place is fields begins =
     let next = next_of_unit line begins in
     (next.0, place_over keeps front records line next.0 (over_of_between keeps front records has place) is fields next.1)
 
--- after a whole schedule
+-- after a whole schedule, a good record that begins a unit can follow
 pub anew_goes_on : {K : Type 0} (keeps : Keeps K) (front : Front K) (opened : Opened) (records : Lines) (line : List ℕ) → HasRecords keeps front records
     → front.stage ≡ InSchedule opened
     → IsWholeBy opened → IsRecord line → HasGoodFields line
@@ -448,7 +454,7 @@ anew_goes_on keeps front opened records line has place whole is fields begins =
           ∙ test_by_next between_units line next.0 (record { is = is; sound = test_by_none (leftmost_bad_field line) fields; place_is = next.1 }),
     )
 
--- in a schedule
+-- in a schedule, a line that continues it can follow
 pub line_goes_on : {K : Type 0} (keeps : Keeps K) (front : Front K) (opened : Opened) (line : List ℕ) (records : Lines)
     → StandsBefore keeps front opened line records → GoesOnWith records line
 line_goes_on keeps front opened line records before =
@@ -471,25 +477,25 @@ ended_iff keeps front records ended has tells = (
       one_place records after_end has.place ((file_iff_place records).0 file) has.at in sym (tells has.place has.kept_are) ∙ ap is_after_end (sym same),
 )
 
--- before the header it isn't there
+-- before the header, the reader isn't after the trailer
 pub tells_before : {K : Type 0} (keeps : Keeps K) (front : Front K) (records : Lines) (place : Place) → front.stage ≡ BeforeHeader
     → IsKept keeps front.stage front.keeper place records → is_after_end place ≡ false
 tells_before keeps front records place at told =
     ap is_after_end (subst (λ p. IsKept keeps p front.keeper place records) at told).0
 
--- between units it isn't there
+-- between units, the reader isn't after the trailer
 pub tells_between : {K : Type 0} (keeps : Keeps K) (front : Front K) (records : Lines) (place : Place) → front.stage ≡ BetweenUnits
     → IsKept keeps front.stage front.keeper place records → is_after_end place ≡ false
 tells_between keeps front records place at told =
     ap is_after_end (subst (λ p. IsKept keeps p front.keeper place records) at told).0
 
--- in a schedule it isn't there
+-- in a schedule, the reader isn't after the trailer
 pub tells_inside : {K : Type 0} (keeps : Keeps K) (front : Front K) (opened : Opened) (records : Lines) (place : Place) → front.stage ≡ InSchedule opened
     → IsKept keeps front.stage front.keeper place records → is_after_end place ≡ false
 tells_inside keeps front opened records place at told =
     ap is_after_end (subst (λ p. IsKept keeps p front.keeper place records) at told).place_is
 
--- after the trailer it is there
+-- at the stage `AfterEnd`, the reader is after the trailer
 pub tells_ended : {K : Type 0} (keeps : Keeps K) (front : Front K) (records : Lines) (place : Place) → front.stage ≡ AfterEnd
     → IsKept keeps front.stage front.keeper place records → is_after_end place ≡ true
 tells_ended keeps front records place at told =
@@ -501,7 +507,7 @@ none_of : (b : Bool) (o : Option Place) → o ≡ None → cond b o None ≡ Non
 none_of true o h = h
 none_of false o h = refl
 
--- the cause of a record, if the file isn't at its end: the cause by its kind
+-- if the file isn't at its end, the cause of a record is the cause that its kind gives
 told_cause : (records : Lines) (line : List ℕ) (place : Place) (cause : fault.FileCause) → IsRecord line → is_after_end place ≡ false
     → kind_cause place line ≡ cause
     → (limit : ℕ) → length records < limit → cause_of limit (length records) place line ≡ cause
@@ -557,7 +563,7 @@ both_false : (b c : Bool) → c ≡ false → (b && c) ≡ false
 both_false true c h = h
 both_false false c h = refl
 
--- nor can a header with a bad field
+-- before the header, a header with a bad field can't follow
 pub bad_header : {K : Type 0} (keeps : Keeps K) (front : Front K) (records : Lines) (line : List ℕ) (column : ℕ) → HasRecords keeps front records
     → front.stage ≡ BeforeHeader → IsRecord line
     → HasKind header line → leftmost_bad_field line ≡ Some column
@@ -629,7 +635,7 @@ bad_between keeps front records line kind has at is known bad =
       is = told_cause records line between_units (place_cause between_units line) is refl (cause_between line kind known);
     }
 
--- nor can it follow after a whole schedule
+-- after a whole schedule, a record that begins no unit, or has a bad field, can't follow
 pub bad_behind : {K : Type 0} (keeps : Keeps K) (front : Front K) (opened : Opened) (records : Lines) (line : List ℕ) (kind : Kind)
     → HasRecords keeps front records
     → front.stage ≡ InSchedule opened → IsWholeBy opened → IsRecord line → HasKind kind line
@@ -679,7 +685,7 @@ not_whole keeps front opened records line kind has at open_end is known stops =
     none_stage true o h = h
     none_stage false o h = refl
 
--- a line that can't continue the schedule
+-- a line that can follow a basic schedule, but can't continue this schedule, can't come next
 pub bad_line : {K : Type 0} (keeps : Keeps K) (wants : Type 0) (front : Front K) (opened : Opened) (records : Lines) (line : List ℕ)
     (cause : Option fault.FileCause) → HasRecords keeps front records
     → front.stage ≡ InSchedule opened → IsRecord line
@@ -701,19 +707,19 @@ bad_line keeps wants front opened records line (Some cause) has at is follow tol
 
 -- ---- results
 
--- what follows from two facts about an Ok result
+-- if an `Ok` result promises two facts, it promises whatever follows from both
 pub on_ok : {A E P Q R : Type 0} (answer : Result A E) → OnOk answer P → OnOk answer Q → (P → Q → R) → OnOk answer R
 on_ok (Ok value) p q both = both p q
 on_ok (Err error) p q both = p
 
--- what follows from a fact about an Ok result
+-- if an `Ok` result promises a fact, it promises whatever follows from the fact
 pub on_ok_one : {A E P R : Type 0} (answer : Result A E) → OnOk answer P → (P → R) → OnOk answer R
 on_ok_one (Ok value) p one = one p
 on_ok_one (Err error) p one = p
 
 -- ---- kinds of the code
 
--- a kind other than the header's
+-- a kind of the code other than `Header` doesn't mean the header's kind
 pub other_kind : (kind : code.Kind) → ¬ (kind ≡ Header) → is_header_kind (Some (meaning kind)) ≡ false
 other_kind Header bad = absurd (bad refl)
 other_kind _ bad = refl
@@ -725,7 +731,7 @@ file_at_end keeps front records has at =
 
 -- ---- the file
 
--- what is returned for the records, after the trailer
+-- after the trailer, the records are a file, and what is returned is the file's
 pub file_ended : {K : Type 0} (keeps : Keeps K) (front : Front K) (records : Lines) (ended : Ended K) → HasRecords keeps front records
     → front.stage ≡ AfterEnd → front.header ≡ Some ended.header → ended.records ≡ length records → ended.keeper ≡ front.keeper
     → IsFile records × IsEnded keeps records ended

@@ -1,5 +1,6 @@
 -- The lines that a parser has taken, and the faults that it returns.
-use Rattle.std.proofs.Common.{◌≡◌, ℕ, ◌+◌, ◌-◌, ◌≤◌, ◌<◌, inl, inr, Bool, true, false, cond, List, [], ◌∷◌, ◌++◌, length, subst, refl, ap, sym, ◌∙◌, Some, None, arith, append_assoc, append-nil, length-append, eqb-true, take, drop, get_or, suc, drop-cons}
+use Rattle.std.proofs.Common.{◌≡◌, ℕ, ◌+◌, ◌-◌, ◌≤◌, ◌<◌, inl, inr, Bool, true, false, cond, List, [], ◌∷◌, ◌++◌, length, subst, refl, ap, sym}
+use Rattle.std.proofs.Common.{◌∙◌, Some, None, arith, append_assoc, append-nil, length-append, eqb-true, take, drop, get_or, suc, drop-cons}
 use Rattle.std.specs.Prelude.{⊤, Option, ◌↔◌, ◌==◌, ◌&&◌, nat_le, position, nat_lt}
 use Rattle.std.specs.Str.Lines.{strip_carriage_return}
 use Rattle.std.proofs.Math.Seq.{take-append_seam}
@@ -19,8 +20,10 @@ use Rattle.cif_laws.specs.FileStage.{Place, after_end, place_at, next_place}
 use Rattle.cif_laws.proofs.files.FileStages.{next_by_test, file_iff_place, begins_iff_place}
 use Rattle.cif_laws.specs.RecordCause.{end_cause, length_cause, is_after_end, cause_of_long}
 use Rattle.cif_laws.specs.LinesTold.{HasNoFeed, told_lines, open_line, line_left}
-use Rattle.cif_laws.proofs.files.ToldLines.{lines_of_told, lines_of_ended, lines_of_open, told_lines_plain, open_line_plain, told_lines_ended, open_line_ended, told_lines_stay, lines_told_grow}
-use Rattle.cif_laws.proofs.files.ToldFaults.{cause_of_length, not_80, no_next_place, lines_told_short, length_at_end, fault_at_feed, fault_at_long, fault_at_end, fault_stays, no_fault_told}
+use Rattle.cif_laws.proofs.files.ToldLines.{lines_of_told, lines_of_ended, lines_of_open, told_lines_plain, open_line_plain}
+use Rattle.cif_laws.proofs.files.ToldLines.{told_lines_ended, open_line_ended, told_lines_stay, lines_told_grow}
+use Rattle.cif_laws.proofs.files.ToldFaults.{cause_of_length, not_80, no_next_place, lines_told_short, length_at_end}
+use Rattle.cif_laws.proofs.files.ToldFaults.{fault_at_feed, fault_at_long, fault_at_end, fault_stays, no_fault_told}
 use Rattle.cif_change.specs.declared.cause.FileCause.{FileCause}
 use Rattle.cif_change.specs.declared.cause.FileCause.TheVariants.{Memory}
 use Rattle.cif_file.specs.declared.fault.FileFault.{FileFault}
@@ -34,7 +37,10 @@ use Rattle.cif_file.proofs.TextLemmas.{record_cut}
 use Rattle.cif_change.specs.Cause.{cause_meant}
 use Rattle.cif_file.specs.KeeperRead.{Keeps, KeepsAll}
 use Rattle.cif_file.specs.RecordsRead.{HasRecords, GoesOnWith, IsNoNextCause}
-use Rattle.cif_file.specs.ParserRead.{IsEndedText, ParserState, HasRead, IsReadingOrFault, HasCounted, IsCauseNext, IsCauseBehind, IsFaultNext, IsNoEndOf, FaultsNext, EndsCounted, EndsUnended, IsLongNext, IsReading, WantsMemoryAt, IsToldSoFar, IsFaultTold, IsCauseOf, IsRefused, HasNotFailed, IsLater, NamesLater, IsLast, NamesLast, GoesOn, TakesUpTo, TellsFault, refusal, IsRefusedNext, CountsNext}
+use Rattle.cif_file.specs.ParserRead.{IsEndedText, ParserState, HasRead, IsReadingOrFault, HasCounted, IsCauseNext, IsCauseBehind}
+use Rattle.cif_file.specs.ParserRead.{IsFaultNext, IsNoEndOf, FaultsNext, EndsCounted, EndsUnended, IsLongNext, IsReading, WantsMemoryAt}
+use Rattle.cif_file.specs.ParserRead.{IsToldSoFar, IsFaultTold, IsCauseOf, IsRefused, HasNotFailed, IsLater, NamesLater, IsLast}
+use Rattle.cif_file.specs.ParserRead.{NamesLast, GoesOn, TakesUpTo, TellsFault, refusal, IsRefusedNext, CountsNext}
 
 abbrev Lines : Type 0
 Lines = List (List ℕ)
@@ -67,7 +73,7 @@ memory_told limit records line number all under goes_on counted whole =
       sound = subst BeginsFile (sym (take_all number all (omega arith))) (subst BeginsFile (sym whole) ((begins_iff_place (records ++ line ∷ [])).1 goes_on));
     }
 
--- more records after the one at which memory ran out make no difference
+-- if memory ran out at a record, records after it make no difference
 memory_more : (limit : ℕ) (records others : Lines) (number : ℕ) → WantsMemoryAt limit records number → WantsMemoryAt limit (records ++ others) number
 memory_more limit records others number told = record {
   some = told.some;
@@ -112,7 +118,7 @@ some_cause true ended first second third = refl
 some_cause false true first second third = refl
 some_cause false false first second third = refl
 
--- the fault of a line that isn't a record
+-- the fault for which a line that isn't a record is refused is the fault of the next line
 pub refused_line : (wants : Type 0) (limit : ℕ) (records : Lines) (line : List ℕ) (cause : Option model.FileCause) (fault : FileFault)
     → IsRefusedNext limit records cause fault → ¬ IsRecord line
     → ((place : Place) → cause ≡ Some (length_cause place line)) → IsFaultNext wants limit records line fault
@@ -125,7 +131,7 @@ refused_line wants limit records line cause fault next bad told = record {
       (record { place = next.place; at = next.at; here = inr (no_next next.place line bad); is = refl });
 }
 
--- the fault of a line that is too long
+-- a line refused for its length has the fault of a line that is too long
 pub refused_long : (limit : ℕ) (records : Lines) (fault : FileFault) → IsRefusedNext limit records (Some bad_length) fault → IsLongNext limit records fault
 refused_long limit records fault next = record {
   number = next.number;
@@ -134,7 +140,7 @@ refused_long limit records fault next = record {
   cause = next.is ∙ some_cause (nat_le limit (length records)) (is_after_end next.place) too_many after_trailer bad_length;
 }
 
--- the cause of a record that can't come next
+-- within the limit, the cause of a record that can't come next is the cause of the next line
 pub front_cause : (wants : Type 0) (limit : ℕ) (records : Lines) (line : List ℕ) (cause : FileCause) → length records < limit
     → IsNoNextCause wants records line (cause_meant cause)
     → IsCauseBehind wants limit records line (cause_meant cause)
@@ -146,7 +152,8 @@ front_cause wants limit records line cause under told = by (cause_meant cause) t
 
 -- ---- a line that ends
 
--- the line that ends here was taken, together with its earlier bytes
+-- if the line that ends here was taken with its earlier bytes, the reading has read the text up to
+-- here
 pub ended_read : {K : Type 0} (keeps : Keeps K) (old new : FileReading K) (limit : ℕ) (text front : List ℕ) → IsReading keeps old limit text → HasNoFeed front
     → HasCounted keeps new.records limit (told_lines text ++ strip_carriage_return (open_line text ++ front) ∷ []) → new.partial.items ≡ []
     → IsReading keeps new limit (text ++ (front ++ 10 ∷ []))
@@ -156,7 +163,7 @@ ended_read keeps old new limit text front reading plain counted none = record {
   short = let size = ap (λ (l : List ℕ). length l) (open_line_ended text front plain) in omega arith;
 }
 
--- the fault of the line that ends here is returned
+-- the fault of the line that ends here is the fault that is returned for the text
 pub ended_fault : {K : Type 0} (keeps : Keeps K) (wants : Type 0) (old : FileReading K) (limit : ℕ) (text front : List ℕ) (fault : FileFault)
     → IsReading keeps old limit text → HasNoFeed front
     → IsFaultNext wants limit (told_lines text) (strip_carriage_return (open_line text ++ front)) fault → IsFaultTold limit (text ++ (front ++ 10 ∷ [])) fault
@@ -171,7 +178,7 @@ ended_fault keeps wants old limit text front fault reading plain next = by (caus
         subst (λ f. IsFaultSoFar limit (text ++ (front ++ 10 ∷ [])) f) (λ i. record { number = sym next.number i; cause = told.is i })
         (fault_at_feed limit text front [] told.place plain told.at reading.counted.within told.here)
 
--- the line that ends here is too long, and that fault is returned
+-- a line that ends here with more than 81 bytes is too long, and that fault is returned
 pub ended_long : {K : Type 0} (keeps : Keeps K) (old : FileReading K) (limit : ℕ) (text front : List ℕ) (fault : FileFault) → IsReading keeps old limit text
     → HasNoFeed front
     → 82 ≤ length (open_line text ++ front)
@@ -203,7 +210,7 @@ kept_read keeps old new limit text more reading plain few records kept = record 
       let same = ap (λ (l : List ℕ). length l) reading.partial_is in omega arith;
 }
 
--- the open line is too long, and that fault is returned
+-- if the open line would have more than 81 bytes, it is too long, and that fault is returned
 pub kept_long : {K : Type 0} (keeps : Keeps K) (old : FileReading K) (limit : ℕ) (text more : List ℕ) (fault : FileFault) → IsReading keeps old limit text
     → HasNoFeed more
     → ¬ (length old.partial.items + length more ≤ 81)
@@ -301,7 +308,7 @@ told_refused limit text fault told = by (cause_meant fault.cause) told
 
 -- ---- a line that isn't a record
 
--- a line that isn't a record, above the limit
+-- a line that isn't a record is refused if it is above the limit
 pub refused_over : {K : Type 0} (keeps : Keeps K) (records : Records K) (limit : ℕ) (taken : Lines) (cause : Option model.FileCause) (fault : FileFault)
     → HasCounted keeps records limit taken
     → fault.number ≡ records.next
@@ -316,7 +323,8 @@ refused_over keeps records limit taken cause fault counted number over told = re
       λ i. cond (sym (le-leb limit (length taken) most) i) (Some too_many) (cond (is_after_end counted.has.place) (Some after_trailer) cause));
 }
 
--- a line that isn't a record, within the limit
+-- a line that isn't a record is refused for its own cause or after the trailer, if it is within the
+-- limit
 pub refused_within : {K : Type 0} (keeps : Keeps K) (records : Records K) (limit : ℕ) (taken : Lines) (cause : Option model.FileCause) (fault : FileFault)
     (ended : Bool) → HasCounted keeps records limit taken
     → fault.number ≡ records.next → records.next ≤ records.limit
@@ -346,7 +354,7 @@ refused_within keeps records limit taken cause fault ended counted number within
 
 -- ---- a line that ends, by the bytes that were taken of it
 
--- if the bytes don't fit, then with the earlier ones there are more than 81
+-- if the bytes don't fit, the line has more than 81 bytes with its earlier ones
 pub ended_many : {K : Type 0} (keeps : Keeps K) (old : FileReading K) (limit : ℕ) (text front : List ℕ) → IsReading keeps old limit text
     → ¬ (length old.partial.items + length front ≤ 81)
     → 82 ≤ length (open_line text ++ front)
@@ -355,7 +363,7 @@ ended_many keeps old limit text front reading many =
     let size = length-append (open_line text) front in
     above 81 (length (open_line text ++ front)) (λ few. many (omega arith))
 
--- the bytes that were taken are the text's line
+-- the line made of the bytes that were taken is the text's line
 pub taken_is : {K : Type 0} (keeps : Keeps K) (old : FileReading K) (limit : ℕ) (text front raw line : List ℕ) → IsReading keeps old limit text
     → raw ≡ old.partial.items ++ front
     → line ≡ strip_carriage_return raw
@@ -363,7 +371,8 @@ pub taken_is : {K : Type 0} (keeps : Keeps K) (old : FileReading K) (limit : ℕ
 taken_is keeps old limit text front raw line reading whole strip = strip ∙ ap strip_carriage_return (whole ∙ ap (λ l. l ++ front) reading.partial_is)
 
 -- the line that was taken is the one that ends here
-pub ended_ok : {K : Type 0} (keeps : Keeps K) (old new : FileReading K) (limit : ℕ) (text front line : List ℕ) → IsReading keeps old limit text → HasNoFeed front
+pub ended_ok : {K : Type 0} (keeps : Keeps K) (old new : FileReading K) (limit : ℕ) (text front line : List ℕ)
+    → IsReading keeps old limit text → HasNoFeed front
     → line ≡ strip_carriage_return (open_line text ++ front)
     → HasCounted keeps new.records limit (told_lines text ++ line ∷ []) → new.partial.items ≡ [] → IsReading keeps new limit (text ++ (front ++ 10 ∷ []))
 ended_ok keeps old new limit text front line reading plain same counted none =
@@ -378,7 +387,7 @@ ended_err keeps wants old limit text front line fault reading plain same told =
     ended_fault keeps wants old limit text front fault reading plain
     (subst (λ l. IsFaultNext wants limit (told_lines text) l fault) same (told limit (told_lines text) reading.counted))
 
--- the line has no earlier bytes
+-- if no bytes are kept, the line has no earlier bytes
 pub empty_is : {K : Type 0} (old : FileReading K) → true ≡ (length old.partial.items == 0) → old.partial.items ≡ []
 empty_is old none = by old.partial.items (eqb-true (length old.partial.items) 0 (sym none))
   where
@@ -396,7 +405,8 @@ some_is_open keeps old limit text reading some =
     above 0 (length (open_line text)) (λ none. not_none (omega (arith, size)))
 
 -- the last line was taken, although no line feed ends it
-pub counted_last : {K : Type 0} (keeps : Keeps K) (old : FileReading K) (records : Records K) (limit : ℕ) (text raw line : List ℕ) → IsReading keeps old limit text
+pub counted_last : {K : Type 0} (keeps : Keeps K) (old : FileReading K) (records : Records K) (limit : ℕ) (text raw line : List ℕ)
+    → IsReading keeps old limit text
     → false ≡ (length old.partial.items == 0) → raw ≡ old.partial.items
     → line ≡ strip_carriage_return raw → HasCounted keeps records limit (told_lines text ++ line ∷ []) → HasCounted keeps records limit (lines_of text)
 counted_last keeps old records limit text raw line reading some same strip counted =
@@ -439,7 +449,7 @@ no_feed_by text none = λ k d below.
     let past = no_place (position_or_len (λ b. b == 10) text) (length text) _ refl none in
     fails_before_first (λ b. b == 10) text k d (omega arith)
 
--- the front of a piece grows by the bytes that are taken from its rest
+-- the front of a piece grows by the bytes that are taken from the rest of the piece
 cut_more : (piece rest front behind : List ℕ) → before_rest piece rest ++ rest ≡ piece → rest ≡ front ++ behind
     → (before_rest piece behind ≡ before_rest piece rest ++ front) × (before_rest piece behind ++ behind ≡ piece)
 cut_more piece rest front behind whole cut =
@@ -471,7 +481,7 @@ cut_whole rest front behind cut = cut.whole ∙ sym (append_assoc front (10 ∷ 
 abbrev Told : Type 1
 Told = ℕ → List ℕ → Type 0
 
--- at first nothing was taken
+-- at first nothing of the text was taken
 pub takes_none : (before : Told) (text : List ℕ) → TakesUpTo before text text before
 takes_none before text =
     let first = cut_first text in
@@ -480,7 +490,7 @@ takes_none before text =
       read = λ limit told is. subst (λ l. before limit (told ++ l)) (sym first.0) (subst (before limit) (sym (append-nil told)) is);
     }
 
--- more of the rest was taken
+-- taking more of the rest takes more of the text
 pub takes_further : (before middle after : Told) (text rest front behind : List ℕ) → TakesUpTo before text rest middle → rest ≡ front ++ behind
     → GoesOn middle front after → TakesUpTo before text behind after
 takes_further before middle after text rest front behind up_to cut on =
@@ -492,19 +502,19 @@ takes_further before middle after text rest front behind up_to cut on =
           (on limit (told ++ before_rest text rest) (up_to.read limit told is));
     }
 
--- one more line was taken
+-- taking one more line of the rest takes more of the text
 pub takes_line : (before middle next : Told) (text rest front behind : List ℕ) → TakesUpTo before text rest middle → IsCut rest front behind
     → GoesOn middle (front ++ 10 ∷ []) next → TakesUpTo before text behind next
 takes_line before middle next text rest front behind up_to cut on =
     takes_further before middle next text rest (front ++ 10 ∷ []) behind up_to (cut_whole rest front behind cut) on
 
--- a first part of the rest was taken, and then more of it
+-- taking a first part of the rest, and then more of it, takes both of the text
 pub takes_more : (before middle after : Told) (text rest left : List ℕ) → TakesUpTo before text rest middle → TakesUpTo middle rest left after
     → TakesUpTo before text left after
 takes_more before middle after text rest left up_to more =
     takes_further before middle after text rest (before_rest rest left) left up_to (sym more.whole) more.read
 
--- the whole rest was taken
+-- taking the whole rest takes the whole text
 pub takes_whole : (before middle after : Told) (text rest : List ℕ) → TakesUpTo before text rest middle → GoesOn middle rest after → GoesOn before text after
 takes_whole before middle after text rest up_to on = λ limit told is.
     subst (after limit) (append_assoc told (before_rest text rest) rest ∙ ap (λ l. told ++ l) up_to.whole)
@@ -562,7 +572,7 @@ later_than : {K : Type 0} (keeps : Keeps K) (reading : FileReading K) (limit : �
     → lines_told text < fault.number
 later_than keeps reading limit text fault is number = let same = lines_told_short text is.short in omega arith
 
--- memory runs out only if it may
+-- if the cause of a fault is `Memory`, the line may need memory
 wants_of : (wants : Type 0) (limit : ℕ) (records : Lines) (line : List ℕ) (fault : FileFault) → IsFaultNext wants limit records line fault
     → fault.cause ≡ Memory → wants
 wants_of wants limit records line fault next memory = (subst (λ cause. IsCauseBehind wants limit records line (cause_meant cause)) memory next.cause).0
@@ -613,7 +623,7 @@ pub last_end : {K : Type 0} (keeps : Keeps K) (reading : FileReading K) (fault :
 last_end keeps reading fault told = λ memory limit text is.
     let bad : ◌≡◌ {A = Option model.FileCause} None (Some no_end) = sym (ap cause_meant memory) ∙ (told limit text is).1 in absurd cc
 
--- the open line is the last one
+-- the open line is the last record of the text
 pub last_open : {K : Type 0} (keeps : Keeps K) (wants : Type 0) (reading : FileReading K) (line : List ℕ) (fault : FileFault)
     → false ≡ (length reading.partial.items == 0) → FaultsNext keeps wants reading.records line fault
     → IsLast keeps reading fault
@@ -636,7 +646,7 @@ names_last parser reading fault none same told =
 
 -- ---- a record at the start of a text
 
--- the record was taken
+-- the record at the start of the rest was taken
 pub record_read : {K : Type 0} (keeps : Keeps K) (before : Told) (old new : FileReading K) (text rest front line behind : List ℕ)
     → TakesUpTo before text rest (IsReading keeps old) → BeginsWithEighty rest front behind → line ≡ front → IsRecord front
     → old.partial.items ≡ [] → CountsNext keeps old.records line new.records → new.partial.items ≡ []
@@ -648,7 +658,7 @@ record_read keeps before old new text rest front line behind up_to begins same i
     (taken_is keeps old limit told at.front at.front line reading (ap (λ l. l ++ at.front) (sym none)) (same ∙ at.line_is))
     (taken limit (told_lines told) reading.counted) after)
 
--- a fault of the record is the text's fault
+-- a fault of the record at the start of the rest is a fault of the rest
 pub record_fault : {K : Type 0} (keeps : Keeps K) (wants : Type 0) (old : FileReading K) (rest front line behind : List ℕ) (fault : FileFault)
     → BeginsWithEighty rest front behind → line ≡ front → IsRecord front → old.partial.items ≡ []
     → FaultsNext keeps wants old.records line fault

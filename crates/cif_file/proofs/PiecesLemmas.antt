@@ -8,7 +8,7 @@ use Rattle.cif_file.specs.ParserRead.{ParserState, HasRead, IsFaultTold, IsRefus
 use Rattle.cif_file.proofs.ParserLemmas.{told_stays, told_refused}
 
 module _ {X : Type 0} (f : X → List ℕ) where
-  -- the joined pieces, with one more
+  -- one more piece is joined after the pieces before it
   pub joined_more : (pieces : List X) (i : ℕ) (d : X) → i < length pieces
       → concat (map f (take (i + 1) pieces)) ≡ concat (map f (take i pieces)) ++ f (get_or pieces i d)
   joined_more pieces i d below =
@@ -16,12 +16,12 @@ module _ {X : Type 0} (f : X → List ℕ) where
       ∙ concat-append (map f (take i pieces)) (f (get_or pieces i d) ∷ [])
       ∙ ap (λ last. concat (map f (take i pieces)) ++ last) (append-nil (f (get_or pieces i d)))
 
-  -- a parser that has read the pieces up to one, and then that one, has read one more
+  -- a parser that has read some pieces and the next one has read one piece more
   pub read_more : (parser : ParserState) (limit : ℕ) (pieces : List X) (i : ℕ) (d : X) → i < length pieces
       → HasRead parser limit (concat (map f (take i pieces)) ++ f (get_or pieces i d)) → HasRead parser limit (concat (map f (take (i + 1) pieces)))
   read_more parser limit pieces i d below read = subst (HasRead parser limit) (sym (joined_more pieces i d below)) read
 
-  -- after the last piece it has read them all
+  -- after the last piece the parser has read all pieces
   pub read_all : (parser : ParserState) (limit : ℕ) (pieces : List X) (i : ℕ) → length pieces ≤ i → HasRead parser limit (concat (map f (take i pieces)))
       → HasRead parser limit (concat (map f pieces))
   read_all parser limit pieces i past read = subst (λ all. HasRead parser limit (concat (map f all))) (take_all i pieces past) read

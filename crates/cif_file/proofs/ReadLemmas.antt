@@ -32,7 +32,7 @@ pub at_start : {K : Type 0} (keeps : Keeps K) (limit : ℕ) (reading : FileReadi
     → TakesFile keeps reading limit []
 at_start keeps limit reading has few = record { read = has; few = few; sound = sound_at_start limit }
 
--- a piece that was read is taken
+-- a piece that was read is taken after the text before it
 pub takes_more : {K : Type 0} (keeps : Keeps K) (before after : FileReading K) (piece : List ℕ) {A : Type 0} (result : Result A FileFault)
     → OnOk result (GoesOn (IsReading keeps before) piece (IsReading keeps after))
     → OnOk result (BehindEach (TakesFile keeps) before (λ limit text. TakesFile keeps after limit (text ++ piece)))
@@ -41,7 +41,7 @@ takes_more keeps before after piece (Ok done) read = λ limit text has.
     record { read = more; few = has.few; sound = reading_tells_none keeps after limit (text ++ piece) more }
 takes_more keeps before after piece (Err fault) read = tt
 
--- the fault that is returned is the fault of the text with that piece
+-- the fault that is returned for a piece is the fault of the text up to and including the piece
 pub refuses_more : {K : Type 0} (keeps : Keeps K) (wants : Type 0) (before : FileReading K) (piece : List ℕ) {A : Type 0} (result : Result A FileFault)
     → IfErr result (TellsFault (IsReading keeps before) piece) → IfErr result (IsLater keeps wants before)
     → IfErr result (λ fault. BehindEach (TakesFile keeps) before (λ limit text. RefusesPiece wants limit text piece fault))
@@ -66,7 +66,7 @@ held_all (Some told) (Some rest) text lost end =
     let same : told ≡ text ++ rest = cc in
     same ∙ ap (λ r. text ++ r) end ∙ append-nil text
 
--- what is returned for the text that was read to its end
+-- what is returned at the end of the source belongs to the text that the source held
 pub file_read : {K : Type 0} (keeps : Keeps K) (limit count : ℕ) (initial now : Option (List ℕ)) (reading : FileReading K) (result : Result (Ended K) ReadFault)
     → HasFed (TakesFile keeps) count limit [] initial now reading → IsEnd now → IfOk result (EndsBy keeps reading)
     → IfOk result (ReadsEnded keeps limit initial)
@@ -106,7 +106,7 @@ refused_of limit text fault refused other = by (cause_meant fault.cause) refl re
     by None h of = absurd (other (memory_meant fault.cause h))
     by (Some cause) h of = record { cause = cause; cause_is = h; is = of }
 
--- a fault that is returned as the file's is the reading's fault, and isn't out of memory
+-- if the file's fault is returned, it is the reading's fault, and its cause isn't `Memory`
 told_as_file : {A : Type 0} (fault told : FileFault) (result : ReadFault) → (fault.cause ≡ Memory → result ≡ read.Memory)
     → (fault.cause ≢ Memory → result ≡ read.File fault)
     → ◌≡◌ {A = Result A ReadFault} (Err result) (Err (read.File told)) → (fault ≡ told) × (fault.cause ≢ Memory)
@@ -226,7 +226,7 @@ wants_before keeps wants limit initial next reading fault result has file is =
 same_fault : {A B : Type 0} (fault told : ReadFault) → ◌≡◌ {A = Result A ReadFault} (Err fault) (Err told) → ◌≡◌ {A = Result B ReadFault} (Err fault) (Err told)
 same_fault fault told is = let same : fault ≡ told = cc in ap Err same
 
--- out of memory, if a record may need memory
+-- if memory ran out where a record may need it, `WantsMemory` holds
 pub wants_any : {A B : Type 0} (wants : Type 0) (limit : ℕ) (old new : Option (List ℕ)) (fault : ReadFault)
     → (◌≡◌ {A = Result A ReadFault} (Err fault) (Err read.Memory) → WantsMemoryBy wants 65536 limit old new)
     → ◌≡◌ {A = Result B ReadFault} (Err fault) (Err read.Memory) → WantsMemory 65536 limit old new
@@ -236,7 +236,7 @@ wants_any wants limit old new fault told is = by (told (same_fault fault read.Me
     by (inl unread_yet) = inl unread_yet
     by (inr wanting) = inr wanting.1
 
--- out of memory, if no record needs memory
+-- if no record needs memory, memory ran out before the first byte was read
 pub wants_none : {A B : Type 0} (limit : ℕ) (old new : Option (List ℕ)) (fault : ReadFault)
     → (◌≡◌ {A = Result A ReadFault} (Err fault) (Err read.Memory) → WantsMemoryBy ⊥ 65536 limit old new)
     → ◌≡◌ {A = Result B ReadFault} (Err fault) (Err read.Memory) → Reads old [] new

@@ -1,5 +1,6 @@
 -- A record at the start of a text.
-use Rattle.std.proofs.Common.{◌≡◌, ℕ, ◌-◌, ◌≤◌, inl, inr, true, false, cond, List, [], ◌∷◌, ◌++◌, length, take, drop, get_or, refl, sym, ap, ◌∙◌, subst, arith, length-append, append_assoc}
+use Rattle.std.proofs.Common.{◌≡◌, ℕ, ◌-◌, ◌≤◌, inl, inr, true, false, cond, List, [], ◌∷◌, ◌++◌, length, take}
+use Rattle.std.proofs.Common.{drop, get_or, refl, sym, ap, ◌∙◌, subst, arith, length-append, append_assoc}
 use Rattle.std.proofs.lemmas.Grind.{common_steps}
 use Rattle.std.specs.Prelude.{◌==◌}
 use Rattle.std.specs.Str.Lines.{strip_carriage_return}
@@ -70,7 +71,7 @@ begins_at text line rest begins =
     let second : drop 80 text ≡ begins.after = (λ i. drop (sym size i) (begins.whole i)) ∙ drop-append_seam line begins.after in
     (subst (λ l. BeginsWithEnd l rest) (sym second) begins.ended, omega arith)
 
--- conversely, if a line end comes after the first 80 bytes, they are such a line
+-- conversely, if a line end comes after its first 80 bytes, a text starts with a line of 80 bytes
 pub begins_with : (text rest : List ℕ) → 80 ≤ length text → BeginsWithEnd (drop 80 text) rest → BeginsWithEighty text (take 80 text) rest
 begins_with text rest some ended = record {
   eighty = length-take-le 80 text some;

@@ -1,4 +1,4 @@
--- What is returned for a file of which only what a place and a day need was kept.
+-- What is returned for a file, if only what a place and a day need was kept.
 use Rattle.std.proofs.Common.{◌≡◌, ℕ, ◌∙◌, ◌≤◌, List, subst, sym, arith}
 use Rattle.std.specs.Prelude.{Option}
 use Rattle.docker_model.specs.file.File.{most_records}
@@ -17,19 +17,19 @@ module _ {P : Type 0} (place : List ℕ) (day : ℕ) where
   -- the file is made of the records
   file_of : (records : List (List ℕ)) (ended : Ended (ThinSoFar P)) → IsEnded (KeepsThin place day) records ended
       → IsOfRecords (thin_ended ended).file records
-  file_of records ended is = record { header_is = is.header_is; count_is = is.count_is; changes_are = is.kept.told }
+  file_of records ended is = record { header_is = is.header_is; count_is = is.count_is; changes_are = is.kept.so_far }
 
-  -- enough of its changes was kept
+  -- enough of the file's changes was kept
   enough_of : (records : List (List ℕ)) (ended : Ended (ThinSoFar P)) → IsEnded (KeepsThin place day) records ended
-      → IsThinning ended.keeper.thinned.place ended.keeper.thinned.day ended.keeper.told.changes (thin_ended ended).kept
+      → IsThinning ended.keeper.thinned.place ended.keeper.thinned.day ended.keeper.so_far.changes (thin_ended ended).kept
   enough_of records ended is =
       let has = is.kept.thinned in
-      subst (λ p. IsThinning p ended.keeper.thinned.day ended.keeper.told.changes (thin_ended ended).kept) (sym has.place_is)
-      (subst (λ d. IsThinning place d ended.keeper.told.changes (thin_ended ended).kept) (sym has.day_is)
-      (subst (λ (all : List Change). IsThinning place day all (thin_ended ended).kept) (sym is.kept.told)
+      subst (λ p. IsThinning p ended.keeper.thinned.day ended.keeper.so_far.changes (thin_ended ended).kept) (sym has.place_is)
+      (subst (λ d. IsThinning place d ended.keeper.so_far.changes (thin_ended ended).kept) (sym has.day_is)
+      (subst (λ (all : List Change). IsThinning place day all (thin_ended ended).kept) (sym is.kept.so_far)
       (subst (IsThinning place day (changes records)) (sym has.made.changes_are) has.thinning)))
 
-  -- what was kept of the file whose text the source held
+  -- what is returned is what was kept of the file whose text the source held
   pub reads_thin : (there : List ℕ) (on : ℕ) (limit : ℕ) (left : Option (List ℕ)) (ended : Ended (ThinSoFar P)) → there ≡ place → on ≡ day
       → ReadsEnded (KeepsThin place day) limit left ended → ReadsThin there on limit left (thin_ended ended)
   reads_thin there on limit left ended same_place same_day reads =
@@ -44,10 +44,10 @@ module _ {P : Type 0} (place : List ℕ) (day : ℕ) where
         day_is = is.of_records.kept.thinned.day_is ∙ sym same_day;
       }
 
-  -- its parts belong to it
+  -- the returned parts belong to what was kept
   pub reads_thin_parts : (limit : ℕ) (left : Option (List ℕ)) (ended : Ended (ThinSoFar P)) → limit ≤ most_records
       → ReadsEnded (KeepsThin place day) limit left ended
-      → AreThinParts ended.keeper.thinned.place ended.keeper.thinned.day ended.keeper.told.changes (thin_parts_ended ended)
+      → AreThinParts ended.keeper.thinned.place ended.keeper.thinned.day ended.keeper.so_far.changes (thin_parts_ended ended)
   reads_thin_parts limit left ended few reads =
       let is = reads.of_text in
       let within = is.is_text.within in

@@ -41,7 +41,7 @@ thin_parts_ended ended = record {
 
 -- what was kept of the file
 abbrev pub thin_ended : {P : Type 0} → Ended (ThinSoFar P) → ThinRead
-thin_ended ended = thin_of_parts ended.keeper.thinned.place ended.keeper.thinned.day ended.keeper.told.changes (thin_parts_ended ended)
+thin_ended ended = thin_of_parts ended.keeper.thinned.place ended.keeper.thinned.day ended.keeper.so_far.changes (thin_parts_ended ended)
 
 -- the counts of the file, if the changes were counted
 abbrev pub count_ended : Ended Tally → FileCounted

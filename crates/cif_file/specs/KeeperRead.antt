@@ -39,7 +39,7 @@ change_opened opened lines = change_renewed opened (with_new_first lines)
 abbrev pub Begins : {K : Type 0} → Keeps K → K → List ℕ → K → Type 0
 Begins keeps old basic new = (made : List Change) → keeps old [] made → keeps new (basic ∷ []) made
 
--- a line was added after a basic schedule and others
+-- a line was added after a basic schedule and other lines
 abbrev pub AddsLine : {K : Type 0} → Keeps K → K → List ℕ → K → Type 0
 AddsLine keeps old line new =
     (basic : List ℕ) (others : Lines) (made : List Change) → keeps old (basic ∷ others) made → keeps new (basic ∷ others ++ line ∷ []) made
@@ -55,8 +55,8 @@ abbrev pub AddsSingle : {K : Type 0} → Keeps K → K → ℕ → List ℕ → 
 AddsSingle keeps old number line new =
     (lines : Lines) (made : List Change) → keeps old lines made → keeps new lines (made ++ changes_of_record number line [])
 
--- the lines, with the first as new, and the changes themselves are kept, and the places that the
--- changes name are noted
+-- the lines are kept, with the first as new. The changes are kept too, and the places that they
+-- name are noted
 abbrev pub KeepsAll : FileSoFar → Lines → List Change → Type 0
 KeepsAll kept lines changes = (kept.lines.items ≡ with_new_first lines) × HasMade kept.made changes
 

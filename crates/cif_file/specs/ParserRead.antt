@@ -129,6 +129,7 @@ abbrev pub IsToldSoFar : ℕ → List ℕ → ℕ → Option model.FileCause →
 IsToldSoFar limit text number None = WantsMemoryAt limit (told_lines text) number
 IsToldSoFar limit text number (Some cause) = IsFaultSoFar limit text (record { number = number; cause = cause })
 
+-- like `IsToldSoFar`, for a fault that a call returns
 abbrev pub IsFaultTold : ℕ → List ℕ → FileFault → Type 0
 IsFaultTold limit text fault = IsToldSoFar limit text fault.number (cause_meant fault.cause)
 
@@ -147,6 +148,7 @@ pub record ParserState : Type 0 where
   pub reading : FileReading FileSoFar
   pub fault : Option FileFault
 
+-- the reading has read this text, or has returned this fault of it
 abbrev pub IsReadingOrFault : FileReading FileSoFar → ℕ → List ℕ → Option FileFault → Type 0
 IsReadingOrFault reading limit text None = IsReading KeepsAll reading limit text
 IsReadingOrFault reading limit text (Some fault) = IsFaultTold limit text fault

@@ -15,10 +15,10 @@ listed_after (Some first) last = change_meant first ∷ last ∷ []
 abbrev pub listed : SingleChanges → List Change
 listed changes = listed_after changes.first (change_meant changes.last)
 
--- a place and a day need the change as it is, whatever they are
+-- the change is never thin: every place and day need it as it is
 abbrev pub IsNeverThin : Change → Type 0
 IsNeverThin change = (place : List ℕ) (day : ℕ) → thin_act place day change.act ≡ change.act
 
--- this is so of each of the changes
+-- each of the changes is never thin
 abbrev pub AreNeverThin : SingleChanges → Type 0
 AreNeverThin changes = IfSome changes.first (λ first. IsNeverThin (change_meant first)) × IsNeverThin (change_meant changes.last)

@@ -83,12 +83,13 @@ pub record WantsLast (limit : ℕ) (left : Option (List ℕ)) : Type 0 where
   pub held : Held left text
   pub wanting : WantsMemoryAt limit (lines_of text) (length (lines_of text))
 
--- memory ran out before a byte was read; or, if it may run out for a record: for one up to which
--- none is at fault, or for the last one of such a text
+-- memory ran out before a byte was read. If `wants` holds, it may also have run out at a record,
+-- and no record up to that one is at fault. Either the last piece completes the record, or it is
+-- the text's last one
 abbrev pub WantsMemoryBy : Type 0 → ℕ → ℕ → Option (List ℕ) → Option (List ℕ) → Type 0
 WantsMemoryBy wants most limit old new = Reads old [] new ⊎ (wants × (WantsRecord most limit old new ⊎ WantsLast limit old))
 
--- memory ran out: before a byte was read, for a record up to which none is at fault, or for the
--- last one of such a text
+-- memory ran out before a byte was read, or at a record, and no record up to that one is at fault.
+-- Either the last piece completes the record, or it is the text's last one
 abbrev pub WantsMemory : ℕ → ℕ → Option (List ℕ) → Option (List ℕ) → Type 0
 WantsMemory most limit old new = Reads old [] new ⊎ WantsRecord most limit old new ⊎ WantsLast limit old

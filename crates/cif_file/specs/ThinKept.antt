@@ -29,7 +29,7 @@ has_key keys key = set.contains (on key_meant key_cmp) keys key
 abbrev pub HasKeysOf : BTreeSet Key → List Change → Type 0
 HasKeysOf keys kept = (change : Change) → Contains kept change → (key : Key) → key_meant key ≡ change.key → has_key keys key ≡ true
 
--- of these changes enough was kept for the place and the day, and the keys of what was kept are
+-- enough of these changes was kept for the place and the day, and the keys of the kept changes are
 -- known
 pub record HasThinned (place : List ℕ) (day : ℕ) (thinned : Thinned) (all : List Change) : Type 0 where
   pub place_is : thinned.place ≡ place
@@ -58,10 +58,10 @@ ThinsOpened place day old opened near renewed new =
     (lines : Lines) → renewed ≡ with_new_first lines → HasLines (progress_meant opened.progress) lines → IsSchedule lines → IsNearBy day lines near
     → Thins place day old (change_opened opened lines) new
 
--- the lines are kept, with the first as new, and what the place and the day need of the changes. In
--- proofs all changes are known
+-- the lines are kept, with the first as new, and so are the changes that the place and the day
+-- need. In proofs all changes are known
 pub record KeepsThin {P : Type 0} (place : List ℕ) (day : ℕ) (keeper : ThinSoFar P) (lines : Lines) (all : List Change) : Type 0 where
   pub lines_are : keeper.open.lines.items ≡ with_new_first lines
   pub near_is : IsNearBy day lines keeper.near
   pub thinned : HasThinned place day keeper.thinned all
-  pub told : keeper.told.changes ≡ all
+  pub so_far : keeper.so_far.changes ≡ all

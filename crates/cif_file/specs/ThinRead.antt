@@ -15,7 +15,7 @@ pub record ThinRead : Type 0 where
   pub file : FileRead
   pub kept : List Change
 
--- some records are the file, and enough of their changes was kept
+-- the file was read from some records, and enough of their changes was kept
 pub record IsThinRead (thin : ThinRead) : Type 0 where
   pub read : IsRead thin.file
   pub thinning : IsThinning thin.place thin.day thin.file.changes_made thin.kept

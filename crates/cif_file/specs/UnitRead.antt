@@ -34,7 +34,7 @@ pub record IsUnitOf (line : List ℕ) (unit : Unit) : Type 0 where
   pub good_fields : HasGoodFields line
   pub by_kind : IsUnitByKind line unit
 
--- there is such a line
+-- some line begins this unit, and is a record with good checked fields
 pub record IsOfSome (unit : Unit) : Type 0 where
   pub line : List ℕ
   pub of : IsUnitOf line unit

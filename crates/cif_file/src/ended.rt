@@ -54,7 +54,7 @@ impl<P: PlaceDay> Ended<ThinSoFar<P>> {
     /// What was kept of the file.
     pub(crate) fn into_thin(self) -> ThinFile
         requires { AreThinParts self.keeper.thinned.place self.keeper.thinned.day
-            self.keeper.told.changes (thin_parts_ended self) }
+            self.keeper.so_far.changes (thin_parts_ended self) }
         ensures { result ≡ thin_ended self }
     {
         let Ended {
@@ -62,7 +62,7 @@ impl<P: PlaceDay> Ended<ThinSoFar<P>> {
             records,
             keeper,
         } = self;
-        let (thinned, told) = keeper.into_kept();
+        let (thinned, so_far) = keeper.into_kept();
         let Thinned {
             place,
             day,
@@ -76,7 +76,7 @@ impl<P: PlaceDay> Ended<ThinSoFar<P>> {
             changes,
             notes,
         };
-        ThinFile::of(place, day, parts, told)
+        ThinFile::of(place, day, parts, so_far)
     }
 }
 

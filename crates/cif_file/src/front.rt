@@ -87,7 +87,7 @@ fn follows_basic(kind: Kind) -> bool
 }
 
 impl<K: Keeper> Front<K> {
-    /// Before the first record.
+    /// The front before the first record.
     pub(crate) fn new(keeper: K) -> Front<K>
         requires { K.keeps keeper [] [] }
         ensures { HasRecords K.keeps result [] }

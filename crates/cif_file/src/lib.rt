@@ -3,6 +3,7 @@
 #![tactic(auto)]
 
 mod calling;
+mod changes_so_far;
 mod count;
 mod ended;
 mod fault;
@@ -28,7 +29,6 @@ mod text;
 mod thin_file;
 mod thin_kept;
 mod thinned;
-mod told;
 mod unit;
 
 pub use calling::calls_at;

@@ -3,8 +3,8 @@ ghost use Rattle.std.specs.Prelude.{ℕ, List};
 
 use std::marker::Brand;
 
-/// Names a place and a day, for proofs. A reader of records or parts doesn't know the docker for
-/// which its keeper keeps them.
+/// A type that stands for a place and a day, in proofs only. It is part of a keeper's type, since
+/// the reader of records doesn't know for which docker its keeper keeps changes.
 pub trait PlaceDay {
     // the place
     ghost place: { List ℕ };

@@ -160,7 +160,7 @@ fn ended_of<K: Keeper>(reading: FileReading<K>) -> Result<Ended<K>, ReadFault>
     }
 }
 
-/// Out of memory is a fault of its own. Every other cause is a fault of the file.
+/// `Memory` if the cause is out of memory. A fault with any other cause is the file's.
 fn fault_of(fault: FileFault) -> ReadFault
     ensures memory { fault.cause ≡ FileCause.Memory → result ≡ ReadFault.Memory }
     ensures file { fault.cause ≢ FileCause.Memory → result ≡ ReadFault.File fault }

@@ -27,7 +27,7 @@ impl<K: Keeper> Records<K> {
     ghost use Rattle.cif_change.specs.Cause.{cause_meant};
     ghost use Rattle.cif_file.specs.ParserRead.{HasCounted, CountsNext, FaultsNext, IsLongNext, IsRefusedNext, EndsCounted, EndsUnended};
 
-    /// Before the first record of at most `limit`.
+    /// No record yet, of at most `limit`.
     pub(crate) fn new(keeper: K, limit: u32) -> Records<K>
         requires limit { limit ≤ MOST_RECORDS }
         requires none { K.keeps keeper [] [] }

@@ -2,7 +2,8 @@
 ghost use Rattle.std.specs.Prelude.{◌≡◌, ℕ, length, [], None, true, false, MatchOption, if◌then◌else◌};
 ghost use Rattle.docker_model.specs.records.Record.{HasKind, columns, tiploc_amend};
 ghost use Rattle.docker_model.specs.records.Field.{is_deletion, as_new};
-ghost use Rattle.docker_model.specs.file.Change.{changes_of_record, keeps_code, tiploc_key, association_named, tiploc_named, tiploc_details, association_body, delete, put};
+ghost use Rattle.docker_model.specs.file.Change.{changes_of_record, keeps_code, tiploc_key, association_named};
+ghost use Rattle.docker_model.specs.file.Change.{tiploc_named, tiploc_details, association_body, delete, put};
 ghost use Rattle.cif_change.specs.Meaning.{change_meant, key_meant};
 ghost use Rattle.cif_file.specs.SingleChanges.{AreNeverThin, IsNeverThin, listed};
 ghost use Rattle.cif_file.specs.UnitRead.{kind_of_single, line_of_single};

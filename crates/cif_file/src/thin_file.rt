@@ -2,20 +2,20 @@
 ghost use Rattle.std.specs.Prelude.{◌≡◌};
 ghost use Rattle.cif_file.specs.ThinRead.{AreThinParts, IsThinRead, thin_of_parts};
 
+use crate::changes_so_far::ChangesSoFar;
 use crate::parts::FileParts;
-use crate::told::Told;
 use cif_line::{Day, Header, Tiploc};
 use std::marker::Model;
 
-/// What was kept of a CIF file for the docker of one place on one day: its header, and of the
-/// changes that its records make enough for that docker. Its value also has the whole file. It
-/// serves for nothing else.
+/// What was kept of a CIF file for the docker of one place on one day: its header, and enough of
+/// its changes for that docker. It serves for nothing else. In proofs its value also has the whole
+/// file.
 #[derive(Debug, Drop)]
 pub struct ThinFile {
     place: Tiploc,
     day: Day,
     parts: FileParts,
-    told: Told,
+    so_far: ChangesSoFar,
 }
 
 impl Model for ThinFile {
@@ -23,23 +23,23 @@ impl Model for ThinFile {
 
     ghost Value = { ThinRead };
 
-    ghost view = { λ thin. thin_of_parts thin.place thin.day thin.told.changes thin.parts };
+    ghost view = { λ thin. thin_of_parts thin.place thin.day thin.so_far.changes thin.parts };
 
     ghost invariant = { λ thin.
-        AreThinParts thin.place thin.day thin.told.changes thin.parts };
+        AreThinParts thin.place thin.day thin.so_far.changes thin.parts };
 }
 
 impl ThinFile {
-    /// What was kept for this place and day, of these parts. `told` has all changes.
-    pub(crate) fn of(place: Tiploc, day: Day, parts: FileParts, told: Told) -> ThinFile
-        requires { AreThinParts place day told.changes parts }
-        ensures { result ≡ thin_of_parts place day told.changes parts }
+    /// What was kept for this place and day, of these parts. `so_far` has all changes of the file.
+    pub(crate) fn of(place: Tiploc, day: Day, parts: FileParts, so_far: ChangesSoFar) -> ThinFile
+        requires { AreThinParts place day so_far.changes parts }
+        ensures { result ≡ thin_of_parts place day so_far.changes parts }
     {
         ThinFile {
             place,
             day,
             parts,
-            told,
+            so_far,
         }
     }
 

@@ -2,13 +2,13 @@
 ghost use Rattle.std.specs.Prelude.{◌≡◌, []};
 ghost use Rattle.cif_file.specs.ThinKept.{KeepsThin};
 
+use crate::changes_so_far::{ChangesSoFar, OpenLines};
 use crate::keeper::Keeper;
 use crate::near::is_near;
 use crate::opened::Opened;
 use crate::place::PlaceDay;
 use crate::single::{Single, changes_of};
 use crate::thinned::Thinned;
-use crate::told::{OpenLines, Told};
 use cif_line::{Basic, Day, Line, Tiploc};
 use std::alloc::{AllocError, Global};
 use std::marker::PhantomData;
@@ -20,7 +20,7 @@ pub(crate) struct ThinSoFar<P> {
     open: OpenLines,
     near: bool,
     thinned: Thinned,
-    told: Told,
+    so_far: ChangesSoFar,
     of: PhantomData<P>,
 }
 
@@ -37,18 +37,22 @@ impl<P: PlaceDay> ThinSoFar<P> {
             },
             near: false,
             thinned: Thinned::new(alloc, place, day),
-            told: Told::new(),
+            so_far: ChangesSoFar::new(),
             of: PhantomData,
         }
     }
 
     /// The changes that were kept, and all changes.
-    pub(crate) fn into_kept(self) -> (Thinned, Told)
+    pub(crate) fn into_kept(self) -> (Thinned, ChangesSoFar)
         ensures thinned { result.0 ≡ self.thinned }
-        ensures told { result.1 ≡ self.told }
+        ensures so_far { result.1 ≡ self.so_far }
     {
-        let ThinSoFar { thinned, told, .. } = self;
-        (thinned, told)
+        let ThinSoFar {
+            thinned,
+            so_far,
+            ..
+        } = self;
+        (thinned, so_far)
     }
 }
 
@@ -73,14 +77,14 @@ impl<P: PlaceDay> Keeper for ThinSoFar<P> {
     fn close(&mut self, opened: Opened) -> Result<(), AllocError> {
         self.thinned
             .add_opened(opened, self.near, self.open.lines.as_slice())?;
-        self.told = Told::with_opened(&self.told, &opened, &self.open);
+        self.so_far = ChangesSoFar::with_opened(&self.so_far, &opened, &self.open);
         self.open.lines.clear();
         Ok(())
     }
 
     fn add_single(&mut self, number: u32, single: &Single<'_>) -> Result<(), AllocError> {
         let changes = changes_of(number, single);
-        self.told = Told::with_single(&self.told, &changes);
+        self.so_far = ChangesSoFar::with_single(&self.so_far, &changes);
         self.thinned.add_single(changes)
     }
 }

@@ -34,7 +34,7 @@ abbrev pub in_stage_or : Lines → Option Stage → Option Place → Option Plac
 in_stage_or lines (Some stage) other = Some (place_in stage lines)
 in_stage_or lines None other = other
 
--- the kind of a header
+-- the kind is a header
 abbrev pub is_header_kind : Option Kind → Bool
 is_header_kind (Some header) = true
 is_header_kind _ = false

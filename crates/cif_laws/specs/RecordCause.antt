@@ -7,7 +7,7 @@ use Rattle.docker_model.specs.file.FileFault.{FileCause, bad_field, third_midnig
 use Rattle.cif_laws.specs.FileStage.{Place, after_end, place_by_kind}
 use Rattle.cif_laws.specs.ScheduleStage.{Stage, stage_after, is_basic_kind}
 
--- the place after the trailer
+-- the place is the one after the trailer
 abbrev pub is_after_end : Place → Bool
 is_after_end after_end = true
 is_after_end _ = false

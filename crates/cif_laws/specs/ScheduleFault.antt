@@ -7,7 +7,7 @@ use Rattle.docker_model.specs.file.Journey.{midnights}
 use Rattle.docker_model.specs.file.File.{BeginsSchedule}
 use Rattle.docker_model.specs.file.FileFault.{FileCause, bad_kind, bad_place, bad_field, third_midnight, cause_rank}
 
--- a line of this kind is out of place: no schedule has one after these earlier lines
+-- a line is out of place: no schedule has a line of its kind after these earlier ones
 abbrev pub IsOutOfSchedule : List (List ℕ) → List ℕ → Type 0
 IsOutOfSchedule earlier line = (next : List ℕ) → kind_of next ≡ kind_of line → ¬ BeginsSchedule (earlier ++ next ∷ [])
 

@@ -2,7 +2,8 @@
 -- lines are a schedule.
 use Rattle.std.specs.Prelude.{Some, None, ℕ, List, Bool, true, false, [], ◌∷◌, ◌++◌, Option, ◌==◌, ◌||◌, ◌&&◌, nat_le, option_and_then}
 use Rattle.std.proofs.Common.{cond}
-use Rattle.docker_model.specs.records.Record.{Kind, extra_details, origin_location, intermediate_location, terminating_location, change_en_route, column, Lines, kind_of, basic_schedule}
+use Rattle.docker_model.specs.records.Record.{Kind, extra_details, origin_location, intermediate_location}
+use Rattle.docker_model.specs.records.Record.{terminating_location, change_en_route, column, Lines, kind_of, basic_schedule}
 use Rattle.docker_model.specs.records.Field.{is_deletion}
 use Rattle.docker_model.specs.file.Journey.{midnights}
 use Rattle.docker_model.specs.file.File.{first_record}
@@ -45,7 +46,7 @@ is_sound_next lines line = is_deletion (first_record lines) || (has_good_fields 
 abbrev pub next_stage : Stage → Lines → List ℕ → Option Stage
 next_stage stage lines line = cond (is_record line && is_sound_next lines line) (stage_after stage (kind_of line)) None
 
--- the kind of a schedule's first line
+-- the kind is a basic schedule, which is a schedule's first line
 abbrev pub is_basic_kind : Option Kind → Bool
 is_basic_kind (Some basic_schedule) = true
 is_basic_kind _ = false
@@ -59,7 +60,7 @@ abbrev pub stage_from : Stage → Lines → Lines → Option Stage
 stage_from stage done [] = Some stage
 stage_from stage done (line ∷ rest) = option_and_then (λ next. stage_from next (done ++ line ∷ []) rest) (next_stage stage done line)
 
--- the stage after some lines, or none if they begin no schedule. No lines have no stage
+-- the stage after some lines, or none if they begin no schedule. Without a line there is no stage
 abbrev pub stage_of : Lines → Option Stage
 stage_of [] = None
 stage_of (basic ∷ rest) = cond (is_first_line basic) (stage_from after_basic (basic ∷ []) rest) None

@@ -65,8 +65,8 @@ pub fn keys_of_record_differ()
         → ¬ (first.key ≡ second.key)) (changes file) }
 {}
 
-/// For any records it is decided whether they begin some file, and whether they are a file. For any
-/// lines it is decided whether they begin some schedule, and whether they are a schedule.
+/// It is decidable whether records begin some file, and whether they are a file. It is decidable
+/// whether lines begin some schedule, and whether they are a schedule.
 pub fn begins_or_not()
     ensures file { (records : List (List ℕ)) → BeginsFile records ⊎ ¬ BeginsFile records }
     ensures schedule { (lines : List (List ℕ)) → BeginsSchedule lines ⊎ ¬ BeginsSchedule lines }

@@ -1,6 +1,7 @@
--- The times of an intermediate location, each in a lane of a vector: each is judged and read as the
--- definitions say.
-use Rattle.std.proofs.Common.{◌≡◌, ℕ, zero, suc, ◌+◌, ◌-◌, ◌*◌, ◌%◌, ◌^◌, ◌<◌, ◌≤◌, nat_eq, nat_lt, Bool, true, false, cond, ◌&&◌, List, [], ◌∷◌, ◌++◌, length, get_or, replicate, bit_and, bit_or, Fits, w8, refl, sym, ap, subst, ◌∙◌, arith}
+-- The times of an intermediate location, each in a lane of a vector. Each lane is judged and read
+-- as the definitions say.
+use Rattle.std.proofs.Common.{◌≡◌, ℕ, zero, suc, ◌+◌, ◌-◌, ◌*◌, ◌%◌, ◌^◌, ◌<◌, ◌≤◌, nat_eq, nat_lt, Bool, true, false, cond, ◌&&◌, List}
+use Rattle.std.proofs.Common.{[], ◌∷◌, ◌++◌, length, get_or, replicate, bit_and, bit_or, Fits, w8, refl, sym, ap, subst, ◌∙◌, arith}
 use Rattle.std.specs.Prelude.{◌==◌, ◌||◌, nat_le}
 use Rattle.std.specs.Char.{is_ascii_digit}
 use Rattle.std.proofs.lemmas.Bool.{agree_below_at, leb-true, ltb-true}
@@ -42,7 +43,7 @@ above b = (b + 65488) % 65536
 abbrev spells : ℕ → ℕ → ℕ
 spells a b = ((above a * 10) % 65536 + above b) % 65536
 
--- the tests of one lane, from its bytes
+-- the tests of one lane, computed from its bytes
 abbrev time_test : ℕ → ℕ → ℕ → ℕ → ℕ → Bool
 time_test a b c d e =
     (((((nat_le (above a) 9 && nat_le (above b) 9) && nat_le (above c) 9) && nat_le (above d) 9) && nat_lt (spells a b) 24) && nat_lt (spells c d) 60)
@@ -207,7 +208,7 @@ module _ (a b c d e : ℕ) (la : a < 256) (lb : b < 256) (lc : c < 256) (ld : d 
       by true is = (λ i. cond (is_present_time (a ∷ b ∷ c ∷ d ∷ e ∷ [])) (value_is is i) 65535)
       by false is = (λ i. cond (is i) (lane_half_minutes a b c d e) 65535) ∙ (λ i. cond (sym is i) (half_minutes (a ∷ b ∷ c ∷ d ∷ e ∷ [])) 65535)
 
--- a public time is a scheduled time once a space follows it
+-- a public time and a space after it are a scheduled time
 public_lane : (a b c d : ℕ) → is_scheduled_time (a ∷ b ∷ c ∷ d ∷ 32 ∷ []) ≡ is_public_time (a ∷ b ∷ c ∷ d ∷ [])
 public_lane a b c d = by (a == 32) (b == 32) (c == 32) (d == 32) (is_clock (a ∷ b ∷ c ∷ d ∷ []))
   where

@@ -8,7 +8,8 @@ use Rattle.jiff_core.specs.declared.civil.date.Date.{Date}
 use Rattle.jiff_core.specs.Calendar.{IsCivilDate, days_in_month, day_count, days_of_years, days_of_months}
 use Rattle.jiff_core.proofs.SignedLemmas.{signed_arith}
 use Rattle.jiff_core.proofs.DateLemmas.{civil}
-use Rattle.jiff_core.proofs.CalendarLemmas.{days_from_civil-day_count, day_count-lt_year, day_count-day, day_count-next_month, day_count-next_year, day_count-last_of_year, days_in_month_bounds}
+use Rattle.jiff_core.proofs.CalendarLemmas.{days_from_civil-day_count, day_count-lt_year, day_count-day, day_count-next_month}
+use Rattle.jiff_core.proofs.CalendarLemmas.{day_count-next_year, day_count-last_of_year, days_in_month_bounds}
 use Rattle.docker_model.specs.records.Date.{day_number, last_day}
 use Rattle.docker_model.specs.records.PrintedTime.{day_text, date_text}
 use Rattle.cif_laws.proofs.records.Dates.{day_number-day_count, day_text-day_number}
@@ -33,13 +34,13 @@ start_of_2060 : day_count (pos 2060) 1 1 ≡ 4_404_825
 unfolding day_count days_of_years days_of_months
 start_of_2060 = refl
 
--- the day number of such a day
+-- the day number of a day is the number that `IsDayOf` gives
 pub number_is : (number year month day : ℕ) → IsDayOf number year month day → day_number year month day ≡ number
 number_is number year month day h =
     let there = day_number-day_count year month day h.low (omega (arith, h.high)) h.is_civil.1.0 h.is_civil.2.0 in
     omega (arith, h.count)
 
--- the text of such a day's number is its date
+-- the text of a day's number is the day's date
 pub text_is : (number year month day : ℕ) → IsDayOf number year month day → day_text number ≡ date_text year month day
 text_is number year month day h =
     subst (λ n. day_text n ≡ date_text year month day) (number_is number year month day h) (day_text-day_number year month day h.low h.high h.is_civil)
@@ -60,7 +61,7 @@ count_of date days since =
     let count = days_from_civil-day_count date.year date.month date.day in
     omega (arith, signed_arith)
 
--- a date in these years is such a day
+-- a date of the years 1960 to 2059 is a day with its number
 pub day_of_date : (date : Date) (number : ℕ) → number ≤ last_day → epoch_day date +ℤ pos 4_371_587 ≡ pos (4_367_934 + number)
     → IsBetween (pos 1960) (pos 2059) date.year × IsDayOf number (unsigned_abs date.year) date.month date.day
 day_of_date date number low since =
@@ -75,7 +76,7 @@ day_of_date date number low since =
         record { low = omega (arith, signed_arith, years.0); high = omega (arith, signed_arith, years.1); is_civil = is_civil; count = omega arith }
     by (negsuc year) is_civil count years = absurd (omega (arith, signed_arith, years.0))
 
--- a year that ends before the last day isn't 2059
+-- if the last day of a year comes before the last day of all, the year isn't 2059
 before_2059 : (number year : ℕ) → suc number ≤ last_day → year ≤ 2059 → day_count (pos year) 12 31 ≡ number + 4_368_300 → year < 2059
 before_2059 number year low high count = by (cases_order year 2059)
   where
@@ -93,7 +94,7 @@ by_lt {P = P} a b below above = by (cases_order a b)
     by (inr (inl lt)) = below lt
     by (inr (inr gt)) = above (omega arith)
 
--- the next day, in the same month, in the next month or in the next year
+-- the next day is in the same month, in the next month or in the next year
 module _ (number year month day : ℕ) (low : suc number ≤ last_day) (h : IsDayOf number year month day) where
   next_day : day < days_in_month (pos year) month → IsDayOf (suc number) year month (day + 1)
   next_day lt =
@@ -151,7 +152,7 @@ day_at (suc number) low = let before = day_at number (omega arith) in by before.
         (λ last. by_lt month 12 (λ lt. (year, month + 1, 1, next_month number year month day low h last lt))
         (λ end. (year + 1, 1, 1, next_year number year month day low h last end)))
 
--- a date with this year, month and day has their day number, which is at most the last one
+-- a date has the day number of its year, month and day, which is at most the last day number
 pub day_of_parts : (date : Date) (days year month day : ℕ) → 1960 ≤ year → year ≤ 2059 → date.year ≡ pos year → pos date.month ≡ pos month
     → pos date.day ≡ pos day
     → epoch_day date +ℤ pos 4_371_587 ≡ pos days → (days ≡ day_number year month day + 4_367_934) × (day_number year month day ≤ last_day)

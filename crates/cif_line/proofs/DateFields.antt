@@ -15,7 +15,7 @@ use Rattle.cif_line.proofs.CivilDays.{IsDayOf, number_is, text_is, day_at}
 is_digit : (n : ℕ) → n < 10 → is_ascii_digit (48 + n) ≡ true
 is_digit n low = grind (arith, nat_tests)
 
--- six digits
+-- 48 and six numbers below 10 make six ASCII digits
 are_digits : (a b c d e f : ℕ) → a < 10 → b < 10 → c < 10 → d < 10 → e < 10 → f < 10
     → list_all is_ascii_digit ((48 + a) ∷ (48 + b) ∷ (48 + c) ∷ (48 + d) ∷ (48 + e) ∷ (48 + f) ∷ []) ≡ true
 are_digits a b c d e f ha hb hc hd he hf =
@@ -25,7 +25,7 @@ are_digits a b c d e f ha hb hc hd he hf =
 year_is : (year : ℕ) → 1960 ≤ year → year ≤ 2059 → full_year (year % 100) ≡ year
 year_is year low high = grind (arith, nat_tests)
 
--- the number that its two digits spell
+-- the two digits of a number spell the number
 digits_are : (n : ℕ) → 10 * ((48 + n / 10) - 48) + ((48 + n % 10) - 48) ≡ n
 digits_are n = omega arith
 
@@ -33,7 +33,7 @@ digits_are n = omega arith
 abbrev pub six_digits : ℕ → ℕ → ℕ → List ℕ
 six_digits year month day = two_digit_text (year % 100) ++ two_digit_text month ++ two_digit_text day
 
--- the digits YYMMDD of a day are a date with that day's number
+-- the digits YYMMDD of a day are a date with the day's number
 module _ (number year month day : ℕ) (h : IsDayOf number year month day) where
   on_calendar : is_calendar_day year month day ≡ true
   on_calendar =
@@ -55,7 +55,7 @@ module _ (number year month day : ℕ) (h : IsDayOf number year month day) where
       (omega (arith, h.is_civil.1.1)) (omega arith) (omega (arith, h.is_civil.2.1, days_in_month_bounds (pos year) month)) (omega arith) in
       (λ i. digits i && is_calendar_day (year_read i) (digits_are month i) (digits_are day i)) ∙ on_calendar
 
-  -- the number of that date is the day's
+  -- the date with the digits YYMMDD of a day has the day's number
   pub six_digits-date_number : date_number (six_digits year month day) ≡ number
   six_digits-date_number = (λ i. day_number (year_read i) (digits_are month i) (digits_are day i)) ∙ number_is number year month day h
 
@@ -63,7 +63,7 @@ module _ (number year month day : ℕ) (h : IsDayOf number year month day) where
 abbrev pub digits_in : List ℕ → List ℕ
 digits_in text = slice_index text 2 ∷ slice_index text 3 ∷ slice_index text 5 ∷ slice_index text 6 ∷ slice_index text 8 ∷ slice_index text 9 ∷ []
 
--- in a day's text these digits are a date, whose number is the day's
+-- in a day's text the digits YYMMDD are a date with the day's number
 pub digits_in-day_text : (number : ℕ) → number ≤ last_day → (text : List ℕ) → text ≡ day_text number
     → (is_date (digits_in text) ≡ true) × (date_number (digits_in text) ≡ number)
 digits_in-day_text number low text same = let at = day_at number low in by at.0 at.1 at.2 at.3

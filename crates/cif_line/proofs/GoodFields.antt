@@ -1,10 +1,13 @@
 -- The checked fields of each kind of record, one by one.
 use Rattle.std.proofs.Common.{◌≡◌, ℕ, List, true, false, cond, [], ◌∷◌, ◌++◌, Bool, Option, Some, None, refl, sym, subst, ◌∙◌, inl, inr, arith}
 use Rattle.std.specs.List.{AllByRecursion}
-use Rattle.docker_model.specs.records.Record.{Kind, header, tiploc_insert, tiploc_amend, tiploc_delete, association, basic_schedule, extra_details, origin_location, intermediate_location, terminating_location, change_en_route, trailer, HasKind, kind_of, columns, column}
+use Rattle.docker_model.specs.records.Record.{Kind, header, tiploc_insert, tiploc_amend, tiploc_delete, association}
+use Rattle.docker_model.specs.records.Record.{basic_schedule, extra_details, origin_location, intermediate_location}
+use Rattle.docker_model.specs.records.Record.{terminating_location, change_en_route, trailer, HasKind, kind_of, columns, column}
 use Rattle.docker_model.specs.records.Date.{is_date, is_date_day_first, is_end_date, is_days}
 use Rattle.docker_model.specs.records.Clock.{is_clock, is_public_time}
-use Rattle.docker_model.specs.records.Field.{CheckedField, checked, checked_fields, HasGoodFields, is_tiploc, is_new_tiploc, is_update_indicator, is_transaction, is_stp_indicator, is_stp_letter, is_deletion}
+use Rattle.docker_model.specs.records.Field.{CheckedField, checked, checked_fields, HasGoodFields, is_tiploc, is_new_tiploc}
+use Rattle.docker_model.specs.records.Field.{is_update_indicator, is_transaction, is_stp_indicator, is_stp_letter, is_deletion}
 use Rattle.cif_laws.proofs.records.Columns.{good_fields, IsGoodIn, one_column}
 use Rattle.cif_line.specs.View.{IsGood, IsGoodTiploc, IsTiplocRecord, new_code_of}
 
@@ -61,7 +64,7 @@ basic_runs_from line good = (each_good basic_schedule line good).1.0
 later_fields : Bool → List CheckedField
 later_fields deletion = cond deletion [] (checked 16 21 is_end_date ∷ checked 22 28 is_days ∷ []) ++ checked 80 80 is_stp_indicator ∷ []
 
--- in a good basic schedule they are good
+-- in a good basic schedule the fields after the first date are good
 later_good : (line : List ℕ) → IsGood basic_schedule line → (deletion : Bool) → is_deletion line ≡ deletion
     → AllByRecursion (IsGoodIn line) (later_fields deletion)
 unfolding later_fields
@@ -102,7 +105,7 @@ assoc_fields_behind : Bool → List CheckedField
 assoc_fields_behind deletion =
     cond deletion [] (checked 22 27 is_end_date ∷ checked 28 34 is_days ∷ []) ++ checked 38 44 is_tiploc ∷ checked 80 80 is_stp_indicator ∷ []
 
--- in a good association they are good
+-- in a good association the fields after the first date are good
 assoc_behind_good : (line : List ℕ) → IsGood association line → (deletion : Bool) → is_deletion line ≡ deletion
     → AllByRecursion (IsGoodIn line) (assoc_fields_behind deletion)
 unfolding assoc_fields_behind
@@ -118,7 +121,7 @@ pub assoc_days : (line : List ℕ) → IsGood association line → is_deletion l
 unfolding assoc_fields_behind
 assoc_days line good kept = (assoc_behind_good line good false kept).1.0
 
--- the two fields that are checked in a deletion too
+-- the location and the STP indicator of an association are good, also in a deletion
 assoc_last : (line : List ℕ) → IsGood association line → (is_tiploc (columns 38 44 line) ≡ true) × (is_stp_indicator (columns 80 80 line) ≡ true)
 unfolding assoc_fields_behind
 assoc_last line good = by (is_deletion line) (assoc_behind_good line good)

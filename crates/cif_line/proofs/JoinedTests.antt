@@ -86,8 +86,8 @@ pub end_tests : (line : List ℕ) (tiploc time public test : Bool) → ((tiploc 
 end_tests line t d p test joins tiploc time public =
     passes_if_none line (checked_fields origin_location line) test (sym joins ∙ (λ i. (tiploc i && time i) && public i))
 
--- if an intermediate location has a bad field and all but the last are good, the last is the bad
--- one
+-- if all checked fields of an intermediate location but the last are good, and one is bad, the last
+-- is bad
 pub call_last_bad : (line : List ℕ) → ¬ (bad_field_of intermediate_location line ≡ None) → is_tiploc (columns 3 9 line) ≡ true
     → is_scheduled_time (columns 11 15 line) ≡ true → is_scheduled_time (columns 16 20 line) ≡ true → is_scheduled_time (columns 21 25 line) ≡ true
     → is_public_time (columns 26 29 line) ≡ true → bad_field_of intermediate_location line ≡ Some 30

@@ -1,5 +1,6 @@
 -- From the lanes of a block of bytes to the test of each byte.
-use Rattle.std.proofs.Common.{◌≡◌, ℕ, ◌+◌, ◌*◌, ◌%◌, ◌^◌, ◌≤◌, nat_eq, Bool, true, false, cond, not, ◌&&◌, List, [], ◌∷◌, map, length, take, drop, replicate, Fits, w8, refl, sym, ap, ◌∙◌, arith}
+use Rattle.std.proofs.Common.{◌≡◌, ℕ, ◌+◌, ◌*◌, ◌%◌, ◌^◌, ◌≤◌, nat_eq, Bool, true, false, cond, not, ◌&&◌, List}
+use Rattle.std.proofs.Common.{[], ◌∷◌, map, length, take, drop, replicate, Fits, w8, refl, sym, ap, ◌∙◌, arith}
 use Rattle.std.proofs.lemmas.Bool.{agree_below, agree_below_at}
 use Rattle.std.proofs.lemmas.Bool.Decides.{nat_tests}
 use Rattle.std.specs.List.{list_all}
@@ -12,7 +13,7 @@ use lib.Lanes.{Each1, mask_l, top, zip2}
 one_set : (m : ℕ) → nat_eq (1 + 2 * m) 0 ≡ false
 one_set m = grind (arith, nat_tests)
 
--- twice a number is 0 if and only if the number is
+-- twice a number is 0 if and only if the number is 0
 twice : (m : ℕ) → nat_eq (0 + 2 * m) 0 ≡ nat_eq m 0
 twice m = grind (arith, nat_tests)
 
@@ -56,11 +57,11 @@ five true true false d e = refl
 five true false c d e = refl
 five false b c d e = refl
 
--- whether the sixteen bytes from this index on pass
+-- whether the sixteen bytes from this index on pass the test
 abbrev pub block_passes : (ℕ → Bool) → List ℕ → ℕ → Bool
 block_passes q bytes at = list_all q (take 16 (drop at bytes))
 
--- the bytes from an index on pass if and only if the first block and the rest do
+-- the bytes from an index on pass if and only if the next sixteen and all bytes after them pass
 block_and_rest : (q : ℕ → Bool) (bytes : List ℕ) (at : ℕ) → list_all q (drop at bytes) ≡ (block_passes q bytes at && list_all q (drop (at + 16) bytes))
 block_and_rest q bytes at = ap (list_all q) (chunk-drop at 16 bytes) ∙ list_all-append q (take 16 (drop at bytes)) (drop (at + 16) bytes)
 
@@ -68,7 +69,7 @@ block_and_rest q bytes at = ap (list_all q) (chunk-drop at 16 bytes) ∙ list_al
 nothing_left : (q : ℕ → Bool) (bytes : List ℕ) → length bytes ≡ 80 → list_all q (drop 80 bytes) ≡ true
 nothing_left q bytes size = ap (list_all q) (drop_all 80 bytes (let long : length bytes ≤ 80 = omega arith in long))
 
--- the line passes if and only if all five blocks do
+-- the line passes if and only if all five blocks pass
 pub five_blocks : (q : ℕ → Bool) (bytes : List ℕ) → length bytes ≡ 80 →
     ((((block_passes q bytes 0 && block_passes q bytes 16) && block_passes q bytes 32) && block_passes q bytes 48) && block_passes q bytes 64)
     ≡ list_all q bytes

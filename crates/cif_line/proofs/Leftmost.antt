@@ -1,12 +1,13 @@
--- The leftmost bad field of a header, a TIPLOC record, an association or a basic schedule. It is
--- the field that is bad while those to its left are good.
+-- The leftmost bad field of a header, a TIPLOC record, an association or a basic schedule: the
+-- field is bad, and all checked fields to its left are good.
 use Rattle.std.proofs.Common.{◌≡◌, ℕ, List, true, false, cond, [], ◌∷◌, ◌++◌, Bool, Some, None, ap, ◌∙◌, inl, inr}
 use Rattle.std.specs.Prelude.{not, option_map, find, Option}
 use Rattle.std.specs.List.{AllByRecursion}
 use Rattle.docker_model.specs.records.Record.{Kind, HasKind, header, tiploc_insert, tiploc_amend, tiploc_delete, association, basic_schedule, columns}
 use Rattle.docker_model.specs.records.Date.{is_date, is_date_day_first, is_end_date, is_days}
 use Rattle.docker_model.specs.records.Clock.{is_clock}
-use Rattle.docker_model.specs.records.Field.{CheckedField, checked, checked_fields, fields_of, leftmost_bad_field, is_tiploc, is_new_tiploc, is_update_indicator, is_transaction, is_stp_indicator, is_deletion}
+use Rattle.docker_model.specs.records.Field.{CheckedField, checked, checked_fields, fields_of, leftmost_bad_field, is_tiploc}
+use Rattle.docker_model.specs.records.Field.{is_new_tiploc, is_update_indicator, is_transaction, is_stp_indicator, is_deletion}
 use Rattle.cif_laws.proofs.records.Columns.{IsGoodIn, fields_good}
 use Rattle.cif_line.specs.View.{IsTiplocRecord}
 
@@ -19,7 +20,7 @@ by_kind : (kind : Kind) (line : List ℕ) → HasKind kind line → leftmost_bad
 unfolding first_bad
 by_kind kind line is = ap (λ k. first_bad line (fields_of k line)) is
 
--- a bad field that follows good ones
+-- if a bad field follows only good ones, it is the first bad field
 pub behind_good : (line : List ℕ) (before : List CheckedField) (field : CheckedField) (after : List CheckedField)
     → AllByRecursion (IsGoodIn line) before → field.is_good (columns field.first field.last line) ≡ false
     → first_bad line (before ++ field ∷ after) ≡ Some field.first
@@ -31,16 +32,16 @@ behind_good line (one ∷ before) field after good bad =
     (cond (not (good.0 i)) (Some one) (find (λ f. not (f.is_good (columns f.first f.last line))) (before ++ field ∷ after))))
     ∙ behind_good line before field after good.1 bad
 
--- a header's date of extract is bad: column 23
+-- if a header's date of extract is bad, the leftmost bad field is at column 23
 pub header_bad_day : (line : List ℕ) → HasKind header line → is_date_day_first (columns 23 28 line) ≡ false → leftmost_bad_field line ≡ Some 23
 header_bad_day line is bad = by_kind header line is ∙ behind_good line [] (checked 23 28 is_date_day_first) _ tt bad
 
--- a header's time of extract is bad, and its date is good: column 29
+-- if a header's date is good and its time of extract is bad, the leftmost bad field is at column 29
 pub header_bad_minute : (line : List ℕ) → HasKind header line → is_date_day_first (columns 23 28 line) ≡ true → is_clock (columns 29 32 line) ≡ false
     → leftmost_bad_field line ≡ Some 29
 header_bad_minute line is day bad = by_kind header line is ∙ behind_good line (checked 23 28 is_date_day_first ∷ []) (checked 29 32 is_clock) _ (day, tt) bad
 
--- a header's update indicator is bad, and the fields before are good: column 47
+-- if only a header's update indicator is bad, the leftmost bad field is at column 47
 pub header_bad_indicator : (line : List ℕ) → HasKind header line → is_date_day_first (columns 23 28 line) ≡ true → is_clock (columns 29 32 line) ≡ true
     → is_update_indicator (columns 47 47 line) ≡ false → leftmost_bad_field line ≡ Some 47
 header_bad_indicator line is day minute bad = by_kind header line is
@@ -62,7 +63,7 @@ of_basic : (line : List ℕ) (deletion : Bool) → HasKind basic_schedule line �
 unfolding basic_checked
 of_basic line deletion is deletes = by_kind basic_schedule line is ∙ ap (λ b. first_bad line (basic_checked b)) deletes
 
--- the end date of a basic schedule is the first bad field, and it isn't a deletion: column 16
+-- in a schedule that isn't a deletion, the end date is the first bad field: column 16
 pub basic_bad_end : (line : List ℕ) → HasKind basic_schedule line → is_transaction (columns 3 3 line) ≡ true → is_date (columns 10 15 line) ≡ true
     → is_deletion line ≡ false → is_end_date (columns 16 21 line) ≡ false → leftmost_bad_field line ≡ Some 16
 unfolding basic_checked
@@ -70,7 +71,7 @@ basic_bad_end line is transaction day kept bad = of_basic line false is kept
     ∙ behind_good line (checked 3 3 is_transaction ∷ checked 10 15 is_date ∷ []) (checked 16 21 is_end_date)
     (checked 22 28 is_days ∷ checked 80 80 is_stp_indicator ∷ []) (transaction, (day, tt)) bad
 
--- the days run of a basic schedule are the first bad field, and it isn't a deletion: column 22
+-- in a schedule that isn't a deletion, the days run are the first bad field: column 22
 pub basic_bad_days : (line : List ℕ) → HasKind basic_schedule line → is_transaction (columns 3 3 line) ≡ true → is_date (columns 10 15 line) ≡ true
     → is_deletion line ≡ false → is_end_date (columns 16 21 line) ≡ true → is_days (columns 22 28 line) ≡ false → leftmost_bad_field line ≡ Some 22
 unfolding basic_checked
@@ -78,7 +79,7 @@ basic_bad_days line is transaction day kept end bad = of_basic line false is kep
     ∙ behind_good line (checked 3 3 is_transaction ∷ checked 10 15 is_date ∷ checked 16 21 is_end_date ∷ []) (checked 22 28 is_days)
     (checked 80 80 is_stp_indicator ∷ []) (transaction, (day, (end, tt))) bad
 
--- the STP indicator of a basic schedule is the first bad field, and it isn't a deletion: column 80
+-- in a schedule that isn't a deletion, the STP indicator is the first bad field: column 80
 pub basic_bad_stp_kept : (line : List ℕ) → HasKind basic_schedule line → is_transaction (columns 3 3 line) ≡ true → is_date (columns 10 15 line) ≡ true
     → is_deletion line ≡ false → is_end_date (columns 16 21 line) ≡ true → is_days (columns 22 28 line) ≡ true
     → is_stp_indicator (columns 80 80 line) ≡ false → leftmost_bad_field line ≡ Some 80
@@ -87,7 +88,7 @@ basic_bad_stp_kept line is transaction day kept end days bad = of_basic line fal
     ∙ behind_good line (checked 3 3 is_transaction ∷ checked 10 15 is_date ∷ checked 16 21 is_end_date ∷ checked 22 28 is_days ∷ [])
     (checked 80 80 is_stp_indicator) [] (transaction, (day, (end, (days, tt)))) bad
 
--- the STP indicator of a deletion, whose end date and days run aren't checked: column 80
+-- in a deletion, whose end date and days run aren't checked, the STP indicator is bad: column 80
 pub basic_bad_stp_deleted : (line : List ℕ) → HasKind basic_schedule line → is_transaction (columns 3 3 line) ≡ true → is_date (columns 10 15 line) ≡ true
     → is_deletion line ≡ true → is_stp_indicator (columns 80 80 line) ≡ false → leftmost_bad_field line ≡ Some 80
 unfolding basic_checked
@@ -110,7 +111,7 @@ of_assoc : (line : List ℕ) (deletion : Bool) → HasKind association line → 
 unfolding assoc_checked
 of_assoc line deletion is deletes = by_kind association line is ∙ ap (λ b. first_bad line (assoc_checked b)) deletes
 
--- the end date of an association is the first bad field, and it isn't a deletion: column 22
+-- in an association that isn't a deletion, the end date is the first bad field: column 22
 pub assoc_bad_end : (line : List ℕ) → HasKind association line → is_transaction (columns 3 3 line) ≡ true → is_date (columns 16 21 line) ≡ true
     → is_deletion line ≡ false → is_end_date (columns 22 27 line) ≡ false → leftmost_bad_field line ≡ Some 22
 unfolding assoc_checked
@@ -118,7 +119,7 @@ assoc_bad_end line is transaction day kept bad = of_assoc line false is kept
     ∙ behind_good line (checked 3 3 is_transaction ∷ checked 16 21 is_date ∷ []) (checked 22 27 is_end_date)
     (checked 28 34 is_days ∷ checked 38 44 is_tiploc ∷ checked 80 80 is_stp_indicator ∷ []) (transaction, (day, tt)) bad
 
--- the days run of an association are the first bad field, and it isn't a deletion: column 28
+-- in an association that isn't a deletion, the days run are the first bad field: column 28
 pub assoc_bad_days : (line : List ℕ) → HasKind association line → is_transaction (columns 3 3 line) ≡ true → is_date (columns 16 21 line) ≡ true
     → is_deletion line ≡ false → is_end_date (columns 22 27 line) ≡ true → is_days (columns 28 34 line) ≡ false → leftmost_bad_field line ≡ Some 28
 unfolding assoc_checked
@@ -126,7 +127,7 @@ assoc_bad_days line is transaction day kept end bad = of_assoc line false is kep
     ∙ behind_good line (checked 3 3 is_transaction ∷ checked 16 21 is_date ∷ checked 22 27 is_end_date ∷ []) (checked 28 34 is_days)
     (checked 38 44 is_tiploc ∷ checked 80 80 is_stp_indicator ∷ []) (transaction, (day, (end, tt))) bad
 
--- the TIPLOC of an association is the first bad field, and it isn't a deletion: column 38
+-- in an association that isn't a deletion, the TIPLOC is the first bad field: column 38
 pub assoc_bad_place_kept : (line : List ℕ) → HasKind association line → is_transaction (columns 3 3 line) ≡ true → is_date (columns 16 21 line) ≡ true
     → is_deletion line ≡ false → is_end_date (columns 22 27 line) ≡ true → is_days (columns 28 34 line) ≡ true → is_tiploc (columns 38 44 line) ≡ false
     → leftmost_bad_field line ≡ Some 38
@@ -135,7 +136,7 @@ assoc_bad_place_kept line is transaction day kept end days bad = of_assoc line f
     ∙ behind_good line (checked 3 3 is_transaction ∷ checked 16 21 is_date ∷ checked 22 27 is_end_date ∷ checked 28 34 is_days ∷ [])
     (checked 38 44 is_tiploc) (checked 80 80 is_stp_indicator ∷ []) (transaction, (day, (end, (days, tt)))) bad
 
--- the TIPLOC of a deletion, whose end date and days run aren't checked: column 38
+-- in a deletion, whose end date and days run aren't checked, the TIPLOC is bad: column 38
 pub assoc_bad_place_deleted : (line : List ℕ) → HasKind association line → is_transaction (columns 3 3 line) ≡ true → is_date (columns 16 21 line) ≡ true
     → is_deletion line ≡ true → is_tiploc (columns 38 44 line) ≡ false → leftmost_bad_field line ≡ Some 38
 unfolding assoc_checked
@@ -143,7 +144,7 @@ assoc_bad_place_deleted line is transaction day deleted bad = of_assoc line true
     ∙ behind_good line (checked 3 3 is_transaction ∷ checked 16 21 is_date ∷ []) (checked 38 44 is_tiploc) (checked 80 80 is_stp_indicator ∷ [])
     (transaction, (day, tt)) bad
 
--- the STP indicator of an association is the first bad field, and it isn't a deletion: column 80
+-- in an association that isn't a deletion, the STP indicator is the first bad field: column 80
 pub assoc_bad_stp_kept : (line : List ℕ) → HasKind association line → is_transaction (columns 3 3 line) ≡ true → is_date (columns 16 21 line) ≡ true
     → is_deletion line ≡ false → is_end_date (columns 22 27 line) ≡ true → is_days (columns 28 34 line) ≡ true → is_tiploc (columns 38 44 line) ≡ true
     → is_stp_indicator (columns 80 80 line) ≡ false → leftmost_bad_field line ≡ Some 80
@@ -153,7 +154,7 @@ assoc_bad_stp_kept line is transaction day kept end days place bad = of_assoc li
     (checked 3 3 is_transaction ∷ checked 16 21 is_date ∷ checked 22 27 is_end_date ∷ checked 28 34 is_days ∷ checked 38 44 is_tiploc ∷ [])
     (checked 80 80 is_stp_indicator) [] (transaction, (day, (end, (days, (place, tt))))) bad
 
--- the STP indicator of a deletion is the first bad field: column 80
+-- in a deletion, the STP indicator is the first bad field: column 80
 pub assoc_bad_stp_deleted : (line : List ℕ) → HasKind association line → is_transaction (columns 3 3 line) ≡ true → is_date (columns 16 21 line) ≡ true
     → is_deletion line ≡ true → is_tiploc (columns 38 44 line) ≡ true → is_stp_indicator (columns 80 80 line) ≡ false → leftmost_bad_field line ≡ Some 80
 unfolding assoc_checked

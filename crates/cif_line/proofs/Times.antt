@@ -1,5 +1,6 @@
 -- Times of day, read from their fields.
-use Rattle.std.proofs.Common.{◌≡◌, ℕ, ◌+◌, ◌*◌, List, [], ◌∷◌, true, false, cond, Bool, ◌&&◌, Some, None, Option, ap, refl, sym, ◌∙◌, subst, take, length, ◌<◌, arith}
+use Rattle.std.proofs.Common.{◌≡◌, ℕ, ◌+◌, ◌*◌, List, [], ◌∷◌, true, false, cond, Bool, ◌&&◌, Some}
+use Rattle.std.proofs.Common.{None, Option, ap, refl, sym, ◌∙◌, subst, take, length, ◌<◌, arith}
 use Rattle.std.specs.Prelude.{codes, ◌==◌, ◌||◌, nat_lt, slice_index, IfSome}
 use Rattle.std.specs.List.{list_all}
 use Rattle.std.specs.Str.{bytes_eq}
@@ -55,7 +56,7 @@ pub ruleset clock_bounds = (hour_bound, minute_bound, clock_of_present)
 -- a scheduled time that is present isn't blank
 pub ruleset scheduled_times = (present_not_blank)
 
--- if one of two tests passes and the second doesn't, the first does
+-- if one of two tests passes and the second fails, the first passes
 blank_if : (blank present : Bool) → (blank || present) ≡ true → present ≡ false → blank ≡ true
 blank_if true present one absent = refl
 blank_if false present one absent = cc
@@ -71,7 +72,7 @@ half_minutes_bound field is = by (slice_index field 4 == 72) (hour_bound field c
     by true hour minute = omega arith
     by false hour minute = omega arith
 
--- what is read from a good field is its scheduled time
+-- the time that is read from a good field is the field's scheduled time
 pub told_read : (field : List ℕ) (told : ℕ) (time : Option ℕ) → is_scheduled_time field ≡ true → told ≡ half_minutes_told field
     → time ≡ cond (nat_lt told 2880) (Some told) None → time ≡ scheduled_time field
 told_read field told time good is read = read ∙ by (is_present_time field) refl
@@ -86,7 +87,7 @@ told_read field told time good is read = read ∙ by (is_present_time field) ref
         let blank : is_blank field ≡ true = blank_if (is_blank field) (is_present_time field) good absent in
         (λ i. cond (nat_lt (same i) 2880) (Some told) None) ∙ (λ i. cond (sym blank i) None (Some (half_minutes field)))
 
--- what is read from these columns is a scheduled time that is present
+-- a time that is read from a field is the field's half minutes
 pub present_read : (field shown : List ℕ) (read : TimeField) (time : Option ℕ) → ReadsTime field read → field ≡ shown
     → time ≡ cond read.is_time (Some read.half_minutes) None → IfSome time (λ t. t ≡ half_minutes shown)
 present_read field shown read time reads same is = subst (λ o. IfSome o (λ t. t ≡ half_minutes shown)) (sym is) (by read.is_time refl)

@@ -1,8 +1,10 @@
 -- The kinds of record in the code, and their names in the definitions.
-use Rattle.docker_model.specs.records.Record.{header, tiploc_insert, tiploc_amend, tiploc_delete, association, basic_schedule, extra_details, origin_location, intermediate_location, terminating_location, change_en_route, trailer}
+use Rattle.docker_model.specs.records.Record.{header, tiploc_insert, tiploc_amend, tiploc_delete, association, basic_schedule, extra_details}
+use Rattle.docker_model.specs.records.Record.{origin_location, intermediate_location, terminating_location, change_en_route, trailer}
 use Rattle.docker_model.specs.records.Record as model
 use Rattle.cif_line.specs.declared.kind_of_record.Kind.{Kind}
-use Rattle.cif_line.specs.declared.kind_of_record.Kind.TheVariants.{Header, TiplocInsert, TiplocAmend, TiplocDelete, Association, BasicSchedule, ExtraDetails, OriginLocation, IntermediateLocation, TerminatingLocation, ChangeEnRoute, Trailer}
+use Rattle.cif_line.specs.declared.kind_of_record.Kind.TheVariants.{Header, TiplocInsert, TiplocAmend, TiplocDelete, Association, BasicSchedule, ExtraDetails}
+use Rattle.cif_line.specs.declared.kind_of_record.Kind.TheVariants.{OriginLocation, IntermediateLocation, TerminatingLocation, ChangeEnRoute, Trailer}
 
 -- the kind's name in the definitions
 abbrev pub meaning : Kind → model.Kind

@@ -26,9 +26,9 @@ pub(crate) struct CallFields {
     pub are_good: bool,
     /// The scheduled arrival in half minutes, or 65535 if there is none.
     pub arrival: u16,
-    /// The half minutes of the scheduled departure, or 65535 if there are none.
+    /// The scheduled departure in half minutes, or 65535 if there is none.
     pub departure: u16,
-    /// The half minutes of the scheduled pass, or 65535 if there are none.
+    /// The scheduled pass in half minutes, or 65535 if there is none.
     pub pass: u16,
 }
 

@@ -4,7 +4,8 @@ ghost use Rattle.std.specs.Int.{IsInRange};
 ghost use Rattle.std.specs.Option.{SomeIff};
 ghost use Rattle.std.specs.Str.{IsAscii};
 ghost use Rattle.jiff.specs.Words.{IsBetween};
-ghost use Rattle.docker_model.specs.records.Date.{is_date, date_number, is_date_day_first, date_number_day_first, is_calendar_day, day_number, last_day, weekday_of, full_year as full_year_of};
+ghost use Rattle.docker_model.specs.records.Date.{is_date, date_number, is_date_day_first, date_number_day_first, is_calendar_day};
+ghost use Rattle.docker_model.specs.records.Date.{day_number, last_day, weekday_of, full_year as full_year_of};
 ghost use Rattle.docker_model.specs.records.PrintedTime.{day_text, date_text};
 
 use crate::digits::{are_digits, two_digits};

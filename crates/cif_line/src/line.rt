@@ -40,7 +40,7 @@ pub enum LineFault {
 }
 
 impl Line {
-    /// The line that these bytes are. `Length` if they aren't 80, and otherwise `Byte` if one isn't
+    /// The line with these bytes. `Length` if there aren't 80, and otherwise `Byte` if one isn't
     /// printable.
     pub fn new(bytes: &[u8]) -> Result<Line, LineFault>
         ensures ok { IsOk result ↔ IsRecord bytes.now }

@@ -2,7 +2,8 @@
 //! names the leftmost bad one.
 ghost use Rattle.std.specs.Prelude.{◌≡◌, ◌↔◌, IsOk, IfOk, IfErr, IsSome, IfSome, Some, None};
 ghost use Rattle.docker_model.specs.records.Clock.{half_minutes};
-ghost use Rattle.docker_model.specs.records.Record.{HasKind, columns, header, association, basic_schedule, origin_location, intermediate_location, terminating_location, change_en_route};
+ghost use Rattle.docker_model.specs.records.Record.{HasKind, columns, header, association, basic_schedule, origin_location};
+ghost use Rattle.docker_model.specs.records.Record.{intermediate_location, terminating_location, change_en_route};
 ghost use Rattle.docker_model.specs.records.Field.{leftmost_bad_field};
 ghost use Rattle.cif_line.specs.CallRead.{AreTimesOf};
 ghost use Rattle.cif_line.specs.RecordRead.{ReadsAs};

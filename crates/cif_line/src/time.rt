@@ -40,7 +40,7 @@ impl Time {
     }
 
     /// The scheduled time in a field HHMM from `0000` to `2359`, followed by `H` for half a minute
-    /// or by a space. None for any other field, also for a blank one.
+    /// or by a space. None for any other field, including a blank one.
     pub fn from_field(field: &[u8; 5]) -> Option<Time>
         ensures some { IsSome result ↔ IsTrue (is_present_time field.now) }
         ensures value { IfSome result (λ time. time ≡ half_minutes field.now) }

@@ -1,4 +1,4 @@
-//! The code of a timing point: a record TI, TA or TD.
+//! A record of a timing point: TI, TA or TD.
 ghost use Rattle.std.specs.Prelude.{◌≡◌};
 ghost use Rattle.docker_model.specs.records.Record.{kind_of, columns, IsTextOfLength};
 ghost use Rattle.cif_line.specs.View.{IsGoodTiploc, new_code_of};

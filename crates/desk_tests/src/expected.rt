@@ -24,7 +24,7 @@ DOCKER ASHFELD 2024-06-10
 END                                                     
 ";
 
-/// The first answer once the revision is known.
+/// The answer for Ashfeld on 10 June, once the revision is known.
 pub(crate) const ANSWER_0905: &str = "\
 0 3 171
 DOCKER ASHFELD 2024-06-10                               
@@ -63,7 +63,7 @@ pub(crate) const DEVICE_UNSAVED: &str = "docker: device failed\ndesk: changes no
 /// The answer to `files`, if the morning train is known.
 pub(crate) const FILES: &str = "0 1 34\n2024-06-09 2100 DFROC1A U DFROC1Z\n";
 
-/// That answer once the revision is known too.
+/// The answer to `files`, once the revision is known too.
 pub(crate) const BOTH_FILES: &str = "\
 0 2 68
 2024-06-09 2100 DFROC1A U DFROC1Z

@@ -13,10 +13,10 @@ type Told<'a> = (&'static str, &'a [u8]);
 /// A line that can be a request.
 const LINE: &str = "line";
 
-/// A line that is too long, or has another byte.
+/// A line that is too long, or has a byte that no line has.
 const BAD: Told<'static> = ("bad", b"");
 
-/// What stands after the last line feed.
+/// The bytes after the last line feed.
 const CUT: Told<'static> = ("cut", b"");
 
 /// The end of the input.

@@ -22,7 +22,7 @@ ASHFELD ASF 87701 ASHFELD JUNCTION                    0
 CORHAM            CORHAM EXCHANGE                     0
 ";
 
-/// What that state knows, before and after its horizon is set.
+/// What the state with timing points knows, before and after its horizon is set.
 const KNOWN: &str = "\
 0 6 124
 HORIZON      NONE

@@ -3,7 +3,7 @@ ghost use Rattle.std.specs.Prelude.{None};
 
 use cif_line::{Failed, Source};
 
-/// A source that gives at most 100 bytes per read, and marks that its end was reported, and that it
+/// A source that gives at most 100 bytes per read. It notes that its end was reported, and that it
 /// was read after that. It never fails.
 #[derive(Drop)]
 pub(crate) struct Marked<'a> {

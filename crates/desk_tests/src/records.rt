@@ -17,11 +17,11 @@ const HD_LATER: &str =
 /// A new permanent schedule of C10001, on weekdays from 10 to 14 June 2024.
 const BS: &str = "BSNC100012406102406141111100 POO1A10                                           P";
 
-/// Its overlay, on the same days.
+/// An overlay of C10001's schedule, on the same days.
 const BS_OVERLAY: &str =
     "BSNC100012406102406141111100 POO1A10                                           O";
 
-/// Its revision.
+/// A revision of C10001's schedule.
 const BS_REVISED: &str =
     "BSRC100012406102406141111100 POO1A10                                           P";
 
@@ -41,10 +41,10 @@ const ZZ: &str = "ZZ                                                            
 /// A file of one train from Ashfeld to Brayton.
 pub(crate) const MORNING: Parts = &[HD, BS, LO, LT, ZZ];
 
-/// The revision of that train a day later: it leaves five minutes later.
+/// A file with the revision of the morning train a day later: the train leaves five minutes later.
 pub(crate) const REVISION: Parts = &[HD_LATER, BS_REVISED, LO_LATER, LT, ZZ];
 
-/// That revision without its trailer.
+/// The file of the revision, without its trailer.
 pub(crate) const OPEN: Parts = &[HD_LATER, BS_REVISED, LO_LATER, LT];
 
 /// The mark of a state's text, and no horizon.
@@ -104,7 +104,8 @@ pub(crate) const OVERLAID_STATE: Parts = &[
     LT,
 ];
 
-/// The state that knows only its revision: 311 bytes. It keeps the transaction `N`.
+/// The state that knows only the revision of the morning train: 311 bytes. It keeps the transaction
+/// `N`.
 pub(crate) const REVISION_STATE: Parts = &[
     MARK,
     ONE,
@@ -117,7 +118,7 @@ pub(crate) const REVISION_STATE: Parts = &[
     LT,
 ];
 
-/// The state that knows both: 330 bytes.
+/// The state that knows the morning train and its revision: 330 bytes.
 pub(crate) const BOTH_STATE: Parts = &[
     MARK,
     TWO,
@@ -178,7 +179,7 @@ DOCKER ASHFELD 2024-06-10
 END                                                     
 ";
 
-/// That docker for the revision.
+/// The docker of Ashfeld on 10 June for the revision.
 pub(crate) const ASHFELD_0905: &str = "\
 DOCKER ASHFELD 2024-06-10                               
 0905  D 1A10 C10001 P   1   SL      0905 ASHFELD BRAYTON

@@ -22,7 +22,7 @@ fn add_place_and_day(rt: &impl Abort, text: &mut Vec<u8>, verb: &[u8], place: &T
     add(rt, text, &day.iso());
 }
 
-/// Adds the words of a request that names a day, and nothing of another.
+/// Adds the words of a request that names a day. Adds nothing for any other request.
 fn add_dated(rt: &impl Abort, text: &mut Vec<u8>, request: &Request<'_>) {
     match request {
         Request::Print { place, day } => add_place_and_day(rt, text, b"print", place, day),
@@ -42,7 +42,8 @@ fn add_dated(rt: &impl Abort, text: &mut Vec<u8>, request: &Request<'_>) {
     }
 }
 
-/// The first word of a request that names no day, and the file that it names; nothing of another.
+/// The first word of a request that names no day, and the file that the request names. An empty
+/// word for any other request.
 fn file_words<'a>(request: &Request<'a>) -> (&'static str, Option<&'a str>) {
     match request {
         Request::Take(file) => ("take", Some(*file)),

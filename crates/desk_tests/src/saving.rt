@@ -7,7 +7,7 @@ use crate::records::*;
 use crate::shelves::{put, shelf_of, text_of};
 use crate::taking::taken;
 use docker_cmd::OfficeFault;
-use docker_desk::Desk;
+use docker_desk::{Compared, Desk};
 use docker_host::{Fails, Folder, Shelf, Sight};
 use docker_office::{StateCause, StateFault};
 use std::alloc::Global;
@@ -70,13 +70,18 @@ fn renews(
     desk: &mut Desk,
     seen: &mut Sight,
     folder: &mut Shelf,
-    answer: Result<(), OfficeFault>,
+    answer: Result<Compared, OfficeFault>,
     unsaved: bool,
 ) {
     assert!(rt; folder.failures() < 100);
     same(rt, desk.renew("S", true, seen, folder), answer);
     same(rt, desk.is_unsaved(), unsaved);
 }
+
+/// What is found out of a file that holds the desk's state, and of one that holds another.
+const SAME: Result<Compared, OfficeFault> = Ok(Compared::Same);
+
+const OTHER: Result<Compared, OfficeFault> = Ok(Compared::Other);
 
 #[test]
 fn another_command_saves_meanwhile(rt: HostRuntime) {
@@ -88,7 +93,7 @@ fn another_command_saves_meanwhile(rt: HostRuntime) {
     let refused = Err(OfficeFault::Sink);
     saves(&rt, &mut desk, &mut seen, &mut folder, refused, false);
     holds(&rt, alloc, &folder, REVISION_STATE, 1);
-    renews(&rt, &mut desk, &mut seen, &mut folder, Ok(()), true);
+    renews(&rt, &mut desk, &mut seen, &mut folder, OTHER, true);
     saves(&rt, &mut desk, &mut seen, &mut folder, Ok(()), false);
     holds(&rt, alloc, &folder, BOTH_STATE, 1);
     ends(&rt, alloc, desk, false, BOTH_STATE);
@@ -100,12 +105,24 @@ fn another_command_saves_more(rt: HostRuntime) {
     let mut folder = shelf_of(&rt, alloc, MORNING_STATE);
     let mut seen = folder.look("S");
     let mut desk = desk_of(&rt, alloc, MORNING_STATE);
-    renews(&rt, &mut desk, &mut seen, &mut folder, Ok(()), false);
+    renews(&rt, &mut desk, &mut seen, &mut folder, SAME, false);
     puts(&rt, alloc, &mut folder, BOTH_STATE);
-    renews(&rt, &mut desk, &mut seen, &mut folder, Ok(()), false);
+    renews(&rt, &mut desk, &mut seen, &mut folder, SAME, false);
     puts(&rt, alloc, &mut folder, MORNING_STATE);
-    renews(&rt, &mut desk, &mut seen, &mut folder, Ok(()), true);
+    renews(&rt, &mut desk, &mut seen, &mut folder, OTHER, true);
     ends(&rt, alloc, desk, true, BOTH_STATE);
+}
+
+#[test]
+fn another_command_saves_the_same(rt: HostRuntime) {
+    let alloc = rt.alloc();
+    let mut folder = shelf_of(&rt, alloc, MORNING_STATE);
+    let mut seen = folder.look("S");
+    let mut desk = desk_with_revision(&rt, alloc);
+    renews(&rt, &mut desk, &mut seen, &mut folder, OTHER, true);
+    puts(&rt, alloc, &mut folder, BOTH_STATE);
+    renews(&rt, &mut desk, &mut seen, &mut folder, SAME, false);
+    ends(&rt, alloc, desk, false, BOTH_STATE);
 }
 
 /// The fault of a text that has no mark of a state.

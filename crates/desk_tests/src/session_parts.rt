@@ -1,4 +1,4 @@
-//! What a session of these rows has around it: its words and its sinks.
+//! The words and the sinks of the sessions.
 ghost use Rattle.std.specs.Prelude.{◌≡◌};
 
 use cif_line::Kept;

@@ -19,7 +19,7 @@ LTBRAYTON 0930 09322  FL
 END                                                                             
 ";
 
-/// Its revision, from the second record of the update of 10 June.
+/// The revision of the morning train, from the second record of the update of 10 June.
 const REVISED: &str = "\
 0 5 405
 TRAIN  C10001  2024-06-10 P RUNS      2024-06-10 2100 DFROC1B          2        

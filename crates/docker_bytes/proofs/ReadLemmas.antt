@@ -54,7 +54,7 @@ memory_or_not cause.Long = inr (λ same. cc)
 memory_or_not cause.Memory = inl refl
 memory_or_not cause.Horizon = inr (λ same. cc)
 
--- a fault returned as the state's is the one that was found, and its cause isn't memory
+-- a fault returned as the state's is the one that was found, and its cause isn't out of memory
 not_memory : {A : Type 0} (found told : StateFault) (result : ReadFault) → (found.cause ≡ cause.Memory → result ≡ fault.Memory)
     → (found.cause ≢ cause.Memory → result ≡ fault.State found)
     → ◌≡◌ {A = Result A ReadFault} (Err result) (Err (fault.State told)) → (found ≡ told) × (found.cause ≢ cause.Memory)
@@ -106,7 +106,7 @@ ended_for format limit text IsMade found result at_end memory state = by (memory
         subst (λ (told : ReadFault). EndsText format limit text IsMade (Err told)) (sym (state other))
         (told_at_end format limit text found.at found.cause other at_end)
 
--- if out of memory is returned, that is what was found
+-- if out of memory is returned, the fault that was found is out of memory
 is_memory : {A : Type 0} (found : StateFault) (result : ReadFault) → (found.cause ≢ cause.Memory → result ≡ fault.State found)
     → ◌≡◌ {A = Result A ReadFault} (Err result) (Err fault.Memory)
     → found.cause ≡ cause.Memory
@@ -150,7 +150,7 @@ tail_of format limit text piece rest used found below whole at is =
       end_at = at ∙ ap length whole.1.is;
     }
 
--- a piece of which a byte was not used has a tail
+-- if a byte of a piece wasn't used, the fault of bytes after the state is the text's fault
 pub tail_told : (format : Format) (limit : ℕ) (text piece rest : List ℕ) (used : ℕ) (step : Step) (found : StateFault) → used < length piece
     → IsStep format limit text piece (used, step)
     → found.at ≡ length (text ++ take used piece) → found.cause ≡ cause.Tail → IsFaultOf format limit ((text ++ piece) ++ rest) found
@@ -163,11 +163,11 @@ tail_told format limit text piece rest used More found below more at is = absurd
 abbrev pub terms_of : {K : Type 0} → ParserState K → StateTerms
 terms_of parser = record { format = format_of parser.reading; limit = parser.reading.limit }
 
--- a parser that has read nothing has taken nothing
+-- a parser that has read nothing has taken the empty text
 pub at_start : {K : Type 0} (parser : ParserState K) → IsUnread parser → parser.reading.limit < 2 ^ 64 → TakesState parser (terms_of parser) []
 at_start parser unread small = record { read = unread; small = small }
 
--- a piece that was read was taken
+-- if a parser has read a piece, it has taken the piece
 pub takes_more : {K : Type 0} (before after : ParserState K) (piece : List ℕ) {A : Type 0} (result : Result A ReadFault)
     → ((format : Format) (limit : ℕ) (text : List ℕ) → HasRead before format limit text → IsOk result → HasRead after format limit (text ++ piece))
     → OnOk result (BehindEach TakesState before (λ terms text. TakesState after terms (text ++ piece)))
@@ -175,7 +175,7 @@ takes_more before after piece (Ok done) read = λ terms text has.
     record { read = read terms.format terms.limit text has.read refl; small = has.small }
 takes_more before after piece (Err told) read = tt
 
--- a fault that was returned refuses the piece
+-- if a parser returned a fault for a piece, it has refused the piece
 pub refuses_more : {K : Type 0} (before after : ParserState K) (piece : List ℕ) {A : Type 0} (result : Result A ReadFault)
     → ((format : Format) (limit : ℕ) (text : List ℕ) → HasRead before format limit text → (found : StateFault) → result ≡ Err (fault.State found)
     → (rest : List ℕ) → IsFaultOf format limit ((text ++ piece) ++ rest) found)
@@ -198,13 +198,13 @@ held_all (Some told) (Some rest) text lost end =
     let same : told ≡ text ++ rest = cc in
     same ∙ ap (λ r. text ++ r) end ∙ append-nil text
 
--- a parser that has taken all up to the end has read all
+-- a parser that was fed up to the source's end has read all that the source held
 pub reads_all : {K : Type 0} (terms : StateTerms) (count : ℕ) (initial now : Option (List ℕ)) (parser : ParserState K)
     → HasFed TakesState count terms [] initial now parser → IsEnd now → ReadsAll terms.format terms.limit initial parser
 reads_all terms count initial now parser at end =
     record { text = at.bytes; held = held_all initial now at.bytes at.lost end; read = at.taken.read }
 
--- a parser that has read nothing of a format under a limit
+-- a text that a parser has read was read by the parser's own format and limit
 pub unread : {K : Type 0} (parser : ParserState K) (format : Format) (limit : ℕ) (text : List ℕ) → HasRead parser format limit text
     → HasRead parser (format_of parser.reading) parser.reading.limit text
 unread parser format limit text has =
@@ -242,7 +242,7 @@ loses_few terms initial next more = record {
   sound = sound_text more.taker terms.format terms.limit more.bytes more.taken.read;
 }
 
--- memory ran out for a part of a piece
+-- if a parser refuses a piece as out of memory, memory ran out for a part of the piece
 wants_part : {K : Type 0} (terms : StateTerms) (initial next : Option (List ℕ)) (parser : ParserState K)
     → HasRefused TakesState RefusesPart 65536 terms [] initial next parser fault.Memory → WantsSoFar terms.format 65536 terms.limit initial next
 wants_part terms initial next parser has =
@@ -252,7 +252,7 @@ wants_part terms initial next parser has =
 
 -- ---- how reading ends
 
--- where nothing changed, nothing was read
+-- if a source is unchanged, nothing was read from it
 pub nothing_lost : (initial next : Option (List ℕ)) → next ≡ initial → Reads initial [] next
 nothing_lost initial next same = subst (Reads initial []) (sym same) (at initial)
   where
@@ -260,7 +260,7 @@ nothing_lost initial next same = subst (Reads initial []) (sym same) (at initial
     at None = refl
     at (Some left) = refl
 
--- reading ends at a piece that is refused
+-- if the parser refuses a piece, reading ends there
 pub refused_ends : {K : Type 0} (terms : StateTerms) (initial next : Option (List ℕ)) (parser : ParserState K) (told : ReadFault) (failed failed_now : ℕ)
     → ReadsOnePieceMore terms.format 65536 terms.limit initial next → failed_now ≡ failed
     → HasRefused TakesState RefusesPart 65536 terms [] initial next parser told
@@ -272,7 +272,7 @@ refused_ends terms initial next parser (fault.State found) failed failed_now few
 refused_ends terms initial next parser fault.Memory failed failed_now few same has =
     record { few = few; outcome = wants_part terms initial next parser has; failures = same }
 
--- it ends before the end of a text
+-- a reason to stop before the end of a text is a reason to stop reading
 pub ends_early : (format : Format) (limit : ℕ) (initial next : Option (List ℕ)) (told : ReadFault) (failed failed_now : ℕ)
     → StopsReading format limit initial next (IsWhyUnread WantsSoFar format limit initial next (Some told)) (CountsWhy (Some told) failed failed_now)
     → StopsReading format limit initial next (IsWhyUnread WantsMemory format limit initial next (Some told)) (CountsWhy (Some told) failed failed_now)
@@ -285,7 +285,7 @@ ends_early format limit initial next fault.Memory failed failed_now ends =
     wants_more (inl nothing) = inl nothing
     wants_more (inr part) = inr (inl part)
 
--- it ends at the end of a text, with what is returned for the text
+-- if all of a text was read, reading ends with the result that the parser returns for the text
 pub ends_whole : {K A : Type 0} (format : Format) (limit : ℕ) (initial next : Option (List ℕ)) (parser : ParserState K) (failed failed_now : ℕ)
     (IsMade : List ℕ → A → Type 0) (IsRead : A → Type 0) (result : Result A ReadFault)
     → StopsReading format limit initial next (ReadsAll format limit initial parser) (failed_now ≡ failed)
@@ -308,7 +308,7 @@ ends_whole {A = A} format limit initial next parser failed failed_now IsMade IsR
     by (Err fault.Memory) is =
         record { few = read.few; outcome = inr (inr (is.0, record { text = all.text; held = all.held; is = is.1 })); failures = read.failures }
 
--- what holds of what was made has another form
+-- if a reading ends with a property, it ends with each property that follows from it
 pub ends_with : {S A E : Type 0} (wants : Wanting) (why : E → Option ReadFault) (left : S → Option (List ℕ)) (failures : S → ℕ) (format : Format) (limit : ℕ)
     (IsMade IsRead : A → Type 0) (source source_now : S) (result : Result A E) → ((made : A) → IsMade made → IsRead made)
     → EndsReadingBy wants why left failures format limit IsMade source source_now result
@@ -317,18 +317,18 @@ ends_with wants why left failures format limit IsMade IsRead source source_now (
     record { few = ends.few; outcome = of made ends.outcome; failures = ends.failures }
 ends_with wants why left failures format limit IsMade IsRead source source_now (Err fault) of ends = ends
 
--- if what is made of a state is the state itself, it is the text's state
+-- if the value made of a state is the state itself, the value is the text's state
 pub made_itself : (format : Format) (limit : ℕ) (text : List ℕ) (made : State) → IsMadeOf (λ made state. made ≡ state) format limit text made
     → IsStateText format limit text made
 made_itself format limit text made of = subst (IsStateText format limit text) (sym of.made_of) of.is
 
--- the same for what a source held
+-- if the value made of a state is the state itself, the value is the state that the source held
 pub read_itself : (format : Format) (limit : ℕ) (initial : Option (List ℕ)) (made : State) → ReadsMade (λ made state. made ≡ state) format limit initial made
     → ReadsState format limit initial made
 read_itself format limit initial made read =
     record { text = read.text; held = read.held; is = made_itself format limit read.text made read.of }
 
--- the join with the state of the text that a source held
+-- a join with the state of a text is the join with the state of the source that held the text
 pub joined : (format : Format) (limit : ℕ) (initial : Option (List ℕ)) (text : List ℕ) (own after : State) → Held initial text
     → JoinsText format limit text own after → JoinsState format limit initial own after
 joined format limit initial text own after held joins =

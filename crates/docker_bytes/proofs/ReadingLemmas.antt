@@ -19,7 +19,7 @@ use Rattle.state_text.specs.FaultMeaning.{IsBadHere}
 use Rattle.state_text.specs.Stage.{begins_item, LeadsTo}
 use Rattle.docker_bytes.specs.StateReading.{format_of, before_of, text_of, IsReading, ReadsOn, IsToldSoFar, IsOpen}
 
--- what of a piece comes before a rest of it
+-- the bytes of a piece before a rest of it
 abbrev pub before_rest : List ℕ → List ℕ → List ℕ
 before_rest piece rest = take (length piece - length rest) piece
 
@@ -38,7 +38,7 @@ no_parts (in_entry count state (before_body key stamp)) is = cc
 no_parts (in_entry count state (before_line key stamp n lines)) is = cc
 no_parts (at_end state) is = refl
 
--- within an item the items before stay
+-- ---- the items before stay the same within an item
 
 begins : (format : Format) (before after : Before) → begins_item after ≡ true → begins_item after ≡ false
     → items_before format after ≡ items_before format before
@@ -79,7 +79,7 @@ lines_stay format count state key stamp n lines part = by (nat_le n (length line
         (entries_begin count (with_entry state (schedule_key key) stamp (put_with (schedule_body lines)))) within
     by false within = refl
 
--- the items before stay within an item
+-- if a part doesn't begin an item, the items before it stay the same
 pub items_stay : (format : Format) (before : Before) (bytes : List ℕ) → begins_item (advance format before bytes) ≡ false
     → items_before format (advance format before bytes) ≡ items_before format before
 items_stay format before_mark bytes inner = begins format before_mark (after_mark format) (mark_begins format) inner
@@ -133,7 +133,7 @@ good_next format before bytes good some wide small not_bad = by (judge format be
     by (inl bad) = absurd (not_bad bad.0 bad.1)
     by (inr fine) = fine
 
--- the reading after a part that isn't bad
+-- if a part isn't bad, the reading goes on after it
 pub part_read : {K : Type 0} (old new : StateReading K) (bytes : List ℕ) → IsReading old → old.partial.items ≡ [] → length bytes ≡ width (before_of old) → 0 < length bytes
     → ((i : ℕ) → get_or bytes i 0 < 256)
     → old.reached + length bytes ≤ old.limit → LeadsTo (format_of old) (before_of old) bytes new.stage new.parts new.lines → new.partial.items ≡ []
@@ -183,7 +183,8 @@ part_read old new bytes is none wide some small fits leads empty reached same ke
         ∙ ap length (sym (items_stay (format_of old) (before_of old) bytes (ap begins_item (sym leads.is) ∙ within.0))
         ∙ ap (items_before (format_of old)) (sym leads.is) ∙ ap (λ f. items_before f (before_of new)) (sym kept))
 
--- a part that is bad, or for which memory ran out; its last bytes are these
+-- if a part that ends with these bytes is bad, or memory ran out for it, its fault is a fault of
+-- the text
 pub part_refused : {K : Type 0} (old : StateReading K) (front bytes : List ℕ) (at : ℕ) (cause : Option StateCause) → IsReading old → bytes ≡ old.partial.items ++ front
     → length bytes ≡ width (before_of old)
     → 0 < length front → old.reached + length bytes ≤ old.limit → at ≡ old.item_at → IsBadHere (format_of old) (before_of old) bytes cause
@@ -260,7 +261,7 @@ told_stays format limit text read front behind at cause = by cause
         inr (subst (λ xs. IsLong format limit xs (record { at = at; cause = told })) (sym whole)
         (long_stays format limit ((text ++ read) ++ front) behind (record { at = at; cause = told }) long))
 
--- what comes before a rest grows by what is taken of the rest
+-- the bytes before a rest grow by the bytes taken from the rest
 pub rest_more : (piece rest front behind : List ℕ) → before_rest piece rest ++ rest ≡ piece → rest ≡ front ++ behind
     → (before_rest piece behind ≡ before_rest piece rest ++ front) × (before_rest piece behind ++ behind ≡ piece)
 rest_more piece rest front behind whole split = (now, ap (λ xs. xs ++ behind) now ∙ all)
@@ -275,25 +276,25 @@ rest_more piece rest front behind whole split = (now, ap (λ xs. xs ++ behind) n
         ap (λ n. take n piece) count ∙ ap (take (length (before_rest piece rest ++ front))) (sym all)
         ∙ take-append_seam (before_rest piece rest ++ front) behind
 
--- nothing comes before the whole piece
+-- no bytes come before the whole piece
 pub rest_first : (piece : List ℕ) → (before_rest piece piece ≡ []) × (before_rest piece piece ++ piece ≡ piece)
 rest_first piece = (none, ap (λ xs. xs ++ piece) none)
   where
     none : before_rest piece piece ≡ []
     none = let zero_left : length piece - length piece ≡ 0 = omega arith in ap (λ n. take n piece) zero_left
 
--- before the first part of a piece nothing of it was read
+-- before the first part of a piece is read, nothing of the piece was read
 pub reads_none : {K : Type 0} (now : StateReading K) (piece : List ℕ) → IsReading now → ReadsOn now now (before_rest piece piece)
 reads_none now piece is =
     subst (ReadsOn now now) (sym (rest_first piece).0) (record { reading = is; text = sym (append-nil (text_of now)); limit = refl; format = refl })
 
 module _ {K : Type 0} (initial now : StateReading K) (piece rest : List ℕ) (whole : before_rest piece rest ++ rest ≡ piece) (on : ReadsOn initial now (before_rest piece rest))
   where
-    -- the bytes so far and the rest
+    -- the bytes read so far and the rest are the bytes before the piece and the piece
     pub all_text : text_of now ++ rest ≡ text_of initial ++ piece
     all_text = ap (λ xs. xs ++ rest) on.text ∙ append_assoc (text_of initial) (before_rest piece rest) rest ∙ ap (λ xs. text_of initial ++ xs) whole
 
-    -- a fault of a front of the rest is a fault of the piece
+    -- a fault of the first bytes of the rest is a fault of the piece
     pub told_of_piece : (front behind : List ℕ) (at : ℕ) (cause : Option StateCause) → rest ≡ front ++ behind
         → IsToldSoFar (format_of now) now.limit (text_of now) front at cause
         → IsToldSoFar (format_of initial) initial.limit (text_of initial) piece at cause
@@ -306,7 +307,7 @@ module _ {K : Type 0} (initial now : StateReading K) (piece rest : List ℕ) (wh
         (subst (λ n. IsToldSoFar (format_of now) n (text_of initial ++ before_rest piece rest) front at cause) on.limit
         (subst (λ xs. IsToldSoFar (format_of now) now.limit xs front at cause) on.text told))))
 
-    -- the bytes so far and a front of the rest
+    -- if the first bytes of the rest were read, the piece was read up to their end
     pub reads_further : (next : StateReading K) (front behind : List ℕ) → rest ≡ front ++ behind → ReadsOn now next front
         → ReadsOn initial next (before_rest piece behind)
     reads_further next front behind split further = record {
@@ -317,7 +318,7 @@ module _ {K : Type 0} (initial now : StateReading K) (piece rest : List ℕ) (wh
       format = further.format ∙ on.format;
     }
 
-    -- a rest that ends before the part does leaves the text open
+    -- if the rest ends before the next part does, the text is open
     pub open_text : (next : StateReading K) → length now.partial.items + length rest < width (before_of now) → ReadsOn now next rest
         → IsOpen (format_of initial) initial.limit (text_of initial ++ piece)
     open_text next short further =

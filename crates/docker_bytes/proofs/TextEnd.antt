@@ -98,7 +98,7 @@ open_reading reading is some = (
 pub not_both : (format : Format) (limit : ℕ) (text : List ℕ) → IsOpen format limit text → ¬ IsWhole format limit text
 not_both format limit text open_one whole = no_fault_of_state format limit text whole.0 open_one.0 whole.1 (inr (inr (inl open_one.1)))
 
--- what a parser has read is open or whole, and so without a fault
+-- a text that a parser has read is open or whole, so it has no fault
 pub sound_text : {K : Type 0} (parser : ParserState K) (format : Format) (limit : ℕ) (text : List ℕ) → HasRead parser format limit text
     → IsOpen format limit text ⊎ IsWhole format limit text
 sound_text parser format limit text has =
@@ -113,7 +113,7 @@ sound_text parser format limit text has =
     by (inl some) = inl (open_reading parser.reading has.sound some)
     by (inr none) = inr (parser.reading.parts, whole_text parser.reading has.sound (omega arith))
 
--- if there is a next part, what a parser has read isn't whole
+-- if there is a next part, the text that a parser has read isn't whole
 pub not_whole_yet : {K : Type 0} (parser : ParserState K) (reading : StateReading K) (format : Format) (limit : ℕ) (text : List ℕ) → parser.reading ≡ reading
     → HasRead parser format limit text → ¬ (width (before_of reading) ≡ 0) → ¬ IsWhole format limit text
 not_whole_yet parser reading format limit text same has some whole =

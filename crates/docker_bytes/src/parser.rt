@@ -8,7 +8,7 @@ ghost use Rattle.docker_bytes.specs.ParserRead.{HasRead, HasFailed};
 use crate::fault::{StateFault, Step};
 use crate::reading::StateReading;
 use state_text::format::Format;
-use state_text::{Keeper, Maker, Received, Receiver, State, Told};
+use state_text::{Keeper, Maker, PartsSoFar, Received, Receiver, State};
 use std::alloc::Global;
 use std::marker::Model;
 
@@ -37,7 +37,7 @@ impl<K: Keeper> Parser<K> {
         ensures { HasRead result (format_meant format) limit [] }
     {
         Parser {
-            reading: StateReading::new(alloc, format, limit, Told::new(keeper)),
+            reading: StateReading::new(alloc, format, limit, PartsSoFar::new(keeper)),
             fault: None,
         }
     }

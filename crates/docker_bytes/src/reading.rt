@@ -9,7 +9,7 @@ use arrayvec::ArrayVec;
 use fixed_text::put;
 use state_text::format::{Format, LINE};
 use state_text::{
-    Gathered, Keeper, Maker, Received, Receiver, ScheduleKey, Stage, State, StateCause, Told,
+    Gathered, Keeper, Maker, PartsSoFar, Received, Receiver, ScheduleKey, Stage, State, StateCause,
     judged_inner_line, step,
 };
 use std::alloc::Global;
@@ -22,7 +22,7 @@ pub(crate) struct StateReading<K: Keeper> {
     format: Format,
     limit: u64,
     stage: Stage,
-    parts: Told<K>,
+    parts: PartsSoFar<K>,
     lines: Gathered,
     partial: ArrayVec<u8, LINE>,
     item_at: u64,
@@ -31,7 +31,12 @@ pub(crate) struct StateReading<K: Keeper> {
 
 impl<K: Keeper> StateReading<K> {
     /// No bytes and no parts yet, of a text of the format with at most `limit` bytes.
-    pub(crate) fn new(alloc: Global, format: Format, limit: u64, parts: Told<K>) -> StateReading<K>
+    pub(crate) fn new(
+        alloc: Global,
+        format: Format,
+        limit: u64,
+        parts: PartsSoFar<K>,
+    ) -> StateReading<K>
         requires { parts ≡ record { horizon = 0; ledger = []; entries = [] } }
         ensures reading { IsReading result }
         ensures text { text_of result ≡ [] }

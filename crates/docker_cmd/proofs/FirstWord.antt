@@ -4,9 +4,11 @@ use Rattle.std.specs.List.{find, fold}
 use Rattle.std.specs.Option.{option_map_or}
 use Rattle.std.proofs.Math.Bool.{and-false}
 use Rattle.std.specs.Str.{bytes_eq}
-use Rattle.clap.specs.Walk.{Held, Names, Step, Text, Walk, after_step, answers_to, finished, idle, nothing_held, settled, subcommand, subcommand_met, subcommand_or_other, walk, walk_from, walked, word_met}
+use Rattle.clap.specs.Walk.{Held, Names, Step, Text, Walk, after_step, answers_to, finished, idle, nothing_held, settled}
+use Rattle.clap.specs.Walk.{subcommand, subcommand_met, subcommand_or_other, walk, walk_from, walked, word_met}
 use Rattle.clap.specs.Simple.{App, Shape, entered, label_of, names_of, rows_at}
-use Rattle.clap.specs.Faults.{built_fault, check_fault, defaults_fault, entered_fault, level_fault, other_fault, settle_fault, step_fault, turn_fault, walk_fault}
+use Rattle.clap.specs.Faults.{built_fault, check_fault, defaults_fault, entered_fault, level_fault}
+use Rattle.clap.specs.Faults.{other_fault, settle_fault, step_fault, turn_fault, walk_fault}
 use Rattle.clap.specs.Kinds.{Kinds, or_else}
 use Rattle.clap.proofs.WalkLemmas.{walk_stopped}
 use Rattle.clap.specs.declared.error.ErrorKind.TheVariants as kind
@@ -18,7 +20,7 @@ use Rattle.docker_cmd.proofs.RequiredWords.{built_top}
 abbrev pub built_with : List Shape → App
 built_with subs = record { top = built_top; subs = subs }
 
--- the walk once it has met a subcommand, whose words these are
+-- the walk after it has stopped at a subcommand's name, with these words for the subcommand
 abbrev after_name : Text → List Text → Walk
 after_name name words = record (walk_from nothing_held) { stopped = Some (name, words) }
 
@@ -28,7 +30,7 @@ unfolding walk_fault walked
 no_later_fault names name seen [] = refl
 no_later_fault names name seen (word ∷ words) = no_later_fault names name (seen ++ word ∷ []) words
 
--- a fault with nothing after it stays as it is
+-- if there are no further faults, the faults stay as they are
 or_else_none : (kinds : Kinds) → or_else kinds [] ≡ kinds
 or_else_none [] = refl
 or_else_none (k ∷ kinds) = refl
@@ -41,12 +43,13 @@ faults_at subs kinds w = or_else kinds
     (or_else (defaults_fault (settled [] w.held).rows [])
     (check_fault built_top (finished [] w.held) (is_some (entered (built_with subs) w.stopped))))))
 
--- there is no word
+-- if there is no word, the fault is a missing subcommand
 pub no_word : (subs : List Shape) → built_fault (built_with subs) nothing_held [] ≡ kind.MissingSubcommand ∷ []
 unfolding walk_fault defaults_fault
 no_word subs = refl
 
--- the first word names no subcommand
+-- if the first word is plain and names no subcommand, there are two faults: an unknown argument and
+-- an invalid subcommand
 pub unnamed_fault : (subs : List Shape) (word : Text) (words : List Text) → is_plain_word word ≡ true
     → subcommand_met (names_of (built_with subs)) idle word ≡ None
     → built_fault (built_with subs) nothing_held (word ∷ words) ≡ kind.UnknownArgument ∷ kind.InvalidSubcommand ∷ []
@@ -80,7 +83,7 @@ module _ (subs : List Shape) (s : Shape) (name : Text) (words : List Text)
       ∙ ap (λ b. cond b (kind.DisplayHelp ∷ kind.InvalidSubcommand ∷ []) []) (and-false (bytes_eq name (codes "help"))) in
       λ i. or_else (word_part i) (step_fault built_top 1 (named_met i).0 (named_met i).1)
 
-  -- the walk has no fault
+  -- the walk over the name and the words after it has no fault
   named_walk_fault : walk_fault built_top names (walk_from nothing_held) (name ∷ words) ≡ []
   unfolding walk_fault
   named_walk_fault = ap₂ or_else named_turn (ap (λ w. walk_fault built_top names w words) named_walked ∙ no_later_fault names name [] words)

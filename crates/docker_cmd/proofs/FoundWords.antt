@@ -7,8 +7,8 @@ use Rattle.clap.specs.Walk.{Row, first_of}
 use Rattle.docker_cmd.specs.Words.{Text, texts}
 use Rattle.docker_cmd.specs.Grammar.{found_words}
 
--- all ids together have the words that were found before id `i`, and then the words of the ids from
--- it on
+-- the words of all ids are the words found before id `i`, and then the words of id `i` and the
+-- later ids
 abbrev pub HasFound : List (Bor Text) → List Row → ℕ → List Text → Type 0
 HasFound ids rows i found = found_words (texts ids) rows ≡ option_map (λ rest. found ++ rest) (found_words (texts (drop i ids)) rows)
 
@@ -20,18 +20,19 @@ none_yet ids rows = by (found_words (texts ids) rows)
     by None = refl
     by (Some words) = refl
 
--- the words that were found, then this id's word, if it has one, and then the words of later ids
+-- the words that were found, then the word of id `i`, if it has one, and then the words of later
+-- ids
 abbrev with_word : List (Bor Text) → List Row → ℕ → List Text → Option Text → Option (List Text)
 with_word ids rows i found here = option_map (λ rest. found ++ rest)
     (option_and_then (λ word. option_map (λ words. word ∷ words) (found_words (texts (drop (i + 1) ids)) rows)) here)
 
--- one step: the word of this id, and then the words of later ids
+-- after the words found before id `i` come the word of id `i` and the words of later ids
 one_on : (ids : List (Bor Text)) (rows : List Row) (i : ℕ) (d : Bor Text) (found : List Text) → i < length ids → HasFound ids rows i found
     → found_words (texts ids) rows ≡ with_word ids rows i found (first_of (slice_index_or ids i d).now rows)
 one_on ids rows i d found within has =
     has ∙ ap (λ left. option_map (λ rest. found ++ rest) (found_words (texts left) rows)) (drop_more ids i d within)
 
--- the id has a word
+-- if id `i` has a word, that word is found after the words of the ids before it
 pub one_more : (ids : List (Bor Text)) (rows : List Row) (i : ℕ) (d : Bor Text) (found : List Text) (word : Text) → i < length ids
     → first_of (slice_index_or ids i d).now rows ≡ Some word → HasFound ids rows i found → HasFound ids rows (i + 1) (found ++ word ∷ [])
 one_more ids rows i d found word within here has =
@@ -42,7 +43,7 @@ one_more ids rows i d found word within here has =
     by None = refl
     by (Some words) = ap Some (sym (append_assoc found (word ∷ []) words))
 
--- the id has no word
+-- if id `i` has no word, no words are found for the ids
 pub none_here : (ids : List (Bor Text)) (rows : List Row) (i : ℕ) (d : Bor Text) (found : List Text) → i < length ids
     → first_of (slice_index_or ids i d).now rows ≡ None → HasFound ids rows i found → found_words (texts ids) rows ≡ None
 none_here ids rows i d found within never has = one_on ids rows i d found within has ∙ ap (with_word ids rows i found) never

@@ -7,22 +7,23 @@ use Rattle.clap.specs.declared.error.Error.{Error}
 use Rattle.clap.specs.declared.parser.matches.ArgMatches.{ArgMatches}
 use Rattle.docker_cmd.specs.Grammar.{docker_app}
 
--- the program is one of those whose matches are known
+-- docker is a program whose matches `clap`'s definitions give
 simple : is_simple docker_app ≡ true
 simple = refl
 
--- the program is one of those whose faults are known
+-- docker is a program whose faults `clap`'s definitions give
 free : is_simple_and_free docker_app ≡ true
 free = refl
 
--- what is found in the words
+-- if `clap` accepts the words, its matches have the subcommand and the rows that the definitions
+-- find
 pub rows_are : (app : App) (words : List Text) (result : Result ArgMatches Error) → app ≡ docker_app → IfOk result (HasMatchesOf app words)
     → IfOk result (λ m. subcommand_rows_of m ≡ subcommand_of docker_app words)
 rows_are app words result is has =
     IfOk-weaker result (HasMatchesOf docker_app words) (λ m. subcommand_rows_of m ≡ subcommand_of docker_app words) (λ m found. (found simple).1)
     (subst (λ a. IfOk result (HasMatchesOf a words)) is has)
 
--- how words are refused
+-- `clap` refuses the words by the faults that the definitions give
 pub fails_by : (app : App) (words : List Text) (result : Result ArgMatches Error) → app ≡ docker_app
     → (is_simple_and_free app ≡ true → FailsBy (fault_of app words) result) → FailsBy (fault_of docker_app words) result
 fails_by app words result is fails = subst (λ a. is_simple_and_free a ≡ true → FailsBy (fault_of a words) result) is fails free

@@ -1,5 +1,6 @@
 -- Which words name a job.
-use Rattle.std.proofs.Common.{◌≡◌, ◌∙◌, ◌↔◌, ◌≤◌, ◌-◌, List, [], ◌∷◌, length, take, drop, slice_index_or, Bool, true, false, true≢false, Some, None, subst, sym, ap, arith}
+use Rattle.std.proofs.Common.{◌≡◌, ◌∙◌, ◌↔◌, ◌≤◌, ◌-◌, List, [], ◌∷◌, length, take, drop, slice_index_or}
+use Rattle.std.proofs.Common.{Bool, true, false, true≢false, Some, None, subst, sym, ap, arith}
 use Rattle.std.specs.Borrow.{Bor}
 use Rattle.std.proofs.lemmas.List.{length-map, take_all}
 use Rattle.std.specs.List.{list_all}
@@ -18,7 +19,7 @@ job_subcommand words job is = record { plain = is.plain; whole = is.whole; count
 pub no_subcommand : (words : List Text) → NameNoSubcommand words → NameNoJob words
 no_subcommand words none = λ job is. none (subcommand_of job.task) job.words (job_subcommand words job is)
 
--- words that name a subcommand which asks for nothing with them name no job
+-- words that name a subcommand, but no task of it, name no job
 pub asks_nothing : (words : List Text) (s : Subcommand) (behind : List Text) → NamesSubcommand words s behind → IsTaskOf s behind None → NameNoJob words
 asks_nothing words s behind names nothing = λ job is.
     let same = sym names.whole ∙ is.whole in
@@ -27,24 +28,25 @@ asks_nothing words s behind names nothing = λ job is.
 
 -- ---- words that `clap` doesn't get to see
 
--- a word isn't plain
+-- if a word isn't plain, the words name no job
 pub no_plain_job : (words : List Text) → list_all is_plain_word words ≡ false → NameNoJob words
 no_plain_job words never = λ job is. true≢false (sym is.plain ∙ never)
 
--- there are too many words, or too few
+-- if there are too many words or too few, they name no task of the subcommand
 pub miscounted : (s : Subcommand) (words ids : List (Bor Text)) → texts ids ≡ ids_of s → (length words ≡ length ids → ⊥) → AskNothing s (texts words)
 miscounted s words ids are never = λ task same is.
     let required = words_counted task (texts words) is ∙ ap (λ (t : Subcommand). length (ids_of t)) same in
     never (sym (length-map words (λ word. word.now)) ∙ required ∙ ap length (sym are) ∙ length-map ids (λ id. id.now))
 
--- the first word names no subcommand
+-- if the first word names no subcommand, the words name no job
 pub unnamed_job : (words : List (Bor Text)) (d : Bor Text) → 1 ≤ length words → None ≡ subcommand_named (slice_index_or words 0 d).now → NameNoJob (texts words)
 unnamed_job [] d some none = absurd (omega (arith, some))
 unnamed_job (word ∷ words) d some none = λ job is.
     let never : None ≡ Some (subcommand_of job.task) = none ∙ ap subcommand_named (ap first_word is.whole) ∙ named_back (subcommand_of job.task) in
     cc
 
--- the words are plain, and the first one names a subcommand
+-- plain words whose first names a subcommand name a job if and only if the others name a task of
+-- that subcommand
 pub behind_asks : (words : List (Bor Text)) (d : Bor Text) (s : Subcommand) (test : Bool) → 1 ≤ length words
     → Some s ≡ subcommand_named (slice_index_or words 0 d).now → list_all is_plain_word (texts words) ≡ true
     → ((test ≡ false) ↔ AskNothing s (texts (take (length words - 1) (drop 1 words)))) → (test ≡ false) ↔ NameNoJob (texts words)

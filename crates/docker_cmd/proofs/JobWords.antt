@@ -1,6 +1,7 @@
 -- `clap` accepts just the words that name a subcommand, and finds the subcommand and the words
 -- after it.
-use Rattle.std.proofs.Common.{◌≡◌, ◌∙◌, ◌⊎◌, ◌||◌, inl, inr, Bool, cond, true, false, refl, sym, ap, subst, List, [], ◌∷◌, length, map, Some, None, option_map, true≢false, arith}
+use Rattle.std.proofs.Common.{◌≡◌, ◌∙◌, ◌⊎◌, ◌||◌, inl, inr, Bool, cond, true, false, refl, sym, ap, subst}
+use Rattle.std.proofs.Common.{List, [], ◌∷◌, length, map, Some, None, option_map, true≢false, arith}
 use Rattle.std.specs.Prelude.{option_and_then}
 use Rattle.std.specs.List.{find, list_all}
 use Rattle.std.specs.Str.{bytes_eq}
@@ -103,14 +104,14 @@ abbrev IsNoneOf : Text → List Subcommand → Type 0
 IsNoneOf word [] = Unit {0}
 IsNoneOf word (s ∷ ss) = (bytes_eq (name_of s) word ≡ false) × IsNoneOf word ss
 
--- no subcommand answers to such a word
+-- if a word is no name of these subcommands, no subcommand answers to it
 none_answers : (word : Text) (ss : List Subcommand) → IsNoneOf word ss → find (answers_to word) (map label_of (map leaf_of ss)) ≡ None
 none_answers word [] none = refl
 none_answers word (s ∷ ss) none =
     ap (λ b. cond (b || false) (Some (name_of s, [])) (find (answers_to word) (map label_of (map leaf_of ss)))) none.0
     ∙ none_answers word ss none.1
 
--- no subcommand is found for such a word
+-- if a word is no name of these subcommands, no subcommand is found for it
 none_found : (word : Text) (ss : List Subcommand) → IsNoneOf word ss → find (λ s. bytes_eq (name_of s) word) ss ≡ None
 none_found word [] none = refl
 none_found word (s ∷ ss) none = ap (λ b. cond b (Some s) (find (λ t. bytes_eq (name_of t) word) ss)) none.0 ∙ none_found word ss none.1

@@ -1,5 +1,6 @@
 -- How `clap` reads the words after a subcommand that requires some.
-use Rattle.std.proofs.Common.{◌≡◌, ◌∙◌, ◌+◌, ◌&&◌, ◌||◌, ℕ, Bool, cond, true, false, not, min, map, refl, sym, ap, subst, true≢false, List, [], ◌∷◌, ◌++◌, Some, None, append_assoc, append-nil}
+use Rattle.std.proofs.Common.{◌≡◌, ◌∙◌, ◌+◌, ◌&&◌, ◌||◌, ℕ, Bool, cond, true, false, not, min, map, refl, sym, ap}
+use Rattle.std.proofs.Common.{subst, true≢false, List, [], ◌∷◌, ◌++◌, Some, None, append_assoc, append-nil}
 use Rattle.std.specs.List.{find, fold, list_all, list_any}
 use Rattle.std.specs.Str.{bytes_eq}
 use Rattle.std.proofs.lemmas.Slice.Eq.{bytes_eq-Decides}
@@ -7,7 +8,8 @@ use Rattle.clap.specs.Facts.{explicit_source}
 use Rattle.std.specs.Option.{option_map_or}
 use Rattle.std.proofs.Math.Bool.{and-false, or-true}
 use Rattle.clap.specs.Lexer.{usize_max}
-use Rattle.clap.specs.Walk.{Held, Row, Rule, Text, arg_by_id, arg_by_index, at_row, has_row, is_pending, more_values, nothing_held, pushed, reading_by, rows_after, settled, settled_rows, to_positional, used, used_by_id, walk, walked, with_default, with_values}
+use Rattle.clap.specs.Walk.{Held, Row, Rule, Text, arg_by_id, arg_by_index, at_row, has_row, is_pending, more_values, nothing_held, pushed, reading_by}
+use Rattle.clap.specs.Walk.{rows_after, settled, settled_rows, to_positional, used, used_by_id, walk, walked, with_default, with_values}
 use Rattle.clap.specs.Simple.{Shape, built_leaf, filled, filled_from, inherited, new_rule, with_index}
 use Rattle.clap.specs.Takes.{is_given}
 use Rattle.clap.specs.Faults.{check_fault, defaults_fault, level_fault, positional_fault, settle_fault, stray_fault, use_fault, walk_fault}
@@ -44,7 +46,7 @@ Fits c position (id ∷ ids) = (arg_by_index c position ≡ Some (placed positio
 abbrev pub row : Text → Text → Row
 row id word = record { id = id; values = word ∷ []; count = None; source = Some CommandLine; reading = reading_by (new_rule id) }
 
--- none of these ids has a row yet, and they differ
+-- each of these ids differs from the others and has no row yet
 abbrev pub Fresh : List Row → List Text → Type 0
 Fresh rows [] = Unit {0}
 Fresh rows (id ∷ ids) = (has_row id rows ≡ false) × ((word : Text) → Fresh (rows ++ row id word ∷ []) ids)
@@ -75,16 +77,16 @@ used_new position id word rows fresh =
     ap (with_values id (reading_by (new_rule id)) CommandLine (word ∷ [])) (at_new id (λ _. []) [] rows fresh ∙ append-nil rows)
     ∙ at_new id (more_values CommandLine (word ∷ [])) (row id word ∷ []) rows fresh
 
--- what is held settles to these rows, without a fault
+-- the words that a walk holds at its end become these rows, without a fault
 record Settles (s : Shape) (h : Held) (rows : List Row) : Type 0 where
   rows_are : settled_rows s.rules h.pending h.rows ≡ rows
   no_fault : settle_fault s.rules s.args_override_self h ≡ []
 
--- a required word is held
+-- a walk holds these rows, and a required word that has no row yet
 abbrev holding : List Row → Text → Text → ℕ → Held
 holding rows id word skip = record { rows = rows; pending = Some (id, word ∷ []); skip = skip }
 
--- a required word that is held settles to its row
+-- the required word that a walk holds becomes its row
 settles_new : (s : Shape) (position : ℕ) (id word : Text) (rows : List Row) (skip : ℕ) → arg_by_id s.rules id ≡ Some (placed position id)
     → has_row id rows ≡ false
     → Settles s (holding rows id word skip) (rows ++ row id word ∷ [])
@@ -100,7 +102,7 @@ at_positional : (c : List Rule) (position : ℕ) (id word : Text) (h : Held)
 at_positional c position id word h =
     ap (λ b. at (pushed id word (cond b h (settled c h))) (next position)) (and-false (is_pending (placed position id) h.pending))
 
--- after that the walk holds this word
+-- after a required word the walk holds this word
 placed_walked : (s : Shape) (position : ℕ) (id word : Text) (h : Held) (rows : List Row) → arg_by_index s.rules position ≡ Some (placed position id)
     → Settles s h rows → is_plain_word word ≡ true → walked s.rules [] (at h position) word ≡ at (holding rows id word h.skip) (next position)
 placed_walked s position id word h rows found settles plain =
@@ -153,7 +155,7 @@ words_fault s position (id ∷ ids) (word ∷ words) h rows stray fits fresh set
     ∙ words_fault s (next position) ids words (holding rows id word h.skip) (rows ++ row id word ∷ []) stray fits.2 (fresh.1 word)
     (settles_new s position id word rows h.skip fits.1 fresh.0) (both _ _ plain).1
 
--- what it holds at the end settles to all words, each with its id
+-- what the walk over the words holds at its end becomes all words, each with its id
 words_held : (s : Shape) (position : ℕ) (ids words : List Text) (h : Held) (rows : List Row) → Fits s.rules position ids → Fresh rows ids
     → Settles s h rows → list_all is_plain_word words ≡ true → Settles s (fold (walked s.rules []) (at h position) words).held (rows ++ paired ids words)
 words_held s position [] [] h rows fits fresh settles plain = subst (Settles s h) (sym (append-nil rows)) settles
@@ -173,7 +175,7 @@ words_held s position (id ∷ ids) (word ∷ words) h rows fits fresh settles pl
 
 -- ---- the end of the walk
 
--- a choice between equal rows doesn't matter
+-- a choice between equal rows gives these rows
 same_rows : (id : Text) (rows : List Row) → cond (has_row id rows) rows rows ≡ rows
 same_rows id rows = go (has_row id rows)
   where
@@ -236,7 +238,7 @@ module _ (name : Text) (ids words : List Text) (fits : Fits (leaf name ids).rule
   end : Held
   end = (walk (leaf name ids).rules [] nothing_held words).held
 
-  -- what is held at the end settles to the words, each with its id
+  -- what the walk holds at its end becomes the words, each with its id
   settles_end : Settles (leaf name ids) end (paired ids words)
   unfolding end
   settles_end = words_held (leaf name ids) 1 ids words nothing_held [] fits fresh (record { rows_are = refl; no_fault = refl }) plain

@@ -6,7 +6,8 @@ use Rattle.clap.specs.Walk.{Text, answers_to, idle, subcommand_met}
 use Rattle.clap.specs.Simple.{Shape, label_of, names_of}
 use Rattle.docker_cmd.specs.declared.tasks.Subcommand.{Subcommand}
 use Rattle.docker_cmd.specs.declared.tasks.Subcommand.TheVariants.{New, Check, Day, Take, Merge, Print, Files, Horizon, Migrate}
-use Rattle.docker_cmd.specs.Tasks.{AreWordsOf, TaskView, ids_of, name_of, subcommand_named, subcommands, subcommand_of, new_task, check_task, day_task, take_task, merge_task, print_task, files_task, horizon_task, migrate_task}
+use Rattle.docker_cmd.specs.Tasks.{AreWordsOf, TaskView, ids_of, name_of, subcommand_named, subcommands, subcommand_of, new_task}
+use Rattle.docker_cmd.specs.Tasks.{check_task, day_task, take_task, merge_task, print_task, files_task, horizon_task, migrate_task}
 use Rattle.docker_cmd.specs.Words.{NamesDay, NamesPlace, NamesStored, OfOne, OfThree, OfTwo}
 use Rattle.docker_cmd.specs.Grammar.{found_words}
 use Rattle.docker_cmd.proofs.FirstWord.{built_with}
@@ -27,20 +28,20 @@ named_back Migrate = refl
 
 -- ---- the number of words
 
--- one word is one
+-- a list that has just one word has length 1
 one_counted : (Holds : Text → Type 0) (words : List Text) → OfOne Holds words → length words ≡ 1
 one_counted Holds [] is = absurd is
 one_counted Holds (a ∷ []) is = refl
 one_counted Holds (a ∷ b ∷ words) is = absurd is
 
--- two words are two
+-- a list that has just two words has length 2
 two_counted : (Holds : Text → Text → Type 0) (words : List Text) → OfTwo Holds words → length words ≡ 2
 two_counted Holds [] is = absurd is
 two_counted Holds (a ∷ []) is = absurd is
 two_counted Holds (a ∷ b ∷ []) is = refl
 two_counted Holds (a ∷ b ∷ c ∷ words) is = absurd is
 
--- three words are three
+-- a list that has just three words has length 3
 three_counted : (Holds : Text → Text → Text → Type 0) (words : List Text) → OfThree Holds words → length words ≡ 3
 three_counted Holds [] is = absurd is
 three_counted Holds (a ∷ []) is = absurd is
@@ -87,14 +88,14 @@ Suit Files = OfOne (λ state. ⊤)
 Suit Horizon = OfTwo (λ state date. NameHorizon state date)
 Suit Migrate = OfOne (λ state. NamesStored state)
 
--- a property of two words, from a stronger one
+-- if the two words have a property, they have each weaker one
 two_weaker : (P Q : Text → Text → Type 0) → ((a b : Text) → P a b → Q a b) → (words : List Text) → OfTwo P words → OfTwo Q words
 two_weaker P Q so [] is = is
 two_weaker P Q so (a ∷ []) is = is
 two_weaker P Q so (a ∷ b ∷ []) is = so a b is
 two_weaker P Q so (a ∷ b ∷ c ∷ words) is = is
 
--- a property of three words, from a stronger one
+-- if the three words have a property, they have each weaker one
 three_weaker : (P Q : Text → Text → Text → Type 0) → ((a b c : Text) → P a b c → Q a b c) → (words : List Text) → OfThree P words → OfThree Q words
 three_weaker P Q so [] is = is
 three_weaker P Q so (a ∷ []) is = is

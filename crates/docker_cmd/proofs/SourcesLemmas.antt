@@ -9,12 +9,14 @@ use Rattle.state_laws.proofs.states.SummaryLaws.{join_is_summary}
 use Rattle.docker_office.specs.Office.{TakesFile, no_state}
 use Rattle.docker_office.specs.declared.fault.OfficeFault.{OfficeFault}
 use Rattle.docker_cmd.specs.Job.{JobView}
-use Rattle.docker_cmd.specs.Tasks.{TaskView, check_task, day_task, files_task, horizon_of, horizon_task, merge_task, migrate_task, new_task, output_of, print_task, sources_of, take_task}
+use Rattle.docker_cmd.specs.Tasks.{TaskView, check_task, day_task, files_task, horizon_of, horizon_task, merge_task}
+use Rattle.docker_cmd.specs.Tasks.{migrate_task, new_task, output_of, print_task, sources_of, take_task}
 use Rattle.docker_cmd.specs.Reads.{Sources, checked_file, taken_file}
 use Rattle.docker_cmd.specs.Writes.{Output}
-use Rattle.docker_cmd.specs.Prepared.{DeviceBytes, HasNoSource, HasReadToEnd, HasSecondSource, IsContentOf, IsOfOneFile, IsPreparedFor, IsReadOf, IsStateOf, IsWhyRefused, IsWrittenOf, ReadView, ReadsFew, file_read, office_read, under}
+use Rattle.docker_cmd.specs.Prepared.{DeviceBytes, HasNoSource, HasReadToEnd, HasSecondSource, IsContentOf, IsOfOneFile, IsPreparedFor}
+use Rattle.docker_cmd.specs.Prepared.{IsReadOf, IsStateOf, IsWhyRefused, IsWrittenOf, ReadView, ReadsFew, file_read, office_read, under}
 
--- no file, and no horizon
+-- the empty state is the summary of no file, with no horizon
 no_files : IsSummary [] 0 no_state
 no_files = record {
   horizon_is = refl;
@@ -26,7 +28,7 @@ no_files = record {
   entries = λ key entry. (λ among. absurd (nil-Contains (key, entry) among), λ told. absurd (nil-Contains told.1.is.file told.1.is.kept.among));
 }
 
--- an office that knew no file takes one: it has the state of this file, whose live table is plain
+-- an office that knew no file and takes one has the state of this file, whose live table is plain
 of_one_file : (left : DeviceBytes) (state : State) → TakesFile most_records left no_state state → IsOfOneFile left (office_read state)
 of_one_file left state takes =
     let summary : IsSummary (takes.file ∷ []) 0 state =
@@ -71,7 +73,8 @@ checked files_task is = let never : ⊥ = cc in absurd never
 checked (horizon_task day) is = let never : ⊥ = cc in absurd never
 checked migrate_task is = let never : ⊥ = cc in absurd never
 
--- the state of a task's sources, under the horizon that it sets, is the state that the task makes
+-- the state of a task's sources, under the horizon that the task sets, is the state that the task
+-- makes
 state_of : (task : TaskView) (first second : DeviceBytes) (state : State) → IsStateOf (sources_of task) first second state
     → IsReadOf task first second (under (horizon_of task) (office_read state))
 state_of new_task first second state is = is
@@ -84,14 +87,14 @@ state_of files_task first second state is = is
 state_of (horizon_task day) first second state is = record { own = state; reads = is; raised = refl }
 state_of migrate_task first second state is = is
 
--- what was read of them, under this horizon, is what the task reads
+-- the content of a task's sources, under the horizon that the task sets, is what the task reads
 read_of : (task : TaskView) (first second : DeviceBytes) (read : ReadView) → IsContentOf (sources_of task) first second read
     → IsReadOf task first second (under (horizon_of task) read)
 read_of task first second (file_read file) is =
     subst (λ task. IsReadOf task first second (under (horizon_of task) (file_read file))) (sym (checked task is.0)) (refl, is.1)
 read_of task first second (office_read state) is = state_of task first second state is
 
--- what a task writes of a state is no count
+-- a task's output can be written of the state of its sources
 state_written_of : (task : TaskView) (first second : DeviceBytes) (state : State) → IsStateOf (sources_of task) first second state
     → IsWrittenOf (output_of task) (office_read state)
 state_written_of new_task first second state is = λ same. cc
@@ -104,19 +107,19 @@ state_written_of files_task first second state is = λ same. cc
 state_written_of (horizon_task day) first second state is = λ same. cc
 state_written_of migrate_task first second state is = λ same. cc
 
--- so its output is written of what was read
+-- a task's output can be written of the content of its sources
 written_of : (task : TaskView) (first second : DeviceBytes) (read : ReadView) → IsContentOf (sources_of task) first second read
     → IsWrittenOf (output_of task) read
 written_of task first second (file_read file) is = ap output_of (checked task is.0)
 written_of task first second (office_read state) is = state_written_of task first second state is
 
--- under a horizon too
+-- an output that can be written of a content can be written of it under a horizon
 still_written : (output : Output) (horizon : Option ℕ) (read : ReadView) → IsWrittenOf output read → IsWrittenOf output (under horizon read)
 still_written output None read is = is
 still_written output (Some day) (file_read file) is = is
 still_written output (Some day) (office_read state) is = is
 
--- what was read, and then put under the horizon of its task, can be written
+-- a task's output can be written of the content of its sources under the task's horizon
 pub held_written : (task : TaskView) (sources : Sources) (horizon : Option ℕ) (first second : DeviceBytes) (own made : ReadView) → sources ≡ sources_of task
     → made ≡ under horizon own → IsContentOf sources first second own → IsWrittenOf (output_of task) made
 held_written task sources horizon first second own made same_sources same_made content =
@@ -124,7 +127,7 @@ held_written task sources horizon first second own made same_sources same_made c
     (still_written (output_of task) horizon own
     (written_of task first second own (subst (λ s. IsContentOf s first second own) same_sources content)))
 
--- it is what a task has read of its sources
+-- the content of a task's sources under the task's horizon is what the task has read
 pub task_read : (task : TaskView) (sources : Sources) (horizon : Option ℕ) (first left second second_left : DeviceBytes) (own made : ReadView)
     → sources ≡ sources_of task → horizon ≡ horizon_of task → made ≡ under horizon own
     → ReadsFew sources first left second second_left (IsContentOf sources first second own × HasReadToEnd sources left second_left)
@@ -140,14 +143,14 @@ task_read task sources horizon first left second second_left own made same_sourc
       ends = (subst (λ read. IsReadOf task first second read) (sym is) (read_of task first second own moved.ends.0), moved.ends.1);
     }
 
--- why the sources were refused, for the task
+-- if some sources are refused, equal sources are refused for the same reason
 pub refused_for : (sources others : Sources) (first left second second_left : DeviceBytes) (fault : OfficeFault) → sources ≡ others
     → ReadsFew sources first left second second_left (IsWhyRefused sources first left second second_left fault)
     → ReadsFew others first left second second_left (IsWhyRefused others first left second second_left fault)
 refused_for sources others first left second second_left fault same reads =
     subst (λ s. ReadsFew s first left second second_left (IsWhyRefused s first left second second_left fault)) same reads
 
--- what a job's task has read, the job has
+-- if the task of a job has read something, the job is prepared with it
 pub prepared_read : (job : JobView) (first left second second_left : DeviceBytes) (read : ReadView)
     → ReadsFew (sources_of job.task) first left second second_left (IsReadOf job.task first second read × HasReadToEnd (sources_of job.task) left second_left)
     → ReadsFew (sources_of job.task) first left second second_left
@@ -157,18 +160,19 @@ prepared_read job first left second second_left read reads =
 
 -- ---- a task that holds a part of what it has read
 
--- what the task that was asked for has read
+-- if a task has read something, an equal task has read it
 pub read_of_task : (asked task : TaskView) (first left second second_left : DeviceBytes) (read : ReadView) → asked ≡ task
     → ReadsFew (sources_of task) first left second second_left (IsReadOf task first second read × HasReadToEnd (sources_of task) left second_left)
     → ReadsFew (sources_of asked) first left second second_left (IsReadOf asked first second read × HasReadToEnd (sources_of asked) left second_left)
 read_of_task asked task first left second second_left read is reads =
-    subst (λ t. ReadsFew (sources_of t) first left second second_left (IsReadOf t first second read × HasReadToEnd (sources_of t) left second_left)) (sym is) reads
+    subst (λ t. ReadsFew (sources_of t) first left second second_left (IsReadOf t first second read × HasReadToEnd (sources_of t) left second_left))
+    (sym is) reads
 
--- it has some source
+-- if a task has a source, an equal task has one
 pub some_of_task : (P : Type 0) (asked task : TaskView) → asked ≡ task → ¬ HasNoSource (sources_of task) → HasNoSource (sources_of asked) → P
 some_of_task P asked task is some none = absurd (some (subst (λ t. HasNoSource (sources_of t)) is none))
 
--- a second source was read only after the first
+-- if a second source was read only after the first, this holds for equal sources too
 pub second_for : {First Good Kept : Type 0} (sources others : Sources) → sources ≡ others → First ⊎ (HasSecondSource sources × Good × Kept)
     → First ⊎ (HasSecondSource others × Good × Kept)
 second_for {First} {Good} {Kept} sources others same order = subst (λ s. First ⊎ (HasSecondSource s × Good × Kept)) same order

@@ -1,5 +1,6 @@
 -- The words that a subcommand requires, and the task that they ask for.
-use Rattle.std.proofs.Common.{◌≡◌, ◌∙◌, ℕ, List, [], ◌∷◌, length, Bool, true, false, cond, Some, None, refl, sym, ap, subst, codes, arith, slice_index_or, true≢false}
+use Rattle.std.proofs.Common.{◌≡◌, ◌∙◌, ℕ, List, [], ◌∷◌, length, Bool, true, false, cond, Some, None}
+use Rattle.std.proofs.Common.{refl, sym, ap, subst, codes, arith, slice_index_or, true≢false}
 use Rattle.std.specs.Prelude.{Option, option_map}
 use Rattle.std.specs.List.{find}
 use Rattle.std.specs.Str.{bytes_eq}
@@ -49,11 +50,11 @@ name_back word s found = found_name word s subcommands found
 
 -- ---- what the words ask for
 
--- words that don't suit the subcommand ask for nothing
+-- words that don't suit the subcommand name no task
 nothing_asked : (s : Subcommand) (words : List Text) → ¬ Suit s words → IsTaskOf s words None
 nothing_asked s words never = λ task same is. never (subst (λ t. Suit t words) same (suit task words is))
 
--- equal subcommands with equal results
+-- the same words name the same task with an equal subcommand
 pub asked : (s t : Subcommand) (words : List Text) (r q : Option Task) → t ≡ s → q ≡ r → IsTaskOf s words (option_map task_meant r)
     → IsTaskOf t words (option_map task_meant q)
 asked s t words r q same result is =
@@ -63,7 +64,7 @@ asked s t words r q same result is =
 abbrev pub unless_stdin : Text → Task → Option Task
 unless_stdin state task = cond (bytes_eq state (codes "stdin")) None (Some task)
 
--- the word for the state decides
+-- the words name the task unless its state is standard input
 tested : (s : Subcommand) (words : List Text) (state : Text) (task : Task) → subcommand_of (task_meant task) ≡ s
     → (NamesStored state → AreWordsOf (task_meant task) words) → (Suit s words → NamesStored state)
     → IsTaskOf s words (option_map task_meant (unless_stdin state task))
@@ -73,7 +74,7 @@ tested s words state task same holds back = by (bytes_eq state (codes "stdin")) 
     by true is = nothing_asked s words (λ suits. back suits ((bytes_eq-Decides state (codes "stdin")).0 is))
     by false is = (same, holds (λ stdin. true≢false (sym ((bytes_eq-Decides state (codes "stdin")).1 stdin) ∙ is)))
 
--- the only word is the state's
+-- if the only word is the state's name, the words name the task unless the state is standard input
 pub state_alone : (s : Subcommand) (task : Task) → subcommand_of (task_meant task) ≡ s
     → ((state : Text) → NamesStored state → AreWordsOf (task_meant task) (state ∷ [])) → ((state : Text) → Suit s (state ∷ []) → NamesStored state)
     → (words : List (Bor Text)) (d : Bor Text) → length words ≡ 1
@@ -82,7 +83,8 @@ state_alone s task same holds back [] d one = absurd (omega (arith, one))
 state_alone s task same holds back (a ∷ []) d one = tested s (a.now ∷ []) a.now task same (holds a.now) (back a.now)
 state_alone s task same holds back (a ∷ b ∷ words) d one = absurd (omega (arith, one))
 
--- the first of two words is the state's
+-- if the first of two words is the state's name, the words name the task unless the state is
+-- standard input
 pub state_first : (s : Subcommand) (task : Task) (words : List (Bor Text)) (d e : Bor Text) → subcommand_of (task_meant task) ≡ s
     → ((state : Text) → NamesStored state → AreWordsOf (task_meant task) (state ∷ (slice_index_or words 1 e).now ∷ []))
     → ((state other : Text) → Suit s (state ∷ other ∷ []) → NamesStored state) → length words ≡ 2
@@ -92,7 +94,7 @@ state_first s task (a ∷ []) d e same holds back two = absurd (omega (arith, tw
 state_first s task (a ∷ b ∷ []) d e same holds back two = tested s (a.now ∷ b.now ∷ []) a.now task same (holds a.now) (back a.now b.now)
 state_first s task (a ∷ b ∷ c ∷ words) d e same holds back two = absurd (omega (arith, two))
 
--- the last two of three words name a timing point and a day
+-- if the last two of three words name a timing point and a day, the words name the task for both
 pub both_behind : (s : Subcommand) (task : TaskView) (place : List ℕ) (day : ℕ) (words : List (Bor Text)) (d e : Bor Text) → subcommand_of task ≡ s
     → ((first tiploc date : Text) → NamesPlace tiploc place → NamesDay date day → AreWordsOf task (first ∷ tiploc ∷ date ∷ [])) → length words ≡ 3
     → NamesPlace (slice_index_or words 1 d).now place → NamesDay (slice_index_or words 2 e).now day → IsTaskOf s (texts words) (Some task)
@@ -102,7 +104,7 @@ both_behind s task place day (a ∷ b ∷ []) d e same holds three place_is day_
 both_behind s task place day (a ∷ b ∷ c ∷ []) d e same holds three place_is day_is = (same, holds a.now b.now c.now place_is day_is)
 both_behind s task place day (a ∷ b ∷ c ∷ f ∷ words) d e same holds three place_is day_is = absurd (omega (arith, three))
 
--- the last two of three words don't name both
+-- if the last two of three words don't name a timing point and a day, the words name no task
 pub not_both_behind : (s : Subcommand) (words : List (Bor Text)) (d e : Bor Text)
     → ((first tiploc date : Text) → Suit s (first ∷ tiploc ∷ date ∷ []) → NameBoth tiploc date) → length words ≡ 3
     → ((place : List ℕ) (day : ℕ) → NamesPlace (slice_index_or words 1 d).now place → ¬ NamesDay (slice_index_or words 2 e).now day)

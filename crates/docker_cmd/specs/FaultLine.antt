@@ -1,11 +1,13 @@
 -- How a fault is reported: the exit status, and one line on standard error.
-use Rattle.std.specs.Prelude.{ℕ, List, ◌++◌, codes, decimal}
+use Rattle.std.specs.Prelude.{◌≡◌, ℕ, List, ◌++◌, Result, Ok, Err, codes, decimal}
+use Rattle.cif_line.specs.Device.{CountsFailure}
 use Rattle.cif_file.specs.declared.fault.FileFault.{FileFault}
 use Rattle.cif_file.specs.Cause.{cause_text}
 use Rattle.docker_office.specs.StateFault.{StateFault}
 use Rattle.docker_office.specs.FaultText as state_text
 use Rattle.docker_cmd.specs.Tasks.{usage_line}
 use Rattle.docker_cmd.specs.declared.job_fault.JobFault.TheVariants as job
+use Rattle.docker_office.specs.declared.fault.OfficeFault.{OfficeFault}
 use Rattle.docker_office.specs.declared.fault.OfficeFault.TheVariants as office
 use Rattle.docker_cmd.specs.declared.fault.Fault.{Fault}
 use Rattle.docker_cmd.specs.declared.fault.Fault.TheVariants.{Job, Office}
@@ -21,6 +23,15 @@ status_of (Office office.Lapsed) = 1
 status_of (Office office.Source) = 4
 status_of (Office office.Sink) = 4
 status_of (Office office.Memory) = 3
+
+-- the exit status for an office's result: 0, or the fault's status
+abbrev pub result_status : {A : Type 0} → Result A OfficeFault → ℕ
+result_status (Ok answer) = 0
+result_status (Err fault) = status_of (Office fault)
+
+-- how often devices failed, before and after: once more exactly if the status is 4
+abbrev pub IsCounted : (status before after : ℕ) → Type 0
+IsCounted status before after = CountsFailure (status ≡ 4) before after
 
 -- the line for a refused file
 abbrev pub file_line : FileFault → List ℕ

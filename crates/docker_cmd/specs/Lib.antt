@@ -10,6 +10,7 @@ pub mod Content
 pub mod FaultLine
 pub mod Holding
 pub mod Prepared
+pub mod Saved
 pub use Rattle.docker_office.specs.Faults
 pub use Rattle.docker_office.specs.StateFault
 pub use Rattle.docker_office.specs.declared.fault.OfficeFault

@@ -1,4 +1,4 @@
--- Lines that are added to those so far.
+-- Docker lines that are added to the lines so far.
 use Rattle.std.proofs.Common.{◌≡◌, Bool, true, false, cond, List, [], ◌++◌, sym, ◌∙◌, append-nil}
 use Rattle.docker_model.specs.docker.DockerLine.{DockerLine}
 
@@ -6,14 +6,14 @@ use Rattle.docker_model.specs.docker.DockerLine.{DockerLine}
 pub added_if : (test : Bool) (more before after : List DockerLine) → test ≡ true → after ≡ before ++ more → after ≡ before ++ cond test more []
 added_if test more before after is same = same ∙ (λ i. before ++ cond (sym is i) more [])
 
--- if it doesn't, none is added
+-- if the test fails, no line is added
 pub not_added : (test : Bool) (more before : List DockerLine) → test ≡ false → before ≡ before ++ cond test more []
 not_added test more before is = sym (append-nil before) ∙ (λ i. before ++ cond (sym is i) more [])
 
--- if the test passes, these are the lines
+-- if the test passes, the lines are these
 pub told_if : (test : Bool) (told lines : List DockerLine) → test ≡ true → lines ≡ told → lines ≡ cond test told []
 told_if test told lines is same = same ∙ (λ i. cond (sym is i) told [])
 
--- if it doesn't, there is none
+-- if the test fails, there is no line
 pub untold : (test : Bool) (told : List DockerLine) → test ≡ false → [] ≡ cond test told []
 untold test told is = λ i. cond (sym is i) told []

@@ -30,7 +30,7 @@ abbrev pub IsFirstCall : Table → List ℕ → ℕ → List ℕ → ℕ → Opt
 IsFirstCall live place day uid suffix event =
     (rows : List Row) → AreRowsOf live rows → meant_if event ≡ first_call (train_in rows uid day) place suffix
 
--- from the kept calls of a UID, the call's first event is right
+-- the first event kept for a call of a UID is the call's first event
 pub known_calls : (live : Table) (place : List ℕ) (day : ℕ) (known : BaseCalls) (uid : List ℕ) (suffix : ℕ) (answer : Option (Option Occurrence))
     → AreKnownCalls live place day (Some known) → option_map meant_if answer ≡ cond (bytes_eq known.uid uid) (Some (get nat_cmp known.calls suffix)) None
     → IfSome answer (IsFirstCall live place day uid suffix)
@@ -47,12 +47,12 @@ known_calls live place day known uid suffix (Some event) are is = by (bytes_eq k
         ∙ ap (λ u. first_call (train_in rows u day) place suffix) ((bytes_eq-Decides known.uid uid).0 same)
     by false other told = cc
 
--- the kept event, if none comes later
+-- if no later event follows, the kept event stays
 pub kept_alone : (event : Option events.Occurrence) → kept_or event None ≡ event
 kept_alone None = refl
 kept_alone (Some event) = refl
 
--- an event whose suffix has one already changes nothing
+-- if a suffix has an event already, another event of the suffix changes nothing
 pub there_before : (own : ℕ) (event : events.Occurrence) (calls : BTreeMap ℕ events.Occurrence) → is_some (get nat_cmp calls own) ≡ true
     → HasCall own calls event calls
 there_before own event calls is = λ suffix.
@@ -77,12 +77,12 @@ first_of_suffix own event before after unkept updates = λ suffix.
     by (Some kept) true is = let bad : true ≡ false = is refl in cc
 
 module _ (place : List ℕ) (event : events.Occurrence) where
-  -- an event elsewhere changes nothing
+  -- an event at another place changes nothing
   pub elsewhere : (calls : BTreeMap ℕ events.Occurrence) → is_here place event ≡ false → HasEvent place calls event calls
   elsewhere calls away = λ suffix later. λ i.
       kept_or (get nat_cmp calls suffix) (cond (sym away i && (column 10 event.line == suffix)) (Some event) later)
 
-  -- an event at the place is kept if its suffix has none
+  -- an event at the place is kept if its suffix has no event yet
   pub taken_here : (before after : BTreeMap ℕ events.Occurrence) → is_here place event ≡ true → HasCall (column 10 event.line) before event after
       → HasEvent place before event after
   taken_here before after here has = λ suffix later.
@@ -98,7 +98,7 @@ module _ (place : List ℕ) (event : events.Occurrence) where
 
 -- ---- the docker line at a call
 
--- a UID's train has that UID
+-- the train found for a UID has this UID
 pub uid_of_train : (live : Table) (rows : List Row) (uid : List ℕ) (day : ℕ) (train : Train) → AreRowsOf live rows → train_in rows uid day ≡ Some train
     → train.key.uid ≡ uid
 uid_of_train live rows uid day train are is = (subst (IsTrainOn live uid day) is (trains_tell live rows are uid day)).chosen.running.uid_is
@@ -113,19 +113,19 @@ module _ (trains : List ℕ → ℕ → Option Train) (day start : ℕ) (link : 
   line_at_call (Some train) event lines is uid_is line =
       line train.key (uid_is train refl) ∙ ap (link_line_by trains day start link occasion train.key) is
 
-  -- without a call there is no docker line
+  -- if the base train doesn't call there, the association has no docker line
   pub no_line_there : (base : Option Train) → None ≡ first_call base link.key.location link.key.suffix
       → listed None ≡ link_line_with trains day start link (Some occasion) base
   no_line_there None is = refl
   no_line_there (Some train) is = ap (link_line_by trains day start link occasion train.key) is
 
--- the line, if there is one, is the association's at this event, for any base train of its UID
+-- if there is a line, it is the association's line at this event, for any base train of its UID
 abbrev pub IsAtEvent : Link → Occasion → events.Occurrence → Visit → Option DockerLine → Type 0
 IsAtEvent link occasion event visit line =
     (rows : List Row) → AreRowsOf (live_in visit.timetable) rows → (base : ScheduleKey) → base.uid ≡ link.key.base
     → listed line ≡ link_line_at (train_in rows) visit.day visit.start link occasion base event
 
--- the line, if there is one, is the association's with its base train
+-- if there is a line, it is the association's line with its base train
 abbrev pub IsWithBase : Link → Occasion → Visit → Option DockerLine → Type 0
 IsWithBase link occasion visit line =
     (rows : List Row) → AreRowsOf (live_in visit.timetable) rows

@@ -22,7 +22,7 @@ use Rattle.docker_day.specs.Lines.{Adds}
 use Rattle.docker_day.specs.DockerValue.{Docker}
 use Rattle.docker_day.specs.Dockers.{HasGathered, IsDockerOf}
 
--- from the rows of any walk that leaves out no row of the place
+-- the rows of any walk that leaves out no row of the place give the docker's lines
 docker_of_walk : (live : Table) (place : List ℕ) (day : ℕ) (rows walk : List Row) (none made lines : List DockerLine) → HasGoodBodies live
     → AreRowsOf live rows → IsWalk live place walk
     → none ≡ [] → Adds live (λ trains links. gathered trains links place day walk) none made → IsPermutation made lines → IsSorted docker_line_cmp lines
@@ -33,7 +33,7 @@ docker_of_walk live place day rows walk none made lines good are walks empty add
     sorted_gathering live (train_in rows) (link_in rows) (trains_tell live rows are) (links_tell live rows are) place day walk walks good lines
     (subst (λ out. IsPermutation out lines) made_is same) sorted
 
--- from the associations at a place and the schedules that call there
+-- the associations at a place and the schedules that call there give the docker's lines
 pub both_gathered : (live : Table) (place : List ℕ) (day : ℕ) (linked calling : List Row) (before between after : List DockerLine)
     → AreLinked live place linked → AreCalling live place calling
     → Adds live (λ trains links. gathered trains links place day linked) before between → Adds live

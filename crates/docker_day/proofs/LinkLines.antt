@@ -38,7 +38,7 @@ pub first_call_is : (lines : List (List ℕ)) (location : List ℕ) (suffix : �
     → find (is_call location suffix) (occurrences lines) ≡ option_map (occurrence_of lines) (first_event_at lines location suffix)
 first_call_is lines location suffix = find_mapped (occurrence_of lines) (is_call location suffix) (events_of lines)
 
--- the line of an association that is made in this way is the one in the definitions
+-- an association's line that is made in this way is its line in the definitions
 link_line_is : (trains : List ℕ → ℕ → Option choices.Train) (day start : ℕ) (link : live_rows.Link) (occasion : Option Occasion) (base : Option choices.Train)
     → link_line_with trains day start link occasion base ≡ line_with trains day start link.key link.line occasion base
 link_line_is trains day start link None base = refl
@@ -86,6 +86,7 @@ module _ (place : List ℕ) (day : ℕ) (view : RowView) where
       ∙ ap (λ more. first ++ more) (sym (starts_split (row_piece trains links place day view) day) ∙ row_pieces trains links place day view)
 
   -- if the lines for each start day are added, one day after the other, all lines of the row are
+  -- added
   pub three_backs : (live : Table) (first second third last : List DockerLine)
       → Adds live (λ trains links. row_back trains links place day view 0) first second
       → Adds live (λ trains links. row_back trains links place day view 1) second third

@@ -1,4 +1,4 @@
--- The lines of a row for all visits are its lines.
+-- The docker lines that a row has for all visits are the row's docker lines.
 use Rattle.std.proofs.Common.{◌≡◌, ℕ, ◌-◌, Bool, true, false, cond, List, [], ◌++◌, refl, ap, sym, ◌∙◌, subst, Some, None, append-nil, arith}
 use Rattle.std.specs.Prelude.{Option, nat_le}
 use Rattle.std.proofs.Math.Dec.{leb-zero}

@@ -37,14 +37,14 @@ use Rattle.docker_day.proofs.TrainLines.{event_lines_are}
 use Rattle.docker_day.proofs.UpToLast.{lines_to_last}
 use Rattle.docker_day.proofs.LinkLines.{three_backs}
 
--- no lines
+-- the empty list of docker lines
 abbrev no_line : List DockerLine
 no_line = []
 
 true_false : true ≡ false → ⊥
 true_false bad = cc
 
--- if a live schedule doesn't run on a day, no train runs by it then
+-- if a live schedule doesn't run on a day, no train runs by the schedule then
 pub runs_not : (live : Table) (rows : List Row) (train : choices.Train) (start : ℕ) → AreRowsOf live rows → IsLiveTrain live train
     → schedule_runs (first_record train.lines) start ≡ false → runs_by (train_in rows train.key.uid start) train.key ≡ false
 runs_not live rows train start are is_live idle = by (train_in rows train.key.uid start) (trains_tell live rows are train.key.uid start)
@@ -115,14 +115,15 @@ no_lines_then place day start key lines before none =
     sym (event_lines_are place day start key lines) ∙ sym (lines_to_last place day start key detail lines)
     ∙ none_late place day start key detail (occurrences_to place lines) before none
 
--- if two tests don't pass with a third, either neither of the two passes or the third doesn't
+-- of two tests and a third: if neither of the two passes together with the third, both fail or the
+-- third fails
 none_of_both : (a b c : Bool) → ((a || b) && c) ≡ false → ((a ≡ false) × (b ≡ false)) ⊎ (c ≡ false)
 none_of_both a b false h = inr refl
 none_of_both false false true h = inl (refl, refl)
 none_of_both true b true h = absurd (true_false h)
 none_of_both false true true h = absurd (true_false h)
 
--- if not even one of three tests passes, each fails
+-- if not one of three tests passes, each fails
 none_of_three : (a b c : Bool) → (a || b || c) ≡ false → (a ≡ false) × (b ≡ false) × (c ≡ false)
 none_of_three false false false h = (refl, refl, refl)
 none_of_three true b c h = absurd (true_false h)
@@ -208,7 +209,8 @@ not_recently place day view live first is_live not_so =
     (λ rows are. nothing first (none_recently live rows are place day view is_live not_so).1)
     (λ rows are. nothing first (none_recently live rows are place day view is_live not_so).2)
 
--- a schedule that hasn't begun, or marks none of the three days, doesn't run on any
+-- a schedule that hasn't begun, or whose days run leave out the three days, doesn't run on any of
+-- them
 pub row_idle : (key : Key) (body : Body) (day : ℕ) → IsBodyOf key body → row_may_run (view_of key body) day ≡ false
     → row_runs_recently (view_of key body) day ≡ false
 row_idle (schedule_key key) (schedule_body lines) day of never = let idle = idle_recently key lines day of never in (λ i. idle.0 i || idle.1 i || idle.2 i)

@@ -27,7 +27,7 @@ no_lines place day key body live rows are is_live of never =
     sym (lines_viewed (train_in rows) (link_in rows) place day key body)
     ∙ sym (not_recently place day (view_of key body) live [] (live_view live key body is_live) (row_idle key body day of never) rows are)
 
--- such a row may be passed over
+-- a row that can't run on the three days may be passed over
 pub row_passed : (day : ℕ) (key : Key) (body : Body) (row : RowView) (before after : List Row) (may : Bool) → before ≡ (key, body) ∷ after
     → AreGoodRows before → row ≡ view_of key body → may ≡ row_may_run row day → ¬ (◌≡◌ {A = Option Bool} (Some may) (Some true))
     → ArePassedOver day before after
@@ -38,14 +38,15 @@ row_passed day key body row before after false is good viewed told never = λ pl
     (sym (told ∙ ap (λ (r : RowView). row_may_run r day) viewed)) i
     ++ gathered (train_in rows) (link_in rows) place day after)
 
--- what is left of the rows that are left of a walk is left of the walk
+-- if rows are left of a walk, the rows that are left of these rows are left of the walk
 pub left_again : (all rest fewer : List Row) → AreLeft all rest → AreLeft rest fewer → AreLeft all fewer
 left_again all rest fewer first second = record {
   good = λ good. second.good (first.good good);
   live = λ live are. second.live live (first.live live are);
 }
 
--- if rows may be passed over, and then some of the rows that are left, all of them may be
+-- if rows may be passed over, and then more of the rows that are left, all of these may be passed
+-- over
 pub passed_again : (day : ℕ) (all rest fewer : List Row) → AreLeft all rest → ArePassedOver day all rest → ArePassedOver day rest fewer
     → ArePassedOver day all fewer
 passed_again day all rest fewer left first second = λ place live are_live rows are.
@@ -59,20 +60,20 @@ none_behind day all rest fewer false true left before after none = let bad : tru
 none_behind day all rest fewer false false left before after none =
     passed_again day all rest fewer left (before refl) (after (λ bad. cc))
 
--- if the rows so far have no lines, and no more is read, all may be passed over
+-- if the rows so far have no lines and no more rows are read, all rows may be passed over
 pub none_after : (day : ℕ) (all rest fewer : List Row) (so_far : Bool) (found : Option Bool) → AreLeft all rest
     → (so_far ≡ false → ArePassedOver day all rest) → ((may : Bool) → ¬ (found ≡ Some may)) → (¬ (found ≡ Some true) → ArePassedOver day rest fewer) → so_far ≡ false
     → ArePassedOver day all fewer
 none_after day all rest fewer so_far None left before end after none = passed_again day all rest fewer left (before none) (after (λ bad. cc))
 none_after day all rest fewer so_far (Some may) left before end after none = absurd (end may refl)
 
--- a walk that has gone on, and goes on again
+-- a walk that has gone on and goes on again has gone on by the rows of both
 pub moved_again : (there again : PlaceDay) (all rest fewer : List Row) (first second third : List DockerLine) → again ≡ there
     → HaveMoved there all rest first second → HaveMoved again rest fewer second third → HaveMoved there all fewer first third
 moved_again there again all rest fewer first second third same one two = λ rows are.
     subst (λ (p : PlaceDay). HaveMoved p rest fewer second third) same two rows are ∙ one rows are
 
--- a walk that has gone on, and passes over rows
+-- a walk that has gone on and passes over rows has gone on by those rows too
 pub moved_over : (there again : PlaceDay) (all rest fewer : List Row) (first second : List DockerLine) → again ≡ there
     → AreLive (live_in again.timetable) rest → HaveMoved there all rest first second → ArePassedOver again.day rest fewer
     → HaveMoved there all fewer first second
@@ -88,12 +89,12 @@ live_again there again rows same live = subst (λ (p : PlaceDay). AreLive (live_
 
 -- ---- the rows of a portion
 
--- if rows are live, so are the first of them
+-- if rows are live, the first of them are live
 pub live_first : (live : Table) (first second : List RowView) → AreLiveViews live (first ++ second) → AreLiveViews live first
 live_first live [] second are = tt
 live_first live (row ∷ rows) second are = (are.0, live_first live rows second are.1)
 
--- the rows of a portion are live if the walk's rows are
+-- if the walk's rows are live, the rows of a portion are live
 pub live_portion : (live : Table) (all rest : List Row) (portion rows : List (ℕ × RowView)) → AreOpened all rest [] portion → rows ≡ portion
     → AreLive live all → AreLiveViews live (views_in rows)
 live_portion live all rest portion rows opened same are =
@@ -108,7 +109,7 @@ live_item live (next ∷ portion) zero row are below is = subst (λ (r : ℕ × 
 live_item live (next ∷ portion) (suc i) row are below is = live_item live portion i row are.1 (omega arith) is
 live_item live [] i row are below is = let bad : i < 0 = below in absurd (omega arith)
 
--- each is live in an equal state
+-- each row of the portion is live in an equal state
 pub live_at : (there again : PlaceDay) (portion : List (ℕ × RowView)) (i : ℕ) (row : ℕ × RowView) → again ≡ there
     → AreLiveViews (live_in there.timetable) (views_in portion) → i < length portion → row ≡ get_or portion i row
     → IsLiveView (live_in again.timetable) row.1

@@ -17,13 +17,13 @@ module _ (place : List ℕ) (day start : ℕ) (key : ScheduleKey) (detail : Deta
   abbrev line_of : Occurrence → List DockerLine
   line_of event = cond (is_here place event && is_today day start event) (line_at_event key start detail event ∷ []) []
 
-  -- the docker lines of some events, and of the events after them
+  -- the docker lines of two lists of events are the lines of the first list and then of the second
   there_parts : (events behind : List Occurrence) → there (events ++ behind) ≡ there events ++ there behind
   there_parts [] behind = refl
   there_parts (event ∷ events) behind =
       ap (λ more. line_of event ++ more) (there_parts events behind) ∙ sym (append_assoc (line_of event) (there events) (there behind))
 
-  -- a line elsewhere has no event at the place
+  -- a location record of another place has no event at the place
   none_elsewhere : (p : Progress) (line : List ℕ) (times : List (Occasion × ℕ)) → names_place place line ≡ false
       → there (occurrences_at p line times) ≡ []
   none_elsewhere p line [] elsewhere = refl
@@ -32,7 +32,7 @@ module _ (place : List ℕ) (day start : ℕ) (key : ScheduleKey) (detail : Deta
       [] ++ there (occurrences_at (past_time p time) line times))
       ∙ none_elsewhere (past_time p time) line times elsewhere
 
-  -- the events up to the last line there give the same docker lines as all events
+  -- the events up to the last line at the place give the same docker lines as all events
   lines_up_to : (p : Progress) (lines : List (List ℕ)) → there (occurrences_from p (up_to_last place lines)) ≡ there (occurrences_from p lines)
   lines_up_to p [] = refl
   lines_up_to p (line ∷ lines) = by (names_place place line) refl (up_to_last place lines) (lines_up_to next lines)
@@ -57,6 +57,7 @@ module _ (place : List ℕ) (day start : ℕ) (key : ScheduleKey) (detail : Deta
           ∙ sym (there_parts here (occurrences_from next lines))
       by named h (found ∷ rest) same = with_line (found ∷ rest) same
 
-  -- the events of a schedule up to its last line there give the same docker lines as all its events
+  -- the events of a schedule up to its last line at the place give the same docker lines as all its
+  -- events
   pub lines_to_last : (lines : List (List ℕ)) → there (occurrences_to place lines) ≡ there (occurrences lines)
   lines_to_last lines = lines_up_to (before_all (first_record lines)) lines ∙ ap there (all_met lines)

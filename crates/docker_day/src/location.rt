@@ -24,8 +24,8 @@ pub(crate) struct Location<'a> {
 }
 
 impl<'a> Location<'a> {
-    /// What a docker prints of a line. Only location records have events. Of any other line it
-    /// would be the platform's columns, and otherwise spaces.
+    /// What a docker prints of a line. Only location records have events, so no docker prints
+    /// another line. Its platform would be columns 20 to 22, and all else spaces.
     pub(crate) fn of(line: &'a Line) -> Location<'a>
         ensures { location_meant result ≡ location_by_kind (kind_of line.entry.now) line.entry.now }
     {

@@ -1,4 +1,4 @@
--- What the files that are known fix: states, dockers and lists.
+-- What the known files fix: states, dockers and lists.
 use Rattle.std.proofs.Common.{◌≡◌, ℕ, List, [], length, subst, arith}
 use Rattle.std.proofs.lemmas.List.{length-map}
 use Rattle.std.proofs.lemmas.List.Elements.{All-get_or}
@@ -37,7 +37,7 @@ one_docker first second one two left right same place day prints prints_too =
     docker_of_files dks_2 first second one two left.good right.good left.is right.is same place day
     (subst (λ h. ¬ IsDayRefused h day) left.is.horizon_is prints) (subst (λ h. ¬ IsDayRefused h day) right.is.horizon_is prints_too)
 
--- each docker is the plain table's
+-- each docker of the state is the plain table's docker
 pub plain_dockers : (known : Known) (state : State) → IsKnown known state → HaveDistinctMoments known.files
     → (plain : Table) × (IsPlainTable known.files plain × PrintsAs state plain)
 plain_dockers known state is distinct =
@@ -51,7 +51,7 @@ plain_dockers known state is distinct =
       ),
     )
 
--- the list of timing points is the plain table's, without what has lapsed
+-- the list of timing points is the list of the plain table without the entries that have lapsed
 pub plain_places : (known : Known) (state : State) → IsKnown known state → HaveDistinctMoments known.files
     → (plain : Table) × IsPlainTable known.files plain
     × ((text : List ℕ) → IsPlacesText (live_table state) text → IsPlacesText (lapse_table known.horizon plain) text)
@@ -62,7 +62,7 @@ plain_places known state is distinct =
       λ text. subst (λ (live : Table). IsPlacesText live text) (live_is_lapsed_plain known.files known.horizon state plain.0 is.is plain.1),
     )
 
--- an office knows what its run says
+-- at the end of its run an office knows the files and the horizon that the run gives
 pub office_knows : (known : Known) (state : State) → EndsWith known state → IsKnown known state
 office_knows known state end =
     let sets = sets_of end.offices end.events end.exchange in

@@ -6,77 +6,79 @@ use Rattle.docker_model.specs.state.StateText.{dks_2, state_text}
 use Rattle.docker_cmd.specs.OfficeFault.{OfficeFault}
 use Rattle.docker_cmd.specs.Prepared.{most_bytes}
 use Rattle.docker_cmd.specs.SourceRead.{JoinsState}
-use Rattle.docker_host.specs.History.{Bytes, Event, Text, looked, opened}
-use Rattle.docker_desk.specs.Desk.{EndsReceiving, EndsRenewing, EndsSaving, EndsTaking, opening_of}
+use Rattle.docker_host.specs.History.{Bytes, Event, Text, looked}
+use Rattle.docker_desk.specs.Desk.{EndsReceiving, EndsRenewing, EndsSaving, EndsTaking}
+use Rattle.docker_desk.specs.Reading.{Reading, StopsInFile, StopsInState, events_of, opening_of}
+use Rattle.docker_desk.specs.declared.compared.Compared.{Compared}
 use Rattle.docker_desk.specs.Requests.{RequestView, print_request, permanent_request, train_request, files_request, places_request, known_request, renew_request, take_request, merge_request, horizon_request, save_request}
 use Rattle.docker_desk.specs.Replies.{AnswerView, done_with, no_request, refused_for}
 use Rattle.docker_desk.specs.Moments.{Moment, Setting, Step}
 use Rattle.docker_desk.specs.Doing.{AreSteps, DoesAsked, DoesRequest, Joins, Renews, Saves, answer_of}
-use Rattle.docker_desk.specs.Learning.{AllHearKnown, AreLearned, Hears, HearsFile, HearsKnown, HearsState, HoldsKnown, IsKnown, Learns, PlacesKnown, ReceivesKnown, merging, renewing}
+use Rattle.docker_desk.specs.Learning.{AllHearKnown, AreLearned, Hears, HearsFile, HearsKnown, HearsState, HoldsKnown, IsKnown, Learns, PlacesKnown, ReceivesKnown, renewing}
 use Rattle.docker_desk.proofs.KnownLemmas.{known_read}
 
 -- ---- the bytes of an event
 
--- two histories that go on from one are the same only if what was added is the same
+-- if two additions to one history give equal histories, the additions are equal
 one_more : (old first second : List Event) → old ++ first ≡ old ++ second → first ≡ second
 one_more [] first second same = same
 one_more (event ∷ old) first second same = let rest : old ++ first ≡ old ++ second = cc in one_more old first second rest
 
 -- the bytes of the last opening
-held_once : (name : Text) (old new : List Event) (first second : Bytes) → new ≡ old ++ opened name first ∷ [] → new ≡ old ++ opened name second ∷ []
-    → first ≡ second
+pub held_once : (name : Text) (old new : List Event) (first second : Reading) → new ≡ old ++ events_of name first → new ≡ old ++ events_of name second
+    → first.held ≡ second.held
 held_once name old new first second one two =
-    let same = one_more old (opened name first ∷ []) (opened name second ∷ []) (sym one ∙ two) in cc
+    let same = one_more old (events_of name first) (events_of name second) (sym one ∙ two) in cc
 
-held_after_look : (name : Text) (old new : List Event) (first second : Bytes) → new ≡ old ++ looked name ∷ opened name first ∷ []
-    → new ≡ old ++ looked name ∷ opened name second ∷ [] → first ≡ second
+pub held_after_look : (name : Text) (old new : List Event) (first second : Reading) → new ≡ old ++ looked name ∷ events_of name first
+    → new ≡ old ++ looked name ∷ events_of name second → first.held ≡ second.held
 held_after_look name old new first second one two =
-    let same = one_more old (looked name ∷ opened name first ∷ []) (looked name ∷ opened name second ∷ []) (sym one ∙ two) in cc
+    let same = one_more old (looked name ∷ events_of name first) (looked name ∷ events_of name second) (sym one ∙ two) in cc
 
 -- ---- a state
 
 module _ (before after : Moment) (known : Known) where
   -- what was received is what the file held
-  hears_held : (events : Bytes → List Event) (held : Bytes) (holds : HoldsKnown events before after known) → held ≡ holds.held
+  hears_held : (events : Reading → List Event) (held : Bytes) (holds : HoldsKnown events before after known) → held ≡ holds.read.held
       → JoinsState dks_2 most_bytes held before.desk.state after.desk.state → HearsState events before after known
   hears_held events held holds same joins =
-      let there : JoinsState dks_2 most_bytes holds.held before.desk.state after.desk.state =
+      let there : JoinsState dks_2 most_bytes holds.read.held before.desk.state after.desk.state =
       subst (λ (bytes : Bytes). JoinsState dks_2 most_bytes bytes before.desk.state after.desk.state) same joins in
       record {
-        held = holds.held;
+        read = holds.read;
         asked = holds.asked;
         joins = there;
-        of = known_read most_bytes holds.held there.received holds.sent known there.read holds.holds holds.of;
+        of = known_read most_bytes holds.read.held there.received holds.sent known there.read holds.holds holds.of;
       }
 
   -- a file that was merged
-  pub hears_merged : (other : Text) (text : List ℕ) → Joins other EndsReceiving before (done_with text) after → HoldsKnown (merging other) before after known
-      → HearsState (merging other) before after known
-  hears_merged other text does holds = by does.result does.opens.held does.told does.opens.asked does.opens.ends
+  pub hears_merged : (other : Text) (text : List ℕ) → Joins other StopsInState EndsReceiving before (done_with text) after
+      → HoldsKnown (events_of other) before after known → HearsState (events_of other) before after known
+  hears_merged other text does holds = by does.result does.opens.read does.told does.opens.asked does.opens.ends
     where
-      by : (result : Result ⊤ OfficeFault) (held : Option Bytes) → done_with text ≡ answer_of result
-          → after.history ≡ before.history ++ opening_of other held ∷ []
-          → EndsReceiving before.desk.state after.desk.state result held → HearsState (merging other) before after known
-      by (Ok done) (Some held) told asked ends =
-          hears_held (merging other) held holds (held_once other before.history after.history held holds.held asked holds.asked) ends
+      by : (result : Result ⊤ OfficeFault) (read : Option Reading) → done_with text ≡ answer_of result
+          → after.history ≡ before.history ++ opening_of other read
+          → EndsReceiving before.desk.state after.desk.state result read → HearsState (events_of other) before after known
+      by (Ok done) (Some read) told asked ends =
+          hears_held (events_of other) read.held holds (held_once other before.history after.history read holds.read asked holds.asked) ends
       by (Ok done) None told asked ends = absurd ends
-      by (Err fault) held told asked ends = let never : ⊥ = cc in absurd never
+      by (Err fault) read told asked ends = let never : ⊥ = cc in absurd never
 
   -- a file that was renewed
   pub hears_renewed : (setting : Setting) (text : List ℕ) → Renews setting before (done_with text) after
       → HoldsKnown (renewing setting.name) before after known → HearsState (renewing setting.name) before after known
-  hears_renewed setting text does holds = by does.result does.opens.held does.told does.opens.asked does.opens.ends
+  hears_renewed setting text does holds = by does.result does.opens.read does.told does.opens.asked does.opens.ends
     where
-      by : (result : Result ⊤ OfficeFault) (held : Option Bytes) → done_with text ≡ answer_of result
-          → after.history ≡ before.history ++ looked setting.name ∷ opening_of setting.name held ∷ []
-          → EndsRenewing before.desk after.desk result held → HearsState (renewing setting.name) before after known
-      by (Ok done) (Some held) told asked ends =
-          hears_held (renewing setting.name) held holds (held_after_look setting.name before.history after.history held holds.held asked holds.asked)
-          ends.0
-      by (Ok done) None told asked ends = absurd ends.0
-      by (Err fault) held told asked ends = let never : ⊥ = cc in absurd never
+      by : (result : Result Compared OfficeFault) (read : Option Reading) → done_with text ≡ answer_of result
+          → after.history ≡ before.history ++ looked setting.name ∷ opening_of setting.name read
+          → EndsRenewing before.desk after.desk result read → HearsState (renewing setting.name) before after known
+      by (Ok found) (Some read) told asked ends =
+          hears_held (renewing setting.name) read.held holds
+          (held_after_look setting.name before.history after.history read holds.read asked holds.asked) ends.0.0
+      by (Ok found) None told asked ends = absurd ends.0.0
+      by (Err fault) read told asked ends = let never : ⊥ = cc in absurd never
 
-  -- a text that was saved
+  -- after a saving, what is known of the state is known of the saved text
   pub places_known : (setting : Setting) (text : List ℕ) → IsKnown known before.desk.state → Saves setting before (done_with text) after
       → PlacesKnown setting before after known
   places_known setting text is does = by does.result does.told does.stores
@@ -95,17 +97,19 @@ module _ (before after : Moment) (known : Known) where
 -- ---- steps
 
 -- a file that was taken
-takes_heard : (file : Text) (text : List ℕ) (before after : Moment) → Joins file EndsTaking before (done_with text) after
+takes_heard : (file : Text) (text : List ℕ) (before after : Moment) → Joins file StopsInFile EndsTaking before (done_with text) after
     → (heard : Known) × HearsFile file before after heard
-takes_heard file text before after does = by does.result does.opens.held does.told does.opens.asked does.opens.ends
+takes_heard file text before after does = by does.result does.opens.read does.told does.opens.asked does.opens.ends
   where
-    by : (result : Result ⊤ OfficeFault) (held : Option Bytes) → done_with text ≡ answer_of result
-        → after.history ≡ before.history ++ opening_of file held ∷ []
-        → EndsTaking before.desk.state after.desk.state result held → (heard : Known) × HearsFile file before after heard
-    by (Ok done) (Some held) told asked ends =
-        (record { files = ends.file ∷ []; horizon = 0 }, record { held = held; asked = asked; takes = ends; heard_is = refl })
+    by : (result : Result ⊤ OfficeFault) (read : Option Reading) → done_with text ≡ answer_of result
+        → after.history ≡ before.history ++ opening_of file read
+        → EndsTaking before.desk.state after.desk.state result read → (heard : Known) × HearsFile file before after heard
+    by (Ok done) (Some read) told asked ends = (
+      record { files = ends.takes.file ∷ []; horizon = 0 },
+      record { read = read; asked = asked; takes = ends.takes; heard_is = refl },
+    )
     by (Ok done) None told asked ends = absurd ends
-    by (Err fault) held told asked ends = let never : ⊥ = cc in absurd never
+    by (Err fault) read told asked ends = let never : ⊥ = cc in absurd never
 
 module _ (setting : Setting) where
   -- something is heard by each request that was done
@@ -132,7 +136,7 @@ module _ (setting : Setting) where
   learns_some (Some request) no_request before after old does hears = (old, refl)
   learns_some None answer before after old does hears = (old, refl)
 
-  -- and from all of them
+  -- something is learned from all steps together
   pub learned_of : (first last : Moment) (steps : List Step) (old : Known) → AreSteps setting first steps last → AllHearKnown setting steps
       → (new : Known) × AreLearned setting old steps new
   learned_of first last [] old are hear = (old, refl)

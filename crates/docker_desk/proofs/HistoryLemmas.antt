@@ -1,26 +1,27 @@
--- What was asked of a folder, and what it was answered with.
+-- What was asked of a folder, and what the folder answered.
 use Rattle.std.proofs.Common.{◌≡◌, ℕ, List, [], ◌∷◌, ◌++◌, Bool, true, false, ap, subst, ◌∙◌, append_assoc, Ok}
 use Rattle.std.specs.Prelude.{Option, Result, ⊤}
 use Rattle.cif_line.specs.Device.{Takes}
 use Rattle.docker_cmd.specs.OfficeFault.{OfficeFault}
-use Rattle.docker_host.specs.History.{Bytes, Event, Text, drafted, looked, named_if, placed, unplaced}
+use Rattle.docker_host.specs.History.{Bytes, Event, Text, closed, drafted, looked, named_if, opened, placed, unplaced}
 use Rattle.docker_host.specs.Asked.{IsStored}
 use Rattle.docker_model.specs.state.State.{State}
 use Rattle.docker_model.specs.state.StateText.{dks_2, state_text}
-use Rattle.docker_desk.specs.Desk.{EndsSaving, OpensOnce}
+use Rattle.docker_desk.specs.Desk.{EndsSaving}
+use Rattle.docker_desk.specs.Reading.{OpensOnce, Reading, events_of}
 
--- what was asked, and then what was asked next
+-- if some events were added to a history and then others, both were added
 pub then : (old middle new : List Event) (first next : List Event) → middle ≡ old ++ first → new ≡ middle ++ next → new ≡ old ++ (first ++ next)
 then old middle new first next before after =
     after ∙ ap (λ (events : List Event). events ++ next) before ∙ append_assoc old first next
 
--- what a draft took that was empty
+-- an empty draft that took a text holds that text
 pub draft_took : (names_bytes : Bool) (text : List ℕ) (before after : Bytes) → before ≡ named_if names_bytes [] → Takes before text after
     → after ≡ named_if names_bytes text
 draft_took true text before after empty takes = rw empty at takes
 draft_took false text before after empty takes = rw empty at takes
 
--- a draft that was made, and then didn't take its place
+-- a draft that was made and didn't take its place adds these two events
 pub then_unplaced : (name made_for : Text) (look : ℕ) (old middle new : List Event) (took bytes : Bytes)
     → middle ≡ old ++ drafted name look ∷ [] → new ≡ middle ++ unplaced made_for took ∷ [] → made_for ≡ name → took ≡ bytes
     → new ≡ old ++ drafted name look ∷ unplaced name bytes ∷ []
@@ -31,18 +32,25 @@ then_unplaced name made_for look old middle new took bytes made failed same held
 -- ---- an opening
 
 -- the same opening, of states that are the same
-pub opens_as : (name : Text) (Ends : State → State → Result ⊤ OfficeFault → Option Bytes → Type 0) (own now old new : State) (result : Result ⊤ OfficeFault)
-    (before after : List Event) → own ≡ old → now ≡ new → OpensOnce name (Ends own now result) before after → OpensOnce name (Ends old new result) before after
-opens_as name Ends own now old new result before after is same opens = record {
-  held = opens.held;
+pub opens_as : (name : Text) (Stops : Reading → Type 0) (Ends : State → State → Result ⊤ OfficeFault → Option Reading → Type 0) (own now old new : State)
+    (result : Result ⊤ OfficeFault) (before after : List Event) → own ≡ old → now ≡ new → OpensOnce name Stops (Ends own now result) before after
+    → OpensOnce name Stops (Ends old new result) before after
+opens_as name Stops Ends own now old new result before after is same opens = record {
+  read = opens.read;
   asked = opens.asked;
+  stops = opens.stops;
   ends =
-      subst (λ (state : State). Ends state new result opens.held) is (subst (λ (state : State). Ends own state result opens.held) same opens.ends);
+      subst (λ (state : State). Ends state new result opens.read) is (subst (λ (state : State). Ends own state result opens.read) same opens.ends);
 }
+
+-- a file that was opened and then closed
+pub then_closed : (name : Text) (held left : Bytes) (old opened_now new : List Event) → opened_now ≡ old ++ opened name held ∷ []
+    → new ≡ opened_now ++ closed left ∷ [] → new ≡ old ++ events_of name (record { held = held; left = left })
+then_closed name held left old opened_now new opens closes = then old opened_now new (opened name held ∷ []) (closed left ∷ []) opens closes
 
 -- ---- a saving
 
--- a text that was stored, and then a look
+-- a text that was stored and then looked at was saved
 pub saved_then : (names_bytes : Bool) (name : Text) (look : ℕ) (own state : State) (old middle new : List Event)
     → IsStored names_bytes name look (state_text dks_2 own) old middle → new ≡ middle ++ looked name ∷ [] → own ≡ state
     → EndsSaving names_bytes name look (state_text dks_2 state) old new (Ok tt)

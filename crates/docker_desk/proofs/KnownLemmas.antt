@@ -22,24 +22,26 @@ use Rattle.docker_desk.specs.Lines.{LineView, whole_line, bad_line, cut_line}
 use Rattle.docker_cmd.specs.JobLine.{words_in}
 use Rattle.docker_desk.specs.Requests.{RequestView, behind_word, print_request, permanent_request, train_request, files_request, places_request, known_request, renew_request, take_request, merge_request, horizon_request, save_request}
 use Rattle.docker_desk.specs.Desk.{DeskView, EndsReceiving, EndsRenewing, EndsTaking}
+use Rattle.docker_desk.specs.Reading.{Reading, events_of}
+use Rattle.docker_desk.specs.declared.compared.Compared.{Compared}
 use Rattle.docker_desk.specs.Replies.{AnswerView, done_with, no_request, refused_for}
 use Rattle.docker_desk.specs.Moments.{Moment, Setting, Step}
 use Rattle.docker_desk.specs.Doing.{AreSteps, AsksOf, DoesAsked, DoesRequest, IsStep, answer_of, desk_by}
-use Rattle.docker_desk.specs.Learning.{AreLearned, Hears, HearsFile, HearsState, IsKnown, KnowsAt, Learns, merging, renewing}
+use Rattle.docker_desk.specs.Learning.{AreLearned, Hears, HearsFile, HearsState, IsKnown, KnowsAt, Learns, renewing}
 
 -- ---- what is known
 
--- adding nothing leaves what is known
+-- what is known stays the same if nothing is added
 known_with_nothing : (known : Known) → united known nothing ≡ known
 known_with_nothing known = λ i. record { files = append-nil known.files i; horizon = max-zero known.horizon i }
 
--- what is known of a state, when nothing was heard and the state is the same
+-- if nothing was heard and the state is the same, the same is known of it
 nothing_heard : (old heard : Known) (before after : State) → heard ≡ nothing → after ≡ before → IsKnown old before → IsKnown (united old heard) after
 nothing_heard old heard before after none same is =
     subst (λ h. IsKnown (united old h) after) (sym none)
     (subst (λ k. IsKnown k after) (sym (known_with_nothing old)) (subst (IsKnown old) (sym same) is))
 
--- what is known after a join, by what was known of both states
+-- after a join, what was known of both states is known of the joined state
 known_joined : (old heard : Known) (own other after : State) → IsKnown old own → IsKnown heard other
     → IsJoin own other after → IsKnown (united old heard) after
 known_joined old heard own other after first second join = record {
@@ -47,7 +49,7 @@ known_joined old heard own other after first second join = record {
   is = join_is_summary old.files heard.files old.horizon heard.horizon own other after first.is second.is join;
 }
 
--- what is known after a horizon was set
+-- after a horizon is set, the horizon is known too
 known_raised : (old heard : Known) (day : ℕ) (state : State) → IsDay day → heard ≡ record { files = []; horizon = day } → IsKnown old state
     → IsKnown (united old heard) (raise_horizon day state)
 known_raised old heard day state is_day heard_is known =
@@ -58,7 +60,7 @@ known_raised old heard day state is_day heard_is known =
           (raised_summary old.files old.horizon day state known.is);
     })
 
--- a file that was read is known
+-- after a file is read, the file is known
 known_file : (file : List (List ℕ)) (state : State) → IsFile file → length file ≤ most_records → IsSummary (file ∷ []) 0 state
     → IsKnown (record { files = file ∷ []; horizon = 0 }) state
 known_file file state is few summary = record {
@@ -69,7 +71,7 @@ known_file file state is few summary = record {
 -- ---- one request
 
 module _ (setting : Setting) (before after : Moment) where
-  -- after a file was taken
+  -- after a file is taken, the file is known too
   file_known : (name : Text) (old heard : Known) → HearsFile name before after heard → IsKnown old before.desk.state
       → IsKnown (united old heard) after.desk.state
   file_known name old heard hears is =
@@ -79,38 +81,38 @@ module _ (setting : Setting) (before after : Moment) where
       (known_file takes.file takes.own takes.is_text.is takes.is_text.within takes.of_file) takes.joined)
 
   -- after a state was received
-  state_known : (events : Bytes → List Event) (old heard : Known) → HearsState events before after heard → IsKnown old before.desk.state
+  state_known : (events : Reading → List Event) (old heard : Known) → HearsState events before after heard → IsKnown old before.desk.state
       → IsKnown (united old heard) after.desk.state
   state_known events old heard hears is =
       known_joined old heard before.desk.state hears.joins.received after.desk.state is hears.of hears.joins.join
 
   -- a saving leaves the state
-  same_saved : (result : Result ⊤ OfficeFault) → after.desk ≡ desk_by result before.desk → after.desk.state ≡ before.desk.state
+  pub same_saved : (result : Result ⊤ OfficeFault) → after.desk ≡ desk_by result before.desk → after.desk.state ≡ before.desk.state
   same_saved (Ok done) same = ap (λ (desk : DeskView). desk.state) same
   same_saved (Err fault) same = ap (λ (desk : DeskView). desk.state) same
 
   -- a request that was refused leaves the state
-  refused_take : (fault : OfficeFault) (result : Result ⊤ OfficeFault) (held : Option Bytes) → refused_for fault ≡ answer_of result
+  refused_take : (fault : OfficeFault) (result : Result ⊤ OfficeFault) (held : Option Reading) → refused_for fault ≡ answer_of result
       → EndsTaking before.desk.state after.desk.state result held → after.desk.state ≡ before.desk.state
   refused_take fault (Ok done) held told ends = let never : ⊥ = cc in absurd never
   refused_take fault (Err why) held told ends = ends.1
 
-  refused_merge : (fault : OfficeFault) (result : Result ⊤ OfficeFault) (held : Option Bytes) → refused_for fault ≡ answer_of result
+  refused_merge : (fault : OfficeFault) (result : Result ⊤ OfficeFault) (held : Option Reading) → refused_for fault ≡ answer_of result
       → EndsReceiving before.desk.state after.desk.state result held → after.desk.state ≡ before.desk.state
   refused_merge fault (Ok done) held told ends = let never : ⊥ = cc in absurd never
   refused_merge fault (Err why) held told ends = ends.1
 
-  refused_renew : (fault : OfficeFault) (result : Result ⊤ OfficeFault) (held : Option Bytes) → refused_for fault ≡ answer_of result
+  refused_renew : (fault : OfficeFault) (result : Result Compared OfficeFault) (held : Option Reading) → refused_for fault ≡ answer_of result
       → EndsRenewing before.desk after.desk result held → after.desk.state ≡ before.desk.state
   refused_renew fault (Ok done) held told ends = let never : ⊥ = cc in absurd never
   refused_renew fault (Err why) held told ends = ap (λ (desk : DeskView). desk.state) ends.1
 
   -- each request has an answer
-  some_answer : (result : Result ⊤ OfficeFault) → ¬ (no_request ≡ answer_of result)
+  some_answer : {A : Type 0} (result : Result A OfficeFault) → ¬ (no_request ≡ answer_of result)
   some_answer (Ok done) told = let never : ⊥ = cc in never
   some_answer (Err fault) told = let never : ⊥ = cc in never
 
-  -- what is known after a request that was done
+  -- after a request is done, what was heard is known too
   known_done : (request : RequestView) (text : List ℕ) (old heard : Known) → ((day : ℕ) → request ≡ horizon_request day → IsDay day)
       → DoesRequest setting request before (done_with text) after → Hears setting request before after heard → IsKnown old before.desk.state
       → IsKnown (united old heard) after.desk.state
@@ -125,14 +127,14 @@ module _ (setting : Setting) (before after : Moment) where
   known_done known_request text old heard days does hears is = nothing_heard old heard _ _ hears (ap (λ (m : Moment). m.desk.state) does.1) is
   known_done renew_request text old heard days does hears is = state_known (renewing setting.name) old heard hears is
   known_done (take_request file) text old heard days does hears is = file_known file old heard hears is
-  known_done (merge_request other) text old heard days does hears is = state_known (merging other) old heard hears is
+  known_done (merge_request other) text old heard days does hears is = state_known (events_of other) old heard hears is
   known_done (horizon_request day) text old heard days does hears is =
       subst (λ (m : Moment). IsKnown (united old heard) m.desk.state) (sym does.1)
       (known_raised old heard day before.desk.state (days day refl) hears is)
   known_done save_request text old heard days does hears is = nothing_heard old heard _ _ hears (same_saved does.result does.desk) is
 
   -- a refused request leaves the state
-  same_refused : (request : RequestView) (fault : OfficeFault) → DoesRequest setting request before (refused_for fault) after
+  pub same_refused : (request : RequestView) (fault : OfficeFault) → DoesRequest setting request before (refused_for fault) after
       → after.desk.state ≡ before.desk.state
   same_refused (print_request place day) fault does = ap (λ (m : Moment). m.desk.state) does.1
   same_refused (permanent_request place day) fault does = ap (λ (m : Moment). m.desk.state) does.1
@@ -140,14 +142,14 @@ module _ (setting : Setting) (before after : Moment) where
   same_refused files_request fault does = ap (λ (m : Moment). m.desk.state) does.1
   same_refused places_request fault does = ap (λ (m : Moment). m.desk.state) does.1
   same_refused known_request fault does = ap (λ (m : Moment). m.desk.state) does.1
-  same_refused renew_request fault does = refused_renew fault does.result does.opens.held does.told does.opens.ends
-  same_refused (take_request file) fault does = refused_take fault does.result does.opens.held does.told does.opens.ends
-  same_refused (merge_request other) fault does = refused_merge fault does.result does.opens.held does.told does.opens.ends
+  same_refused renew_request fault does = refused_renew fault does.result does.opens.read does.told does.opens.ends
+  same_refused (take_request file) fault does = refused_take fault does.result does.opens.read does.told does.opens.ends
+  same_refused (merge_request other) fault does = refused_merge fault does.result does.opens.read does.told does.opens.ends
   same_refused (horizon_request day) fault does = let told = does.0 in let never : ⊥ = cc in absurd never
   same_refused save_request fault does = same_saved does.result does.desk
 
   -- a request is never answered as if it were none
-  never_unasked : (request : RequestView) → ¬ DoesRequest setting request before no_request after
+  pub never_unasked : (request : RequestView) → ¬ DoesRequest setting request before no_request after
   never_unasked (print_request place day) does = does.0
   never_unasked (permanent_request place day) does = does.0
   never_unasked (train_request uid day) does = does.0
@@ -160,7 +162,7 @@ module _ (setting : Setting) (before after : Moment) where
   never_unasked (horizon_request day) does = let told = does.0 in let never : ⊥ = cc in never
   never_unasked save_request does = some_answer does.result does.told
 
-  -- what is known after what was asked for
+  -- after a line is answered, what was learned from it is known
   known_asked : (request : Option RequestView) (answer : AnswerView) (old new : Known) → ((day : ℕ) → request ≡ Some (horizon_request day) → IsDay day)
       → DoesAsked setting request before answer after → Learns setting request before answer after old new → IsKnown old before.desk.state
       → IsKnown new after.desk.state
@@ -175,13 +177,13 @@ module _ (setting : Setting) (before after : Moment) where
 
 -- ---- steps
 
--- the day of a horizon that was asked for is a day
+-- the day of a horizon request is a day
 one_day : (words : List Text) (day : ℕ) → OfOne (λ date. NamesDay date day) words → IsDay day
 one_day [] day of = absurd of
 one_day (word ∷ []) day of = of.within
 one_day (word ∷ second ∷ more) day of = absurd of
 
-day_asked : (may_write : Bool) (line : LineView) (request : Option RequestView) (day : ℕ) → AsksOf may_write line request → request ≡ Some (horizon_request day)
+pub day_asked : (may_write : Bool) (line : LineView) (request : Option RequestView) (day : ℕ) → AsksOf may_write line request → request ≡ Some (horizon_request day)
     → IsDay day
 day_asked may_write (whole_line line) request day asks same =
     let asked = subst (λ r. AsksOf may_write (whole_line line) r) same asks in one_day (words_in (behind_word line)) day asked.1.rest
@@ -189,14 +191,14 @@ day_asked may_write bad_line request day asks same = let never : ⊥ = cc in abs
 day_asked may_write cut_line request day asks same = let never : ⊥ = cc in absurd never
 
 module _ (setting : Setting) where
-  -- what is known after a step
+  -- after a step, what was learned from it is known
   known_step : (step : Step) (old new : Known) → IsStep setting step → Learns setting step.request step.before step.answer step.after old new
       → IsKnown old step.before.desk.state → IsKnown new step.after.desk.state
   known_step step old new does learns is =
       known_asked setting step.before step.after step.request step.answer old new
       (λ day same. day_asked setting.may_write step.line step.request day does.asks same) does.does learns is
 
-  -- what is known after steps
+  -- after some steps, what was learned from all of them is known
   pub known_steps : (first last : Moment) (steps : List Step) (old new : Known) → IsKnown old first.desk.state → AreSteps setting first steps last
       → AreLearned setting old steps new → IsKnown new last.desk.state
   known_steps first last [] old new is are learned =
@@ -205,11 +207,11 @@ module _ (setting : Setting) where
       known_steps step.after last steps learned.0 new
       (known_step step old learned.0 are.1.0 learned.1.0 (subst (λ (m : Moment). IsKnown old m.desk.state) (sym are.0) is)) are.1.1 learned.1.1
 
-  -- what is known at a moment of a session
+  -- at each moment of a session, what was learned up to then is known of the state
   pub known_then : (known : Known) (state : State) → KnowsAt setting known state → IsKnown known state
   known_then known state at = subst (IsKnown known) at.has (known_steps at.first at.last at.steps at.start known at.begins at.are at.learned)
 
-  -- the first steps lead to a moment, and the others on from there
+  -- if steps are split in two, the first part leads to a moment, and the second part on from there
   pub steps_apart : (first last : Moment) (earlier later : List Step) → AreSteps setting first (earlier ++ later) last
       → (between : Moment) × (AreSteps setting first earlier between × AreSteps setting between later last)
   steps_apart first last [] later are = (first, (refl, are))
@@ -224,7 +226,7 @@ one_read limit left read sent reads holds =
     let same : holds.text ≡ reads.text = subst (λ bytes. Held bytes reads.text) holds.told reads.held in
     one_text dks_2 read sent reads.is.valid holds.is.valid (sym reads.is.is ∙ sym same ∙ holds.is.is)
 
--- what is known of that state is known of the state that was read
+-- what is known of the state that a file held is known of the state that was read
 pub known_read : (limit : ℕ) (left : Option (List ℕ)) (read sent : State) (start : Known) → ReadsState dks_2 limit left read → HoldsState dks_2 limit left sent
     → IsKnown start sent → IsKnown start read
 known_read limit left read sent start reads holds is = subst (IsKnown start) (sym (one_read limit left read sent reads holds)) is

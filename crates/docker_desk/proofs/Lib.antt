@@ -2,9 +2,10 @@ pub mod LineLemmas
 pub mod WordLemmas
 pub mod RequestLemmas
 pub mod WritingLemmas
+pub mod MatchLemmas
 pub mod ReadFiles
 pub mod HistoryLemmas
-mod TermsLemmas
+mod SessionWordsLemmas
 mod KnownLemmas
 mod FixedLemmas
 mod TrainLemmas
@@ -13,5 +14,6 @@ mod StepLemmas
 mod ServeLemmas
 mod LookLemmas
 mod HeardLemmas
+mod GainLemmas
 mod WitnessLemmas
 mod PermanentLemmas

@@ -1,4 +1,4 @@
--- Reading a line byte by byte: what the bytes so far say about the text.
+-- Reading a line byte by byte, and what the bytes so far say about the text.
 use Rattle.std.proofs.Common.{◌≡◌, ℕ, ◌+◌, ◌-◌, ◌^◌, ◌≤◌, ◌≢◌, List, [], ◌∷◌, ◌++◌, length, true, false, refl, sym, ◌∙◌, ap, subst, arith, append_assoc, length-append, append-nil, Some, None, inl, inr, Ok, Err}
 use Rattle.std.specs.Prelude.{Option, option_map, Result, ◌⊎◌}
 use Rattle.std.specs.List.{AllByRecursion}
@@ -14,7 +14,7 @@ use Rattle.docker_desk.specs.Lines.{IsWithoutFeed, ReadsNext, ReadsAsked, ReadsM
 
 -- ---- what was read ahead
 
--- nothing was read ahead
+-- if nothing was read ahead, the text is the text that is left
 pub none_ahead : (left : Option (List ℕ)) → with_ahead [] left ≡ left
 none_ahead None = refl
 none_ahead (Some rest) = refl
@@ -30,7 +30,7 @@ first_ahead byte old new (Some rest) same = ap (λ bytes. Some (bytes ++ rest)) 
 abbrev pub ArePrintable : List ℕ → Type 0
 ArePrintable = AllByRecursion (λ b. is_printable b ≡ true)
 
--- so none is a line feed
+-- a line of printable bytes has no line feed
 pub printable_without : (line : List ℕ) → ArePrintable line → IsWithoutFeed line
 printable_without [] good = tt
 printable_without (b ∷ line) good = (other b good.0, printable_without line good.1)
@@ -38,34 +38,34 @@ printable_without (b ∷ line) good = (other b good.0, printable_without line go
     other : (b : ℕ) → is_printable b ≡ true → b ≢ 10
     other b here = λ same. let feed : is_printable 10 ≡ true = subst (λ c. is_printable c ≡ true) same here in cc
 
--- printable bytes and one more are printable
+-- printable bytes and one more printable byte are all printable
 pub printable_more : (line : List ℕ) (b : ℕ) → ArePrintable line → is_printable b ≡ true → ArePrintable (line ++ b ∷ [])
 printable_more [] b good here = (here, tt)
 printable_more (y ∷ line) b good here = (good.0, printable_more line b good.1 here)
 
--- two texts without a line feed have none together
+-- if two texts have no line feed, both together have none
 without_both : (xs ys : List ℕ) → IsWithoutFeed xs → IsWithoutFeed ys → IsWithoutFeed (xs ++ ys)
 without_both [] ys first second = second
 without_both (x ∷ xs) ys first second = (first.0, without_both xs ys first.1 second)
 
 -- ---- reading on
 
--- reading more after what was read is reading both
+-- reading some bytes and then more is reading both
 pub reads_on : (old now new : Option (List ℕ)) (line more : List ℕ) → Reads old line now → Reads now more new → Reads old (line ++ more) new
 reads_on old now None line more first then_more = first ∙ ap (option_map (λ rest. line ++ rest)) then_more
 reads_on old now (Some rest) line more first then_more =
     first ∙ ap (option_map (λ rest. line ++ rest)) then_more ∙ ap Some (sym (append_assoc line more rest))
 
--- nothing was read yet
+-- before the first byte is read, no bytes were read
 pub reads_none : (left : Option (List ℕ)) → Reads left [] left
 reads_none None = refl
 reads_none (Some bytes) = refl
 
--- at least this number of bytes was read
+-- at least 0 bytes were read
 pub many_none : (left : Option (List ℕ)) → ReadsMany 0 left left
 many_none left = record { lost = []; many = omega arith; read = reads_none left }
 
--- one more byte was read
+-- if at least n bytes and then one more were read, at least n + 1 bytes were read
 pub many_more : (n : ℕ) (old now new : Option (List ℕ)) (byte : ℕ) → ReadsMany n old now → Reads now (byte ∷ []) new → ReadsMany (n + 1) old new
 many_more n old now new byte many then_one = record {
   lost = many.lost ++ byte ∷ [];
@@ -73,11 +73,11 @@ many_more n old now new byte many then_one = record {
   read = reads_on old now new many.lost (byte ∷ []) many.read then_one;
 }
 
--- some bytes were read, or none
+-- if at least n bytes were read, at least 0 bytes were read
 pub some_read : (n : ℕ) (old now new : Option (List ℕ)) → ReadsMany n old now → new ≡ now → ReadsMany 0 old new
 some_read n old now new many same = record { lost = many.lost; many = omega arith; read = subst (Reads old many.lost) (sym same) many.read }
 
--- if at least this many bytes were read after a line, at least this many were read with it
+-- if at least n bytes were read after a line, at least n bytes were read with the line
 pub many_behind : (n : ℕ) (old now new : Option (List ℕ)) (line : List ℕ) → Reads old line now → ReadsMany n now new → ReadsMany n old new
 many_behind n old now new line first many = record {
   lost = line ++ many.lost;
@@ -87,13 +87,13 @@ many_behind n old now new line first many = record {
 
 -- ---- the rest of a line that isn't whole
 
--- the line feed of the line
+-- a line feed ends the rest of a line
 pub skips_feed : (old new : Option (List ℕ)) → Reads old (10 ∷ []) new → SkipsLine old new
 skips_feed None new read = tt
 skips_feed (Some text) None read = let never : ⊥ = cc in absurd never
 skips_feed (Some text) (Some rest) read = record { skipped = []; rest = rest; whole = cc; one = tt; behind = refl }
 
--- one byte more of the line
+-- a byte before the rest of a line is in the rest, if the byte is no line feed
 pub skips_byte : (old now new : Option (List ℕ)) (b : ℕ) → Reads old (b ∷ []) now → b ≢ 10 → SkipsLine now new → SkipsLine old new
 skips_byte None now new b read other line = tt
 skips_byte (Some text) None new b read other line = let never : ⊥ = cc in absurd never
@@ -109,12 +109,12 @@ skips_byte (Some text) (Some left) new b read other line =
     behind : (text left : List ℕ) (b : ℕ) (skipped rest : List ℕ) → text ≡ b ∷ left → left ≡ skipped ++ 10 ∷ rest → text ≡ b ∷ skipped ++ 10 ∷ rest
     behind text left b skipped rest first second = cc
 
--- the end of the source
+-- at the end of the source, the rest of the last line is empty
 pub skips_end : (old new : Option (List ℕ)) → IsEnd old → new ≡ old → SkipsAll old new
 skips_end None new end same = tt
 skips_end (Some text) new end same = (subst IsWithoutFeed (sym end) tt, same ∙ ap Some end)
 
--- one byte more before the end
+-- a byte before the rest of the last line is in the rest, if the byte is no line feed
 pub skips_before : (old now new : Option (List ℕ)) (b : ℕ) → Reads old (b ∷ []) now → b ≢ 10 → SkipsAll now new → SkipsAll old new
 skips_before None now new b read other line = tt
 skips_before (Some text) None new b read other line = let never : ⊥ = cc in absurd never
@@ -123,7 +123,7 @@ skips_before (Some text) (Some left) new b read other line =
 
 -- ---- lines
 
--- a line of printable bytes, and then its line feed
+-- at most 255 printable bytes and then a line feed are a whole line
 pub reads_whole : (old now new : Option (List ℕ)) (line : List ℕ) → Reads old line now → Reads now (10 ∷ []) new → ArePrintable line → length line ≤ 255
     → ReadsNext old (whole_line line) new
 reads_whole old now new line first feed good short = by old new (reads_on old now new line (10 ∷ []) first feed)
@@ -138,7 +138,8 @@ reads_whole old now new line first feed good short = by old new (reads_on old no
         let same : text ≡ (line ++ 10 ∷ []) ++ rest = cc in
         (rest, (record { whole = same ∙ append_assoc line (10 ∷ []) rest; line_text = is_text }, refl))
 
--- a line, and then the end instead of a line feed
+-- printable bytes before the end of the source are a line without its line feed, or no line if
+-- there are no bytes
 pub reads_cut : (old now new : Option (List ℕ)) (line : List ℕ) → Reads old line now → IsEnd now → new ≡ now → ArePrintable line
     → ReadsAsked old (cut_or_end line) new
 reads_cut old now new [] read end same good = at_end old now new read end same
@@ -166,12 +167,12 @@ reads_cut old now new (b ∷ line) read end same good = by old now new read end 
           ),
         )
 
--- a line that isn't whole, because of this byte
+-- this byte makes the line bad: it isn't printable, or the line already has 255 bytes
 pub record IsSpoiled (line : List ℕ) (b : ℕ) : Type 0 where
   pub other : b ≢ 10
   pub why : (length line ≡ 255) ⊎ (is_printable b ≡ false)
 
--- and it won't be whole, whatever comes after the byte
+-- with a byte that makes it bad, a line is no line of text, whatever comes after the byte
 not_text : (line : List ℕ) (b : ℕ) (more : List ℕ) → IsSpoiled line b → ¬ IsLineText (line ++ b ∷ more)
 not_text line b more spoiled text = by spoiled.why
   where
@@ -183,7 +184,7 @@ not_text line b more spoiled text = by spoiled.why
     by (inl full) = let short = text.short in omega (arith, full, short, length-append line (b ∷ more))
     by (inr bad) = let good : is_printable b ≡ true = inside line (recursion_from_All _ (line ++ b ∷ more) text.printable) in cc
 
--- so the line is bad, once the rest of it was read
+-- with a byte that makes it bad, a line is bad once its rest was read
 pub reads_bad : (old now mid new : Option (List ℕ)) (line : List ℕ) (b : ℕ) (result : Result Asked InputFault) → Reads old line now → Reads now (b ∷ []) mid
     → ArePrintable line → IsSpoiled line b → EndsSkipping mid result new → EndsLine old result new
 reads_bad old now mid new line b result first then_one good spoiled ends = by old mid result (reads_on old now mid line (b ∷ []) first then_one) ends

@@ -4,9 +4,11 @@ use Rattle.std.specs.Prelude.{Option, Result, ⊤, Bool}
 use Rattle.docker_cmd.specs.OfficeFault.{OfficeFault}
 use Rattle.docker_cmd.specs.OfficeFault.TheVariants as office
 use Rattle.docker_model.specs.state.StateText.{dks_2, state_text}
-use Rattle.docker_host.specs.History.{Bytes, Event, Text, drafted, dropped, looked, named_if, opened, placed, undrafted, unplaced}
+use Rattle.docker_host.specs.History.{Bytes, Event, Text, closed, drafted, dropped, looked, named_if, opened, placed, undrafted, unplaced}
 use Rattle.docker_host.specs.Asked.{FailsToStore}
-use Rattle.docker_desk.specs.Desk.{DeskView, EndsRenewing, EndsSaving, look_by, opening_of}
+use Rattle.docker_desk.specs.Desk.{DeskView, EndsRenewing, EndsSaving, look_by}
+use Rattle.docker_desk.specs.Reading.{Reading, opening_of}
+use Rattle.docker_desk.specs.declared.compared.Compared.{Compared}
 use Rattle.docker_desk.specs.Requests.{RequestView, print_request, permanent_request, train_request, files_request, places_request, known_request, renew_request, take_request, merge_request, horizon_request, save_request}
 use Rattle.docker_desk.specs.Replies.{AnswerView}
 use Rattle.docker_desk.specs.Moments.{Moment, Setting, Step}
@@ -20,9 +22,10 @@ module _ (name : Text) where
   good_more old new more look grown (inl before) = inl (record {
     earlier = before.earlier;
     held = before.held;
+    left = before.left;
     later = before.later ++ more;
     whole = grown ∙ ap (λ (events : List Event). events ++ more) before.whole
-        ∙ append_assoc before.earlier (looked name ∷ opened name before.held ∷ before.later) more;
+        ∙ append_assoc before.earlier (looked name ∷ opened name before.held ∷ closed before.left ∷ before.later) more;
     number = before.number;
   })
   good_more old new more look grown (inr placing) = inr (record {
@@ -35,11 +38,12 @@ module _ (name : Text) where
   })
 
   -- a look, and then an opening
-  good_opened : (old new : List Event) (held : Bytes) (look : ℕ) → new ≡ old ++ looked name ∷ opened name held ∷ [] → look ≡ length old
-      → IsGoodLook name new look
-  good_opened old new held look grown number = inl (record { earlier = old; held = held; later = []; whole = grown; number = number })
+  good_opened : (old new : List Event) (held left : Bytes) (look : ℕ) → new ≡ old ++ looked name ∷ opened name held ∷ closed left ∷ []
+      → look ≡ length old → IsGoodLook name new look
+  good_opened old new held left look grown number =
+      inl (record { earlier = old; held = held; left = left; later = []; whole = grown; number = number })
 
-  -- a draft that took its place, and then a look
+  -- a look after a draft took its place is good
   good_placed : (old new : List Event) (bytes : Bytes) (from look : ℕ) → new ≡ old ++ drafted name from ∷ placed name bytes ∷ looked name ∷ []
       → look ≡ length old + 2 → IsGoodLook name new look
   good_placed old new bytes from look grown number = inr (record {
@@ -50,21 +54,22 @@ module _ (name : Text) where
     number = (let size = length-append old (drafted name from ∷ []) in omega (arith, size, number));
   })
 
-  -- the same look, after any events
+  -- if the look doesn't change, it is good after any events
   good_same : (old new more : List Event) (look look_now : ℕ) → new ≡ old ++ more → look_now ≡ look → IsGoodLook name old look
       → IsGoodLook name new look_now
   good_same old new more look look_now grown same good = subst (IsGoodLook name new) (sym same) (good_more old new more look grown good)
 
   -- after a renewal
-  good_renewed : (old new : List Event) (held : Option Bytes) (result : Result ⊤ OfficeFault) (own after : DeskView) (look look_now : ℕ)
-      → new ≡ old ++ looked name ∷ opening_of name held ∷ [] → EndsRenewing own after result held → look_now ≡ look_by result (length old) look
+  good_renewed : (old new : List Event) (read : Option Reading) (result : Result Compared OfficeFault) (own after : DeskView) (look look_now : ℕ)
+      → new ≡ old ++ looked name ∷ opening_of name read → EndsRenewing own after result read → look_now ≡ look_by result (length old) look
       → IsGoodLook name old look → IsGoodLook name new look_now
-  good_renewed old new (Some held) (Ok done) own after look look_now grown ends same good = good_opened old new held look_now grown same
-  good_renewed old new None (Ok done) own after look look_now grown ends same good = absurd ends.0
-  good_renewed old new held (Err fault) own after look look_now grown ends same good =
-      good_same old new (looked name ∷ opening_of name held ∷ []) look look_now grown same good
+  good_renewed old new (Some read) (Ok found) own after look look_now grown ends same good =
+      good_opened old new read.held read.left look_now grown same
+  good_renewed old new None (Ok found) own after look look_now grown ends same good = absurd ends.0.0
+  good_renewed old new read (Err fault) own after look look_now grown ends same good =
+      good_same old new (looked name ∷ opening_of name read) look look_now grown same good
 
-  -- after a saving
+  -- after a saving that failed the look is good
   good_unsaved : (names_bytes : Bool) (text : List ℕ) (old new : List Event) (from look look_now : ℕ) → FailsToStore names_bytes name from text old new
       → look_now ≡ look → IsGoodLook name old look → IsGoodLook name new look_now
   good_unsaved names_bytes text old new from look look_now (inl grown) same good =
@@ -96,7 +101,7 @@ module _ (setting : Setting) where
   good_kept : (before after : Moment) → after ≡ before → LooksWell before → LooksWell after
   good_kept before after same good = subst LooksWell (sym same) good
 
-  -- after a request
+  -- after a request the look is still good
   good_request : (request : RequestView) (before after : Moment) (answer : AnswerView) → DoesRequest setting request before answer after → LooksWell before
       → LooksWell after
   good_request (print_request place day) before after answer does good = good_kept before after does.1 good
@@ -106,12 +111,12 @@ module _ (setting : Setting) where
   good_request places_request before after answer does good = good_kept before after does.1 good
   good_request known_request before after answer does good = good_kept before after does.1 good
   good_request renew_request before after answer does good =
-      good_renewed setting.name before.history after.history does.opens.held does.result before.desk after.desk before.look after.look
+      good_renewed setting.name before.history after.history does.opens.read does.result before.desk after.desk before.look after.look
       does.opens.asked does.opens.ends does.look good
   good_request (take_request file) before after answer does good =
-      good_same setting.name before.history after.history (opening_of file does.opens.held ∷ []) before.look after.look does.opens.asked does.look good
+      good_same setting.name before.history after.history (opening_of file does.opens.read) before.look after.look does.opens.asked does.look good
   good_request (merge_request other) before after answer does good =
-      good_same setting.name before.history after.history (opening_of other does.opens.held ∷ []) before.look after.look does.opens.asked does.look good
+      good_same setting.name before.history after.history (opening_of other does.opens.read) before.look after.look does.opens.asked does.look good
   good_request (horizon_request day) before after answer does good =
       let look : after.look ≡ before.look = ap (λ (m : Moment). m.look) does.1 in
       let history : after.history ≡ before.history = ap (λ (m : Moment). m.history) does.1 in
@@ -125,7 +130,7 @@ module _ (setting : Setting) where
   good_asked (Some request) before after answer does good = good_request request before after answer does good
   good_asked None before after answer does good = good_kept before after does.1 good
 
-  -- after steps
+  -- after some steps the look is still good
   pub good_steps : (first last : Moment) (steps : List Step) → LooksWell first → AreSteps setting first steps last → LooksWell last
   good_steps first last [] good are = good_kept first last are good
   good_steps first last (step ∷ steps) good are =
@@ -134,4 +139,4 @@ module _ (setting : Setting) where
 
   -- at the beginning
   pub good_first : (old : List Event) (first : Moment) → BeginsAt setting.name old first → LooksWell first
-  good_first old first begins = good_opened setting.name old first.history begins.held first.look begins.asked begins.look
+  good_first old first begins = good_opened setting.name old first.history begins.held begins.left first.look begins.asked begins.look

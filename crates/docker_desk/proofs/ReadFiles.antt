@@ -2,8 +2,6 @@
 use Rattle.std.proofs.Common.{◌≡◌, ◌≢◌, ◌+◌, ◌∙◌, ℕ, ap, arith, refl, subst, sym, Some, Ok, Err, IsErr, true, false}
 use Rattle.std.specs.Prelude.{Result, ⊤, Bool, List, ◌++◌, Option, None, IfSome, Vec, option_map}
 use Rattle.cif_line.specs.Device.{Reads}
-use Rattle.docker_model.specs.state.StatePart.{AreGood, at_end}
-use Rattle.state_laws.proofs.texts.TextsApart.{no_front}
 use Rattle.docker_model.specs.file.File.{most_records}
 use Rattle.docker_model.specs.state.State.{State}
 use Rattle.docker_model.specs.state.StateText.{dks_2, state_text}
@@ -11,18 +9,23 @@ use Rattle.docker_cmd.specs.Office.{TakesFile}
 use Rattle.docker_cmd.specs.OfficeFault.{OfficeFault}
 use Rattle.docker_cmd.specs.OfficeFault.TheVariants as office
 use Rattle.docker_cmd.specs.OfficeReads.{CountsTaking, IsTakingOutcome, why_unread}
-use Rattle.docker_cmd.specs.Prepared.{most_bytes}
+use Rattle.docker_cmd.specs.Prepared.{ReadsFewOfState, most_bytes}
 use Rattle.docker_cmd.specs.ReadEnds.{CountsOutcome, CountsWhy, IsOutcome, IsWhyUnread}
 use Rattle.docker_cmd.specs.SourceRead.{JoinsState, ReadsState, WantsMemory}
 use Rattle.docker_host.specs.History.{Bytes, IsText, Text}
-use Rattle.docker_desk.specs.Desk.{EndsComparing, EndsReceiving, EndsReloading, EndsTaking, IsCounted, RefusesToReceive, result_status}
+use Rattle.docker_cmd.specs.FaultLine.{IsCounted, result_status}
+use Rattle.docker_desk.specs.Copying.{ComparesCopy}
+use Rattle.docker_desk.specs.Desk.{EndsComparing, EndsReceiving, EndsReloading, EndsTaking, IsFound, RefusesToReceive}
+use Rattle.docker_desk.specs.Reading.{StopsInState, reading}
+use Rattle.docker_desk.specs.declared.compared.Compared.{Compared}
+use Rattle.docker_desk.specs.declared.compared.Compared.TheVariants as compared
 
--- a status that is not a device's, and no failure
+-- a status that isn't a device's counts no failure
 not_failed : (status before after : ℕ) → status ≢ 4 → after ≡ before → IsCounted status before after
 not_failed status before after other same =
     ((λ is. absurd (other is), λ rose. let never : ⊥ = omega (arith, same, rose) in absurd never), λ differs. same)
 
--- a device's status, and one failure
+-- a device's status counts one failure
 failed_once : (before after : ℕ) → after ≡ before + 1 → IsCounted 4 before after
 failed_once before after rose = ((λ is. rose, λ is. refl), λ differs. absurd (differs refl))
 
@@ -42,11 +45,11 @@ counted_back status first opened start read after same none counted back = (
 -- a file was taken, or refused
 pub takes : (left left_now : Bytes) (old new : State) (result : Result ⊤ OfficeFault)
     → IsTakingOutcome most_records (λ _. TakesFile most_records left old new) left left_now result → (IsErr result → new ≡ old)
-    → EndsTaking old new result (Some left)
-takes left left_now old new (Ok done) outcome kept = outcome.0
+    → EndsTaking old new result (Some (reading left left_now))
+takes left left_now old new (Ok done) outcome kept = record { takes = outcome.0; end = outcome.1 }
 takes left left_now old new (Err (office.File fault)) outcome kept = (outcome, kept refl)
 takes left left_now old new (Err office.Source) outcome kept = (tt, kept refl)
-takes left left_now old new (Err office.Memory) outcome kept = (tt, kept refl)
+takes left left_now old new (Err office.Memory) outcome kept = (outcome, kept refl)
 takes left left_now old new (Err (office.State fault)) outcome kept = absurd outcome
 takes left left_now old new (Err office.Lapsed) outcome kept = absurd outcome
 takes left left_now old new (Err office.Sink) outcome kept = absurd outcome
@@ -65,10 +68,10 @@ taking_counted before after (Err office.Sink) counted = absurd counted
 
 -- a state was refused
 pub refuses_to_receive : (left left_now : Bytes) (fault : OfficeFault)
-    → IsWhyUnread WantsMemory dks_2 most_bytes left left_now (why_unread fault) → RefusesToReceive left fault
+    → IsWhyUnread WantsMemory dks_2 most_bytes left left_now (why_unread fault) → RefusesToReceive (reading left left_now) fault
 refuses_to_receive left left_now (office.State fault) why = why
 refuses_to_receive left left_now office.Source why = tt
-refuses_to_receive left left_now office.Memory why = tt
+refuses_to_receive left left_now office.Memory why = why
 refuses_to_receive left left_now (office.File fault) why = why
 refuses_to_receive left left_now office.Lapsed why = why
 refuses_to_receive left left_now office.Sink why = why
@@ -76,14 +79,14 @@ refuses_to_receive left left_now office.Sink why = why
 -- a state was received, or refused
 pub receives : (left left_now : Bytes) (old new : State) (result : Result ⊤ OfficeFault)
     → IsOutcome WantsMemory why_unread dks_2 most_bytes (λ _. JoinsState dks_2 most_bytes left old new) left left_now result
-    → (IsErr result → new ≡ old) → EndsReceiving old new result (Some left)
+    → (IsErr result → new ≡ old) → EndsReceiving old new result (Some (reading left left_now))
 receives left left_now old new (Ok done) outcome kept = outcome
 receives left left_now old new (Err fault) outcome kept = (refuses_to_receive left left_now fault outcome, kept refl)
 
 -- a state was read, or refused
 pub reloads : (left left_now : Bytes) (new : State) (result : Result ⊤ OfficeFault)
     → IsOutcome WantsMemory why_unread dks_2 most_bytes (λ _. ReadsState dks_2 most_bytes left new) left left_now result
-    → EndsReloading new result (Some left)
+    → EndsReloading new result (Some (reading left left_now))
 reloads left left_now new (Ok done) outcome = outcome
 reloads left left_now new (Err fault) outcome = refuses_to_receive left left_now fault outcome
 
@@ -104,31 +107,43 @@ reading_counted before after (Err fault) counted = fault_counted before after fa
 
 -- ---- a state that was compared
 
--- if the copy of what was read is the text of the state, the source held this text
-pub held_text : (left left_now : Bytes) (copy : Text) (old new : State) → Reads left copy left_now → copy ≡ state_text dks_2 new
-    → AreGood dks_2 (at_end new) → JoinsState dks_2 most_bytes left old new → IsText left (state_text dks_2 new)
-held_text None left_now copy old new reads same good joins = tt
-held_text (Some text) None copy old new reads same good joins = let never : ⊥ = cc in absurd never
-held_text (Some text) (Some rest) copy old new reads same good joins =
-    let whole : text ≡ copy ++ rest = cc in
-    let is : text ≡ state_text dks_2 joins.received = joins.read.held ∙ joins.read.is.is in
-    let both = no_front dks_2 new joins.received rest good joins.read.is.valid (ap (λ (front : List ℕ). front ++ rest) (sym same) ∙ sym whole ∙ is) in
-    is ∙ ap (state_text dks_2) (sym both.0)
+-- what the copy was found to be, the source held
+found_held : (bytes : Bytes) (copy : Option Text) (found : Compared) (state : State) (left : Bytes) → IfSome copy (IsText bytes)
+    → ComparesCopy found copy (state_text dks_2 state) → IsFound found state (reading bytes left)
+found_held None copy compared.Same state left held is = tt
+found_held None copy compared.Other state left held is = tt
+found_held bytes copy compared.Unknown state left held is = tt
+found_held (Some text) (Some it) compared.Same state left held is = let same : it ≡ state_text dks_2 state = cc in held ∙ same
+found_held (Some text) None compared.Same state left held is = let never : ⊥ = cc in absurd never
+found_held (Some text) (Some it) compared.Other state left held is = λ same. is (sym held ∙ same)
+found_held (Some text) None compared.Other state left held is = absurd is
 
--- the same, of a copy that is there
-held_copy : {Z : Type 0} (left bytes left_now : Bytes) (copy : Option (Vec ℕ Z)) (old new : State)
-    → option_map (λ (it : Vec ℕ Z). it.items) copy ≡ Some (state_text dks_2 new) → left ≡ bytes → IfSome copy (λ it. Reads bytes it.items left_now)
-    → AreGood dks_2 (at_end new) → JoinsState dks_2 most_bytes left old new → IsText left (state_text dks_2 new)
-held_copy left bytes left_now None old new same whole read good joins = let never : ⊥ = cc in absurd never
-held_copy left bytes left_now (Some it) old new same whole read good joins =
-    let is : it.items ≡ state_text dks_2 new = cc in
-    held_text left left_now it.items old new (subst (λ (b : Bytes). Reads b it.items left_now) (sym whole) read) is good joins
+-- a source that was copied was read no further than decides
+pub stops_as : (held left seen seen_left : Bytes) → ReadsFewOfState dks_2 seen seen_left → seen ≡ held → left ≡ seen_left
+    → StopsInState (reading held left)
+stops_as held left seen seen_left stops same same_left =
+    subst (λ (bytes : Bytes). ReadsFewOfState dks_2 bytes left) same (subst (ReadsFewOfState dks_2 seen) (sym same_left) stops)
+
+-- and is refused as it is
+pub refuses_as : (held left seen seen_left : Bytes) (old new : State) (fault : OfficeFault)
+    → IsWhyUnread WantsMemory dks_2 most_bytes seen seen_left (why_unread fault) → new ≡ old → seen ≡ held → left ≡ seen_left
+    → EndsComparing old new (Err fault) (Some (reading held left))
+refuses_as held left seen seen_left old new fault why kept same same_left = (
+  refuses_to_receive held left fault
+      (subst (λ (bytes : Bytes). IsWhyUnread WantsMemory dks_2 most_bytes bytes left (why_unread fault)) same
+      (subst (λ (bytes : Bytes). IsWhyUnread WantsMemory dks_2 most_bytes seen bytes (why_unread fault)) (sym same_left) why)),
+  kept,
+)
+
+-- the copy, as its bytes
+copied : {Z : Type 0} (bytes : Bytes) (copy : Option (Vec ℕ Z)) → IfSome copy (λ it. IsText bytes it.items)
+    → IfSome (option_map (λ (it : Vec ℕ Z). it.items) copy) (IsText bytes)
+copied bytes None held = tt
+copied bytes (Some it) held = held
 
 -- a state was received, and what was held was compared with it
-pub compares : {Z : Type 0} (left bytes left_now : Bytes) (copy : Option (Vec ℕ Z)) (old new : State) (same : Bool)
-    → (same ≡ true → option_map (λ (it : Vec ℕ Z). it.items) copy ≡ Some (state_text dks_2 new)) → left ≡ bytes
-    → IfSome copy (λ it. Reads bytes it.items left_now) → AreGood dks_2 (at_end new) → JoinsState dks_2 most_bytes left old new
-    → EndsComparing old new (Ok tt) same (Some left)
-compares left bytes left_now copy old new true is whole read good joins =
-    (joins, held_copy left bytes left_now copy old new (is refl) whole read good joins)
-compares left bytes left_now copy old new false is whole read good joins = joins
+pub compares : {Z : Type 0} (held bytes left : Bytes) (copy : Option (Vec ℕ Z)) (old new : State) (found : Compared) → held ≡ bytes
+    → IfSome copy (λ it. IsText bytes it.items) → ComparesCopy found (option_map (λ (it : Vec ℕ Z). it.items) copy) (state_text dks_2 new)
+    → JoinsState dks_2 most_bytes held old new → EndsComparing old new (Ok found) (Some (reading held left))
+compares held bytes left copy old new found same whole is joins =
+    (joins, found_held held (option_map (λ it. it.items) copy) found new left (copied held copy (subst (λ (b : Bytes). IfSome copy (λ it. IsText b it.items)) (sym same) whole)) is)

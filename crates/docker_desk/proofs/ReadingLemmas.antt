@@ -8,7 +8,8 @@ use Rattle.docker_desk.specs.Lines.{AreLines, IsBadLine, IsNextLine, IsWithoutFe
 
 -- ---- the first line feed of a text
 
--- the line before it is the same, whichever way the text is split there, and so is the rest
+-- whichever way a text is split at its first line feed, the line before the line feed is the same,
+-- and the rest too
 one_split : (line other rest last : List ℕ) → IsWithoutFeed line → IsWithoutFeed other → line ++ 10 ∷ rest ≡ other ++ 10 ∷ last → (line ≡ other) × (rest ≡ last)
 one_split [] [] rest last first second same = (refl, cc)
 one_split [] (b ∷ other) rest last first second same = absurd (second.0 (cc))
@@ -22,7 +23,7 @@ one_split (a ∷ line) (b ∷ other) rest last first second same =
     both : (a b : ℕ) (line other : List ℕ) → a ≡ b → line ≡ other → a ∷ line ≡ b ∷ other
     both a b line other head tail = cc
 
--- a text without a line feed has no such split
+-- a text without a line feed can't be split at one
 no_split : (text line rest : List ℕ) → IsWithoutFeed text → ¬ (text ≡ line ++ 10 ∷ rest)
 no_split [] [] rest without same = let never : ⊥ = cc in never
 no_split [] (b ∷ line) rest without same = let never : ⊥ = cc in never
@@ -56,7 +57,7 @@ module _ (text rest last : List ℕ) where
   two_bad : IsBadLine text rest → IsBadLine text last → rest ≡ last
   two_bad first second = (one_split first.line second.line rest last first.one second.one (sym first.whole ∙ second.whole)).1
 
--- the next line is the same, whichever way it is read, and so is the rest
+-- whichever way a text is read, its next line is the same, and the rest too
 one_line : (text rest last : List ℕ) (line other : LineView) → IsNextLine text line rest → IsNextLine text other last → (line ≡ other) × (rest ≡ last)
 one_line text rest last (whole_line line) (whole_line other) first second = two_whole text rest last line other first second
 one_line text rest last (whole_line line) bad_line first second = absurd (not_both text rest last line first second)

@@ -67,17 +67,17 @@ no_verb may_write line word first none = λ request is.
     cc
 
 module _ (may_write : Bool) (line : List ℕ) (word : Text) (v : Verb) (first : word ≡ first_word line) (found : Some v ≡ verb_named word) where
-  -- its verb is the request's
+  -- the request's verb is the line's verb
   of_request : (request : RequestView) → IsRequestOf may_write line request → verb_of request ≡ v
   of_request request is =
       let one : Some v ≡ Some (verb_of request) = found ∙ ap verb_named (first ∙ is.name) ∙ named_back (verb_of request) in
       cc
 
-  -- a verb that isn't allowed asks for nothing
+  -- a line with a verb that isn't allowed asks for nothing
   pub not_allowed : ((is_writing v ≡ true → may_write ≡ true) → ⊥) → AsksFor may_write line None
   not_allowed never = λ request is. never (subst (λ u. is_writing u ≡ true → may_write ≡ true) (of_request request is) is.allowed)
 
-  -- a verb that is allowed asks for what its rest fits
+  -- a line with a verb that is allowed asks for the request that its other words fit
   pub asked_by : (rest : List ℕ) (request : Option RequestView) → rest ≡ behind_word line → (is_writing v ≡ true → may_write ≡ true) → FitsRest v rest request
       → AsksFor may_write line request
   asked_by rest None behind allowed fits = λ request is. fits request (of_request request is) (subst (HasRest request) (sym behind) is.rest)

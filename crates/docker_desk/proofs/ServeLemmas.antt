@@ -1,18 +1,21 @@
 -- How a session comes to its end.
 use Rattle.std.proofs.Common.{◌≡◌, ◌+◌, ℕ, Bool, List, ◌++◌, [], ◌∷◌, length, arith, inl, inr, Some, None, Ok, ap, subst, ◌∙◌, false}
-use Rattle.std.specs.Prelude.{Option, ◌&&◌}
+use Rattle.std.specs.Prelude.{Option, IfSome, ◌&&◌}
 use Rattle.cif_line.specs.Device.{Takes, TakesPart}
-use Rattle.docker_host.specs.History.{Bytes, Event, Text, looked}
+use Rattle.docker_host.specs.History.{Event, Text, looked}
 use Rattle.docker_host.specs.Host.{HostView}
 use Rattle.docker_desk.specs.Answering.{AnswersLines, CountsStreams}
-use Rattle.docker_desk.specs.Desk.{DeskView, IsCounted, LooksAndOpens, opening_of}
+use Rattle.docker_cmd.specs.FaultLine.{IsCounted}
+use Rattle.docker_host.specs.FaultSink.{FaultsView, TellsText, faults_of}
+use Rattle.docker_desk.specs.Desk.{DeskView}
+use Rattle.docker_desk.specs.Reading.{LooksAndOpens, Reading, StopsInState, opening_of}
 use Rattle.docker_desk.specs.declared.ending.Ending.{Ending}
 use Rattle.docker_desk.specs.Moments.{Moment, moment, setting}
-use Rattle.docker_desk.specs.Serving.{BeginsAt, EndsOpening, EndsWithStatus, NamesSession, Serves, Told, TellsText, told_by}
+use Rattle.docker_desk.specs.Serving.{BeginsAt, EndsOpening, EndsWithStatus, NamesSession, Serves}
 use Rattle.docker_desk.proofs.WritingLemmas.{both_taken, part_of_back, part_of_front}
 
--- two texts, one after the other
-pub tells_both : (first second piece behind : List ℕ) (old middle new : Told) → piece ≡ first → behind ≡ second → middle.failures ≡ old.failures
+-- if two texts are written one after the other, both are written
+pub tells_both : (first second piece behind : List ℕ) (old middle new : FaultsView) → piece ≡ first → behind ≡ second → middle.failures ≡ old.failures
     → Takes old.taken piece middle.taken → TellsText behind middle new → TellsText (first ++ second) old new
 tells_both first second piece behind old middle new one two sound whole tells = by (subst (λ text. TellsText text middle new) two tells)
   where
@@ -23,8 +26,8 @@ tells_both first second piece behind old middle new one two sound whole tells = 
     by (inl next) = inl (next.0 ∙ sound, both_taken old.taken middle.taken new.taken first second taken next.1)
     by (inr part) = inr (part.0 ∙ ap (λ n. n + 1) sound, part_of_back old.taken middle.taken new.taken first second taken part.1)
 
--- the first text in part
-pub tells_first : (first second piece : List ℕ) (old new : Told) → piece ≡ first → new.failures ≡ old.failures + 1 → TakesPart old.taken piece new.taken
+-- if a part of the first text is written, a part of both texts is written
+pub tells_first : (first second piece : List ℕ) (old new : FaultsView) → piece ≡ first → new.failures ≡ old.failures + 1 → TakesPart old.taken piece new.taken
     → TellsText (first ++ second) old new
 tells_first first second piece old new one failed part =
     inr (failed, part_of_front old.taken new.taken first second (subst (λ text. TakesPart old.taken text new.taken) one part))
@@ -33,25 +36,26 @@ tells_first first second piece old new one failed part =
 pub begins : {T : Type 0} (desk_in : T → DeskView) (name : Text) (old new : List Event) (made : T) (look failures : ℕ)
     → LooksAndOpens name (EndsOpening desk_in (Ok made)) old new → look ≡ length old
     → BeginsAt name old (moment (desk_in made) look new failures)
-begins desk_in name old new made look failures opens same = by opens.held opens.asked opens.ends
+begins desk_in name old new made look failures opens same = by opens.read opens.asked opens.stops opens.ends
   where
-    by : (held : Option Bytes) → new ≡ old ++ looked name ∷ opening_of name held ∷ [] → EndsOpening desk_in (Ok made) held
+    by : (read : Option Reading) → new ≡ old ++ looked name ∷ opening_of name read → IfSome read StopsInState → EndsOpening desk_in (Ok made) read
         → BeginsAt name old (moment (desk_in made) look new failures)
-    by (Some held) asked ends = record { held = held; asked = asked; state = ends.0; saved = ends.1; look = same }
-    by None asked ends = absurd ends.0
+    by (Some read) asked stops ends =
+        record { held = read.held; left = read.left; asked = asked; stops = stops; state = ends.0; saved = ends.1; look = same }
+    by None asked stops ends = absurd ends.0
 
--- a state that was read shows that the folder didn't fail
+-- if a state was read, the folder hasn't failed
 pub still : (before after : ℕ) → IsCounted 0 before after → after ≡ before
 still before after counted = counted.1 (λ four. omega arith)
 
--- the session was served
+-- if the lines were answered and the ending was reported, the session was served
 pub served : (words : List Text) (names_bytes : Bool) (old new : HostView) (status : ℕ) (name : Text) (may_write : Bool) (first last : Moment)
     (ending : Ending) (unsaved : Bool)
     → NamesSession words name may_write → BeginsAt name old.history first → first.failures ≡ old.folder_failures
     → AnswersLines (setting name may_write names_bytes) first last old.input old.output new.output ending
     → new.history ≡ last.history → new.folder_failures ≡ last.failures
     → CountsStreams ending old.input_failures new.input_failures old.output_failures new.output_failures
-    → (old.ended ≡ false → new.passed ≡ old.passed) → EndsWithStatus ending unsaved status (told_by old) (told_by new)
+    → (old.ended ≡ false → new.passed ≡ old.passed) → EndsWithStatus ending unsaved status (faults_of old) (faults_of new)
     → unsaved ≡ may_write && last.desk.unsaved → Serves words names_bytes old new status
 served words names_bytes old new status name may_write first last ending unsaved named begins none answers history failures counts not_passed ends same =
     inr (inr (record {
@@ -68,17 +72,17 @@ served words names_bytes old new status name may_write first last ending unsaved
       failures = failures;
       counts = counts;
       not_passed = not_passed;
-      ends = subst (λ (u : Bool). EndsWithStatus ending u status (told_by old) (told_by new)) same ends;
+      ends = subst (λ (u : Bool). EndsWithStatus ending u status (faults_of old) (faults_of new)) same ends;
     }))
 
--- the same, of a view that is another way to write the old one
+-- the same session, with the old view in another form
 pub served_as : (words : List Text) (names_bytes : Bool) (seen old new : HostView) (status : ℕ) (name : Text) (may_write : Bool) (first last : Moment)
     (ending : Ending) (unsaved : Bool) → seen ≡ old
     → NamesSession words name may_write → BeginsAt name seen.history first → first.failures ≡ seen.folder_failures
     → AnswersLines (setting name may_write names_bytes) first last seen.input seen.output new.output ending
     → new.history ≡ last.history → new.folder_failures ≡ last.failures
     → CountsStreams ending seen.input_failures new.input_failures seen.output_failures new.output_failures
-    → (seen.ended ≡ false → new.passed ≡ seen.passed) → EndsWithStatus ending unsaved status (told_by seen) (told_by new)
+    → (seen.ended ≡ false → new.passed ≡ seen.passed) → EndsWithStatus ending unsaved status (faults_of seen) (faults_of new)
     → unsaved ≡ may_write && last.desk.unsaved → Serves words names_bytes old new status
 served_as words names_bytes seen old new status name may_write first last ending unsaved is named begins none answers history failures counts not_passed ends same =
     subst (λ (host : HostView). Serves words names_bytes host new status) is

@@ -1,4 +1,4 @@
--- A session after some lines, and after one line more.
+-- A session after some lines, and after one more line.
 use Rattle.std.proofs.Common.{◌≡◌, ◌≢◌, ℕ, ◌+◌, ◌-◌, ◌^◌, ◌≤◌, List, [], ◌∷◌, ◌++◌, length, refl, sym, ◌∙◌, ap, subst, arith, append_assoc, append-nil, length-append, Some, None, Ok, Err, true, false, inl, inr}
 use Rattle.std.specs.Prelude.{Option, option_map, ◌⊎◌, ⊤}
 use Rattle.std.proofs.Math.Dec.{eqb}
@@ -11,7 +11,7 @@ use Rattle.docker_desk.specs.Lines.{AreLines, EndsLine, IsNextLine, LineView, Re
 use Rattle.docker_desk.specs.declared.lines.Asked.{Asked}
 use Rattle.docker_desk.specs.declared.lines.InputFault.{InputFault}
 use Rattle.docker_desk.specs.declared.lines.InputFault.TheVariants.{Endless}
-use Rattle.docker_desk.specs.Desk.{IsCounted}
+use Rattle.docker_cmd.specs.FaultLine.{IsCounted}
 use Rattle.docker_desk.specs.Replies.{AnswerView, bytes_told, no_request}
 use Rattle.docker_desk.specs.declared.ending.Ending.{Ending}
 use Rattle.docker_desk.specs.declared.ending.Ending.TheVariants.{Ended, InputFailed, InputEndless, OutputFailed}
@@ -26,12 +26,12 @@ abbrev pub ReadsFirst : DeviceBytes → List LineView → DeviceBytes → Type 0
 ReadsFirst None lines left = ⊤
 ReadsFirst (Some text) lines left = (rest : List ℕ) × (AreFirstLines text lines rest × (left ≡ Some rest))
 
--- nothing was read
+-- before the first line, the whole input is left
 pub reads_none : (input : DeviceBytes) → ReadsFirst input [] input
 reads_none None = tt
 reads_none (Some text) = (text, (refl, refl))
 
--- lines, and then more lines
+-- if an input begins with some lines, and the rest with others, the input begins with both
 first_lines_more : (text : List ℕ) (lines more : List LineView) (rest last : List ℕ) → AreFirstLines text lines rest → AreFirstLines rest more last
     → AreFirstLines text (lines ++ more) last
 first_lines_more text [] more rest last first then_more = subst (λ t. AreFirstLines t more last) first then_more
@@ -59,7 +59,7 @@ first_lines_some text (line ∷ lines) rest first =
     let one = line_is_some text line first.0 first.1.0 in let more = first_lines_some first.0 lines rest first.1.1 in omega (arith, one, more)
 
 module _ (old now : DeviceBytes) (lines : List LineView) where
-  -- after one line more
+  -- after one more line is read, the input began with the lines and this one
   pub reads_more : (new : DeviceBytes) (line : LineView) → ReadsFirst old lines now → ReadsNext now line new → ReadsFirst old (lines ++ line ∷ []) new
   reads_more new line = by old
     where
@@ -69,7 +69,7 @@ module _ (old now : DeviceBytes) (lines : List LineView) where
           let there : ReadsNext (Some first.0) line new = subst (λ d. ReadsNext d line new) first.1.1 next in
           (there.0, (first_lines_more text lines (line ∷ []) first.0 there.0 first.1.0 (there.0, (there.1.0, refl)), there.1.1))
 
-  -- the lines before, and then the lines that an input begins with
+  -- if the rest of an input begins with more lines, the input begins with all these lines
   pub begins_more : (more : List LineView) → ReadsFirst old lines now → BeginsWith now more → BeginsWith old (lines ++ more)
   begins_more more = by old
     where
@@ -79,7 +79,7 @@ module _ (old now : DeviceBytes) (lines : List LineView) where
           let there : BeginsWith (Some first.0) more = subst (λ d. BeginsWith d more) first.1.1 next in
           (there.0, first_lines_more text lines more first.0 there.0 first.1.0 there.1)
 
-  -- the lines before, and then all lines that are left
+  -- if the rest of an input has just some lines, the input has the lines before and these
   pub has_more : (more : List LineView) → ReadsFirst old lines now → HasLines now more → HasLines old (lines ++ more)
   has_more more = by old
     where
@@ -98,7 +98,7 @@ module _ (old now : DeviceBytes) (lines : List LineView) where
           let some = first_lines_some text lines first.0 first.1.0 in
           omega (arith, there, some)
 
-  -- an input of that many lines is endless
+  -- an input of 2 ^ 64 - 1 lines is endless
   pub endless_lines : ReadsFirst old lines now → length lines ≡ 2 ^ 64 - 1 → IsEndless old
   endless_lines = by old
     where
@@ -106,7 +106,7 @@ module _ (old now : DeviceBytes) (lines : List LineView) where
       by None first many = tt
       by (Some text) first many = let some = first_lines_some text lines first.0 first.1.0 in omega (arith, some, many)
 
-  -- the lines that were read are the first ones
+  -- an input begins with the lines that were read of it
   pub begins_so_far : ReadsFirst old lines now → BeginsWith old lines
   begins_so_far = by old
     where
@@ -114,7 +114,7 @@ module _ (old now : DeviceBytes) (lines : List LineView) where
       by None first = tt
       by (Some text) first = (first.0, first.1.0)
 
--- the line that was read
+-- the line that was read is the next line of the input
 pub next_read : (old new : DeviceBytes) (read : Asked) (line : LineView) → asked_meant read ≡ Some line → EndsLine old (Ok read) new → ReadsNext old line new
 next_read old new read line is ends = subst (λ (met : Option LineView). ReadsAsked old met new) is ends
 
@@ -122,7 +122,7 @@ next_read old new read line is ends = subst (λ (met : Option LineView). ReadsAs
 pub next_endless : (old new : DeviceBytes) (fault : InputFault) → fault ≡ Endless → EndsLine old (Err fault) new → ReadsMany (2 ^ 64 - 1) old new
 next_endless old new fault is ends = subst (λ (f : InputFault). EndsLine old (Err f) new) is ends
 
--- an input from which that number of bytes was read is endless
+-- an input from which 2 ^ 64 - 1 bytes were read is endless
 pub endless_line : (old new : DeviceBytes) → ReadsMany (2 ^ 64 - 1) old new → IsEndless old
 endless_line None new many = tt
 endless_line (Some text) new many = by new many.read
@@ -138,12 +138,12 @@ endless_line (Some text) new many = by new many.read
 
 -- ---- the output
 
--- taking nothing
+-- an output that takes no bytes is unchanged
 pub takes_none : (output : DeviceBytes) → Takes output [] output
 takes_none None = refl
 takes_none (Some taken) = ap Some (sym (append-nil taken))
 
--- taking one piece and then another is taking both
+-- an output that takes one piece and then another takes both
 pub takes_more : (old now new : DeviceBytes) (first second : List ℕ) → Takes old first now → Takes now second new → Takes old (first ++ second) new
 takes_more None now new first second one two = two ∙ ap (option_map (λ taken. taken ++ second)) one
 takes_more (Some taken) now new first second one two =
@@ -152,7 +152,7 @@ takes_more (Some taken) now new first second one two =
 -- ---- steps
 
 module _ (setting : Setting) where
-  -- steps, and then more steps
+  -- if steps lead to a moment, and others on from there, all of them lead on
   steps_more : (first now last : Moment) (steps more : List Step) → AreSteps setting first steps now → AreSteps setting now more last
       → AreSteps setting first (steps ++ more) last
   steps_more first now last [] more are then_more = subst (λ m. AreSteps setting m more last) are then_more
@@ -172,12 +172,12 @@ module _ (setting : Setting) where
     pub read : ReadsFirst input (lines_of steps) input_now
     pub told : Takes output (answers_told steps) output_now
 
-  -- before the first line
+  -- before the first line, the session has no step
   so_far_none : (first : Moment) (input output : DeviceBytes) → IsSoFar 0 first first input input output output
   so_far_none first input output =
       record { steps = []; many = refl; are = refl; read = reads_none input; told = takes_none output }
 
-  -- nothing was read ahead before the first line
+  -- before the first line nothing was read ahead
   pub so_far_first : (first : Moment) (ahead : List ℕ) (left output : DeviceBytes) → ahead ≡ [] → IsSoFar 0 first first left (with_ahead ahead left) output output
   so_far_first first ahead left output none =
       subst (λ bytes. IsSoFar 0 first first left (with_ahead bytes left) output output) (sym none)
@@ -195,12 +195,12 @@ module _ (setting : Setting) where
       → IsStep setting (step_of line before answer after does)
   is_step line before answer after does = record { asks = does.asks; does = does.does; counted = does.counted }
 
-  -- one step
+  -- a line that is answered is one step
   pub one_step : (line : LineView) (before : Moment) (answer : AnswerView) (after : Moment) → (does : DoesLine setting line before answer after)
       → AreSteps setting before (step_of line before answer after does ∷ []) after
   one_step line before answer after does = (refl, (is_step line before answer after does, refl))
 
-  -- after one line more
+  -- a session so far and one more answered line are a session so far
   so_far_more : (count : ℕ) (first now next : Moment) (input input_now input_next output output_now output_next : DeviceBytes)
       → IsSoFar count first now input input_now output output_now → ServesNext setting now next input_now input_next output_now output_next None
       → IsSoFar (count + 1) first next input input_next output output_next
@@ -218,7 +218,7 @@ module _ (setting : Setting) where
             (takes_more output output_now output_next (answers_told so_far.steps) (bytes_told answer) so_far.told told);
       }
 
-  -- after one line more, if the session doesn't end there
+  -- if the session doesn't end at the next line, the session so far has that line too
   pub so_far_on : (count : ℕ) (first now next : Moment) (input input_now input_next output output_now output_next : DeviceBytes) (result : Option Ending)
       → IsSoFar count first now input input_now output output_now → result ≡ None
       → ServesNext setting now next input_now input_next output_now output_next result
@@ -227,7 +227,7 @@ module _ (setting : Setting) where
       so_far_more count first now next input input_now input_next output output_now output_next so_far
       (subst (ServesNext setting now next input_now input_next output_now output_next) none serves)
 
-  -- the end of a session, with the lines before
+  -- a session that ends after further lines ends after all its lines
   ends_more : (ending : Ending) (count : ℕ) (first now : Moment) (input input_now output output_now output_last : DeviceBytes) (more : List Step)
       → (so_far : IsSoFar count first now input input_now output output_now) → EndsSession ending input_now more output_now output_last
       → EndsSession ending input (so_far.steps ++ more) output output_last
@@ -263,7 +263,7 @@ module _ (setting : Setting) where
       by InputEndless ends = (begins ends.0, (endless_more input input_now (lines_of so_far.steps) so_far.read ends.1.0, gained ends.1.1))
       by OutputFailed ends = (begins ends.0, breaks ends.1)
 
-  -- a session so far, and then the lines that end it
+  -- a session so far and the lines that end it are an ended session
   pub ended_after : (ending : Ending) (count : ℕ) (first now last : Moment) (input input_now output output_now output_last : DeviceBytes)
       → IsSoFar count first now input input_now output output_now → AnswersLines setting now last input_now output_now output_last ending
       → AnswersLines setting first last input output output_last ending
@@ -273,7 +273,7 @@ module _ (setting : Setting) where
     ends = ends_more ending count first now input input_now output output_now output_last answers.steps so_far answers.ends;
   }
 
-  -- a session with as many lines as make the input endless
+  -- a session with 2 ^ 64 - 1 lines ends, because the input is endless
   pub ended_endless : (count : ℕ) (first now : Moment) (input input_now output output_now : DeviceBytes) → count ≡ 2 ^ 64 - 1
       → IsSoFar count first now input input_now output output_now → AnswersLines setting first now input output output_now InputEndless
   ended_endless count first now input input_now output output_now full so_far = record {
@@ -294,7 +294,7 @@ module _ (setting : Setting) where
 -- ---- one line
 
 module _ (setting : Setting) (now next : Moment) (input input_now output output_now : DeviceBytes) where
-  -- a session that ends without a line
+  -- at the end of the input the session ends without another line
   pub ends_before : next ≡ now → IsEnd input → input_now ≡ input → output_now ≡ output → ServesNext setting now next input input_now output output_now (Some Ended)
   ends_before same end kept silent = record { steps = []; are = same; ends = (by input end, subst (Takes output []) (sym silent) (takes_none output)) }
     where
@@ -302,7 +302,7 @@ module _ (setting : Setting) (now next : Moment) (input input_now output output_
       by None end = tt
       by (Some text) end = end
 
-  -- no line
+  -- each input begins with no lines
   begins_none : (input : DeviceBytes) → BeginsWith input []
   begins_none None = tt
   begins_none (Some text) = (text, refl)
@@ -318,7 +318,7 @@ module _ (setting : Setting) (now next : Moment) (input input_now output output_
     ends = (begins_none input, (endless_line input input_now many, subst (Takes output []) (sym silent) (takes_none output)));
   }
 
-  -- a line that was answered in part
+  -- if an answer is written in part, the session ends at this line
   pub breaks_at : (line : LineView) (answer : AnswerView) → DoesLine setting line now answer next → ReadsNext input line input_now
       → TakesPart output (bytes_told answer) output_now
       → ServesNext setting now next input input_now output output_now (Some OutputFailed)
@@ -335,7 +335,7 @@ module _ (setting : Setting) (now next : Moment) (input input_now output output_
       begins_one None read = tt
       begins_one (Some text) read = (read.0, (read.0, (read.1.0, refl)))
 
-  -- a line whose line feed is missing, which is the last
+  -- at a line whose line feed is missing the session ends, because that line is the last
   pub ends_at_cut : (answer : AnswerView) → DoesLine setting cut_line now answer next → ReadsNext input cut_line input_now
       → Takes output (bytes_told answer) output_now
       → ServesNext setting now next input input_now output output_now (Some Ended)
@@ -349,7 +349,7 @@ module _ (setting : Setting) (now next : Moment) (input input_now output output_
       has_one None read = tt
       has_one (Some text) read = (read.0, (read.1.0, read.1.0.1))
 
-  -- after a line that isn't the last
+  -- after a line that isn't the last, the session goes on unless the output fails
   after_line : (line : LineView) (answer : AnswerView) (failures failures_now : ℕ) (result : Option Ending) → IsFollowed line → DoesLine setting line now answer next
       → ReadsNext input line input_now
       → TellsAnswer (bytes_told answer) None output output_now failures failures_now result
@@ -359,7 +359,7 @@ module _ (setting : Setting) (now next : Moment) (input input_now output output_
   after_line line answer failures failures_now result followed does read (inr part) =
       subst (ServesNext setting now next input input_now output output_now) (sym part.0) (breaks_at line answer does read part.1.0)
 
-  -- after a line whose bytes were passed on
+  -- after a whole line, whose bytes were passed on, the session goes on unless the output fails
   pub after_whole : (line passed : List ℕ) (answer : AnswerView) (failures failures_now : ℕ) (result : Option Ending) → passed ≡ line
       → DoesLine setting (whole_line passed) now answer next → ReadsNext input (whole_line line) input_now
       → TellsAnswer (bytes_told answer) None output output_now failures failures_now result
@@ -367,7 +367,7 @@ module _ (setting : Setting) (now next : Moment) (input input_now output output_
   after_whole line passed answer failures failures_now result same does read tells =
       after_line (whole_line line) answer failures failures_now result tt (subst (λ l. DoesLine setting (whole_line l) now answer next) same does) read tells
 
-  -- after a line whose line feed is missing
+  -- after a bad line the session goes on unless the output fails
   pub after_bad : (failures failures_now : ℕ) (result : Option Ending) → DoesLine setting bad_line now no_request next → ReadsNext input bad_line input_now
       → TellsAnswer (bytes_told no_request) None output output_now failures failures_now result
       → ServesNext setting now next input input_now output output_now result
@@ -382,16 +382,16 @@ module _ (setting : Setting) (now next : Moment) (input input_now output output_
   after_cut answer failures failures_now result does read (inr part) =
       subst (ServesNext setting now next input input_now output output_now) (sym part.0) (breaks_at cut_line answer does read part.1.0)
 
--- a line after which the session goes on is counted as no failure
+-- if the session goes on after a line, no stream failed at it
 pub counts_on : (result : Option Ending) (input input_now output output_now : ℕ) → result ≡ None → CountsNext result input input_now output output_now
     → (input_now ≡ input) × (output_now ≡ output)
 counts_on result input input_now output output_now none counts = subst (λ (r : Option Ending). CountsNext r input input_now output output_now) none counts
 
--- no device failed
+-- if no device failed and the status isn't a device's, no failure is counted
 counted_none : (status count : ℕ) → status ≢ 4 → IsCounted status count count
 counted_none status count other = ((λ four. absurd (other four), λ more. absurd (omega arith)), λ _. refl)
 
--- after a line the devices have failed at most once more
+-- a line adds at most one failure of a device
 pub counted_few : (status before after : ℕ) → IsCounted status before after → after ≤ before + 1
 counted_few status before after counted = by (eqb_tells status 4)
   where
@@ -399,7 +399,7 @@ counted_few status before after counted = by (eqb_tells status 4)
     by (inl four) = let once = counted.0.0 four.1 in omega (arith, once)
     by (inr other) = let never = counted.1 other.1 in omega (arith, never)
 
--- a line that isn't whole asks for nothing
+-- a bad line asks for nothing
 pub does_bad : (setting : Setting) (now : Moment) → DoesLine setting bad_line now no_request now
 does_bad setting now = record { request = None; asks = refl; does = (refl, refl); counted = counted_none 2 now.failures (λ four. omega arith) }
 

@@ -1,4 +1,4 @@
--- What the files that are known say of a train.
+-- What the known files say of a train.
 use Rattle.std.proofs.Common.{◌≤◌, ℕ, List, Some, subst}
 use Rattle.std.specs.Prelude.{Option, option_map}
 use Rattle.docker_model.specs.records.Date.{IsDay}
@@ -17,14 +17,14 @@ FoundCameFrom =
     (files : Files) (horizon : ℕ) (state : State) (uid : List ℕ) (day : ℕ) (found : Stamped) → IsSummary files horizon state
     → IsFoundFor state uid day (Some found) → CameFrom files found
 
--- what is found in a summary is what the plain table of its files has
+-- a schedule found in a summary is the one that the plain table of its files has
 abbrev pub FoundIsPlain : Type 0
 FoundIsPlain =
     (files : Files) (horizon : ℕ) (state : State) (table : Table) (uid : List ℕ) (day : ℕ) (found : Option Stamped) → IsSummary files horizon state
     → IsPlainTable files table → IsDay horizon → horizon ≤ day → IsFoundFor state uid day found
     → IsChosenOn table uid day (option_map (λ (it : Stamped). it.schedule) found)
 
--- the train of a state that is known came from a file that is known
+-- the schedule that a known state shows for a UID and a day came from a known file
 pub train_known : FoundCameFrom → FoundIsPlain → (known : Known) (state : State) (uid : List ℕ) (day : ℕ) (text : List ℕ) → IsKnown known state
     → IsTrainText state uid day text → state.horizon ≤ day → IsTrainOf known uid day text
 train_known came_from is_plain known state uid day text is train from = record {

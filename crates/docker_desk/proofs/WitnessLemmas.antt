@@ -13,7 +13,7 @@ use Rattle.docker_cmd.specs.OfficeFault.TheVariants as office
 use Rattle.docker_cmd.specs.FaultLine.{status_of}
 use Rattle.docker_cmd.specs.Prepared.{most_bytes}
 use Rattle.docker_cmd.specs.declared.fault.Fault.TheVariants.{Office}
-use Rattle.docker_host.specs.History.{Bytes, Event, Text, looked, opened, placed}
+use Rattle.docker_host.specs.History.{Bytes, Event, Text, closed, looked, opened, placed}
 use Rattle.docker_host.specs.Host.{HostView}
 use Rattle.docker_host.specs.Shelf.{IsShelfHistory}
 use Rattle.docker_desk.specs.Lines.{AreLines, LineView, whole_line}
@@ -30,11 +30,11 @@ use Rattle.docker_desk.proofs.ReadingLemmas.{one_reading}
 use Rattle.docker_desk.proofs.KnownLemmas.{one_read}
 use Rattle.state_laws.proofs.texts.ToldWithHorizon.{valid_is_told}
 
--- the line that is asked
+-- the line that asks for the files
 abbrev asked_line : List ℕ
 asked_line = codes "files"
 
--- what the output gains
+-- the output gains the answer without files, or the answer that memory ran out
 abbrev pub IsAnswered : Bytes → Type 0
 IsAnswered output = (output ≡ Some (codes "0 0 0\n")) ⊎ (output ≡ Some memory_told)
 
@@ -56,7 +56,7 @@ ended_well InputFailed unsaved none = let never : ⊥ = omega (arith, none) in a
 ended_well InputEndless unsaved none = let never : ⊥ = omega (arith, none) in absurd never
 ended_well OutputFailed unsaved none = let never : ⊥ = omega (arith, none) in absurd never
 
--- the words name this file
+-- if the words of a session are one word, this word names its file
 named_so : (word name : Text) (may_write : Bool) → word ∷ [] ≡ session_words name may_write → name ≡ word
 named_so word name false same = cc
 named_so word name true same = let never : ⊥ = cc in absurd never
@@ -67,11 +67,11 @@ named_so word name true same = let never : ⊥ = cc in absurd never
 one_line : AreLines (codes "files\n") (whole_line asked_line ∷ [])
 one_line = ([], (record { whole = refl; line_text = record { short = omega arith; printable = AllPass-from_list_all is_printable asked_line refl } }, refl))
 
--- it asks for the files
+-- the line asks for the files
 asks_files : (may_write : Bool) → IsRequestOf may_write asked_line files_request
 asks_files may_write = record { name = refl; rest = refl; allowed = λ writes. let never : ⊥ = cc in absurd never }
 
--- texts that begin with other bytes differ
+-- if two texts are equal, their first bytes are equal
 heads : (a b : ℕ) (front back : List ℕ) → a ∷ front ≡ b ∷ back → a ≡ b
 heads a b front back same = cc
 
@@ -111,12 +111,12 @@ answered output state no_request same is takes = absurd is
 -- ---- the state
 
 -- a shelf on which this text was placed and then opened
-held_there : (text name : Text) (held : Bytes) → name ≡ codes "S"
-    → IsShelfHistory (placed (codes "S") (Some text) ∷ looked name ∷ opened name held ∷ []) → held ≡ Some text
-held_there text name held same met =
-    (subst (λ (n : Text). IsShelfHistory (placed (codes "S") (Some text) ∷ looked n ∷ opened n held ∷ [])) same met).1.1.0.0
+held_there : (text name : Text) (held left : Bytes) → name ≡ codes "S"
+    → IsShelfHistory (placed (codes "S") (Some text) ∷ looked name ∷ opened name held ∷ closed left ∷ []) → held ≡ Some text
+held_there text name held left same met =
+    (subst (λ (n : Text). IsShelfHistory (placed (codes "S") (Some text) ∷ looked n ∷ opened n held ∷ closed left ∷ [])) same met).1.1.0.0
 
--- the state of no files, as a file holds it
+-- a file with the text of the state of no files holds this state
 holds_none : (text : List ℕ) → text ≡ state_text dks_2 no_state → length text ≤ 100 → IsValid no_state → HoldsState dks_2 most_bytes (Some text) no_state
 holds_none text is few valid = record {
   text = text;
@@ -128,7 +128,7 @@ holds_none text is few valid = record {
 
 module _ (text : List ℕ) (holds : HoldsState dks_2 most_bytes (Some text) no_state) (old : List Event) (output : Bytes)
     (before : old ≡ placed (codes "S") (Some text) ∷ []) where
-  -- one step
+  -- one answered line leads from the beginning of the session to its last moment
   one_step : (its : Setting) (first last : Moment) (step : Step) → BeginsAt its.name old first → its.name ≡ codes "S" → step.line ≡ whole_line asked_line
       → AreSteps its first (step ∷ []) last → IsShelfHistory last.history → Takes (Some []) (bytes_told step.answer ++ []) output → IsAnswered output
   one_step its first last step begins named line are met takes =
@@ -146,18 +146,18 @@ module _ (text : List ℕ) (holds : HoldsState dks_2 most_bytes (Some text) no_s
       same : last ≡ first
       same = are.1.1 ∙ does.1 ∙ are.0
 
-      history : last.history ≡ placed (codes "S") (Some text) ∷ looked its.name ∷ opened its.name begins.held ∷ []
+      history : last.history ≡ placed (codes "S") (Some text) ∷ looked its.name ∷ opened its.name begins.held ∷ closed begins.left ∷ []
       history = ap (λ (m : Moment). m.history) same ∙ begins.asked
-          ∙ ap (λ (events : List Event). events ++ looked its.name ∷ opened its.name begins.held ∷ []) before
+          ∙ ap (λ (events : List Event). events ++ looked its.name ∷ opened its.name begins.held ∷ closed begins.left ∷ []) before
 
       held : begins.held ≡ Some text
-      held = held_there text its.name begins.held named (subst IsShelfHistory history met)
+      held = held_there text its.name begins.held begins.left named (subst IsShelfHistory history met)
 
       read : first.desk.state ≡ no_state
       read = one_read most_bytes begins.held first.desk.state no_state begins.state
           (subst (λ (h : Bytes). HoldsState dks_2 most_bytes h no_state) (sym held) holds)
 
-  -- the steps of that one line
+  -- the session's steps are the one step of the line
   all_steps : (its : Setting) (first last : Moment) (steps : List Step) → BeginsAt its.name old first → its.name ≡ codes "S"
       → lines_of steps ≡ whole_line asked_line ∷ [] → AreSteps its first steps last → IsShelfHistory last.history
       → Takes (Some []) (answers_told steps) output → IsAnswered output
@@ -166,7 +166,8 @@ module _ (text : List ℕ) (holds : HoldsState dks_2 most_bytes (Some text) no_s
       let line : step.line ≡ whole_line asked_line = cc in one_step its first last step begins named line are met takes
   all_steps its first last (step ∷ next ∷ steps) begins named lines are met takes = let never : ⊥ = cc in absurd never
 
--- the session of that line
+-- a session on the state of no files, with this line as its input, answers that there are no files,
+-- or that memory ran out
 pub files_answered : (text : List ℕ) (old new : HostView) (status : ℕ) → HoldsState dks_2 most_bytes (Some text) no_state
     → old.history ≡ placed (codes "S") (Some text) ∷ [] → old.input ≡ Some (codes "files\n") → old.output ≡ Some []
     → IsShelfHistory new.history → status ≡ 0 → Serves (codes "S" ∷ []) true old new status → IsAnswered new.output
@@ -210,7 +211,7 @@ bytes_answered taken (inr refused) = inr (unsome taken memory_told refused)
     unsome : (one two : List ℕ) → Some one ≡ Some two → one ≡ two
     unsome one two equal = cc
 
--- the session, with a view that is another way to write the new one
+-- the same session, with the new view in another form
 pub files_told : (text : List ℕ) (old seen new : HostView) (status : ℕ) (taken : List ℕ) → Serves (codes "S" ∷ []) true old new status → seen ≡ new
     → text ≡ state_text dks_2 no_state → length text ≤ 100 → IsValid no_state → old.history ≡ placed (codes "S") (Some text) ∷ []
     → old.input ≡ Some (codes "files\n") → old.output ≡ Some [] → IsShelfHistory seen.history → status ≡ 0 → seen.output ≡ Some taken

@@ -1,4 +1,4 @@
--- The words of a line: the first word, and the others.
+-- The words of a line: the first word, and the words after it.
 use Rattle.std.proofs.Common.{◌≡◌, ◌≢◌, ℕ, ◌+◌, ◌<◌, List, [], ◌∷◌, ◌++◌, length, take, drop, ap, ◌∙◌, refl, sym, subst, Bool, true, false, cond, suc, arith, rules, tests, append-nil, length-drop}
 use Rattle.std.specs.Prelude.{◌==◌, not, filter}
 use Rattle.std.specs.List.{slice_split, position_or_len, before_first, after_first, AllByRecursion}
@@ -59,7 +59,7 @@ no_byte (x ∷ xs) none = absurd (omega arith)
 
 -- ---- the spaces that a text begins with
 
--- these spaces make no word
+-- the spaces at the start of a text make no word
 words_behind_spaces : (text : List ℕ) → words_in text ≡ words_in (without_spaces text)
 words_behind_spaces [] = refl
 words_behind_spaces (b ∷ text) = by (is_space b) refl (words_behind_spaces text)
@@ -69,7 +69,7 @@ words_behind_spaces (b ∷ text) = by (is_space b) refl (words_behind_spaces tex
     by false here rest = refl
     by true here rest = ap (filter (λ word. not (length word == 0))) (slice_split-cons_yes is_space b text here) ∙ rest
 
--- after them comes a word, or nothing
+-- after the spaces at the start of a text comes a word, or nothing
 word_leads : (text : List ℕ) → without_spaces text ≢ [] → 0 < position_or_len is_space (without_spaces text)
 word_leads [] some = absurd (some refl)
 word_leads (b ∷ text) some = by (is_space b) refl some (word_leads text)
@@ -82,7 +82,7 @@ word_leads (b ∷ text) some = by (is_space b) refl some (word_leads text)
 
 -- ---- the first word
 
--- if a space comes after it, the words are this word and the words after the space
+-- if a space comes after the first word, the words are the first word and the words after the space
 pub words_cut : (text : List ℕ) → without_spaces text ≢ [] → position_or_len is_space (without_spaces text) < length (without_spaces text)
     → words_in text ≡ first_word text ∷ words_in (behind_word text)
 words_cut text some here =
@@ -96,7 +96,7 @@ words_cut text some here =
     long = let leads = word_leads text some in
         let size = length-take-le (position_or_len is_space rest) rest (omega (arith, here)) in omega (arith, leads, size)
 
--- if no space comes after it, it is the only word
+-- if no space comes after the first word, it is the only word
 pub words_last : (text : List ℕ) → without_spaces text ≢ [] → position_or_len is_space (without_spaces text) ≡ length (without_spaces text)
     → (words_in text ≡ without_spaces text ∷ words_in []) × ((first_word text ≡ without_spaces text) × (behind_word text ≡ []))
 words_last text some end = (words_behind_spaces text ∙ without_space rest end ∙ some_word rest long, (first, behind))
@@ -117,7 +117,7 @@ words_last text some end = (words_behind_spaces text ∙ without_space rest end 
     behind : without_spaces (after_first is_space rest) ≡ []
     behind = nothing (after_first is_space rest) (let size = length-drop (position_or_len is_space rest + 1) rest in omega (arith, size, end))
 
--- like `words_cut`, for a text that was stripped and then cut
+-- as in `words_cut`, for a text that was stripped and then cut
 pub words_cut_as : (text rest word behind more : List ℕ) → rest ≡ without_spaces text → rest ≢ [] → position_or_len is_space rest < length rest
     → word ≡ before_first is_space rest → behind ≡ after_first is_space rest → more ≡ without_spaces behind → words_in text ≡ word ∷ words_in more
 words_cut_as text rest word behind more stripped some here first after last =
@@ -125,7 +125,7 @@ words_cut_as text rest word behind more stripped some here first after last =
     (sym stripped) (words_cut text) some here
     ∙ (λ i. sym first i ∷ words_in (sym (last ∙ ap without_spaces after) i))
 
--- like `words_last`, for a text that was stripped
+-- as in `words_last`, for a text that was stripped
 pub words_last_as : (text rest : List ℕ) → rest ≡ without_spaces text → rest ≢ [] → position_or_len is_space rest ≡ length rest → words_in text ≡ rest ∷ []
 words_last_as text rest stripped some end =
     subst (λ r. r ≢ [] → position_or_len is_space r ≡ length r → words_in text ≡ r ∷ words_in []) (sym stripped) (λ some end. (words_last text some end).0) some end

@@ -30,7 +30,7 @@ part_of_back first second third front back one (n, short, taken) =
           (both_taken first second third front (take n back) one taken),
     )
 
--- what was taken of a text before, and the piece that comes next in it
+-- if the start of a text was taken, and then its next piece, the longer start was taken
 pub matched : (text piece taken : List ℕ) (at : ℕ) → slice_range text at (at + length piece) ≡ piece → take at text ≡ taken
     → take (at + length piece) text ≡ taken ++ take (length piece) piece
 matched text piece taken at same front = take-add at (length piece) text ∙ (λ i. front i ++ next i)

@@ -1,5 +1,5 @@
 -- What a desk knows, and what each request makes of it.
-use Rattle.std.specs.Prelude.{◌≡◌, ◌<◌, ℕ, Bool, true, false, List, [], ◌∷◌, ◌++◌, Option, Some, None, Result, Ok, Err, ⊤}
+use Rattle.std.specs.Prelude.{◌≡◌, ◌≢◌, ◌<◌, ℕ, Bool, true, false, List, [], ◌∷◌, ◌++◌, Option, Some, None, Result, Ok, Err, ⊤}
 use Rattle.docker_model.specs.file.File.{most_records}
 use Rattle.docker_model.specs.state.State.{State, live_table}
 use Rattle.docker_model.specs.state.StateText.{dks_2, state_text}
@@ -12,17 +12,16 @@ use Rattle.docker_train.specs.TrainText.{IsTrainText}
 use Rattle.docker_cmd.specs.SourceRead.{JoinsState, ReadsState, RefusesState}
 use Rattle.state_lists.specs.Known.{IsKnownText}
 use Rattle.state_lists.specs.Places.{IsPlacesText}
-use Rattle.docker_cmd.specs.Office.{TakesFile}
+use Rattle.docker_cmd.specs.Office.{TakesFile, WantsForFile}
 use Rattle.docker_cmd.specs.OfficeFault.{OfficeFault}
 use Rattle.docker_cmd.specs.OfficeFault.TheVariants as office
-use Rattle.docker_cmd.specs.Prepared.{most_bytes}
-use Rattle.docker_cmd.specs.FaultLine.{status_of}
-use Rattle.docker_cmd.specs.declared.fault.Fault.TheVariants.{Office}
-use Rattle.cif_line.specs.Device.{CountsFailure}
-use Rattle.docker_host.specs.declared.folder.OpenFault.{OpenFault}
-use Rattle.docker_host.specs.declared.folder.OpenFault.TheVariants as opening
-use Rattle.docker_host.specs.History.{Bytes, Event, IsText, Text, drafted, looked, named_if, opened, placed, unopened}
+use Rattle.docker_cmd.specs.Prepared.{WantsForState, most_bytes}
+use Rattle.cif_line.specs.Device.{IsEnd}
+use Rattle.docker_host.specs.History.{Bytes, Event, IsText, Text, drafted, looked, named_if, placed}
 use Rattle.docker_host.specs.Asked.{FailsToStore, IsStored, IsUndrafted}
+use Rattle.docker_desk.specs.Reading.{HasOpened, Reading}
+use Rattle.docker_desk.specs.declared.compared.Compared.{Compared}
+use Rattle.docker_desk.specs.declared.compared.Compared.TheVariants as compared
 use Rattle.docker_desk.specs.Replies.{AnswerView, done_with, refused_for, no_request}
 
 -- the state that a desk knows, and whether it may differ from the one that the state's file was
@@ -96,25 +95,6 @@ IsKnownAnswer state no_request = ⊥
 
 -- ---- what is read
 
--- the event of opening the named file: it was opened and held these bytes, or it couldn't be opened
-abbrev pub opening_of : Text → Option Bytes → Event
-opening_of name (Some bytes) = opened name bytes
-opening_of name None = unopened name
-
--- the named file was opened once. `Ends` holds of the bytes that it held then, or of `None` if it
--- couldn't be opened
-pub record OpensOnce (name : Text) (Ends : Option Bytes → Type 0) (old new : List Event) : Type 0 where
-  pub held : Option Bytes
-  pub asked : new ≡ old ++ opening_of name held ∷ []
-  pub ends : Ends held
-
--- the named file was looked at, and then opened once. `Ends` holds of the bytes that it held then,
--- or of `None` if it couldn't be opened
-pub record LooksAndOpens (name : Text) (Ends : Option Bytes → Type 0) (old new : List Event) : Type 0 where
-  pub held : Option Bytes
-  pub asked : new ≡ old ++ looked name ∷ opening_of name held ∷ []
-  pub ends : Ends held
-
 -- why a file isn't opened: its device failed, or memory ran out
 abbrev pub IsWhyUnopened : OfficeFault → Type 0
 IsWhyUnopened office.Source = ⊤
@@ -124,72 +104,93 @@ IsWhyUnopened (office.State fault) = ⊥
 IsWhyUnopened office.Lapsed = ⊥
 IsWhyUnopened office.Sink = ⊥
 
--- why a file that held this isn't taken: its text is refused, its device failed, or memory ran out,
--- perhaps before a byte was read
-abbrev pub RefusesToTake : Bytes → OfficeFault → Type 0
-RefusesToTake held (office.File fault) = RefusesText most_records held fault
-RefusesToTake held office.Source = ⊤
-RefusesToTake held office.Memory = ⊤
-RefusesToTake held (office.State fault) = ⊥
-RefusesToTake held office.Lapsed = ⊥
-RefusesToTake held office.Sink = ⊥
+-- why a file of which this was read isn't taken: its text is refused, its device failed, or memory
+-- ran out. Then no record up to there is at fault
+abbrev pub RefusesToTake : Reading → OfficeFault → Type 0
+RefusesToTake read (office.File fault) = RefusesText most_records read.held fault
+RefusesToTake read office.Source = ⊤
+RefusesToTake read office.Memory = WantsForFile most_records read.held read.left
+RefusesToTake read (office.State fault) = ⊥
+RefusesToTake read office.Lapsed = ⊥
+RefusesToTake read office.Sink = ⊥
 
--- why no state is received from a file that held this: its text is refused, its device failed, or
--- memory ran out, perhaps before a byte was read
-abbrev pub RefusesToReceive : Bytes → OfficeFault → Type 0
-RefusesToReceive held (office.State fault) = RefusesState dks_2 most_bytes held fault
-RefusesToReceive held office.Source = ⊤
-RefusesToReceive held office.Memory = ⊤
-RefusesToReceive held (office.File fault) = ⊥
-RefusesToReceive held office.Lapsed = ⊥
-RefusesToReceive held office.Sink = ⊥
+-- why no state is received from a file of which this was read: its text is refused, its device
+-- failed, or memory ran out. Then no part up to there is bad
+abbrev pub RefusesToReceive : Reading → OfficeFault → Type 0
+RefusesToReceive read (office.State fault) = RefusesState dks_2 most_bytes read.held fault
+RefusesToReceive read office.Source = ⊤
+RefusesToReceive read office.Memory = WantsForState dks_2 read.held read.left
+RefusesToReceive read (office.File fault) = ⊥
+RefusesToReceive read office.Lapsed = ⊥
+RefusesToReceive read office.Sink = ⊥
 
--- a file was opened, and this holds of what it held
-abbrev pub HasOpened : (Bytes → Type 0) → Option Bytes → Type 0
-HasOpened Holds (Some held) = Holds held
-HasOpened Holds None = ⊥
-
--- why a file isn't read: it wasn't opened; or it was, and `Refuses` holds of what it held and of
--- the fault
-abbrev pub IsWhyNot : (Bytes → OfficeFault → Type 0) → OfficeFault → Option Bytes → Type 0
-IsWhyNot Refuses fault (Some held) = Refuses held fault
+-- why a file isn't read: it wasn't opened; or it was, and `Refuses` holds for the reading and the
+-- fault
+abbrev pub IsWhyNot : (Reading → OfficeFault → Type 0) → OfficeFault → Option Reading → Type 0
+IsWhyNot Refuses fault (Some read) = Refuses read fault
 IsWhyNot Refuses fault None = IsWhyUnopened fault
 
--- how taking a file ends, by what the file held if it was opened. If it was refused, the state is
--- unchanged
-abbrev pub EndsTaking : State → State → Result ⊤ OfficeFault → Option Bytes → Type 0
-EndsTaking old new (Ok done) held = HasOpened (λ bytes. TakesFile most_records bytes old new) held
-EndsTaking old new (Err fault) held = IsWhyNot RefusesToTake fault held × (new ≡ old)
+-- the file was read to its end, and the state was joined with the file's
+pub record TakesReading (old new : State) (read : Reading) : Type 0 where
+  pub takes : TakesFile most_records read.held old new
+  pub end : IsEnd read.left
 
--- how receiving the state of a file ends, by what the file held if it was opened. If it was
+-- how taking a file ends, by what was read of the file if it was opened. If it was refused, the
+-- state is unchanged
+abbrev pub EndsTaking : State → State → Result ⊤ OfficeFault → Option Reading → Type 0
+EndsTaking old new (Ok done) read = HasOpened (TakesReading old new) read
+EndsTaking old new (Err fault) read = IsWhyNot RefusesToTake fault read × (new ≡ old)
+
+-- how receiving the state of a file ends, by what was read of the file if it was opened. If it was
 -- refused, the state is unchanged
-abbrev pub EndsReceiving : State → State → Result ⊤ OfficeFault → Option Bytes → Type 0
-EndsReceiving old new (Ok done) held =
-    HasOpened (λ bytes. JoinsState dks_2 most_bytes bytes old new) held
-EndsReceiving old new (Err fault) held = IsWhyNot RefusesToReceive fault held × (new ≡ old)
+abbrev pub EndsReceiving : {A : Type 0} → State → State → Result A OfficeFault → Option Reading
+    → Type 0
+EndsReceiving old new (Ok done) read =
+    HasOpened (λ it. JoinsState dks_2 most_bytes it.held old new) read
+EndsReceiving old new (Err fault) read = IsWhyNot RefusesToReceive fault read × (new ≡ old)
 
--- how reading the state of a file ends, by what the file held if it was opened
-abbrev pub EndsReloading : State → Result ⊤ OfficeFault → Option Bytes → Type 0
-EndsReloading new (Ok done) held = HasOpened (λ bytes. ReadsState dks_2 most_bytes bytes new) held
-EndsReloading new (Err fault) held = IsWhyNot RefusesToReceive fault held
+-- how reading the state of a file ends, by what was read of the file if it was opened
+abbrev pub EndsReloading : State → Result ⊤ OfficeFault → Option Reading → Type 0
+EndsReloading new (Ok done) read = HasOpened (λ it. ReadsState dks_2 most_bytes it.held new) read
+EndsReloading new (Err fault) read = IsWhyNot RefusesToReceive fault read
 
--- the file was opened and, if its bytes can be named, held the text of this state
-abbrev pub HoldsTextOf : State → Option Bytes → Type 0
-HoldsTextOf state held = HasOpened (λ bytes. IsText bytes (state_text dks_2 state)) held
+-- ---- what is compared
 
--- how receiving the state of a file ends. If `same`, the file held the text of the state that the
--- office has after that
-abbrev pub EndsComparing : State → State → Result ⊤ OfficeFault → (same : Bool) → Option Bytes → Type 0
-EndsComparing old new result true held =
-    EndsReceiving old new result held × HoldsTextOf new held
-EndsComparing old new result false held = EndsReceiving old new result held
+-- the bytes are another text, if they are named
+abbrev pub IsOtherText : Bytes → Text → Type 0
+IsOtherText None text = ⊤
+IsOtherText (Some bytes) text = bytes ≢ text
 
--- what a desk knows after renewing from its state's file. Nothing is unsaved only if the file held
--- the text of the state that the desk has then. A refusal changes nothing
-abbrev pub EndsRenewing : DeskView → DeskView → Result ⊤ OfficeFault → Option Bytes → Type 0
-EndsRenewing old new (Ok done) held = EndsReceiving old.state new.state (Ok done) held
-    × (new.unsaved ≡ false → HoldsTextOf new.state held)
-EndsRenewing old new (Err fault) held = IsWhyNot RefusesToReceive fault held × (new ≡ old)
+-- what was found out of a file: it held the text of this state, or another text, if its bytes can
+-- be named; or nothing was found out
+abbrev pub IsFound : Compared → State → Reading → Type 0
+IsFound compared.Same state read = IsText read.held (state_text dks_2 state)
+IsFound compared.Other state read = IsOtherText read.held (state_text dks_2 state)
+IsFound compared.Unknown state read = ⊤
+
+-- how receiving the state of a file ends, and whether the file held the text of the state that the
+-- office has after that, if it was found out
+abbrev pub EndsComparing : State → State → Result Compared OfficeFault → Option Reading → Type 0
+EndsComparing old new (Ok found) read =
+    EndsReceiving old new (Ok found) read × HasOpened (IsFound found new) read
+EndsComparing old new (Err fault) read = EndsReceiving {A = Compared} old new (Err fault) read
+
+-- the unsaved flag after a renewal: not set exactly if the file was found to hold the text of the
+-- state
+abbrev pub unsaved_if : Compared → Bool
+unsaved_if compared.Same = false
+unsaved_if compared.Other = true
+unsaved_if compared.Unknown = true
+
+-- what a desk knows after renewing from its state's file. Something is unsaved exactly if the file
+-- wasn't found to hold the text of the state that the desk has then. A refusal changes nothing
+abbrev pub EndsRenewing : DeskView → DeskView → Result Compared OfficeFault → Option Reading
+    → Type 0
+EndsRenewing old new (Ok found) read =
+    EndsComparing old.state new.state (Ok found) read × (new.unsaved ≡ unsaved_if found)
+EndsRenewing old new (Err fault) read = IsWhyNot RefusesToReceive fault read × (new ≡ old)
+
+-- ---- what is unsaved
 
 -- the unsaved flag after a request that may change what is known: set if it was done, unchanged if
 -- it was refused
@@ -198,7 +199,7 @@ unsaved_by (Ok done) unsaved = true
 unsaved_by (Err fault) unsaved = unsaved
 
 -- the number of the look after a request: `look` if it was done, otherwise the one before
-abbrev pub look_by : Result ⊤ OfficeFault → ℕ → ℕ → ℕ
+abbrev pub look_by : {A : Type 0} → Result A OfficeFault → ℕ → ℕ → ℕ
 look_by (Ok done) look before = look
 look_by (Err fault) look before = before
 
@@ -225,19 +226,3 @@ EndsSaving names_bytes name look text old new (Ok done) =
     new ≡ old ++ drafted name look ∷ placed name (named_if names_bytes text) ∷ looked name ∷ []
 EndsSaving names_bytes name look text old new (Err fault) =
     EndsStoring names_bytes name look text old new (Err fault)
-
--- ---- faults
-
--- how often a device failed, before and after: once more exactly if the status is 4
-abbrev pub IsCounted : (status before after : ℕ) → Type 0
-IsCounted status before after = CountsFailure (status ≡ 4) before after
-
--- the exit status for an office's result: 0, or the fault's status
-abbrev pub result_status : {A : Type 0} → Result A OfficeFault → ℕ
-result_status (Ok answer) = 0
-result_status (Err fault) = status_of (Office fault)
-
--- the office's fault for a file that wasn't opened
-abbrev pub fault_of_opening : OpenFault → OfficeFault
-fault_of_opening opening.Failed = office.Source
-fault_of_opening opening.Memory = office.Memory

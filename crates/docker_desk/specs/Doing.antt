@@ -2,27 +2,31 @@
 use Rattle.std.specs.Prelude.{◌≡◌, ℕ, ◌+◌, Bool, true, false, List, [], ◌∷◌, length, Option, Some, None, Result, Ok, Err, ⊤}
 use Rattle.docker_model.specs.state.State.{State, raise_horizon}
 use Rattle.docker_model.specs.state.StateText.{dks_2, state_text}
+use Rattle.docker_cmd.specs.FaultLine.{IsCounted}
 use Rattle.docker_cmd.specs.JobLine.{IsLineText}
 use Rattle.docker_cmd.specs.OfficeFault.{OfficeFault}
-use Rattle.docker_host.specs.History.{Bytes, Text}
+use Rattle.docker_host.specs.History.{Text}
 use Rattle.docker_desk.specs.Lines.{LineView, whole_line, bad_line, cut_line}
 use Rattle.docker_desk.specs.Requests.{AsksFor, RequestView, print_request, permanent_request, train_request, files_request, places_request, known_request, renew_request, take_request, merge_request, horizon_request, save_request}
-use Rattle.docker_desk.specs.Desk.{DeskView, EndsReceiving, EndsRenewing, EndsSaving, EndsTaking, IsCounted, IsDockerAnswer, IsFilesAnswer, IsKnownAnswer, IsPermanentAnswer, IsPlacesAnswer, IsTrainAnswer, LooksAndOpens, OpensOnce, look_by, unsaved_by}
+use Rattle.docker_desk.specs.Desk.{DeskView, EndsReceiving, EndsRenewing, EndsSaving, EndsTaking, IsDockerAnswer, IsFilesAnswer, IsKnownAnswer, IsPermanentAnswer, IsPlacesAnswer, IsTrainAnswer, look_by, unsaved_by}
+use Rattle.docker_desk.specs.Reading.{LooksAndOpens, OpensOnce, Reading, StopsInFile, StopsInState}
+use Rattle.docker_desk.specs.declared.compared.Compared.{Compared}
 use Rattle.docker_desk.specs.Replies.{AnswerView, done_with, no_request, refused_for, status_told}
 use Rattle.docker_desk.specs.Moments.{Moment, Setting, Step}
 
 -- the answer to a request that was done and has no text, or was refused
-abbrev pub answer_of : Result ⊤ OfficeFault → AnswerView
+abbrev pub answer_of : {A : Type 0} → Result A OfficeFault → AnswerView
 answer_of (Ok done) = done_with []
 answer_of (Err fault) = refused_for fault
 
 -- a request to take a file or to receive a state. The named file is opened once, and what it held
 -- then decides how the request ends
-pub record Joins (name : Text) (Ends : State → State → Result ⊤ OfficeFault → Option Bytes → Type 0)
+pub record Joins (name : Text) (Stops : Reading → Type 0)
+    (Ends : State → State → Result ⊤ OfficeFault → Option Reading → Type 0)
     (before : Moment) (answer : AnswerView) (after : Moment) : Type 0 where
   pub result : Result ⊤ OfficeFault
   pub told : answer ≡ answer_of result
-  pub opens : OpensOnce name (Ends before.desk.state after.desk.state result) before.history
+  pub opens : OpensOnce name Stops (Ends before.desk.state after.desk.state result) before.history
       after.history
   pub unsaved : after.desk.unsaved ≡ unsaved_by result before.desk.unsaved
   pub look : after.look ≡ before.look
@@ -32,7 +36,7 @@ pub record Joins (name : Text) (Ends : State → State → Result ⊤ OfficeFaul
 -- before this opening
 pub record Renews (setting : Setting) (before : Moment) (answer : AnswerView) (after : Moment)
     : Type 0 where
-  pub result : Result ⊤ OfficeFault
+  pub result : Result Compared OfficeFault
   pub told : answer ≡ answer_of result
   pub opens : LooksAndOpens setting.name (EndsRenewing before.desk after.desk result)
       before.history after.history
@@ -76,9 +80,9 @@ DoesRequest setting known_request before answer after =
     IsKnownAnswer before.desk.state answer × (after ≡ before)
 DoesRequest setting renew_request before answer after = Renews setting before answer after
 DoesRequest setting (take_request file) before answer after =
-    Joins file EndsTaking before answer after
+    Joins file StopsInFile EndsTaking before answer after
 DoesRequest setting (merge_request other) before answer after =
-    Joins other EndsReceiving before answer after
+    Joins other StopsInState EndsReceiving before answer after
 DoesRequest setting (horizon_request day) before answer after =
     (answer ≡ done_with []) × (after ≡ with_horizon day before)
 DoesRequest setting save_request before answer after = Saves setting before answer after

@@ -14,13 +14,15 @@ use Rattle.docker_model.specs.run.Knowledge.{IsGoodKnown}
 use Rattle.docker_train.specs.TrainText.{Stamped, train_text}
 use Rattle.docker_train.specs.Origin.{CameFrom}
 use Rattle.docker_cmd.specs.Office.{HoldsState, TakesFile}
+use Rattle.docker_cmd.specs.Saved.{Gain, HoldsFile, HoldsVersion, IsSaved, file_gained, horizon_gained, version_gained}
 use Rattle.docker_cmd.specs.SourceRead.{JoinsState}
 use Rattle.docker_cmd.specs.Prepared.{most_bytes}
-use Rattle.docker_host.specs.History.{Bytes, Event, Text, drafted, looked, named_if, opened, placed}
+use Rattle.docker_host.specs.History.{Event, Text, drafted, looked, named_if, placed}
 use Rattle.docker_desk.specs.Requests.{RequestView, print_request, permanent_request, train_request, files_request, places_request, known_request, renew_request, take_request, merge_request, horizon_request, save_request}
 use Rattle.docker_desk.specs.Replies.{AnswerView, done_with, no_request, refused_for}
 use Rattle.docker_desk.specs.Moments.{Moment, Setting, Step}
 use Rattle.docker_desk.specs.Doing.{AreSteps}
+use Rattle.docker_desk.specs.Reading.{Reading, events_of}
 
 -- the state is the summary of what is known: of files, under a horizon
 pub record IsKnown (known : Known) (state : State) : Type 0 where
@@ -36,27 +38,23 @@ KeepsAs state table = (place : List ℕ) (day : ℕ) (text : List ℕ) → ¬ Is
 -- the named file was opened and held an extract that was taken. This extract is what was heard,
 -- without a horizon
 pub record HearsFile (name : Text) (before after : Moment) (heard : Known) : Type 0 where
-  pub held : Bytes
-  pub asked : after.history ≡ before.history ++ opened name held ∷ []
-  pub takes : TakesFile most_records held before.desk.state after.desk.state
+  pub read : Reading
+  pub asked : after.history ≡ before.history ++ events_of name read
+  pub takes : TakesFile most_records read.held before.desk.state after.desk.state
   pub heard_is : heard ≡ record { files = takes.file ∷ []; horizon = 0 }
 
--- these events opened a file that held the text of a state, and that state is the summary of what
--- was heard
-pub record HearsState (events : Bytes → List Event) (before after : Moment) (heard : Known)
+-- a file was opened by these events and held the text of a state, and the state is the summary of
+-- what was heard
+pub record HearsState (events : Reading → List Event) (before after : Moment) (heard : Known)
     : Type 0 where
-  pub held : Bytes
-  pub asked : after.history ≡ before.history ++ events held
-  pub joins : JoinsState dks_2 most_bytes held before.desk.state after.desk.state
+  pub read : Reading
+  pub asked : after.history ≡ before.history ++ events read
+  pub joins : JoinsState dks_2 most_bytes read.held before.desk.state after.desk.state
   pub of : IsKnown heard joins.received
 
--- the events of a merge with the named file, which held these bytes
-abbrev pub merging : Text → Bytes → List Event
-merging name held = opened name held ∷ []
-
--- the events of a renewal from the named file, which held these bytes
-abbrev pub renewing : Text → Bytes → List Event
-renewing name held = looked name ∷ opened name held ∷ []
+-- the events of a renewal from the file of this name, of which this was read
+abbrev pub renewing : Text → Reading → List Event
+renewing name read = looked name ∷ events_of name read
 
 -- what is heard by a request that was done
 abbrev pub Hears : Setting → RequestView → Moment → Moment → Known → Type 0
@@ -70,7 +68,7 @@ Hears setting renew_request before after heard =
     HearsState (renewing setting.name) before after heard
 Hears setting (take_request file) before after heard = HearsFile file before after heard
 Hears setting (merge_request other) before after heard =
-    HearsState (merging other) before after heard
+    HearsState (events_of other) before after heard
 Hears setting (horizon_request day) before after heard =
     heard ≡ record { files = []; horizon = day }
 Hears setting save_request before after heard = heard ≡ nothing
@@ -91,13 +89,13 @@ AreLearned setting old (step ∷ steps) new =
     (now : Known) × (Learns setting step.request step.before step.answer step.after old now
     × AreLearned setting now steps new)
 
--- these events opened a file that held the text of the summary of this knowledge
-pub record HoldsKnown (events : Bytes → List Event) (before after : Moment) (known : Known)
+-- a file was opened by these events, and held the text of the summary of this
+pub record HoldsKnown (events : Reading → List Event) (before after : Moment) (known : Known)
     : Type 0 where
-  pub held : Bytes
-  pub asked : after.history ≡ before.history ++ events held
+  pub read : Reading
+  pub asked : after.history ≡ before.history ++ events read
   pub sent : State
-  pub holds : HoldsState dks_2 most_bytes held sent
+  pub holds : HoldsState dks_2 most_bytes read.held sent
   pub of : IsKnown known sent
 
 -- if the request receives a state, the file held the text of a summary
@@ -112,7 +110,7 @@ ReceivesKnown setting renew_request before after =
     (known : Known) × HoldsKnown (renewing setting.name) before after known
 ReceivesKnown setting (take_request file) before after = ⊤
 ReceivesKnown setting (merge_request other) before after =
-    (known : Known) × HoldsKnown (merging other) before after known
+    (known : Known) × HoldsKnown (events_of other) before after known
 ReceivesKnown setting (horizon_request day) before after = ⊤
 ReceivesKnown setting save_request before after = ⊤
 
@@ -135,6 +133,67 @@ pub record PlacesKnown (setting : Setting) (before after : Moment) (known : Know
   pub text : List ℕ
   pub good : IsGoodKnown dks_2 known
   pub is : IsMessageOf dks_2 known text
+  pub asked : after.history ≡ before.history ++ drafted setting.name before.look
+      ∷ placed setting.name (named_if setting.names_bytes text) ∷ looked setting.name ∷ []
+
+-- a file was opened and held the text of this file, which is all that was gained
+pub record GainsFile (name : Text) (before after : Moment) (gains : List Gain) : Type 0 where
+  pub read : Reading
+  pub asked : after.history ≡ before.history ++ events_of name read
+  pub file : List (List ℕ)
+  pub holds : HoldsFile read.held file
+  pub gains_are : gains ≡ file_gained file ∷ []
+
+-- these events opened a file that held this earlier version of a state's file, which is all that was
+-- gained
+pub record GainsVersion (events : Reading → List Event) (earlier : List Text) (before after : Moment)
+    (gains : List Gain) : Type 0 where
+  pub read : Reading
+  pub asked : after.history ≡ before.history ++ events read
+  pub number : ℕ
+  pub holds : HoldsVersion earlier read.held number
+  pub gains_are : gains ≡ version_gained number ∷ []
+
+-- what a request that was done gained: a file, an earlier version of a state's file, or a horizon
+abbrev pub GainsDone : Setting → List Text → RequestView → Moment → Moment → List Gain → Type 0
+GainsDone setting earlier (print_request place day) before after gains = gains ≡ []
+GainsDone setting earlier (train_request uid day) before after gains = gains ≡ []
+GainsDone setting earlier files_request before after gains = gains ≡ []
+GainsDone setting earlier places_request before after gains = gains ≡ []
+GainsDone setting earlier known_request before after gains = gains ≡ []
+GainsDone setting earlier renew_request before after gains =
+    GainsVersion (renewing setting.name) earlier before after gains
+GainsDone setting earlier (take_request file) before after gains =
+    GainsFile file before after gains
+GainsDone setting earlier (merge_request other) before after gains =
+    GainsVersion (events_of other) earlier before after gains
+GainsDone setting earlier (horizon_request day) before after gains =
+    gains ≡ horizon_gained day ∷ []
+GainsDone setting earlier save_request before after gains = gains ≡ []
+
+-- what a line gained: something only if it asked for a request that was done
+abbrev pub GainsAsked : Setting → List Text → Option RequestView → Moment → AnswerView → Moment
+    → List Gain → Type 0
+GainsAsked setting earlier (Some request) before (done_with text) after gains =
+    GainsDone setting earlier request before after gains
+GainsAsked setting earlier (Some request) before (refused_for fault) after gains = gains ≡ []
+GainsAsked setting earlier (Some request) before no_request after gains = gains ≡ []
+GainsAsked setting earlier None before answer after gains = gains ≡ []
+
+-- what steps gained, in their order. The bytes of each file that was taken, merged or renewed are
+-- named, and each file that was merged or renewed held an earlier version of a state's file
+abbrev pub GainedBy : Setting → List Text → List Step → List Gain → Type 0
+GainedBy setting earlier [] gains = gains ≡ []
+GainedBy setting earlier (step ∷ steps) gains = (now : List Gain) × ((more : List Gain)
+    × (GainsAsked setting earlier step.request step.before step.answer step.after now
+    × (GainedBy setting earlier steps more × (gains ≡ now ++ more))))
+
+-- A draft took the place of the state's file. Its text was saved of a state that was read from an
+-- earlier version of such a file, and then gained this
+pub record IsPlaced (setting : Setting) (earlier : List Text) (own : ℕ) (gains : List Gain)
+    (before after : Moment) : Type 0 where
+  pub text : Text
+  pub saved : IsSaved earlier own gains text
   pub asked : after.history ≡ before.history ++ drafted setting.name before.look
       ∷ placed setting.name (named_if setting.names_bytes text) ∷ looked setting.name ∷ []
 

@@ -2,6 +2,7 @@ pub mod Lines
 pub mod Requests
 pub mod Answers
 pub mod Replies
+pub mod Reading
 pub mod Desk
 pub mod Moments
 pub mod Doing

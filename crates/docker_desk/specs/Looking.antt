@@ -1,13 +1,15 @@
 -- Which look a draft of a session is made from.
 use Rattle.std.specs.Prelude.{◌≡◌, ℕ, ◌+◌, List, ◌∷◌, ◌++◌, length, ◌⊎◌}
-use Rattle.docker_host.specs.History.{Bytes, Event, Text, looked, opened, placed}
+use Rattle.docker_host.specs.History.{Bytes, Event, Text, closed, looked, opened, placed}
 
--- the event with this number is a look at the named file, and in the next event the file was opened
+-- the event with this number is a look at the named file, and in the next events the file was opened
+-- and closed
 pub record IsBeforeOpening (name : Text) (history : List Event) (look : ℕ) : Type 0 where
   pub earlier : List Event
   pub held : Bytes
+  pub left : Bytes
   pub later : List Event
-  pub whole : history ≡ earlier ++ looked name ∷ opened name held ∷ later
+  pub whole : history ≡ earlier ++ looked name ∷ opened name held ∷ closed left ∷ later
   pub number : look ≡ length earlier
 
 -- the event with this number is a look at the named file, and in the event before it a draft took

@@ -3,14 +3,16 @@ use Rattle.std.specs.Prelude.{◌≡◌, ℕ, ◌+◌, Bool, true, false, ◌&&�
 use Rattle.cif_line.specs.Device.{Takes, TakesPart}
 use Rattle.docker_model.specs.state.StateText.{dks_2}
 use Rattle.docker_cmd.specs.SourceRead.{ReadsState}
-use Rattle.docker_cmd.specs.FaultLine.{device_line, fault_line, status_of}
+use Rattle.docker_cmd.specs.FaultLine.{IsCounted, device_line, fault_line, status_of}
 use Rattle.docker_cmd.specs.OfficeFault.{OfficeFault}
-use Rattle.docker_cmd.specs.Prepared.{most_bytes}
+use Rattle.docker_cmd.specs.Prepared.{ReadsFewOfState, most_bytes}
 use Rattle.docker_cmd.specs.declared.fault.Fault.TheVariants.{Office}
-use Rattle.docker_host.specs.History.{Bytes, Event, Text, looked, opened}
+use Rattle.docker_host.specs.History.{Bytes, Event, Text, closed, looked, opened}
+use Rattle.docker_host.specs.FaultSink.{FaultsView, TellsText, faults_of}
 use Rattle.docker_host.specs.Host.{HostView}
 use Rattle.docker_desk.specs.Requests.{NamesFile, usage_line}
-use Rattle.docker_desk.specs.Desk.{DeskView, HasOpened, IsCounted, IsWhyNot, LooksAndOpens, RefusesToReceive}
+use Rattle.docker_desk.specs.Desk.{DeskView, IsWhyNot, RefusesToReceive}
+use Rattle.docker_desk.specs.Reading.{HasOpened, LooksAndOpens, Reading}
 use Rattle.docker_desk.specs.declared.ending.Ending.{Ending}
 use Rattle.docker_desk.specs.declared.ending.Ending.TheVariants.{Ended, InputFailed, InputEndless, OutputFailed}
 use Rattle.docker_desk.specs.Moments.{Moment, setting}
@@ -32,42 +34,24 @@ pub record NamesSession (words : List Text) (name : Text) (may_write : Bool) : T
 abbrev pub NameNoSession : List Text → Type 0
 NameNoSession words = (name : Text) (may_write : Bool) → ¬ NamesSession words name may_write
 
--- ---- the sink of faults
-
--- what a sink of faults took, and how often it failed
-pub record Told : Type 0 where
-  pub taken : Bytes
-  pub failures : ℕ
-
--- these two, as one
-abbrev pub told : Bytes → ℕ → Told
-told taken failures = record { taken = taken; failures = failures }
-
--- what the sink of faults of a program took, and how often it failed
-abbrev pub told_by : HostView → Told
-told_by host = told host.faults host.faults_failures
-
--- the sink of faults gained this text; or it failed once more, and gained a proper prefix of it
-abbrev pub TellsText : List ℕ → Told → Told → Type 0
-TellsText text old new = ((new.failures ≡ old.failures) × Takes old.taken text new.taken)
-    ⊎ ((new.failures ≡ old.failures + 1) × TakesPart old.taken text new.taken)
-
 -- ---- the beginning
 
--- how the opening of a session ends: the desk has the state whose text the file held, and nothing
--- is unsaved; or no state was read
-abbrev pub EndsOpening : {T : Type 0} → (T → DeskView) → Result T OfficeFault → Option Bytes
+-- a state was read from a file that held this, and nothing has changed; or it wasn't read
+abbrev pub EndsOpening : {T : Type 0} → (T → DeskView) → Result T OfficeFault → Option Reading
     → Type 0
-EndsOpening desk_in (Ok made) held =
-    HasOpened (λ bytes. ReadsState dks_2 most_bytes bytes (desk_in made).state) held
+EndsOpening desk_in (Ok made) read =
+    HasOpened (λ it. ReadsState dks_2 most_bytes it.held (desk_in made).state) read
     × ((desk_in made).unsaved ≡ false)
-EndsOpening desk_in (Err fault) held = IsWhyNot RefusesToReceive fault held
+EndsOpening desk_in (Err fault) read = IsWhyNot RefusesToReceive fault read
 
--- the first moment of a session, after this history. The state's file was looked at and then
--- opened. The desk has the state whose text it held, and that look is the moment's
+-- the first moment of a session, after this history. The state's file was looked at, opened, read no
+-- further than decides the result, and closed. The desk has the state whose text it held, and that
+-- look is the moment's
 pub record BeginsAt (name : Text) (old : List Event) (first : Moment) : Type 0 where
   pub held : Bytes
-  pub asked : first.history ≡ old ++ looked name ∷ opened name held ∷ []
+  pub left : Bytes
+  pub asked : first.history ≡ old ++ looked name ∷ opened name held ∷ closed left ∷ []
+  pub stops : ReadsFewOfState dks_2 held left
   pub state : ReadsState dks_2 most_bytes held first.desk.state
   pub saved : first.desk.unsaved ≡ false
   pub look : first.look ≡ length old
@@ -100,7 +84,7 @@ ending_text InputEndless unsaved = device_line ++ unsaved_text unsaved
 ending_text OutputFailed unsaved = device_line ++ unsaved_text unsaved
 
 -- the status of a session, and what the sink of faults gains at its end
-pub record EndsWithStatus (ending : Ending) (unsaved : Bool) (status : ℕ) (old new : Told)
+pub record EndsWithStatus (ending : Ending) (unsaved : Bool) (status : ℕ) (old new : FaultsView)
     : Type 0 where
   pub status_is : status ≡ ending_status ending unsaved
   pub tells : TellsText (ending_text ending unsaved) old new
@@ -112,7 +96,7 @@ pub record IsMisused (words : List Text) (old new : HostView) (status : ℕ) : T
   pub none : NameNoSession words
   pub untouched : new ≡ record old { faults = new.faults; faults_failures = new.faults_failures }
   pub status_is : status ≡ 2
-  pub tells : TellsText usage_line (told_by old) (told_by new)
+  pub tells : TellsText usage_line (faults_of old) (faults_of new)
 
 -- the input and the output are as they were
 pub record LeavesStreams (old new : HostView) : Type 0 where
@@ -133,7 +117,7 @@ pub record IsRefusedStart (words : List Text) (old new : HostView) (status : ℕ
   pub counted : IsCounted status old.folder_failures new.folder_failures
   pub streams : LeavesStreams old new
   pub status_is : status ≡ status_of (Office fault)
-  pub tells : TellsText (fault_line (Office fault)) (told_by old) (told_by new)
+  pub tells : TellsText (fault_line (Office fault)) (faults_of old) (faults_of new)
 
 -- the state was read, the lines of the input were answered, and then the session ended. What is
 -- unsaved counts only if the desk may write. An input that hadn't reported its end isn't read after
@@ -155,8 +139,8 @@ pub record IsServed (words : List Text) (names_bytes : Bool) (old new : HostView
   pub counts : CountsStreams ending old.input_failures new.input_failures old.output_failures
       new.output_failures
   pub not_passed : old.ended ≡ false → new.passed ≡ old.passed
-  pub ends : EndsWithStatus ending (may_write && last.desk.unsaved) status (told_by old)
-      (told_by new)
+  pub ends : EndsWithStatus ending (may_write && last.desk.unsaved) status (faults_of old)
+      (faults_of new)
 
 -- a whole session: its words name none, its start is refused, or it is served
 abbrev pub Serves : List Text → Bool → HostView → HostView → ℕ → Type 0

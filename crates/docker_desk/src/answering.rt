@@ -1,30 +1,30 @@
 //! How a line is answered.
 ghost use Rattle.std.specs.Prelude.{◌≡◌, ◌-◌, ◌^◌, ◌<◌};
+ghost use Rattle.docker_cmd.specs.FaultLine.{IsCounted};
 ghost use Rattle.docker_cmd.specs.JobLine.{IsLineText};
 ghost use Rattle.docker_desk.specs.Lines.{whole_line};
 ghost use Rattle.docker_desk.specs.Requests.{request_meant};
 ghost use Rattle.docker_desk.specs.Replies.{answer_meant, status_told};
-ghost use Rattle.docker_desk.specs.Desk.{IsCounted};
 ghost use Rattle.docker_desk.specs.Doing.{DoesLine, DoesRequest, answer_of};
 ghost use Rattle.docker_desk.specs.Moments.{moment, setting};
 
 use crate::reply::Answer;
 use crate::requests::{Request, request_in};
 use crate::session::Session;
-use crate::terms::Terms;
+use crate::session_words::SessionWords;
 use docker_cmd::OfficeFault;
 use docker_host::Folder;
 
 /// Answers one line: does what it asks for, if it asks for anything. A refusal changes nothing.
 pub fn answer_line<D: Folder>(
-    terms: &Terms<'_>,
+    words: &SessionWords<'_>,
     line: &[u8],
     session: &mut Session<D::Seen>,
     folder: &mut D,
 ) -> Answer
     requires line { IsLineText line.now }
     requires few { D.failures folder.old < 2 ^ 64 - 1 }
-    ensures { DoesLine (setting terms.now.name.now terms.now.may_write D.names_bytes)
+    ensures { DoesLine (setting words.now.name.now words.now.may_write D.names_bytes)
         (whole_line line.now)
         (moment session.old.desk (D.look_of session.old.seen)
         (D.history folder.old) (D.failures folder.old))
@@ -32,21 +32,21 @@ pub fn answer_line<D: Folder>(
         (moment session.new.desk (D.look_of session.new.seen)
         (D.history folder.new) (D.failures folder.new)) }
 {
-    match request_in(line, terms.may_write) {
-        Some(request) => answer_request(terms, request, session, folder),
+    match request_in(line, words.may_write) {
+        Some(request) => answer_request(words, request, session, folder),
         None => Answer::Usage,
     }
 }
 
 /// Does what is asked for.
 fn answer_request<D: Folder>(
-    terms: &Terms<'_>,
+    words: &SessionWords<'_>,
     request: Request<'_>,
     session: &mut Session<D::Seen>,
     folder: &mut D,
 ) -> Answer
     requires { D.failures folder.old < 2 ^ 64 - 1 }
-    ensures does { DoesRequest (setting terms.now.name.now terms.now.may_write D.names_bytes)
+    ensures does { DoesRequest (setting words.now.name.now words.now.may_write D.names_bytes)
         (request_meant request.entry)
         (moment session.old.desk (D.look_of session.old.seen)
         (D.history folder.old) (D.failures folder.old))
@@ -64,10 +64,10 @@ fn answer_request<D: Folder>(
         Request::Places => session.desk.places(),
         Request::Known => session.desk.known(),
         Request::Renew => {
-            let compares = terms.may_write;
+            let compares = words.may_write;
             let renewed = session
                 .desk
-                .renew(terms.name, compares, &mut session.seen, folder);
+                .renew(words.name, compares, &mut session.seen, folder);
             answer_to(renewed)
         }
         Request::Take(name) => answer_to(session.desk.take(name, folder)),
@@ -77,18 +77,18 @@ fn answer_request<D: Folder>(
             Answer::Done
         }
         Request::Save => {
-            let saved = session.desk.save(terms.name, &mut session.seen, folder);
+            let saved = session.desk.save(words.name, &mut session.seen, folder);
             answer_to(saved)
         }
     }
 }
 
 /// The answer to a request that has no text.
-fn answer_to(outcome: Result<(), OfficeFault>) -> Answer
+fn answer_to<T: Drop>(outcome: Result<T, OfficeFault>) -> Answer
     ensures { answer_meant result ≡ answer_of outcome }
 {
     match outcome {
-        Ok(()) => Answer::Done,
+        Ok(_) => Answer::Done,
         Err(fault) => Answer::Refused(fault),
     }
 }

@@ -1,6 +1,6 @@
 //! A source whose bytes are copied as they are read.
 ghost use Rattle.std.specs.Prelude.{◌≡◌, IfSome, option_map};
-ghost use Rattle.cif_line.specs.Device.{Reads};
+ghost use Rattle.docker_host.specs.History.{IsText};
 ghost use Rattle.docker_desk.specs.Copying.{KeepsMore};
 
 use cif_line::{Failed, Source};
@@ -21,17 +21,20 @@ impl Begun for Brand {
     ghost bytes = { None };
 }
 
-/// A source, and a copy of all that was read from it, or none if memory ran out for it.
+/// A source, and a copy of all that was read from it, or none if memory ran out for it. Then whether
+/// the last read saw the end of the source.
 #[derive(Drop)]
 pub(crate) struct Copying<B: Begun, S: Source> {
     source: S,
     copy: Option<Vec<u8>>,
+    at_end: bool,
     of: PhantomData<B>,
 }
 
 impl<B: Begun, S: Source> Model for Copying<B, S> {
     ghost use Rattle.std.specs.Prelude.{IfSome, option_map};
-    ghost use Rattle.cif_line.specs.Device.{Reads};
+    ghost use Rattle.std.specs.Prelude.{◌≡◌, true};
+    ghost use Rattle.cif_line.specs.Device.{IsEnd, Reads};
     ghost use Rattle.docker_desk.specs.Copying.{CopyView};
 
     ghost Value = { CopyView };
@@ -45,7 +48,8 @@ impl<B: Begun, S: Source> Model for Copying<B, S> {
     } };
 
     ghost invariant = { λ it. IfSome it.copy (λ copy.
-        Reads B.bytes copy.items (S.left it.source)) };
+        Reads B.bytes copy.items (S.left it.source))
+        × (it.at_end ≡ true → IsEnd (S.left it.source)) };
 }
 
 impl<B: Begun, S: Source> Copying<B, S> {
@@ -58,17 +62,28 @@ impl<B: Begun, S: Source> Copying<B, S> {
         Copying {
             source,
             copy: Some(Vec::new(alloc)),
+            at_end: false,
             of: PhantomData,
         }
     }
 
-    /// The source, and the copy of all that was read from it, if there was memory for it.
+    /// The source, and the copy of all that it held, if there was memory for it and the end was seen.
     pub(crate) fn into_parts(self) -> (S, Option<Vec<u8>>)
+        ensures left { S.left result.0 ≡ self.left }
         ensures failures { S.failures result.0 ≡ self.failures }
-        ensures copy { IfSome result.1 (λ copy. Reads B.bytes copy.items (S.left result.0)) }
+        ensures copy { IfSome result.1 (λ copy. IsText B.bytes copy.items) }
     {
-        let Copying { source, copy, .. } = self;
-        (source, copy)
+        let Copying {
+            source,
+            copy,
+            at_end,
+            ..
+        } = self;
+        if at_end {
+            (source, copy)
+        } else {
+            (source, None)
+        }
     }
 }
 
@@ -98,6 +113,7 @@ impl<B: Begun, S: Source> Source for Copying<B, S> {
     fn read(&mut self, into: &mut [u8]) -> Result<usize, Failed> {
         let n = self.source.read(into)?;
         keep(&mut self.copy, &into[..n]);
+        self.at_end = n == 0 && !into.is_empty();
         Ok(n)
     }
 

@@ -2,13 +2,16 @@
 ghost use Rattle.std.specs.Prelude.{◌≡◌, ℕ, List, ◌+◌, ◌-◌, ◌^◌, ◌<◌, false, true, length, IsErr, IsOk};
 ghost use Rattle.docker_model.specs.state.State.{raise_horizon};
 ghost use Rattle.docker_model.specs.state.StateText.{dks_2, state_text};
+ghost use Rattle.docker_cmd.specs.FaultLine.{IsCounted, result_status};
 ghost use Rattle.docker_cmd.specs.OfficeFault.TheVariants as office;
-ghost use Rattle.docker_desk.specs.Desk.{EndsReceiving, EndsRenewing, EndsSaving, EndsTaking, IsCounted, IsDockerAnswer, IsFilesAnswer, IsKnownAnswer, IsPermanentAnswer, IsPlacesAnswer, IsTrainAnswer, LooksAndOpens, OpensOnce, TellsDocker, look_by, result_status, unsaved_by};
+ghost use Rattle.docker_desk.specs.Desk.{EndsReceiving, EndsRenewing, EndsSaving, EndsTaking, IsDockerAnswer, IsFilesAnswer, IsKnownAnswer, IsPermanentAnswer, IsPlacesAnswer, IsTrainAnswer, TellsDocker, look_by, unsaved_by};
+ghost use Rattle.docker_desk.specs.Reading.{LooksAndOpens, OpensOnce, StopsInFile, StopsInState};
 ghost use Rattle.docker_desk.specs.Doing.{desk_by};
 ghost use Rattle.docker_desk.specs.Replies.{answer_meant, done_with, refused_for};
 ghost use Rattle.docker_model.specs.state.Table.{Table};
 ghost use Rattle.docker_train.specs.Dockers.{IsDockerOf};
 
+use crate::compared::Compared;
 use crate::page::Page;
 use crate::reading::{receive_state, renew_state, take_file};
 use crate::reply::Answer;
@@ -128,10 +131,11 @@ impl Desk {
         answer_on(page, printed)
     }
 
-    /// Takes the named file, which is opened once. A refusal leaves the desk as it was.
+    /// Takes the named file, which is opened once. A refusal, `File`, `Source` or `Memory`, leaves
+    /// the desk as it was.
     pub fn take<D: Folder>(&mut self, name: &str, folder: &mut D) -> Result<(), OfficeFault>
         requires { D.failures folder.old < 2 ^ 64 - 1 }
-        ensures opens { OpensOnce name.now (EndsTaking self.old.state self.new.state result)
+        ensures opens { OpensOnce name.now StopsInFile (EndsTaking self.old.state self.new.state result)
             (D.history folder.old) (D.history folder.new) }
         ensures unsaved { self.new.unsaved ≡ unsaved_by result self.old.unsaved }
         ensures counted { IsCounted (result_status result)
@@ -146,11 +150,11 @@ impl Desk {
         }
     }
 
-    /// Joins what the desk knows with the state in the named file, which is opened once. A refusal
-    /// leaves the desk as it was.
+    /// Joins what the desk knows with the state in the named file, which is opened once. A refusal,
+    /// `State`, `Source` or `Memory`, leaves the desk as it was.
     pub fn receive<D: Folder>(&mut self, name: &str, folder: &mut D) -> Result<(), OfficeFault>
         requires { D.failures folder.old < 2 ^ 64 - 1 }
-        ensures opens { OpensOnce name.now (EndsReceiving self.old.state self.new.state result)
+        ensures opens { OpensOnce name.now StopsInState (EndsReceiving self.old.state self.new.state result)
             (D.history folder.old) (D.history folder.new) }
         ensures unsaved { self.new.unsaved ≡ unsaved_by result self.old.unsaved }
         ensures counted { IsCounted (result_status result)
@@ -183,17 +187,17 @@ impl Desk {
     }
 
     /// Looks at the named file, then opens it once and joins what the desk knows with the state
-    /// that it holds. If that is done, `seen` is what this look saw. Then nothing is unsaved only
-    /// if the file held the text of the state that the desk has now. The texts are compared only if
-    /// `compares` and if nothing was unsaved before. For this a copy of the file's text is kept
-    /// until then. A refusal leaves the desk and `seen` as they were.
+    /// that it holds. If that is done, `seen` is what this look saw, and the result is whether the
+    /// file held the text of the state that the desk has now. It is found out only if `compares`.
+    /// For this the file's text is kept until it is compared; if there is no memory for it, nothing
+    /// is found out. Nothing is unsaved exactly if the file was found to hold that text.
     pub fn renew<D: Folder>(
         &mut self,
         name: &str,
         compares: bool,
         seen: &mut D::Seen,
         folder: &mut D,
-    ) -> Result<(), OfficeFault>
+    ) -> Result<Compared, OfficeFault>
         requires { D.failures folder.old < 2 ^ 64 - 1 }
         ensures opens { LooksAndOpens name.now (EndsRenewing self.old self.new result)
             (D.history folder.old) (D.history folder.new) }
@@ -202,14 +206,12 @@ impl Desk {
         ensures counted { IsCounted (result_status result)
             (D.failures folder.old) (D.failures folder.new) }
     {
-        let compares = compares & !self.unsaved;
         let sight = folder.look(name);
-        let (renewed, same) = renew_state(self.alloc, &mut self.office, name, compares, folder);
-        match renewed {
-            Ok(()) => {
+        match renew_state(self.alloc, &mut self.office, name, compares, folder) {
+            Ok(found) => {
                 *seen = sight;
-                self.unsaved = !same;
-                Ok(())
+                self.unsaved = found != Compared::Same;
+                Ok(found)
             }
             Err(fault) => Err(fault),
         }

@@ -1,10 +1,12 @@
 //! How a session ends.
 ghost use Rattle.std.specs.Prelude.{◌≡◌, ◌-◌, ◌^◌, ◌<◌, ◌++◌};
 ghost use Rattle.docker_cmd.specs.FaultLine.{fault_line, status_of};
-ghost use Rattle.docker_desk.specs.Serving.{EndsWithStatus, TellsText, told, unsaved_text};
+ghost use Rattle.docker_host.specs.FaultSink.{TellsText, faults_view};
+ghost use Rattle.docker_desk.specs.Serving.{EndsWithStatus, unsaved_text};
 
 use cif_line::{Sink, write_all};
 use docker_cmd::{Fault, OfficeFault, fault_text, status};
+use docker_host::tell_text;
 
 /// The line that says that changes weren't saved.
 const UNSAVED: &[u8] = b"desk: changes not saved\n";
@@ -27,8 +29,8 @@ pub enum Ending {
 pub(crate) fn end_session<L: Sink>(ending: Ending, unsaved: bool, faults: &mut L) -> u8
     requires { L.failures faults.old < 2 ^ 64 - 1 }
     ensures { EndsWithStatus ending unsaved result
-        (told (L.taken faults.old) (L.failures faults.old))
-        (told (L.taken faults.new) (L.failures faults.new)) }
+        (faults_view (L.taken faults.old) (L.failures faults.old))
+        (faults_view (L.taken faults.new) (L.failures faults.new)) }
 {
     match ending {
         Ending::Ended => {
@@ -54,8 +56,8 @@ pub(crate) fn tell_failure<L: Sink>(fault: &Fault, unsaved: bool, faults: &mut L
     requires { L.failures faults.old < 2 ^ 64 - 1 }
     ensures status { result ≡ status_of fault.now }
     ensures tells { TellsText (fault_line fault.now ++ unsaved_text unsaved)
-        (told (L.taken faults.old) (L.failures faults.old))
-        (told (L.taken faults.new) (L.failures faults.new)) }
+        (faults_view (L.taken faults.old) (L.failures faults.old))
+        (faults_view (L.taken faults.new) (L.failures faults.new)) }
 {
     let line = fault_text(fault);
     let behind = unsaved_line(unsaved);
@@ -74,22 +76,10 @@ pub(crate) fn tell<L: Sink>(fault: &Fault, faults: &mut L) -> u8
     requires { L.failures faults.old < 2 ^ 64 - 1 }
     ensures status { result ≡ status_of fault.now }
     ensures tells { TellsText (fault_line fault.now)
-        (told (L.taken faults.old) (L.failures faults.old))
-        (told (L.taken faults.new) (L.failures faults.new)) }
+        (faults_view (L.taken faults.old) (L.failures faults.old))
+        (faults_view (L.taken faults.new) (L.failures faults.new)) }
 {
     let line = fault_text(fault);
     tell_text(line.as_slice(), faults);
     status(fault)
-}
-
-/// Writes a text to the sink of faults, as far as it takes it.
-pub(crate) fn tell_text<L: Sink>(text: &[u8], faults: &mut L)
-    requires { L.failures faults.old < 2 ^ 64 - 1 }
-    ensures { TellsText text.now
-        (told (L.taken faults.old) (L.failures faults.old))
-        (told (L.taken faults.new) (L.failures faults.new)) }
-{
-    match write_all(faults, text) {
-        Ok(()) | Err(_) => {}
-    }
 }

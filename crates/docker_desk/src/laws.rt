@@ -13,6 +13,7 @@ ghost use Rattle.docker_model.specs.run.Knowledge.{AreOneKnowledge, HaveSameFile
 ghost use Rattle.docker_cmd.specs.Office.{HoldsState};
 ghost use Rattle.docker_cmd.specs.RunEnds.{EndsWith, PrintsAs};
 ghost use Rattle.docker_cmd.specs.Prepared.{DeviceBytes, most_bytes};
+ghost use Rattle.docker_cmd.specs.Saved.{Gain, HoldsVersion};
 ghost use Rattle.docker_host.specs.History.{Event};
 ghost use Rattle.docker_desk.specs.Lines.{AreLines, LineView};
 ghost use Rattle.docker_train.specs.TrainText.{IsTrainText};
@@ -20,8 +21,9 @@ ghost use Rattle.state_lists.specs.Known.{IsKnownText};
 ghost use Rattle.state_lists.specs.Places.{IsPlacesText};
 ghost use Rattle.docker_desk.specs.Answering.{EndsSession, answers_of, lines_of};
 ghost use Rattle.docker_desk.specs.Doing.{AreSteps, DoesRequest};
-ghost use Rattle.docker_desk.specs.Learning.{AllHearKnown, AreLearned, HearsState, HoldsKnown, IsKnown, IsTrainOf, KeepsAs, KnowsAt, PlacesKnown, merging, renewing};
+ghost use Rattle.docker_desk.specs.Learning.{AllHearKnown, AreLearned, GainedBy, HearsState, HoldsKnown, IsKnown, IsPlaced, IsTrainOf, KeepsAs, KnowsAt, PlacesKnown, renewing};
 ghost use Rattle.docker_desk.specs.Moments.{Moment, Setting, Step};
+ghost use Rattle.docker_desk.specs.Reading.{events_of};
 ghost use Rattle.docker_desk.specs.Replies.{done_with};
 ghost use Rattle.docker_desk.specs.Requests.{merge_request, renew_request, save_request};
 ghost use Rattle.docker_desk.specs.Looking.{IsGoodLook};
@@ -63,8 +65,8 @@ pub fn looks_come_before_readings()
 pub fn known_texts_are_heard()
     ensures merged { (setting : Setting) (other text : List ℕ) (before after : Moment)
         (known : Known) → DoesRequest setting (merge_request other) before (done_with text) after
-        → HoldsKnown (merging other) before after known
-        → HearsState (merging other) before after known }
+        → HoldsKnown (events_of other) before after known
+        → HearsState (events_of other) before after known }
     ensures renewed { (setting : Setting) (text : List ℕ) (before after : Moment) (known : Known)
         → DoesRequest setting renew_request before (done_with text) after
         → HoldsKnown (renewing setting.name) before after known
@@ -81,6 +83,19 @@ pub fn saves_tell_what_is_known()
         → IsKnown known before.desk.state
         → DoesRequest setting save_request before (done_with text) after
         → PlacesKnown setting before after known }
+{}
+
+/// What a desk saves is a version of its state's file. It is the text of a state that was read from
+/// an earlier version, and then gained what the steps up to the saving gained. `earlier` are the texts of
+/// all earlier versions of any state's file, and `own` is the number of the one that was read first.
+pub fn saves_are_versions()
+    ensures { (setting : Setting) (first before after : Moment) (steps : List Step)
+        (old : List Event) (earlier : List (List ℕ)) (own : ℕ) (gains : List Gain)
+        (answer : List ℕ) → (begins : BeginsAt setting.name old first)
+        → HoldsVersion earlier begins.held own → AreSteps setting first steps before
+        → GainedBy setting earlier steps gains
+        → DoesRequest setting save_request before (done_with answer) after
+        → IsPlaced setting earlier own gains before after }
 {}
 
 /// The first steps of a session lead to a moment, and the others lead on from there. So what a law
@@ -135,8 +150,8 @@ pub fn known_files_fix_permanent_answers()
         → (plain : Table) × IsPlainTable known.files plain × KeepsAs state plain }
 {}
 
-/// Each train that is answered came from a file that is known. If no two of these files have the
-/// same moment, it is the schedule that their plain table has for the UID on the day.
+/// Each schedule that `train` shows came from a known file. If no two known files have the same
+/// moment, it is the schedule that their plain table has for the UID on the day.
 pub fn trains_came_from_known_files()
     ensures { (known : Known) (state : State) (uid : List ℕ) (day : ℕ) (text : List ℕ)
         → IsKnown known state → IsTrainText state uid day text → state.horizon ≤ day

@@ -48,7 +48,7 @@ impl From<cif_line::Failed> for InputFault {
 
 /// Reads the next line of a source, whose bytes may have been read ahead. What comes after its line
 /// feed is left for the next call. With `Cut` and `End` the source has reported its end, so a
-/// caller that must not read past it stops there.
+/// caller that must not read past it stops there. With a fault, what was read of the line is lost.
 pub fn next_line<S: Source>(ahead: &mut Ahead, source: &mut S) -> Result<Asked, InputFault>
     requires { S.failures source.old < 2 ^ 64 - 1 }
     ensures ends { EndsLine (with_ahead ahead.old (S.left source.old)) result

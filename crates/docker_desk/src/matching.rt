@@ -1,69 +1,90 @@
-//! A sink that takes only what it expects.
-ghost use Rattle.std.specs.Prelude.{◌≡◌, ◌+◌, ◌-◌, ◌<◌, ◌≤◌, [], length, take, Some, IsTrue, option_map};
-ghost use Rattle.docker_model.specs.state.StatePart.{AreGood, at_end};
+//! Whether a text is the one of a state, as the state is written.
+ghost use Rattle.std.specs.Prelude.{◌≡◌, ◌↔◌, ◌+◌, ◌-◌, ◌<◌, ◌≤◌, [], length, take, Some, IsTrue, option_map};
 ghost use Rattle.docker_model.specs.state.StateText.{dks_2, state_text};
+ghost use Rattle.docker_desk.specs.Copying.{ComparesCopy, IsNoFront};
 
+use crate::compared::Compared;
+use crate::copying::Begun;
 use cif_line::{Failed, Sink};
 use docker_cmd::Office;
-use std::marker::Model;
+use std::marker::{Brand, Model, PhantomData};
 
-/// A sink that takes the bytes of a text, one piece after the other, and fails at any other piece.
-/// It takes no memory.
-#[derive(Debug, Drop)]
-pub(crate) struct Matching<'a> {
+/// A sink that takes the bytes of the text that its brand names, one piece after the other. It takes
+/// the first byte that isn't the text's too, and then fails. It takes no memory.
+#[derive(Drop)]
+pub(crate) struct Matching<'a, B: Begun> {
     text: &'a [u8],
     at: usize,
+    other: Option<u8>,
     failures: u64,
+    of: PhantomData<B>,
 }
 
-impl<'a> Model for Matching<'a> {
-    ghost use Rattle.std.specs.Prelude.{◌≤◌, length, take};
-    ghost use Rattle.docker_desk.specs.Copying.{MatchView};
+impl<'a, B: Begun> Model for Matching<'a, B> {
+    ghost use Rattle.std.specs.Prelude.{◌≡◌, ◌<◌, ◌≤◌, length, take, IfSome, IsSome, Some};
+    ghost use Rattle.docker_desk.specs.Copying.{IsNoFront, MatchView, with_other};
 
     ghost Value = { MatchView };
 
     ghost view = { λ matching. record {
-      taken = take matching.at matching.text.now;
+      text = matching.text.now;
+      taken = with_other (take matching.at matching.text.now) matching.other;
       failures = matching.failures;
     } };
 
-    ghost invariant = { λ matching. matching.at ≤ length matching.text.now };
+    ghost invariant = { λ matching. (B.bytes ≡ Some matching.text.now)
+        × (matching.at ≤ length matching.text.now)
+        × (IfSome matching.other (λ _.
+        IsNoFront (with_other (take matching.at matching.text.now) matching.other)
+        matching.text.now))
+        × (0 < matching.failures → IsSome matching.other) };
 }
 
-impl<'a> Matching<'a> {
+impl<'a, B: Begun> Matching<'a, B> {
     /// A sink that takes this text.
-    pub(crate) fn new(text: &'a [u8]) -> Matching<'a>
+    pub(crate) fn new(text: &'a [u8]) -> Matching<'a, B>
+        requires { B.bytes ≡ Some text.now }
+        ensures text { result.text ≡ text.now }
         ensures taken { result.taken ≡ [] }
         ensures no_failure { result.failures ≡ 0 }
     {
         Matching {
             text,
             at: 0,
+            other: None,
             failures: 0,
+            of: PhantomData,
         }
     }
 
-    /// What it took.
-    pub(crate) fn taken(&self) -> &[u8]
-        ensures { result.now ≡ self.now.taken }
+    /// Whether it took the whole text, and nothing else. It has failed only if what it took isn't
+    /// how the text begins.
+    pub(crate) fn is_whole(&self) -> bool
+        ensures text { B.bytes ≡ Some self.now.text }
+        ensures whole { IsTrue result ↔ (self.now.taken ≡ self.now.text) }
+        ensures parted { 0 < self.now.failures → IsNoFront self.now.taken self.now.text }
     {
-        &self.text[..self.at]
+        self.other.is_none() && self.at == self.text.len()
     }
 }
 
-impl Sink for Matching<'_> {
+impl<B: Begun> Sink for Matching<'_, B> {
     ghost taken = { λ matching. Some matching.taken };
 
     ghost failures = { λ matching. matching.failures };
 
     fn write(&mut self, piece: &[u8]) -> Result<usize, Failed> {
-        let n = piece.len();
-        if n <= self.text.len() - self.at && &self.text[self.at..self.at + n] == piece {
+        if self.other.is_some() {
+            self.failures += 1;
+            return Err(Failed);
+        }
+        let n = matching_front(&self.text[self.at..], piece);
+        if 0 < n {
             self.at += n;
             return Ok(n);
         }
-        self.failures += 1;
-        Err(Failed)
+        self.other = Some(piece[0]);
+        Ok(1)
     }
 
     fn failures(&self) -> u64 {
@@ -71,33 +92,54 @@ impl Sink for Matching<'_> {
     }
 }
 
-/// Whether a text is the text of an office's state.
-fn is_text_of(text: &[u8], office: &Office) -> bool
-    ensures { IsTrue result → text.now ≡ state_text dks_2 office.now }
+/// A number of bytes with which both a text and a piece begin. It is 0 only if their first bytes
+/// differ, or the text has none.
+fn matching_front(text: &[u8], piece: &[u8]) -> usize
+    requires { 0 < length piece.now }
+    ensures within { (result ≤ length text.now) × (result ≤ length piece.now) }
+    ensures same { take result text.now ≡ take result piece.now }
+    ensures none { result ≡ 0 → IsNoFront (take 1 piece.now) text.now }
 {
-    let mut sink = Matching::new(text);
-    match office.send(&mut sink) {
-        Ok(()) => sink.taken() == text,
-        Err(_) => false,
+    let mut n = piece.len();
+    while 0 < n {
+        if begins_with(text, &piece[..n]) {
+            return n;
+        }
+        n /= 2;
     }
+    0
 }
 
-/// Whether there is a copy, and it is the text of an office's state.
-pub(crate) fn is_copied(copy: &Option<Vec<u8>>, office: &Office) -> bool
-    ensures { IsTrue result
-        → option_map (λ copy. copy.items) copy.now ≡ Some (state_text dks_2 office.now) }
+/// Whether a text begins with these bytes.
+fn begins_with(text: &[u8], front: &[u8]) -> bool
+    ensures { IsTrue result ↔ (take (length front.now) text.now ≡ front.now) }
+{
+    front.len() <= text.len() && &text[..front.len()] == front
+}
+
+/// Whether a text is the one of an office's state.
+fn is_text_of<B: Begun>(text: &[u8], office: &Office) -> bool
+    requires { B.bytes ≡ Some text.now }
+    ensures { IsTrue result ↔ (text.now ≡ state_text dks_2 office.now) }
+{
+    let mut sink: Matching<'_, B> = Matching::new(text);
+    let sent = office.send(&mut sink);
+    sent.is_ok() & sink.is_whole()
+}
+
+/// Whether a copy, if there is one, is the text of an office's state.
+pub(crate) fn compared_with(copy: &Option<Vec<u8>>, office: &Office) -> Compared
+    ensures { ComparesCopy result (option_map (λ copy. copy.items) copy.now)
+        (state_text dks_2 office.now) }
 {
     match copy {
-        Some(copy) => is_text_of(copy.as_slice(), office),
-        None => false,
+        Some(copy) => {
+            if is_text_of::<Brand>(copy.as_slice(), office) {
+                Compared::Same
+            } else {
+                Compared::Other
+            }
+        }
+        None => Compared::Unknown,
     }
-}
-
-/// Changes nothing: its contract says that an office's state is one that a text can have.
-pub(crate) fn tell_good(office: &Office)
-    ensures { AreGood dks_2 (at_end office.now) }
-{
-    // Called for their contracts: the state is valid, and its files and entries can be counted.
-    let state = office.state();
-    let _counts = (state.ledger().len(), state.entries().len());
 }

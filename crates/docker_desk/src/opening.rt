@@ -1,6 +1,7 @@
 //! How a session begins.
 ghost use Rattle.std.specs.Prelude.{◌≡◌, ◌-◌, ◌^◌, ◌<◌, IfOk, length};
-ghost use Rattle.docker_desk.specs.Desk.{IsCounted, LooksAndOpens, result_status};
+ghost use Rattle.docker_cmd.specs.FaultLine.{IsCounted, result_status};
+ghost use Rattle.docker_desk.specs.Reading.{LooksAndOpens};
 ghost use Rattle.docker_desk.specs.Serving.{EndsOpening};
 
 use crate::desk::Desk;
@@ -11,7 +12,7 @@ use docker_host::Folder;
 use std::alloc::Global;
 
 /// Looks at the named file, and then opens it and reads its state. The file is looked at, even if
-/// it can't be opened.
+/// it can't be opened. Refused with `State`, `Source` or `Memory`, and then there is no session.
 pub fn open_session<D: Folder>(
     alloc: Global,
     name: &str,

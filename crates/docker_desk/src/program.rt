@@ -4,14 +4,14 @@ ghost use Rattle.docker_cmd.specs.Words.{texts};
 ghost use Rattle.docker_host.specs.Host.{AreFew};
 ghost use Rattle.docker_desk.specs.Serving.{Serves};
 
-use crate::ending::{end_session, tell, tell_text};
+use crate::ending::{end_session, tell};
 use crate::opening::open_session;
 use crate::requests::usage;
 use crate::serving::serve_lines;
-use crate::terms::terms_in;
+use crate::session_words::session_words_in;
 use cif_line::{Sink, Source};
 use docker_cmd::Fault;
-use docker_host::{Folder, Host};
+use docker_host::{Folder, Host, tell_text};
 use std::alloc::Global;
 use std::mem;
 
@@ -30,14 +30,14 @@ pub fn serve<S: Source, D: Folder, K: Sink, L: Sink>(
     requires none { host.old.folder_failures ≡ 0 }
     ensures { Serves (texts words.now) D.names_bytes host.old host.new result }
 {
-    let Some(terms) = terms_in(words) else {
+    let Some(named) = session_words_in(words) else {
         tell_text(usage(), &mut host.faults);
         return 2;
     };
-    match open_session(alloc, terms.name, &mut host.folder) {
+    match open_session(alloc, named.name, &mut host.folder) {
         Ok(mut session) => {
             let ending = serve_lines(
-                &terms,
+                &named,
                 &mut session,
                 &mut host.input,
                 &mut host.folder,
@@ -47,7 +47,7 @@ pub fn serve<S: Source, D: Folder, K: Sink, L: Sink>(
             // The program ends here, so the state is left to the system and not freed piece by
             // piece.
             mem::forget(session);
-            end_session(ending, terms.may_write & unsaved, &mut host.faults)
+            end_session(ending, named.may_write & unsaved, &mut host.faults)
         }
         Err(fault) => tell(&Fault::Office(fault), &mut host.faults),
     }

@@ -1,13 +1,16 @@
 //! How a file is opened and read by an office.
 ghost use Rattle.std.specs.Prelude.{◌≡◌, ◌-◌, ◌^◌, ◌<◌, Some};
-ghost use Rattle.docker_desk.specs.Desk.{EndsComparing, EndsReceiving, EndsReloading, EndsTaking, IsCounted, OpensOnce, fault_of_opening, result_status};
+ghost use Rattle.docker_cmd.specs.FaultLine.{IsCounted, result_status};
+ghost use Rattle.docker_desk.specs.Desk.{EndsComparing, EndsReceiving, EndsReloading, EndsTaking};
+ghost use Rattle.docker_desk.specs.Reading.{OpensOnce, StopsInFile, StopsInState, reading};
 
+use crate::compared::Compared;
 use crate::copying::{Begun, Copying};
-use crate::matching::{is_copied, tell_good};
+use crate::matching::compared_with;
 use cif_file::MOST_RECORDS;
 use cif_line::Source;
 use docker_cmd::{MOST_BYTES, Office, OfficeFault};
-use docker_host::{Folder, OpenFault};
+use docker_host::Folder;
 use std::alloc::Global;
 use std::marker::Brand;
 
@@ -18,14 +21,14 @@ pub(crate) fn take_file<D: Folder>(
     folder: &mut D,
 ) -> Result<(), OfficeFault>
     requires { D.failures folder.old < 2 ^ 64 - 1 }
-    ensures opens { OpensOnce name.now (EndsTaking office.old office.new result)
+    ensures opens { OpensOnce name.now StopsInFile (EndsTaking office.old office.new result)
         (D.history folder.old) (D.history folder.new) }
     ensures counted { IsCounted (result_status result)
         (D.failures folder.old) (D.failures folder.new) }
 {
     let mut file = match folder.open(name) {
         Ok(file) => file,
-        Err(fault) => return Err(fault_of_opening(fault)),
+        Err(cause) => return Err(cause.one_of(OfficeFault::Source, OfficeFault::Memory)),
     };
     let taken = office.take(&mut file, MOST_RECORDS);
     folder.close(file);
@@ -39,59 +42,64 @@ pub(crate) fn receive_state<D: Folder>(
     folder: &mut D,
 ) -> Result<(), OfficeFault>
     requires { D.failures folder.old < 2 ^ 64 - 1 }
-    ensures opens { OpensOnce name.now (EndsReceiving office.old office.new result)
+    ensures opens { OpensOnce name.now StopsInState (EndsReceiving office.old office.new result)
         (D.history folder.old) (D.history folder.new) }
     ensures counted { IsCounted (result_status result)
         (D.failures folder.old) (D.failures folder.new) }
 {
     let mut file = match folder.open(name) {
         Ok(file) => file,
-        Err(fault) => return Err(fault_of_opening(fault)),
+        Err(cause) => return Err(cause.one_of(OfficeFault::Source, OfficeFault::Memory)),
     };
     let received = office.receive(&mut file, MOST_BYTES);
     folder.close(file);
     received
 }
 
-/// Like `receive_state`. Also returns whether the file is known to have held the text of the state
-/// that the office has now. The texts are compared only if `compares`, and if there is memory to
-/// keep the file's text until then.
+/// Like `receive_state`, but returns whether the file held the text of the state that the office has
+/// now. It is found out only if `compares`, and if there is memory to keep the text until it is
+/// compared.
 pub(crate) fn renew_state<D: Folder>(
     alloc: Global,
     office: &mut Office,
     name: &str,
     compares: bool,
     folder: &mut D,
-) -> (Result<(), OfficeFault>, bool)
+) -> Result<Compared, OfficeFault>
     requires { D.failures folder.old < 2 ^ 64 - 1 }
-    ensures opens { OpensOnce name.now (EndsComparing office.old office.new result.0 result.1)
+    ensures opens { OpensOnce name.now StopsInState (EndsComparing office.old office.new result)
         (D.history folder.old) (D.history folder.new) }
-    ensures counted { IsCounted (result_status result.0)
+    ensures counted { IsCounted (result_status result)
         (D.failures folder.old) (D.failures folder.new) }
 {
     if !compares {
-        return (receive_state(office, name, folder), false);
+        return match receive_state(office, name, folder) {
+            Ok(()) => Ok(Compared::Unknown),
+            Err(fault) => Err(fault),
+        };
     }
     match folder.open(name) {
         Ok(file) => {
-            let (file, received, same) = receive_copied::<Brand, D::File>(alloc, office, file);
+            let (file, found) = receive_copied::<Brand, D::File>(alloc, office, file);
             folder.close(file);
-            (received, same)
+            found
         }
-        Err(fault) => (Err(fault_of_opening(fault)), false),
+        Err(cause) => Err(cause.one_of(OfficeFault::Source, OfficeFault::Memory)),
     }
 }
 
-/// Has an office receive the state that a source holds, and returns the source. Also returns
-/// whether the source is known to have held the text of the state that the office has now.
+/// Has an office receive the state that a source holds, and returns the source. Also returns whether
+/// the source held the text of the state that the office has now.
 fn receive_copied<B: Begun, S: Source>(
     alloc: Global,
     office: &mut Office,
     source: S,
-) -> (S, Result<(), OfficeFault>, bool)
+) -> (S, Result<Compared, OfficeFault>)
     requires few { S.failures source < 2 ^ 64 - 1 }
     requires begun { S.left source ≡ B.bytes }
-    ensures ends { EndsComparing office.old office.new result.1 result.2 (Some (S.left source)) }
+    ensures stops { StopsInState (reading (S.left source) (S.left result.0)) }
+    ensures ends { EndsComparing office.old office.new result.1
+        (Some (reading (S.left source) (S.left result.0))) }
     ensures counted { IsCounted (result_status result.1)
         (S.failures source) (S.failures result.0) }
 {
@@ -99,12 +107,10 @@ fn receive_copied<B: Begun, S: Source>(
     let received = office.receive(&mut copying, MOST_BYTES);
     let (source, copy) = copying.into_parts();
     match received {
-        Err(fault) => (source, Err(fault), false),
+        Err(fault) => (source, Err(fault)),
         Ok(()) => {
-            // Called for its contract: no other state has the same text.
-            tell_good(office);
-            let same = is_copied(&copy, office);
-            (source, Ok(()), same)
+            let found = compared_with(&copy, office);
+            (source, Ok(found))
         }
     }
 }
@@ -116,26 +122,16 @@ pub(crate) fn reload_state<D: Folder>(
     folder: &mut D,
 ) -> Result<(), OfficeFault>
     requires { D.failures folder.old < 2 ^ 64 - 1 }
-    ensures opens { OpensOnce name.now (EndsReloading office.new result)
+    ensures opens { OpensOnce name.now StopsInState (EndsReloading office.new result)
         (D.history folder.old) (D.history folder.new) }
     ensures counted { IsCounted (result_status result)
         (D.failures folder.old) (D.failures folder.new) }
 {
     let mut file = match folder.open(name) {
         Ok(file) => file,
-        Err(fault) => return Err(fault_of_opening(fault)),
+        Err(cause) => return Err(cause.one_of(OfficeFault::Source, OfficeFault::Memory)),
     };
     let read = office.reload(&mut file, MOST_BYTES);
     folder.close(file);
     read
-}
-
-/// The office's fault for a file that wasn't opened.
-fn fault_of_opening(cause: OpenFault) -> OfficeFault
-    ensures { result ≡ fault_of_opening cause }
-{
-    match cause {
-        OpenFault::Failed => OfficeFault::Source,
-        OpenFault::Memory => OfficeFault::Memory,
-    }
 }

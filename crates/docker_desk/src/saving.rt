@@ -1,7 +1,8 @@
 //! How a state is stored.
 ghost use Rattle.std.specs.Prelude.{◌-◌, ◌^◌, ◌<◌};
 ghost use Rattle.docker_model.specs.state.StateText.{dks_2, state_text};
-ghost use Rattle.docker_desk.specs.Desk.{EndsStoring, IsCounted, result_status};
+ghost use Rattle.docker_cmd.specs.FaultLine.{IsCounted, result_status};
+ghost use Rattle.docker_desk.specs.Desk.{EndsStoring};
 
 use docker_cmd::{Office, OfficeFault};
 use docker_host::{Folder, OpenFault};

@@ -11,7 +11,7 @@ use crate::ending::Ending;
 use crate::lines::{Asked, InputFault, next_line};
 use crate::reply::{Answer, write_reply};
 use crate::session::Session;
-use crate::terms::Terms;
+use crate::session_words::SessionWords;
 use cif_line::{Sink, Source};
 use docker_host::Folder;
 
@@ -19,7 +19,7 @@ use docker_host::Folder;
 /// fails. Each answer is whole in memory before its first byte is written, and it is written before
 /// the next line is read. After a last line without its line feed nothing more is read.
 pub fn serve_lines<S: Source, D: Folder, K: Sink>(
-    terms: &Terms<'_>,
+    words: &SessionWords<'_>,
     session: &mut Session<D::Seen>,
     input: &mut S,
     folder: &mut D,
@@ -29,7 +29,7 @@ pub fn serve_lines<S: Source, D: Folder, K: Sink>(
     requires none { D.failures folder.old ≡ 0 }
     requires output { K.failures output.old < 2 ^ 64 - 1 }
     ensures answers { AnswersLines
-        (setting terms.now.name.now terms.now.may_write D.names_bytes)
+        (setting words.now.name.now words.now.may_write D.names_bytes)
         (moment session.old.desk (D.look_of session.old.seen)
         (D.history folder.old) (D.failures folder.old))
         (moment session.new.desk (D.look_of session.new.seen)
@@ -42,7 +42,7 @@ pub fn serve_lines<S: Source, D: Folder, K: Sink>(
 {
     let mut ahead = Ahead::new();
     for _ in 0..u64::MAX {
-        let next = serve_next(terms, &mut ahead, session, input, folder, output);
+        let next = serve_next(words, &mut ahead, session, input, folder, output);
         if let Some(ending) = next {
             return ending;
         }
@@ -54,7 +54,7 @@ pub fn serve_lines<S: Source, D: Folder, K: Sink>(
 /// after this one are left for the next call. So each line that is read gets its answer, even if the
 /// input never ends.
 pub fn serve_next<S: Source, D: Folder, K: Sink>(
-    terms: &Terms<'_>,
+    words: &SessionWords<'_>,
     ahead: &mut Ahead,
     session: &mut Session<D::Seen>,
     input: &mut S,
@@ -64,7 +64,7 @@ pub fn serve_next<S: Source, D: Folder, K: Sink>(
     requires input { S.failures input.old < 2 ^ 64 - 1 }
     requires few { D.failures folder.old < 2 ^ 64 - 1 }
     requires output { K.failures output.old < 2 ^ 64 - 1 }
-    ensures serves { ServesNext (setting terms.now.name.now terms.now.may_write D.names_bytes)
+    ensures serves { ServesNext (setting words.now.name.now words.now.may_write D.names_bytes)
         (moment session.old.desk (D.look_of session.old.seen)
         (D.history folder.old) (D.failures folder.old))
         (moment session.new.desk (D.look_of session.new.seen)
@@ -79,7 +79,7 @@ pub fn serve_next<S: Source, D: Folder, K: Sink>(
 {
     match next_line(ahead, input) {
         Ok(Asked::Line(line)) => {
-            let answer = answer_line(terms, line.as_slice(), session, folder);
+            let answer = answer_line(words, line.as_slice(), session, folder);
             tell_answer(&answer, None, output)
         }
         Ok(Asked::Bad) => tell_answer(&Answer::Usage, None, output),

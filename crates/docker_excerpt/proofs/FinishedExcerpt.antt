@@ -13,7 +13,7 @@ use Rattle.docker_laws.proofs.dockers.NearDocker.{near_description}
 use Rattle.docker_laws.proofs.dockers.NearState.{near_part, near_valid, near_state_list, excerpt_on_valid}
 use Rattle.docker_day.specs.DockerValue.{Docker}
 use Rattle.docker_day.specs.Dockers.{IsDockerOf}
-use Rattle.state_text.specs.Told.{horizon_meant, under}
+use Rattle.state_text.specs.PartsSoFar.{horizon_meant, under}
 use Rattle.docker_excerpt.specs.Values.{Excerpt, with_entries, StandsAt, IsExcerptOf}
 
 -- a state without a horizon is itself under the horizon 0
@@ -42,11 +42,11 @@ docker_of_whole place day state part is docker made = record {
 }
 
 module _ (place : List ℕ) (day horizon : ℕ) (told : State) (valid : IsValid (under horizon told)) where
-  -- the entries that are kept are good
+  -- the entries that are kept are good entries of the ledger
   pub kept_entries : (rows : List (Key × Entry)) → rows ≡ (excerpt_on place day told).entries → AreEntries told.ledger rows
   kept_entries rows is = subst (λ (all : List (Key × Entry)). AreEntries told.ledger all) (sym is) (excerpt_on_valid place day (under horizon told) valid).entries
 
-  -- they are valid under the horizon
+  -- the entries that are kept are valid under the horizon
   pub kept_valid : (state : State) (rows : List (Key × Entry)) → rows ≡ (excerpt_on place day told).entries → state.ledger ≡ told.ledger → state.entries ≡ rows
       → IsValid (under horizon state)
   kept_valid state rows is same entries =
@@ -65,7 +65,7 @@ module _ (place : List ℕ) (day horizon : ℕ) (told : State) (valid : IsValid 
       (subst (λ (all : List (Key × Entry)). IsExcerptOf place day (with_entries (excerpt_on place day (under horizon told)) all) (excerpt_on place day (under horizon told)))
       (sym given) (record { valid = valid; excerpt = walk_is_excerpt place (near_state day (under horizon told)) (near_valid day (under horizon told) valid).entries.1 })))
 
-  -- the excerpt stands for that state
+  -- the excerpt stands for the state whose entries were given
   pub stands_for : (part : State) (entries : List (Key × Entry)) → part.horizon ≡ horizon → part.ledger ≡ told.ledger → entries ≡ told.entries
       → ◌≡◌ {A = Excerpt} (record { place = place; day = day; state = with_entries part entries })
       (record { place = place; day = day; state = under horizon told })

@@ -1,4 +1,4 @@
--- The parts that were given, with one more entry.
+-- The parts that were given and one more entry.
 use Rattle.std.proofs.Common.{◌≡◌, ℕ, ◌-◌, List, [], ◌∷◌, ◌++◌, length, map, refl, ap, sym, ◌∙◌, subst, arith, length-append, Some}
 use Rattle.std.proofs.lemmas.List.{append_assoc}
 use Rattle.std.specs.Prelude.{Option, slice_get}
@@ -41,13 +41,14 @@ last_of xs x =
     there [] = refl
     there (y ∷ ys) = there ys
 
--- with one more entry, the last key is that entry's
+-- after one more entry, the last key is that entry's key
 pub last_with : (entries after : List (model.Key × Entry)) (key : model.Key) (entry : Entry) → after ≡ entries ++ (key, entry) ∷ [] → last_key after ≡ Some key
 last_with entries after key entry pushed =
     ap last_key pushed ∙ ap (option_map (λ (one : model.Key × Entry). one.0)) (last_of entries (key, entry))
 
--- when rows are given to parts one by one, the next row may follow the entries that are there
-pub row_behind : (parts : State) (ledger : List LedgerItem) (rows rest after : List (Key × Row)) (key : Key) (row : Row) → AreEntries ledger (map row_meant rows)
+-- if rows are given to parts one by one, the next row may follow the entries that are there
+pub row_behind : (parts : State) (ledger : List LedgerItem) (rows rest after : List (Key × Row)) (key : Key) (row : Row)
+    → AreEntries ledger (map row_meant rows)
     → parts.ledger ≡ ledger → parts.entries ++ map row_meant rest ≡ map row_meant rows → rest ≡ (key, row) ∷ after
     → IsStampHere parts (key_meant key) (entry_meant row).stamp × IsOpOf (key_meant key) (entry_meant row).op
 row_behind parts ledger rows rest after key row are same whole step =
@@ -56,7 +57,7 @@ row_behind parts ledger rows rest after key row are same whole step =
     (sym whole ∙ ap (λ (more : List (Key × Row)). parts.entries ++ map row_meant more) step)
     (subst (λ (items : List LedgerItem). AreEntries items (map row_meant rows)) (sym same) are))
 
--- after that row, the entries that are there and the remaining rows are still all rows
+-- after the next row, the entries that are there and the remaining rows are still all rows
 pub row_given : (parts after : State) (rows rest later : List (Key × Row)) (key : Key) (row : Row)
     → parts.entries ++ map row_meant rest ≡ map row_meant rows → rest ≡ (key, row) ∷ later
     → after.entries ≡ parts.entries ++ (key_meant key, entry_meant row) ∷ [] → after.entries ++ map row_meant later ≡ map row_meant rows

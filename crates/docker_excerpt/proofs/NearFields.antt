@@ -1,4 +1,4 @@
--- The fields that say when a schedule runs, as it stands in an entry.
+-- The fields of a schedule's entry that say when the schedule runs.
 use Rattle.std.proofs.Common.{◌≡◌, ℕ, ◌<◌, List, false, length}
 use Rattle.docker_model.specs.records.Record.{basic_schedule, HasKind}
 use Rattle.docker_model.specs.records.Field.{HasGoodFields, is_deletion}
@@ -10,25 +10,25 @@ use Rattle.docker_laws.proofs.dockers.KeptSchedules as kept
 
 -- ---- a schedule that is kept under a key
 
--- its first line is a basic schedule
+-- the first line of a kept schedule is a basic schedule
 pub first_kind : (key : Key) (lines : List (List ℕ)) → IsOpOf key (put_with (schedule_body lines)) → HasKind basic_schedule (first_record lines)
 first_kind (schedule_key key) lines of = kept.first_kind key lines of
 first_kind (tiploc_key code) lines of = absurd of
 first_kind (association_key key) lines of = absurd of
 
--- the fields of that line are good
+-- the fields of a kept schedule's first line are good
 pub first_good : (key : Key) (lines : List (List ℕ)) → IsOpOf key (put_with (schedule_body lines)) → HasGoodFields (first_record lines)
 first_good (schedule_key key) lines of = kept.first_good key lines of
 first_good (tiploc_key code) lines of = absurd of
 first_good (association_key key) lines of = absurd of
 
--- it is no deletion
+-- the first line of a kept schedule is no deletion
 pub first_stays : (key : Key) (lines : List (List ℕ)) → IsOpOf key (put_with (schedule_body lines)) → is_deletion (first_record lines) ≡ false
 first_stays (schedule_key key) lines of = kept.first_stays key lines of
 first_stays (tiploc_key code) lines of = absurd of
 first_stays (association_key key) lines of = absurd of
 
--- there is a first line
+-- a kept schedule has a first line
 pub first_there : (key : Key) (lines : List (List ℕ)) → IsOpOf key (put_with (schedule_body lines)) → 0 < length lines
 first_there (schedule_key key) lines of = kept.first_there key lines of
 first_there (tiploc_key code) lines of = absurd of

@@ -1,4 +1,4 @@
--- The steps of the walk in the code: what it has added.
+-- The steps of the walk in the code, and the rows and names that each adds.
 use Rattle.std.proofs.Common.{◌≡◌, ℕ, List, [], ◌∷◌, ◌++◌, map, ap, sym, ◌∙◌, subst, Bool, true, false, cond}
 use Rattle.std.specs.Prelude.{Option, Some, None}
 use Rattle.std.specs.Option.{option_to_list}
@@ -11,24 +11,25 @@ use Rattle.state_text.specs.Entry.{Entry}
 use Rattle.state_text.specs.Meaning.{entry_meant, row_meant}
 use Rattle.docker_excerpt.specs.Walked.{IsWalk}
 
--- the rows with one more
+-- one more row in the code is one more row in the definitions
 pub rows_more : (rows before after : List (Key × Entry)) (key : Key) (entry : Entry) → before ≡ rows → after ≡ before ++ (key, entry) ∷ []
     → map row_meant after ≡ map row_meant rows ++ (key_meant key, entry_meant entry) ∷ []
 rows_more rows before after key entry same pushed =
     ap (map row_meant) (pushed ∙ ap (λ (front : List (Key × Entry)). front ++ (key, entry) ∷ []) same) ∙ map-append row_meant rows ((key, entry) ∷ [])
 
--- the names with one more, which was found
+-- if a name was found, the names have one more
 pub names_with_some : (names after : List (List ℕ)) (name : List ℕ) (found told : Option (List ℕ)) → after ≡ names ++ name ∷ [] → found ≡ Some name
     → found ≡ told → after ≡ names ++ option_to_list told
 names_with_some names after name found told pushed is same = pushed ∙ ap (λ (one : Option (List ℕ)). names ++ option_to_list one) (sym is ∙ same)
 
--- if none was found, the names are unchanged
+-- if no name was found, the names are unchanged
 pub names_with_none : (names : List (List ℕ)) (found told : Option (List ℕ)) → found ≡ None → found ≡ told → names ≡ names ++ option_to_list told
 names_with_none names found told is same =
     sym (append-nil names) ∙ ap (λ (one : Option (List ℕ)). names ++ option_to_list one) (sym is ∙ same)
 
 -- walks with equal parts are the same walk
-pub walk_by : (place : List ℕ) (entries kept run other_kept other_run : List (model.Key × ops.Entry)) (needed other_needed : Bool) (names other_names : List (List ℕ))
+pub walk_by : (place : List ℕ) (entries kept run other_kept other_run : List (model.Key × ops.Entry)) (needed other_needed : Bool)
+    (names other_names : List (List ℕ))
     → other_kept ≡ kept → other_run ≡ run → other_needed ≡ needed → other_names ≡ names → IsWalk place entries kept run needed names
     → IsWalk place entries other_kept other_run other_needed other_names
 walk_by place entries kept run other_kept other_run needed other_needed names other_names kept_is run_is needed_is names_is is =
@@ -37,7 +38,7 @@ walk_by place entries kept run other_kept other_run needed other_needed names ot
     (subst (λ (b : Bool). IsWalk place entries kept run b other_names) (sym needed_is)
     (subst (λ (n : List (List ℕ)). IsWalk place entries kept run needed n) (sym names_is) is)))
 
--- what is kept after a run has ended
+-- after a run ends, its rows are kept if the run is needed
 pub run_ended : (needed other : Bool) (kept run after : List (Key × Entry)) → needed ≡ other → after ≡ cond needed (kept ++ run) kept
     → map row_meant after ≡ cond other (map row_meant kept ++ map row_meant run) (map row_meant kept)
 run_ended true other kept run after same is =

@@ -7,7 +7,7 @@ ghost use Rattle.cif_change.specs.Meaning.{key_meant};
 ghost use Rattle.state_text.specs.Meaning.{entry_meant, row_meant};
 ghost use Rattle.docker_day.specs.Meaning.{item_meant};
 ghost use Rattle.state_text.specs.Parts.{last_key};
-ghost use Rattle.state_text.specs.Told.{horizon_meant, under, with_item, with_row};
+ghost use Rattle.state_text.specs.PartsSoFar.{horizon_meant, under, with_item, with_row};
 ghost use Rattle.docker_excerpt.specs.Values.{with_entries};
 
 use crate::day_walk::DayWalk;

@@ -2,7 +2,7 @@
 ghost use Rattle.std.specs.Prelude.{◌≡◌, map};
 ghost use Rattle.docker_model.specs.state.State.{IsValid};
 ghost use Rattle.docker_day.specs.Meaning.{item_meant};
-ghost use Rattle.state_text.specs.Told.{horizon_meant, under};
+ghost use Rattle.state_text.specs.PartsSoFar.{horizon_meant, under};
 
 use crate::ledger::Ledger;
 use cif_line::{Day, Memory};
@@ -20,7 +20,7 @@ pub struct KeptLedger {
 impl Model for KeptLedger {
     ghost use Rattle.docker_model.specs.state.State as states;
     ghost use Rattle.docker_model.specs.state.State.{IsValid};
-    ghost use Rattle.state_text.specs.Told.{horizon_meant, under};
+    ghost use Rattle.state_text.specs.PartsSoFar.{horizon_meant, under};
 
     ghost Value = { states.State };
 

@@ -7,7 +7,7 @@ ghost use Rattle.cif_change.specs.Meaning.{key_meant};
 ghost use Rattle.state_text.specs.Meaning.{entry_meant};
 ghost use Rattle.docker_day.specs.Meaning.{item_meant};
 ghost use Rattle.state_text.specs.Parts.{last_key};
-ghost use Rattle.state_text.specs.Told.{with_item};
+ghost use Rattle.state_text.specs.PartsSoFar.{with_item};
 ghost use Rattle.docker_excerpt.specs.Values.{with_entries};
 
 use cif_change::Key;

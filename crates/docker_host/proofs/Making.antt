@@ -9,7 +9,7 @@ use denote.RattleType.{Valss}
 use denote.Steps.{nothing}
 use denote.Struct.Struct.{Shape, Struct, within}
 
--- what is declared of it
+-- the declaration of such a struct, which has no other fields
 abbrev pub no_fields : Shape
 no_fields = record { name = []; args = []; types = []; fields = [] }
 
@@ -17,7 +17,7 @@ no_fields = record { name = []; args = []; types = []; fields = [] }
 abbrev pub empty_struct : Val
 empty_struct = vstruct vnil
 
--- it may be made of nothing, with ghost fields that nothing is owned for
+-- such a struct may be made of nothing, because its ghost fields own nothing
 pub made_of_nothing : {M : Type 1} {𝓤 : Ura M} {𝓛 : Logic 𝓤} {K : Type 0} {Γ : List (Item 𝓤)} {G : Goal 𝓤 𝓛.H} → K
     → Step K 𝓛 (‵ (fsep ((Struct no_fields).own_val tt (empty_struct ∷ [])) ftrue) ∷ Γ) G Γ G
 made_of_nothing k = step (λ rest.

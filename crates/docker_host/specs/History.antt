@@ -17,6 +17,8 @@ pub data Event : Type 0 where
   opened : (name : Text) (bytes : Bytes) → Event
   -- it wasn't opened
   unopened : (name : Text) → Event
+  -- an opened file was closed, and this was left of it
+  closed : (left : Bytes) → Event
   -- a draft was made for it, from the look that is the event of this number, counted from 0
   drafted : (name : Text) (look : ℕ) → Event
   -- none was made

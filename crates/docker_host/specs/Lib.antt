@@ -5,4 +5,6 @@ pub mod Shelf
 pub mod Places
 pub mod RealDevices
 pub mod Host
+pub mod FaultSink
+pub mod Opening
 pub mod Asked

@@ -1,6 +1,6 @@
 -- The event that a note stands for.
 use Rattle.std.specs.Prelude.{None, Some}
-use Rattle.docker_host.specs.History.{Event, looked, opened, unopened, drafted, undrafted, placed, unplaced, dropped}
+use Rattle.docker_host.specs.History.{Event, looked, opened, unopened, closed, drafted, undrafted, placed, unplaced, dropped}
 use Rattle.docker_host.specs.declared.history.Note.{Note}
 use Rattle.docker_host.specs.declared.history.Note.TheVariants as note
 
@@ -10,6 +10,8 @@ event_of (note.Looked name) = looked name.now
 event_of (note.OpenedUnnamed name) = opened name.now None
 event_of (note.Opened name bytes) = opened name.now (Some bytes.now)
 event_of (note.Unopened name) = unopened name.now
+event_of note.ClosedUnnamed = closed None
+event_of (note.Closed left) = closed (Some left.now)
 event_of (note.Drafted name moment) = drafted name.now moment.now.at
 event_of (note.Undrafted name moment) = undrafted name.now moment.now.at
 event_of (note.PlacedUnnamed name) = placed name.now None

@@ -1,7 +1,7 @@
 -- A shelf, whose history says what its files hold.
 use Rattle.std.specs.Prelude.{◌≡◌, ℕ, min, length, Bool, ⊤, if◌then◌else◌, List, [], ◌∷◌, Option, None, Some, IsSome}
 use Rattle.std.specs.Str.{bytes_eq}
-use Rattle.docker_host.specs.History.{Text, Event, looked, opened, unopened, drafted, undrafted, placed, unplaced, dropped}
+use Rattle.docker_host.specs.History.{Text, Event, looked, opened, unopened, closed, drafted, undrafted, placed, unplaced, dropped}
 
 -- A file that was opened: what is left of it, how many bytes it gives before it fails, and how often
 -- it failed. Then whether its end was reported, and whether it was read after that.
@@ -35,6 +35,7 @@ after_event texts (placed name None) = texts
 after_event texts (looked name) = texts
 after_event texts (opened name bytes) = texts
 after_event texts (unopened name) = texts
+after_event texts (closed left) = texts
 after_event texts (drafted name look) = texts
 after_event texts (undrafted name look) = texts
 after_event texts (unplaced name bytes) = texts
@@ -51,6 +52,7 @@ IsMet texts (opened name bytes) = (bytes ≡ texts name) × IsSome bytes
 IsMet texts (placed name bytes) = ⊤
 IsMet texts (looked name) = ⊤
 IsMet texts (unopened name) = ⊤
+IsMet texts (closed left) = ⊤
 IsMet texts (drafted name look) = ⊤
 IsMet texts (undrafted name look) = ⊤
 IsMet texts (unplaced name bytes) = ⊤

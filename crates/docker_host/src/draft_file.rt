@@ -3,7 +3,7 @@
 //! written directly.
 ghost use Rattle.std.specs.Prelude.{◌≡◌, None, IfOk};
 
-use crate::beside::Beside;
+use crate::draft_place::DraftPlace;
 use crate::folder::OpenFault;
 use crate::transfers::write_some;
 use crate::version::Version;
@@ -18,7 +18,7 @@ use std::marker::Model;
 pub struct DraftFile {
     name: String,
     file: File,
-    beside: Option<Beside>,
+    place: Option<DraftPlace>,
     failures: u64,
 }
 
@@ -51,11 +51,11 @@ impl DraftFile {
         ensures { IfOk result (λ draft. draft.failures ≡ 0) }
     {
         let own = String::from_str(rt.alloc(), name)?;
-        let (file, beside) = open_draft(rt, name, seen)?;
+        let (file, place) = open_draft(rt, name, seen)?;
         Ok(DraftFile {
             name: own,
             file,
-            beside,
+            place,
             failures: 0,
         })
     }
@@ -67,17 +67,17 @@ impl DraftFile {
         let DraftFile {
             name,
             file,
-            beside,
+            place,
             ..
         } = self;
-        let Some(beside) = beside else {
+        let Some(place) = place else {
             return Ok(None);
         };
         // The draft is looked at while it is open and before it has the file's name, so that
         // nothing but the draft is seen.
         let version = Version::of_open(&file);
-        if beside.replace(rt, &file).is_err() {
-            beside.remove(rt);
+        if place.replace(rt, &file).is_err() {
+            place.remove(rt);
             return Err(Failed);
         }
         let Some(version) = version else {
@@ -88,8 +88,8 @@ impl DraftFile {
 
     /// Removes the draft, as far as possible.
     pub(crate) fn remove(&self, rt: &HostRuntime) {
-        if let Some(beside) = &self.beside {
-            beside.remove(rt);
+        if let Some(place) = &self.place {
+            place.remove(rt);
         }
     }
 }
@@ -99,7 +99,7 @@ fn open_draft(
     rt: &HostRuntime,
     name: &str,
     seen: Option<Version>,
-) -> Result<(File, Option<Beside>), OpenFault> {
+) -> Result<(File, Option<DraftPlace>), OpenFault> {
     match fs::metadata(rt, name) {
         Ok(there) if there.is_file() => {
             let path = fs::canonicalize(rt, name)?.into_string();
@@ -132,13 +132,13 @@ fn open_beside(
     path: String,
     old: Option<Metadata>,
     seen: Option<Version>,
-) -> Result<(File, Option<Beside>), OpenFault> {
-    let (file, beside) = Beside::make(rt, path, old)?;
+) -> Result<(File, Option<DraftPlace>), OpenFault> {
+    let (file, place) = DraftPlace::make(rt, path, old)?;
     if Version::under(rt, name) != seen {
-        beside.remove(rt);
+        place.remove(rt);
         return Err(OpenFault::Failed);
     }
-    Ok((file, Some(beside)))
+    Ok((file, Some(place)))
 }
 
 /// Whether what was seen is a pipe or a device, and the same one is there now.

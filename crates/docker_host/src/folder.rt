@@ -1,7 +1,7 @@
 //! A folder: where files are looked at, opened, and written anew by drafts.
 ghost use Rattle.std.specs.Prelude.{◌≡◌, ℕ, ◌+◌, ◌-◌, ◌^◌, ◌<◌, Bool, false, List, [], ◌∷◌, ◌++◌, length, IfOk, IsErr, OnOk, OnErr, Err};
 ghost use Rattle.cif_device.specs.Device.{CountsFailure};
-ghost use Rattle.docker_host.specs.History.{Event, looked, opened, unopened, drafted, undrafted, placed, unplaced, dropped, named_if};
+ghost use Rattle.docker_host.specs.History.{Event, looked, opened, unopened, closed, drafted, undrafted, placed, unplaced, dropped, named_if};
 
 use cif_device::{Failed, Sink, Source};
 use std::alloc::AllocError;
@@ -16,6 +16,22 @@ pub enum OpenFault {
     Failed,
     /// Out of memory: an allocation was refused.
     Memory,
+}
+
+impl OpenFault {
+    ghost use Rattle.docker_host.specs.Opening.{one_of};
+    ghost use Rattle.std.specs.Prelude.{◌≡◌};
+
+    /// One of two values, by the fault: the first if the device failed, the second if memory ran
+    /// out.
+    pub fn one_of<T: Copy>(self, failed: T, memory: T) -> T
+        ensures { result ≡ one_of failed memory self }
+    {
+        match self {
+            OpenFault::Failed => failed,
+            OpenFault::Memory => memory,
+        }
+    }
 }
 
 impl From<io::Error> for OpenFault {
@@ -98,10 +114,10 @@ pub trait Folder {
         ensures failures { CountsFailure (result ≡ Err OpenFault.Failed)
             (failures self.old) (failures self.new) };
 
-    /// Takes an opened file back, and counts its failures.
+    /// Takes an opened file back, with what is left of it, and counts its failures.
     fn close(&mut self, file: Self::File)
         requires { failures self.old + Self.File.failures file < 2 ^ 64 }
-        ensures asked { history self.new ≡ history self.old }
+        ensures asked { history self.new ≡ history self.old ++ closed (Self.File.left file) ∷ [] }
         ensures counted { failures self.new ≡ failures self.old + Self.File.failures file };
 
     /// Makes an empty draft for the named file, from what a look saw of it. Fails if what is under

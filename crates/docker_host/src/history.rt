@@ -36,6 +36,10 @@ pub enum Note<'a> {
     OpenedUnnamed(&'a str),
     /// A named file wasn't opened.
     Unopened(&'a str),
+    /// An opened file was closed, and these bytes were left of it.
+    Closed(&'a [u8]),
+    /// An opened file was closed, and what was left of it can't be named.
+    ClosedUnnamed,
     /// A draft was made for a named file, from the look of a moment.
     Drafted(&'a str, &'a Moment),
     /// No draft was made for a named file, from the look of a moment.

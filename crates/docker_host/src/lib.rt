@@ -2,8 +2,9 @@
 //! With it, all devices of a program in one value.
 #![tactic(auto)]
 
-mod beside;
 mod draft_file;
+mod draft_place;
+mod fault_sink;
 mod folder;
 mod history;
 mod host;
@@ -18,6 +19,7 @@ mod transfers;
 mod version;
 
 pub use draft_file::DraftFile;
+pub use fault_sink::tell_text;
 pub use folder::{Drafted, Folder, OpenFault};
 pub use history::{History, Moment, Note};
 pub use host::Host;

@@ -56,6 +56,13 @@ impl Page {
             passed: false,
         }
     }
+
+    /// What is left of it.
+    pub fn rest(&self) -> &[u8]
+        ensures { result.now ≡ self.now.left }
+    {
+        &self.bytes.as_slice()[self.at..]
+    }
 }
 
 impl Source for Page {
@@ -89,7 +96,7 @@ impl Source for Page {
             self.failures += 1;
             return Err(Failed);
         }
-        let rest = &self.bytes.as_slice()[self.at..];
+        let rest = self.rest();
         let most = self.sound.min(STEP).min(rest.len());
         let n = into.len().min(most);
         into[..n].copy_from_slice(&rest[..n]);

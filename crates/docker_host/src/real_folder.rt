@@ -112,6 +112,7 @@ impl Folder for RealFolder {
 
     fn close(&mut self, file: OpenFile) {
         self.failures += file.failures();
+        self.history = self.history.then(&Note::ClosedUnnamed);
     }
 
     fn create<'a>(

@@ -253,6 +253,7 @@ impl Folder for Shelf {
 
     fn close(&mut self, file: Page) {
         self.failures += file.failures();
+        self.history = self.history.then(&Note::Closed(file.rest()));
     }
 
     fn create<'a>(&mut self, name: &'a str, seen: &Sight) -> Result<Drafted<'a, Kept>, OpenFault> {

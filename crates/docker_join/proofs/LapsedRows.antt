@@ -22,7 +22,7 @@ Row = Key × Entry
 abbrev pub lapsed_from : ℕ → ℕ → List (Key × Entry) → List (model.Key × ops.Entry)
 lapsed_from horizon i rows = map row_meant (take i rows) ++ lapse_entries horizon (map row_meant (drop i rows))
 
--- one more row lapses
+-- after one more row lapses, the rows are still on the way to the same lapsed rows
 pub one_more : (horizon : ℕ) (all : List (model.Key × ops.Entry)) (rows : List Row) (i : ℕ) (d : Row) (after : Entry) → i < length rows
     → entry_meant after ≡ lapse_entry horizon (entry_meant (get_or rows i d).1)
     → lapsed_from horizon i rows ≡ all → lapsed_from horizon (i + 1) (set rows i ((get_or rows i d).0, after)) ≡ all

@@ -15,7 +15,7 @@ all_back : {A B : Type 0} (f : A → B) (P : B → Type 0) (xs : List A) → All
 all_back f P [] all = tt
 all_back f P (x ∷ xs) all = (all.0, all_back f P xs all.1)
 
--- if the images ascend, the elements ascend by them
+-- if the images ascend, the elements ascend by their images
 pub meant_ascending : {A B : Type 0} (f : A → B) (cmp : B → B → Ordering) (xs : List A) → IsStrictlyAscending cmp (map f xs)
     → IsStrictlyAscending (λ a b. cmp (f a) (f b)) xs
 meant_ascending f cmp [] up = tt

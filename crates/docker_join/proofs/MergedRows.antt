@@ -52,7 +52,7 @@ module _ {E : Type 0} where
   row_cmp_turned x y greater = key_total.antisymm (key_meant y.0) (key_meant x.0) ∙ ap ordering_reverse greater
 
 module _ {E : Type 0} (picked : E → E → E) where
-  -- if the rows of both tables are above a row, so is the walk
+  -- if the rows of both tables are above a row, so are the rows of the walk
   from_above : (low x : Key × E) (rest : List (Key × E) → List (Key × E)) → row_cmp low x ≡ Less → ((ys : List (Key × E)) → Above low ys → Above low (rest ys))
       → (ys : List (Key × E)) → Above low ys → Above low (walk_from picked x rest ys)
   from_above low x rest below behind [] above = (below, behind [] tt)
@@ -87,7 +87,7 @@ module _ {E : Type 0} (picked : E → E → E) where
   abbrev Both : List (Key × E) → List (Key × E) → model.Key → Option E
   Both xs ys key = picked_value picked (value_at xs key) (value_at ys key)
 
-  -- a row that only the first table has is put out
+  -- putting out a row that only the first table has keeps the values of the join
   first_out : (x : Key × E) (xs ys tail : List (Key × E)) (key : model.Key) → Above x ys → value_at tail key ≡ Both xs ys key
       → value_at (x ∷ tail) key ≡ Both (x ∷ xs) ys key
   first_out x xs ys tail key above later = by (key_cmp (key_meant x.0) key) refl
@@ -102,7 +102,7 @@ module _ {E : Type 0} (picked : E → E → E) where
           let none : value_at ys key ≡ None = subst (λ k. value_at ys k ≡ None) (exact_key (key_meant x.0) key is) (value_above (key_meant x.0) ys above) in
           value_here x tail key is ∙ sym (λ i. picked_value picked (value_here x xs key is i) (none i))
 
-  -- a row that only the second table has is put out
+  -- putting out a row that only the second table has keeps the values of the join
   second_out : (y : Key × E) (xs ys tail : List (Key × E)) (key : model.Key) → Above y xs → value_at tail key ≡ Both xs ys key
       → value_at (y ∷ tail) key ≡ Both xs (y ∷ ys) key
   second_out y xs ys tail key above later = by (key_cmp (key_meant y.0) key) refl
@@ -117,7 +117,7 @@ module _ {E : Type 0} (picked : E → E → E) where
           let none : value_at xs key ≡ None = subst (λ k. value_at xs k ≡ None) (exact_key (key_meant y.0) key is) (value_above (key_meant y.0) xs above) in
           value_here y tail key is ∙ sym (λ i. picked_value picked (none i) (value_here y ys key is i))
 
-  -- the pick of two rows with one key is put out
+  -- putting out the pick of two rows with one key keeps the values of the join
   both_out : (x y : Key × E) (xs ys tail : List (Key × E)) (key : model.Key) → row_cmp x y ≡ Equal → value_at tail key ≡ Both xs ys key
       → value_at ((x.0, picked x.1 y.1) ∷ tail) key ≡ Both (x ∷ xs) (y ∷ ys) key
   both_out x y xs ys tail key level later = by (key_cmp (key_meant x.0) key) refl

@@ -1,5 +1,6 @@
 -- The rows of a join, placed from the greatest on.
-use Rattle.std.proofs.Common.{◌≡◌, ℕ, zero, suc, ◌+◌, ◌-◌, ◌<◌, ◌≤◌, List, [], ◌∷◌, ◌++◌, length, get_or, take, drop, refl, ap, sym, ◌∙◌, subst, append_assoc, length-append, length-drop, arith, true, false, Some, None, MatchOption}
+use Rattle.std.proofs.Common.{◌≡◌, ℕ, zero, suc, ◌+◌, ◌-◌, ◌<◌, ◌≤◌, List, [], ◌∷◌, ◌++◌, length, get_or, take, drop, refl, ap, sym}
+use Rattle.std.proofs.Common.{◌∙◌, subst, append_assoc, length-append, length-drop, arith, true, false, Some, None, MatchOption}
 use Rattle.std.specs.Prelude.{Option}
 use Rattle.std.proofs.lemmas.List.{append-nil, get_or-append_right, get_or-drop, get_or-take, length-take-le, take-append-drop, take_all, take_more}
 use Rattle.std.proofs.Math.Seq.{drop-append_seam, take-append_seam}
@@ -33,12 +34,12 @@ record WalksOn {E : Type 0} (picked : E → E → E) (old : List (Key × E)) (le
   joined : AreAscending (left_rows left old) → (rest : List (Key × E)) → AreAscending (rest ++ row ∷ [])
       → joined_with picked later new rest ≡ joined_with picked left old (rest ++ row ∷ [])
 
--- a row below another, the other way round
+-- if a row is below another, the other compares as greater
 above_turned : {E : Type 0} (a b : Key × E) → row_cmp b a ≡ Less → row_cmp a b ≡ Greater
 above_turned a b below = key_total.antisymm (key_meant a.0) (key_meant b.0) ∙ ap ordering_reverse below
 
 module _ {E : Type 0} (picked : E → E → E) where
-  -- the walk over one table and an empty one
+  -- the walk over a table and an empty one is the table
   pub walk_none : (xs : List (Key × E)) → walk picked xs [] ≡ xs
   walk_none [] = refl
   walk_none (x ∷ xs) = ap (λ rest. x ∷ rest) (walk_none xs)
@@ -54,7 +55,8 @@ module _ {E : Type 0} (picked : E → E → E) where
   lower_first x [] y below = refl
   lower_first [] (b ∷ others) y below = refl
   lower_first (x ∷ xs) (b ∷ others) y below =
-      (λ i. row_out picked (above_turned x b below.0.0 i) x b (walk picked xs (b ∷ others ++ y)) (walk picked xs (others ++ y)) (walk_from picked x (walk picked xs) (others ++ y)))
+      (λ i. row_out picked (above_turned x b below.0.0 i) x b
+      (walk picked xs (b ∷ others ++ y)) (walk picked xs (others ++ y)) (walk_from picked x (walk picked xs) (others ++ y)))
       ∙ ap (λ rest. b ∷ rest) (lower_first (x ∷ xs) others y below.1)
 
   -- two tables in two parts, where each first part is below the other table's second part: the walk
@@ -118,7 +120,7 @@ module _ {E : Type 0} where
       let rest = below_row (y ∷ rows) last row d up.1 (λ _. (omega arith, known.1)) in
       ((key_total.trans (key_meant x.0) (key_meant y.0) (key_meant row.0) up.0.0 rest.0.0, tt), rest)
 
-  -- the second of two lists of rows, from its length
+  -- two lists of rows that were concatenated are found again by the length of the second
   parts : (front back : List (Key × E)) (m : ℕ) → m ≡ length back
       → (drop (length (front ++ back) - m) (front ++ back) ≡ back) × (take (length (front ++ back) - m) (front ++ back) ≡ front)
   parts front back m size =
@@ -127,7 +129,7 @@ module _ {E : Type 0} where
       (ap (λ n. drop n (front ++ back)) at ∙ drop-append_seam front back, ap (λ n. take n (front ++ back)) at ∙ take-append_seam front back)
 
 module _ {E : Type 0} (picked : E → E → E) where
-  -- the walk over rows above a row, and that row
+  -- the walk over rows and a lower row puts out the lower row, and then the rows
   walk_row : (rows : List (Key × E)) (row : Key × E) → Above row rows → walk picked rows (row ∷ []) ≡ row ∷ rows
   walk_row rows row above = lower_first picked rows (row ∷ []) [] (above, tt) ∙ ap (λ rest. row ∷ rest) (walk_none picked rows)
 
@@ -153,15 +155,17 @@ module _ {E : Type 0} (picked : E → E → E) where
 
       row_below : (xs : List (Key × E)) → AllBelow xs (own ∷ []) → AllBelow xs (row ∷ [])
       row_below [] low = tt
-      row_below (x ∷ xs) low = ((subst (λ k. key_cmp (key_meant x.0) k ≡ Less) (exact_key (key_meant own.0) (key_meant row.0) level) low.0.0, tt), row_below xs low.1)
+      row_below (x ∷ xs) low =
+          ((subst (λ k. key_cmp (key_meant x.0) k ≡ Less) (exact_key (key_meant own.0) (key_meant row.0) level) low.0.0, tt), row_below xs low.1)
 
       rest_under : (xs : List (Key × E)) → AllBelow xs (row ∷ []) → AllBelow xs (own ∷ r)
       rest_under [] low = tt
       rest_under (x ∷ xs) low =
-          let under : row_cmp x own ≡ Less = subst (λ k. key_cmp (key_meant x.0) k ≡ Less) (sym (exact_key (key_meant own.0) (key_meant row.0) level)) low.0.0 in
+          let under : row_cmp x own ≡ Less =
+          subst (λ k. key_cmp (key_meant x.0) k ≡ Less) (sym (exact_key (key_meant own.0) (key_meant row.0) level)) low.0.0 in
           ((under, above_lower x own r under above), rest_under xs low.1)
 
-  -- the rows that are left, if it is known where they begin
+  -- if rows are a front and a back, and as many are left as the back has, the back is left
   left_is : (rows front back : List (Key × E)) (m : ℕ) → rows ≡ front ++ back → m ≡ length back → left_rows m rows ≡ back
   left_is rows front back m is size = ap (λ xs. drop (length xs - m) xs) is ∙ (parts front back m size).0
 
@@ -297,7 +301,7 @@ module _ {E : Type 0} (picked : E → E → E) (old : List (Key × E)) (n left r
       ∙ ap (λ k. get_or old k row) (let plain : n - run + 0 ≡ n - run = omega arith in plain) in
       ap (λ x. row_cmp x row) first ∙ above_is (row_cmp (get_or old (n - run) row) row) (is_run.above row (let from = run_size in omega arith)))
 
-  -- the last row that is then left
+  -- the last row that is left then is the row before the run
   last_at : (d : Key × E) → 0 < later → get_or a (later - 1) d ≡ get_or old (n - (run + 1)) d
   last_at d some =
       let run_in = is_run.within in
@@ -341,7 +345,8 @@ module _ {E : Type 0} (picked : E → E → E) (old : List (Key × E)) (n left r
       let b = take (later - 1) a in
       let end = get_or a (later - 1) top in
       let split : a ≡ b ++ end ∷ [] =
-      sym (take_all later a (omega arith)) ∙ ap (λ k. take k a) (let one : later ≡ later - 1 + 1 = omega arith in one) ∙ take_more a (later - 1) top (omega arith) in
+      sym (take_all later a (omega arith)) ∙ ap (λ k. take k a) (let one : later ≡ later - 1 + 1 = omega arith in one)
+      ∙ take_more a (later - 1) top (omega arith) in
       let shape : turned_rows ≡ (r ++ (p ++ b)) ++ end ∷ [] =
       turned_parts ∙ ap (λ xs. r ++ (p ++ xs)) split ∙ ap (λ xs. r ++ xs) (sym (append_assoc p b (end ∷ []))) ∙ sym (append_assoc r (p ++ b) (end ∷ [])) in
       let both = same_last taken (r ++ (p ++ b)) top end (sym taken_is ∙ shape) in
@@ -375,7 +380,7 @@ none_yet {E = E} picked first second rows left same size =
       },
     )
 
--- if no row could be popped, none of the second table is left
+-- if no row could be popped, no row of the second table is left
 pub none_popped : {A : Type 0} (P Q : Type 0) (popped : Option A) (rows : List A) (n : ℕ) → ((x : A) → popped ≡ Some x → ⊥) → n ≡ length rows
     → MatchOption popped ((n ≡ 0) × P) (λ _. Q) → rows ≡ []
 none_popped P Q None [] n never size done = refl

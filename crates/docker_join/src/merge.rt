@@ -3,8 +3,8 @@ ghost use Rattle.std.specs.Prelude.{◌≡◌, IfOk, IfErr};
 
 use std::alloc::Global;
 
-/// What can be joined. For valid values the join is commutative, associative and idempotent, as
-/// long as joins succeed.
+/// A type whose values can be joined. For valid values the join is commutative, associative and
+/// idempotent, as long as joins succeed.
 ///
 /// The programs join only states. File stamps, stamps, entries and tables can be joined too: the
 /// library offers them with the same laws.
@@ -35,7 +35,7 @@ pub trait Merge: Sized {
     ghost idempotent: { (a : Self) → is_valid a → is_join a a a };
 }
 
-/// What can be joined without allocating memory.
+/// A type whose values can be joined without allocating memory.
 pub trait Pick: Merge {
     // the join of two values
     ghost picked: { Self → Self → Self };

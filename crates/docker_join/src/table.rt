@@ -1,4 +1,4 @@
-//! Tables: what is known of each of some keys.
+//! Tables: keys, each with what is known of it.
 ghost use Rattle.std.specs.Prelude.{◌≡◌, ◌==◌, ◌+◌, ◌≤◌, [], false, length, map, vec_len, vec_capacity, IfOk, IfErr};
 ghost use Rattle.std.specs.Option.{option_copied};
 ghost use Rattle.cif_change.specs.Meaning.{key_meant};
@@ -13,7 +13,7 @@ use cif_change::Key;
 use std::alloc::Global;
 use std::marker::Model;
 
-/// What is known of each of some keys.
+/// Keys, each with what is known of it.
 #[derive(Debug, Drop)]
 pub struct Table<E> {
     /// The rows: each a key with what is known of it, in ascending order of keys.

@@ -60,7 +60,7 @@ is_run_needed place so_far = is_run_named (names_in so_far.kept) so_far.run || i
 abbrev pub kept_after_run : List ℕ → ExcerptSoFar → List (Key × Entry)
 kept_after_run place so_far = if is_run_needed place so_far then so_far.kept ++ so_far.run else so_far.kept
 
--- a schedule of this UID goes on with the run
+-- a schedule of this UID continues the run
 abbrev pub goes_on : List (Key × Entry) → List ℕ → Bool
 goes_on [] uid = false
 goes_on (first ∷ run) uid = has_uid uid first.0
@@ -90,7 +90,7 @@ kept_so_far place entries = fold (next_kept place) nothing_kept entries
 abbrev pub excerpt_for : List ℕ → State → State
 excerpt_for place state = record { horizon = state.horizon; ledger = state.ledger; entries = kept_after_run place (kept_so_far place state.entries) }
 
--- after these entries a walk has kept this much, is in this run, and this says whether the run is
+-- after these entries the walk has kept `kept` and is in this run. The flag says whether the run is
 -- needed
 pub record HasKept (place : List ℕ) (entries kept run : List (Key × Entry)) (needed : Bool) : Type 0 where
   pub so_far : kept_so_far place entries ≡ record { kept = kept; run = run }

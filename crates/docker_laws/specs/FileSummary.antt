@@ -8,8 +8,8 @@ use Rattle.docker_model.specs.state.Op.{Entry, key_cmp}
 use Rattle.docker_model.specs.state.State.{State}
 use Rattle.docker_model.specs.state.Summary.{entry_of}
 
--- an entry goes before the first one, or is left out as one of the same key is there, or goes
--- further back
+-- the list with an entry placed by the order of its key and the first one's. It goes before the
+-- first one, is left out if the keys are equal, or goes further back
 abbrev pub placed : Ordering → Key × Entry → Key × Entry → List (Key × Entry) → List (Key × Entry) → List (Key × Entry)
 placed Less entry first entries rest = entry ∷ first ∷ entries
 placed Equal entry first entries rest = first ∷ entries

@@ -1,6 +1,7 @@
 -- The lines of a docker, gathered by a walk over rows of the live table. Each schedule and each
--- association gives its lines, for each start day whose trains can be somewhere on the day.
-use Rattle.std.specs.Prelude.{ℕ, List, ◌⊎◌, ◌-◌, nat_le, [], ◌∷◌, map, filter, ◌&&◌, ◌==◌, Bool, false, Option, Some, None, if◌then◌else◌, codes, not, ◌≡◌, Contains}
+-- association gives its lines, for each start day of a train that may be under way on the day.
+use Rattle.std.specs.Prelude.{ℕ, List, ◌⊎◌, ◌-◌, nat_le, [], ◌∷◌, map, filter, ◌&&◌, ◌==◌, Bool}
+use Rattle.std.specs.Prelude.{false, Option, Some, None, if◌then◌else◌, codes, not, ◌≡◌, Contains}
 use Rattle.std.specs.List.{flat_map}
 use Rattle.std.specs.Str.{bytes_eq}
 use Rattle.std.specs.Ordering.{is_eq}
@@ -22,7 +23,7 @@ use Rattle.docker_laws.specs.LiveRows.{Link}
 abbrev pub IsDockerLine : Table → List ℕ → ℕ → DockerLine → Type 0
 IsDockerLine live place day line = IsEventLine live place day line ⊎ IsAssociationLine live place day line
 
--- the start days of trains that can be somewhere on the day: the day and the two days before it,
+-- the start days of trains that may be under way on the day: the day and the two days before it,
 -- from day 0 on. For day 10 they are 10, 9 and 8; for day 0 only 0
 abbrev pub start_days : ℕ → List ℕ
 start_days day = map (λ back. day - back) (filter (λ back. nat_le back day) (0 ∷ 1 ∷ 2 ∷ []))

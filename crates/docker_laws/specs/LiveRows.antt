@@ -8,7 +8,8 @@ use Rattle.docker_model.specs.file.File.{first_record}
 use Rattle.docker_model.specs.file.Change.{Key, schedule_key, ScheduleKey, Body, schedule_body, association_key, AssociationKey, association_body}
 use Rattle.docker_model.specs.state.Table.{Table}
 use Rattle.state_laws.specs.Row.{Row}
-use Rattle.docker_model.specs.docker.Choice.{Train, Group, group_of, schedule_runs, schedule_choice_cmp, association_runs, association_choice_cmp, IsRunning, IsChosen, TrainRuns, IsChosenAssociation}
+use Rattle.docker_model.specs.docker.Choice.{Train, Group, group_of, schedule_runs, schedule_choice_cmp, association_runs}
+use Rattle.docker_model.specs.docker.Choice.{association_choice_cmp, IsRunning, IsChosen, TrainRuns, IsChosenAssociation}
 use Rattle.docker_model.specs.docker.Association.{RunsNot}
 
 -- the rows are live, and have each schedule of the UID
@@ -68,7 +69,7 @@ is_choice trains uid day train =
 abbrev pub chosen_in : List Row → List ℕ → ℕ → Option Train
 chosen_in rows uid day = find (is_choice (schedules_in rows) uid day) (schedules_in rows)
 
--- no train if the schedule is a cancellation
+-- the train that runs by the chosen schedule: none if that is a cancellation
 abbrev pub unless_cancelled : Option Train → Option Train
 unless_cancelled None = None
 unless_cancelled (Some train) = if train.key.indicator == 67 then None else Some train

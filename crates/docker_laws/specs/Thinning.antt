@@ -1,8 +1,9 @@
--- Thinning: what the docker of one place and one day needs of a table, as far as each change shows
--- it by itself. TIPLOCs and associations elsewhere are left out, and so are schedules that run on
--- no start day near the day. A schedule that doesn't call at the place keeps its first line and its
--- ends.
-use Rattle.std.specs.Prelude.{◌≡◌, ℕ, Bool, true, false, if◌then◌else◌, List, [], ◌∷◌, map, filter, fold, Option, Some, None, option_and_then, not, Contains, ◌↔◌}
+-- Thinning leaves out of a table what the docker of one place on one day doesn't need. It judges
+-- each change by itself. TIPLOCs and associations elsewhere are left out, and so are schedules that
+-- run on no start day near the day. A schedule that doesn't call at the place keeps its first line
+-- and its ends.
+use Rattle.std.specs.Prelude.{◌≡◌, ℕ, Bool, true, false, if◌then◌else◌, List, [], ◌∷◌, map, filter}
+use Rattle.std.specs.Prelude.{fold, Option, Some, None, option_and_then, not, Contains, ◌↔◌}
 use Rattle.std.specs.Ordering.{is_eq}
 use Rattle.std.specs.Str.{bytes_eq}
 use Rattle.docker_model.specs.records.Record.{Kind, origin_location, terminating_location, kind_of}

@@ -19,7 +19,8 @@ ghost use Rattle.docker_model.specs.docker.DockerText.{IsDockerText};
 ghost use Rattle.docker_laws.specs.NearDay.{runs_near};
 ghost use Rattle.docker_laws.specs.Excerpt.{IsExcerpt};
 ghost use Rattle.docker_laws.specs.StandIn.{IsStandIn, StandsFor};
-ghost use Rattle.docker_laws.specs.Thinning.{is_end, thin_lines, lines_for, body_for, may_matter, thinned, thin_act, thin_change, thin_changes, table_of, IsThinning, HasNoChangeOf, AreAtMost, without, IsStateOfChanges};
+ghost use Rattle.docker_laws.specs.Thinning.{is_end, thin_lines, lines_for, body_for, may_matter, thinned, thin_act, thin_change};
+ghost use Rattle.docker_laws.specs.Thinning.{thin_changes, table_of, IsThinning, HasNoChangeOf, AreAtMost, without, IsStateOfChanges};
 ghost use Rattle.docker_laws.specs.FileSummary.{summary_of};
 
 /// A table with good bodies and its thinned table for a place and a day have the same docker there
@@ -210,9 +211,9 @@ pub fn state_of_thinning_has_one_docker()
         ↔ IsDockerText (live_table part) place day text }
 {}
 
-/// The summary of one file, as a value: it is the summary, and is valid. The join of an empty state
-/// with a valid state is that state. The live table of a file's summary is the table that the
-/// file's changes make.
+/// The value `summary_of` is the file's summary, and is valid. The join of an empty state with a
+/// valid state is that state. The live table of a file's summary is the table that the file's
+/// changes make.
 pub fn summary_of_one_file()
     ensures is { (file : List (List ℕ)) → IsSummary (file ∷ []) 0 (summary_of file) }
     ensures valid { (file : List (List ℕ)) → IsFile file → length file ≤ most_records

@@ -11,14 +11,14 @@ use Rattle.docker_laws.proofs.runs.KnownSets.{offices_are}
 use Rattle.docker_laws.proofs.runs.RunEnd.{same_state, same_docker, plain_docker}
 use Rattle.docker_office.specs.RunEnds.{EndsWith, PrintsAs, known_at_end}
 
--- there is such an office in its run
+-- the office at the end of a run is one of the run's offices
 is_there : (known : Known) (state : State) → (end : EndsWith known state) → IsOffice (sets_of end.offices end.events end.exchange) end.office
 is_there known state end =
     let many = offices_are end.offices end.events end.exchange.replies in
     let low = end.there in
     omega arith
 
--- what holds for the office within its run holds for what it knows and for its state
+-- what holds for an office's knowledge and state within a run holds for both at its end
 at_end : (P : Known → State → Type 0) (known : Known) (state : State) → (end : EndsWith known state)
     → P (known_at_end end.offices end.events end.exchange end.office) (office_state end.exchange.states end.office) → P known state
 at_end P known state end is = subst (P known) end.has (subst (λ k. P k (office_state end.exchange.states end.office)) end.knows is)

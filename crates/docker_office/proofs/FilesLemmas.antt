@@ -1,5 +1,6 @@
 -- The lines of ledger items, written one after the other.
-use Rattle.std.proofs.Common.{◌≡◌, ℕ, suc, ◌+◌, ◌<◌, ◌≤◌, List, [], ◌∷◌, ◌++◌, length, take, drop, map, get_or, All, refl, ap, sym, ◌∙◌, subst, Some, None, Ok, Err, arith, append_assoc, append-nil, length-append}
+use Rattle.std.proofs.Common.{◌≡◌, ℕ, suc, ◌+◌, ◌<◌, ◌≤◌, List, [], ◌∷◌, ◌++◌, length, take, drop, map, get_or, All, refl}
+use Rattle.std.proofs.Common.{ap, sym, ◌∙◌, subst, Some, None, Ok, Err, arith, append_assoc, append-nil, length-append}
 use Rattle.std.specs.Prelude.{Option, option_map, Result, OnErr}
 use Rattle.std.proofs.Math.ListN.{get_or-map, drop_of_length-le}
 use Rattle.std.proofs.Math.Seq.{take-suc, take-append-add}
@@ -56,7 +57,7 @@ module _ (items : List LedgerItem) (i : ℕ) (item : LedgerItem) (line : List �
       ∙ text_joined (take i items) (get_or items i item ∷ []) ∙ ap (λ one. text_of (take i items) ++ text_of (one ∷ [])) (sym at)
       ∙ ap (λ bytes. text_of (take i items) ++ bytes) (text_of_one item ∙ sym line_is)
 
-  -- if its line is written, so are the lines up to it
+  -- if the item's line is written, the lines up to it are written
   pub line_taken : Takes now line next → Takes first (text_of (take (i + 1) items)) next
   line_taken taken = subst (λ bytes. Takes first bytes next) (sym front_and_line) (taken_then first now next (text_of (take i items)) line so_far taken)
 
@@ -66,7 +67,7 @@ module _ (items : List LedgerItem) (i : ℕ) (item : LedgerItem) (line : List �
       ∙ ap (λ bytes. bytes ++ text_of (drop (i + 1) items)) front_and_line
       ∙ append_assoc (text_of (take i items)) line (text_of (drop (i + 1) items))
 
-  -- if a proper prefix of its line is written, a proper prefix of the whole text is
+  -- if a proper prefix of the item's line is written, a proper prefix of the whole text is written
   pub line_begun : TakesPart now line next → TakesPart first (text_of items) next
   line_begun (n, short, taken) =
       let front = text_of (take i items) in
@@ -91,7 +92,7 @@ all_taken items i first now end so_far = subst (λ xs. Takes first (text_of xs) 
     all =
         sym (append-nil (take i items)) ∙ ap (λ rest. take i items ++ rest) (sym (drop_of_length-le items end)) ∙ take-append-drop i items
 
--- what holds anyway holds if a result is an error
+-- a fact that holds in any case holds if a result is an error
 pub on_err : {A E : Type 0} (answer : Result A E) (P : Type 0) → P → OnErr answer P
 on_err (Ok a) P holds = tt
 on_err (Err e) P holds = holds

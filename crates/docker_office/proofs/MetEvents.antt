@@ -1,5 +1,6 @@
 -- Each event of a run meets its definition, whatever the office returns.
-use Rattle.std.proofs.Common.{◌≡◌, ℕ, ◌^◌, ◌<◌, ◌≤◌, List, [], ◌∷◌, ◌++◌, length, set, get_or, refl, sym, ◌∙◌, ap, subst, arith, Option, Some, None, Result, Ok, Err, IsOk, IsErr, IfErr}
+use Rattle.std.proofs.Common.{◌≡◌, ℕ, ◌^◌, ◌<◌, ◌≤◌, List, [], ◌∷◌, ◌++◌, length, set, get_or, refl, sym, ◌∙◌}
+use Rattle.std.proofs.Common.{ap, subst, arith, Option, Some, None, Result, Ok, Err, IsOk, IsErr, IfErr}
 use Rattle.std.proofs.lemmas.List.{length-map, set-get_or, map-append}
 use Rattle.cif_line.specs.Device.{Store}
 use Rattle.cif_file.specs.declared.fault.FileFault.{FileFault}
@@ -17,7 +18,8 @@ use Rattle.docker_model.specs.state.StateFault.{IsStateText}
 use Rattle.docker_model.specs.state.StateText.{dks_2, state_text}
 use Rattle.docker_model.specs.state.Summary.{IsSummary}
 use Rattle.docker_model.specs.run.Run as model
-use Rattle.docker_model.specs.run.Run.{RunEvent, take_file, send_state, deliver, reload, horizon_event, refused, no_office, no_message, KnownSets, IsOffice, IsMessage, IsOfficeReply, IsMessageReply, IsFileReply, IsDoneOrNoMemory, after_done}
+use Rattle.docker_model.specs.run.Run.{RunEvent, take_file, send_state, deliver, reload, horizon_event, refused, no_office, no_message, KnownSets}
+use Rattle.docker_model.specs.run.Run.{IsOffice, IsMessage, IsOfficeReply, IsMessageReply, IsFileReply, IsDoneOrNoMemory, after_done}
 use Rattle.docker_model.specs.run.Knowledge.{Holds, message_text}
 use Rattle.docker_laws.proofs.runs.RunSteps.{sizes, message_reads, after_take, after_send, after_delivery, after_reload, after_horizon}
 use Rattle.state_laws.proofs.texts.OneStateFault.{no_fault_of_state}
@@ -33,7 +35,7 @@ use Rattle.docker_office.specs.declared.steps.Holdings.{Holdings}
 use Rattle.docker_office.specs.RunMeaning.{IsMissing, IsTextCause, refusal_of_file, reply_for, texts_of}
 use Rattle.docker_office.specs.RunSteps.{AreOf, MeetsEvent}
 
--- if a source's bytes are this text, their fault is the text's fault
+-- if a source's bytes are this text, a fault of reading the source is the text's fault
 pub refused_text : (limit : ℕ) (left text : List ℕ) (answer : Result Unit OfficeFault) → left ≡ text
     → ((fault : StateFault) → answer ≡ Err (why.State fault) → RefusesState dks_2 limit (Some left) fault)
     → (fault : StateFault) → answer ≡ Err (why.State fault) → RefusesState dks_2 limit (Some text) fault
@@ -68,22 +70,22 @@ module _ (known : KnownSets) (held : Holdings) (holds : AreOf known held) where
 
   -- ---- the office or the message doesn't exist
 
-  -- a take at an office that doesn't exist
+  -- a take at an office that doesn't exist is refused
   pub take_without_office : (office : ℕ) (text : List ℕ) (limit : ℕ) → length held.offices.items ≤ office
       → MeetsEvent known (take_file office text limit) (Refused NoOffice) held
   take_without_office office text limit far =
       record { told = tt; may = no_office_there office (IsFileReply limit text (refused no_office)) far; holds = holds }
 
-  -- a send at an office that doesn't exist
+  -- a send at an office that doesn't exist is refused
   pub send_without_office : (office : ℕ) → length held.offices.items ≤ office → MeetsEvent known (send_state office) (Refused NoOffice) held
   send_without_office office far = record { told = tt; may = no_office_there office (IsDoneOrNoMemory (refused no_office)) far; holds = holds }
 
-  -- a horizon at an office that doesn't exist
+  -- a horizon at an office that doesn't exist is refused
   pub horizon_without_office : (office day : ℕ) → length held.offices.items ≤ office → MeetsEvent known (horizon_event office day) (Refused NoOffice) held
   horizon_without_office office day far =
       record { told = tt; may = no_office_there office (refused no_office ≡ model.done) far; holds = holds }
 
-  -- a delivery whose office or message doesn't exist
+  -- a delivery is refused if its office or its message doesn't exist
   pub delivery_missing : (office message : ℕ) (fault : RunFault)
       → IsMissing (length held.offices.items) (length held.messages.items) office message fault
       → MeetsEvent known (deliver office message) (Refused fault) held
@@ -96,7 +98,7 @@ module _ (known : KnownSets) (held : Holdings) (holds : AreOf known held) where
   }
   delivery_missing office message (Office fault) never = absurd never
 
-  -- a reload whose office or message doesn't exist
+  -- a reload is refused if its office or its message doesn't exist
   pub reload_missing : (office message : ℕ) (fault : RunFault)
       → IsMissing (length held.offices.items) (length held.messages.items) office message fault
       → MeetsEvent known (reload office message) (Refused fault) held
@@ -122,7 +124,7 @@ module _ (known : KnownSets) (held : Holdings) (holds : AreOf known held) where
       subst (λ states. Holds dks_2 sets states (texts_of after.messages.items)) (sym is.offices)
       (subst (λ kept. Holds dks_2 sets (set held.offices.items office now) (texts_of kept)) (sym is.messages) have)
 
-  -- if the new state equals the old one, what is held is still what is known
+  -- if the office's new state equals its old one, nothing more is known
   unchanged : (office : ℕ) (now : State) (after : Holdings) → IsReplaced office now after → now ≡ get_or held.offices.items office no_state
       → AreOf known after
   unchanged office now after is same =
@@ -195,7 +197,7 @@ module _ (known : KnownSets) (held : Holdings) (holds : AreOf known held) where
 
   -- ---- a state is sent
 
-  -- the new message comes last
+  -- the message of a send comes after the messages before it
   pub send_met : (office : ℕ) (message : Store) (after : Holdings) → office < length held.offices.items → after.offices.items ≡ held.offices.items
       → after.messages.items ≡ held.messages.items ++ message ∷ [] → message.taken ≡ state_text dks_2 (get_or held.offices.items office no_state)
       → MeetsEvent known (send_state office) Done after

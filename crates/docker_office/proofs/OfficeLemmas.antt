@@ -83,7 +83,7 @@ untaken limit IsMade left left_now failures failures_now (file_faults.File fault
 untaken limit IsMade left left_now failures failures_now file_faults.Memory few file memory counted =
     record { no_further = few; outcome = inl (memory refl); failures = counted.1 (λ is. cc) }
 
--- a file was read whole: the office takes it, or memory runs out for its state
+-- if a file was read whole, the office takes it or memory runs out for its state
 pub taken_whole : {A : Type 0} (limit : ℕ) (IsMade : A → Type 0) (left left_now : BytesLeft) (failures failures_now : ℕ) (read : FileRead)
     (result : Result A OfficeFault) → ReadsNoFurther most_at_once limit left left_now → ReadsText limit left read → IsEnd left_now → failures_now ≡ failures
     → ((made : A) → result ≡ Ok made → IsMade made) → IfErr result (λ fault. fault ≡ office.Memory)
@@ -92,13 +92,14 @@ taken_whole limit IsMade left left_now failures failures_now read (Ok made) few 
     record { no_further = few; outcome = (is made refl, end); failures = same }
 taken_whole {A} limit IsMade left left_now failures failures_now read (Err fault) few reads end same is only =
     subst
-    (λ (told : OfficeFault). StopsTaking limit left left_now (IsTakingOutcome limit IsMade left left_now (Err told)) (CountsTaking {A = A} failures failures_now (Err told)))
+    (λ (told : OfficeFault). StopsTaking limit left left_now (IsTakingOutcome limit IsMade left left_now (Err told))
+    (CountsTaking {A = A} failures failures_now (Err told)))
     (sym only)
     (record { no_further = few; outcome = inr (holds_file limit left read reads); failures = same })
 
 -- ---- states
 
--- a file was read, and our state becomes its join with the file's state
+-- if a file was read, our state becomes its join with the file's state
 pub takes_file : (limit : ℕ) (left : Option (List ℕ)) (read : FileRead) (old own new : State) → ReadsText limit left read
     → ((file : List (List ℕ)) → IsOfRecords read file → IsSummary (file ∷ []) 0 own) → IsJoin old own new → TakesFile limit left old new
 takes_file limit left read old own new reads summary join = record {
@@ -111,7 +112,7 @@ takes_file limit left read old own new reads summary join = record {
   joined = join;
 }
 
--- the state of a file that was read, as an office that knew nothing takes it
+-- if an office that knew nothing now has a file's summary, it has taken the file
 pub takes_whole : (limit : ℕ) (left : Option (List ℕ)) (read : FileRead) (state : State) → ReadsText limit left read → limit ≤ most_records
     → ((file : List (List ℕ)) → IsOfRecords read file → state ≡ summary_of file) → TakesFile limit left no_state state
 takes_whole limit left read state reads few told =
@@ -128,7 +129,7 @@ takes_whole limit left read state reads few told =
       joined = join_of_nothing state (subst IsValid (sym same) (summary_valid lines reads.of_text.is_text.is (omega arith)));
     }
 
--- after a file is taken, the summary of some files is the summary of these and that one
+-- after a file is taken, the state is the summary of the files known before and this file
 pub knows_file_too : (limit : ℕ) (left : Option (List ℕ)) (old new : State) (files : List (List (List ℕ))) (horizon : ℕ) → TakesFile limit left old new
     → IsSummary files horizon old → KnowsFileToo limit left files horizon new
 knows_file_too limit left old new files horizon takes is = record {
@@ -174,7 +175,7 @@ state_read place day limit left excerpt reads =
     subst (ReadsState dks_2 limit left) (sym (ap (λ (it : Excerpt). it.state) reads.of.made_of))
     (record { text = reads.text; held = reads.held; is = reads.of.is })
 
--- if the source's bytes are known, it stands for the state that they hold
+-- if the source's bytes are known, an excerpt that was read stands for the state that they hold
 pub one_excerpt : (place : List ℕ) (day limit : ℕ) (left : Option (List ℕ)) (excerpt : Excerpt)
     → ReadsMade (IsExcerptAt place day) dks_2 limit left excerpt → (sent : State) → HoldsState dks_2 limit left sent → excerpt.state ≡ sent
 one_excerpt place day limit left excerpt reads sent holds =
@@ -182,23 +183,25 @@ one_excerpt place day limit left excerpt reads sent holds =
 
 -- ---- a text in memory as a source
 
--- if a state is read from the text, what was promised of it holds
+-- if a state is read from a text in memory, the promise for the result holds
 pub read_ok : {A : Type 0} (wants : Wanting) (format : Format) (limit : ℕ) (IsMade : Type 0) (left left_now : BytesLeft) (result : Result A OfficeFault)
     → IsOutcome wants why_unread format limit (λ _. IsMade) left left_now result → IsOk result → IsMade
 read_ok wants format limit IsMade left left_now (Ok made) outcome is = outcome
 read_ok wants format limit IsMade left left_now (Err fault) outcome is = let never : ⊥ = cc in absurd never
 
--- why a state's text is refused
-pub read_refused : {A : Type 0} (wants : Wanting) (format : Format) (limit : ℕ) (IsMade : A → Type 0) (left left_now : BytesLeft) (result : Result A OfficeFault)
+-- if a state's text is refused, its fault is the reason
+pub read_refused : {A : Type 0} (wants : Wanting) (format : Format) (limit : ℕ) (IsMade : A → Type 0) (left left_now : BytesLeft)
+    (result : Result A OfficeFault)
     → IsOutcome wants why_unread format limit IsMade left left_now result → (fault : StateFault) → result ≡ Err (office.State fault)
     → RefusesState format limit left fault
 read_refused wants format limit IsMade left left_now result outcome fault is = subst (IsOutcome wants why_unread format limit IsMade left left_now) is outcome
 
--- a source in memory doesn't fail
+-- reading a state from memory doesn't end with a failed source
 pub read_unfailed : {A : Type 0} (failures : ℕ) (result : Result A OfficeFault) → CountsOutcome why_unread failures failures result → result ≢ Err office.Source
-read_unfailed failures result counted is = let more : failures ≡ failures + 1 = subst (CountsOutcome why_unread failures failures) is counted in absurd (omega arith)
+read_unfailed failures result counted is =
+    let more : failures ≡ failures + 1 = subst (CountsOutcome why_unread failures failures) is counted in absurd (omega arith)
 
--- reading a state gives no other fault
+-- reading a state fails only by a state's fault, a failed source or out of memory
 pub read_only : {A : Type 0} (wants : Wanting) (format : Format) (limit : ℕ) (IsMade : A → Type 0) (left left_now : BytesLeft) (result : Result A OfficeFault)
     → IsOutcome wants why_unread format limit IsMade left left_now result → IfErr result IsOfState
 read_only wants format limit IsMade left left_now (Ok made) outcome = tt
@@ -209,22 +212,22 @@ read_only wants format limit IsMade left left_now (Err (office.File fault)) outc
 read_only wants format limit IsMade left left_now (Err office.Lapsed) outcome = outcome
 read_only wants format limit IsMade left left_now (Err office.Sink) outcome = outcome
 
--- if a file is taken from the text, what was promised of it holds
+-- if a file is taken from a text in memory, the promise for the result holds
 pub taken_ok : {A : Type 0} (limit : ℕ) (IsMade : Type 0) (left left_now : BytesLeft) (result : Result A OfficeFault)
     → IsTakingOutcome limit (λ _. IsMade) left left_now result → IsOk result → IsMade
 taken_ok limit IsMade left left_now (Ok made) outcome is = outcome.0
 taken_ok limit IsMade left left_now (Err fault) outcome is = let never : ⊥ = cc in absurd never
 
--- why a file's text is refused
+-- if a file's text is refused, its fault is the reason
 pub taken_refused : {A : Type 0} (limit : ℕ) (IsMade : A → Type 0) (left left_now : BytesLeft) (result : Result A OfficeFault)
     → IsTakingOutcome limit IsMade left left_now result → (fault : FileFault) → result ≡ Err (office.File fault) → RefusesText limit left fault
 taken_refused limit IsMade left left_now result outcome fault is = subst (IsTakingOutcome limit IsMade left left_now) is outcome
 
--- a source in memory doesn't fail
+-- taking a file from memory doesn't end with a failed source
 pub taken_unfailed : {A : Type 0} (failures : ℕ) (result : Result A OfficeFault) → CountsTaking failures failures result → result ≢ Err office.Source
 taken_unfailed failures result counted is = let more : failures ≡ failures + 1 = subst (CountsTaking failures failures) is counted in absurd (omega arith)
 
--- taking a file gives no other fault
+-- taking a file fails only by a file's fault, a failed source or out of memory
 pub taken_only : {A : Type 0} (limit : ℕ) (IsMade : A → Type 0) (left left_now : BytesLeft) (result : Result A OfficeFault)
     → IsTakingOutcome limit IsMade left left_now result → IfErr result IsOfFile
 taken_only limit IsMade left left_now (Ok made) outcome = tt

@@ -10,7 +10,7 @@ use Rattle.docker_laws.proofs.runs.RunEnd.{run_holds}
 use Rattle.docker_laws.proofs.runs.RunSteps.{sizes, office_is, message_is}
 use Rattle.docker_office.specs.RunEnds.{LeavesRun, IsReplyAt, HasSummary, TellsSummary, event_at, reply_at}
 
--- a reply within a run, whatever was known before it
+-- each reply within a run is one that its event may have, whatever was known before the run
 reply_there : (known : KnownSets) (events : List RunEvent) (replies : List Reply) → AreReplies known events replies → (place : ℕ) → place < length events
     → IsReply (fold after_reply known (zip (take place events) (take place replies))) (event_at events place) (reply_at replies place)
 reply_there known [] replies are place low = absurd (omega arith)

@@ -17,7 +17,7 @@ use Rattle.docker_office.specs.declared.event.Event.{Event}
 use Rattle.docker_office.specs.RunSteps.{AreOf, MeetsEvent}
 use Rattle.docker_office.specs.RunEnds.{LeavesRun}
 
--- these events had these replies, and what is held is what is known after them
+-- these events had these replies, and what the offices hold is what is known after the events
 pub record HasRun (offices : ℕ) (events : List RunEvent) (replies : List Reply) (held : Holdings) : Type 0 where
   pub told : All IsRunReply replies
   pub are : AreReplies (none_known offices) events (map reply_meant replies)

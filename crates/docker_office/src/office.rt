@@ -148,8 +148,8 @@ impl Office {
     }
 
     /// Sets a horizon: each entry that is put and ends before this day lapses. A day that is not
-    /// after the present horizon changes nothing. It is never refused. While it works it uses one
-    /// byte per row; if there is no memory for them, it takes longer.
+    /// after the present horizon changes nothing. It is never refused. While it works it may use
+    /// one byte per row; if there is no memory for them, it takes longer.
     pub fn set_horizon(&mut self, day: Day)
         ensures raised { self.new ≡ raise_horizon day self.old }
         ensures summary { (files : List (List (List ℕ))) (horizon : ℕ)

@@ -21,6 +21,7 @@ use Rattle.docker_host.specs.History.{Bytes}
 use Rattle.docker_cmd.specs.Office.{TakesFile, no_state}
 use Rattle.docker_cmd.specs.SourceRead.{Held, ReadsState}
 use Rattle.docker_cmd.specs.Prepared.{most_bytes}
+use Rattle.docker_cmd.specs.Saved.{HoldsFile}
 use Rattle.docker_cmd.specs.Words.{NamesDay, NamesStored, OfTwo, Text}
 use Rattle.docker_cmd.specs.Job.{JobView}
 use Rattle.docker_cmd.specs.Prepared.{IsOutputText, IsReadOf, IsRefusedDocker, ReadView, file_read, office_read}
@@ -28,9 +29,9 @@ use Rattle.docker_cmd.specs.Tasks.{AreWordsOf, TaskView, new_task, check_task, d
 use Rattle.docker_program.specs.SourceNames.{file_stored}
 use Rattle.docker_program.specs.Program.{AsksFor}
 use Rattle.docker_program.specs.Sources.{SourcesRead}
-use Rattle.docker_program.specs.Commands.{HoldsFile, HoldsKnown, IsKnownText, Knows, MayStore, Prints, PrintsKnown, Run, Stores, WritesKnown, of_file, of_horizon}
+use Rattle.docker_program.specs.Commands.{HoldsKnown, IsKnownText, Knows, MayStore, Prints, PrintsKnown, Run, Stores, WritesKnown, of_file, of_horizon}
 
--- the state is the summary of what is known: of files, under a horizon
+-- the state is the summary of the files and the horizon that are known
 pub record IsKnown (known : Known) (state : State) : Type 0 where
   pub good : IsGoodKnown dks_2 known
   pub is : IsStateOf known state
@@ -68,7 +69,7 @@ known_held known bytes state holds reads = record {
   is = state_held dks_2 known bytes state holds reads;
 }
 
--- the file that was read from a source is the one that it held
+-- the file that was read from a source is the one that the source held
 pub file_held : (bytes : Bytes) (file : List (List ℕ)) (old new : State) (holds : HoldsFile bytes file) (takes : TakesFile most_records bytes old new)
     → takes.file ≡ file
 file_held bytes file old new holds takes =
@@ -77,7 +78,7 @@ file_held bytes file old new holds takes =
 
 -- ---- what is known after a step
 
--- what is known after a join
+-- after a join, what is known of both states is known of the joined state
 pub known_joined : (old heard : Known) (own other after : State) → IsKnown old own → IsKnown heard other → IsJoin own other after
     → IsKnown (united old heard) after
 known_joined old heard own other after first second join = record {
@@ -85,7 +86,7 @@ known_joined old heard own other after first second join = record {
   is = join_is_summary old.files heard.files old.horizon heard.horizon own other after first.is second.is join;
 }
 
--- what is known after a horizon was set
+-- after a horizon is set, the horizon is known too
 pub known_raised : (old : Known) (day : ℕ) (state : State) → IsDay day → IsKnown old state → IsKnown (united old (of_horizon day)) (raise_horizon day state)
 known_raised old day state is_day known = record {
   good = united_good dks_2 old (of_horizon day) known.good (horizon_good dks_2 day is_day);
@@ -93,7 +94,7 @@ known_raised old day state is_day known = record {
       (raised_summary old.files old.horizon day state known.is);
 }
 
--- a file that was read is known
+-- after a file is read, the file is known
 pub known_file : (file : List (List ℕ)) (state : State) → IsFile file → length file ≤ most_records → IsSummary (file ∷ []) 0 state
     → IsKnown (of_file file) state
 known_file file state is few summary = record {
@@ -101,7 +102,7 @@ known_file file state is few summary = record {
   is = summary;
 }
 
--- no file is known of the state of none
+-- nothing is known of the state of no file
 pub known_nothing : IsKnown nothing no_state
 known_nothing = record {
   good = nothing_good dks_2;
@@ -125,7 +126,7 @@ known_text known state text is same = record {
 
 -- ---- a command
 
--- the state of no file, after a file was taken
+-- if an office without files takes a file, this file is known of its state
 taken_alone : (bytes : Bytes) (file : List (List ℕ)) (state : State) → HoldsFile bytes file → TakesFile most_records bytes no_state state
     → IsKnown (of_file file) state
 taken_alone bytes file state holds takes =
@@ -134,14 +135,14 @@ taken_alone bytes file state holds takes =
     (known_file takes.file takes.own takes.is_text.is takes.is_text.within takes.of_file) takes.joined)
 
 -- the state of what was known, after a file was taken
-taken_behind : (own : Known) (bytes : Bytes) (file : List (List ℕ)) (old new : State) → IsKnown own old → HoldsFile bytes file
+pub taken_behind : (own : Known) (bytes : Bytes) (file : List (List ℕ)) (old new : State) → IsKnown own old → HoldsFile bytes file
     → TakesFile most_records bytes old new → IsKnown (united own (of_file file)) new
 taken_behind own bytes file old new is holds takes =
     subst (λ (f : List (List ℕ)). IsKnown (united own (of_file f)) new) (file_held bytes file old new holds takes)
     (known_joined own (of_file takes.file) old takes.own new is
     (known_file takes.file takes.own takes.is_text.is takes.is_text.within takes.of_file) takes.joined)
 
--- an older state is known
+-- what is known of a text in the older format is known of the state read from it
 known_older : (known : Known) (bytes : Bytes) (state : State) → HoldsKnown dks_1 bytes known → ReadsState dks_1 most_bytes bytes state
     → IsKnown known state
 known_older known bytes state holds reads = record {
@@ -149,7 +150,7 @@ known_older known bytes state holds reads = record {
   is = state_held dks_1 known bytes state holds reads;
 }
 
--- the docker of a state that is known
+-- the docker of a state is a docker of what is known of the state
 known_docker : (known : Known) (state : State) (place : List ℕ) (day : ℕ) (text : List ℕ) → IsKnown known state → ¬ IsDayRefused state.horizon day
     → IsOutputText (output_of (print_task place day)) (office_read state) text → PrintsKnown known place day text
 known_docker known state place day text is allowed text_is = record {
@@ -160,7 +161,7 @@ known_docker known state place day text is allowed text_is = record {
   docker = text_is;
 }
 
--- what a job that knows this writes of a state
+-- the text that a job writes of a state is a text of what the job knows
 written_of_state : (task : TaskView) (first second : Bytes) (state : State) (text : List ℕ) (known : Known)
     → ((day : ℕ) → task ≡ horizon_task day → IsDay day) → IsReadOf task first second (office_read state)
     → IsOutputText (output_of task) (office_read state) text → ¬ IsRefusedDocker (output_of task) (office_read state)
@@ -197,7 +198,7 @@ written_of_state migrate_task first second state text known days reads is allowe
 written_of_file : (task : TaskView) (known : Known) (text : List ℕ) → task ≡ check_task → WritesKnown task known text
 written_of_file task known text is = subst (λ (t : TaskView). WritesKnown t known text) (sym is) tt
 
--- what a job that knows this writes of what it read
+-- the text that a job writes is a text of what the job knows
 written_known : (task : TaskView) (first second : Bytes) (what : ReadView) (text : List ℕ) (known : Known)
     → ((day : ℕ) → task ≡ horizon_task day → IsDay day) → IsReadOf task first second what
     → IsOutputText (output_of task) what text → ¬ IsRefusedDocker (output_of task) what
@@ -211,7 +212,7 @@ asked_words : (words : List Text) (input rest : Bytes) (job : JobView) → AsksF
 asked_words [] input rest job asks = asks.2.required
 asked_words (word ∷ words) input rest job asks = asks.0.required
 
--- the day of two words is a day
+-- the day that a horizon command names is a day
 one_day : (words : List Text) (day : ℕ) → OfTwo (λ state date. NamesStored state × NamesDay date day) words → IsDay day
 one_day [] day of = absurd of
 one_day (word ∷ []) day of = absurd of

@@ -1,7 +1,7 @@
 -- What a command stored or printed, from how it ended.
 use Rattle.std.proofs.Common.{◌≡◌, ◌≢◌, ℕ, List, [], ◌∷◌, ◌++◌, Option, None, Some, length, refl, sym, ◌∙◌, ap, subst, arith, inl, inr, append-nil, append_assoc}
 use Rattle.docker_host.specs.Asked.{IsStored, IsUnplaced}
-use Rattle.docker_host.specs.History.{Bytes, Event, looked, opened, unopened, drafted, undrafted, dropped}
+use Rattle.docker_host.specs.History.{Bytes, Event, looked, opened, unopened, closed, drafted, undrafted, dropped}
 use Rattle.docker_cmd.specs.Words.{Text}
 use Rattle.docker_cmd.specs.Job.{JobView}
 use Rattle.docker_cmd.specs.declared.job_fault.JobFault.TheVariants as job
@@ -10,14 +10,14 @@ use Rattle.docker_cmd.specs.declared.fault.Fault.{Fault}
 use Rattle.docker_cmd.specs.declared.fault.Fault.TheVariants.{Job, Office}
 use Rattle.docker_cmd.specs.OfficeFault.TheVariants as office
 use Rattle.docker_program.specs.SourceNames.{SourceNames, no_source, standard_input, one_file, file_and_input, two_files, names_of, stored_by}
-use Rattle.docker_program.specs.Sources.{FailsToOpen, IsNotOpened, IsOpened, SourcesRead, with_look_at, with_openings}
+use Rattle.docker_program.specs.Sources.{FailsToOpen, IsNotOpened, IsOpened, SourcesRead, with_files_read, with_look_at}
 use Rattle.docker_program.specs.Writing.{WantsToWrite, WantsToWriteTo, Writes, WritesPart, WritesPartTo, WritesTo, Written}
 use Rattle.docker_program.specs.Program.{AsksFor, EndsBy, FailsToRead, HasRead, IsAsked, WantsMemory, ending_status, from_first_look, reading, writing}
 use Rattle.docker_program.specs.Commands.{AreNoStorings, IsDone, IsRun, IsUndone, Reads, Run, StoresNothing, history_read}
 
 -- ---- no storing
 
--- since then no event stored anything
+-- no event after the old ones stored anything
 NoStoring : List Event → List Event → Type 0
 NoStoring old new = (events : List Event) × (new ≡ old ++ events) × AreNoStorings events
 
@@ -44,14 +44,17 @@ none_looked : (stored : Option Text) (history : List Event) → NoStoring histor
 none_looked None history = none_here history
 none_looked (Some name) history = none_more history history _ (looked name ∷ []) (none_here history) refl (tt, tt)
 
-none_opened : (names : SourceNames) (read : SourcesRead) (old history : List Event) → NoStoring old history
-    → NoStoring old (with_openings names read history)
-none_opened no_source read old history none = none
-none_opened standard_input read old history none = none
-none_opened (one_file name) read old history none = none_more old history _ (opened name read.first ∷ []) none refl (tt, tt)
-none_opened (file_and_input name) read old history none = none_more old history _ (opened name read.first ∷ []) none refl (tt, tt)
-none_opened (two_files name other) read old history none =
-    none_more old history _ (opened name read.first ∷ opened other read.second ∷ []) none refl (tt, (tt, tt))
+none_read : (names : SourceNames) (read : SourcesRead) (old history : List Event) → NoStoring old history
+    → NoStoring old (with_files_read names read history)
+none_read no_source read old history none = none
+none_read standard_input read old history none = none
+none_read (one_file name) read old history none =
+    none_more old history _ (opened name read.first ∷ closed read.first_left ∷ []) none refl (tt, (tt, tt))
+none_read (file_and_input name) read old history none =
+    none_more old history _ (opened name read.first ∷ closed read.first_left ∷ []) none refl (tt, (tt, tt))
+none_read (two_files name other) read old history none =
+    none_more old history _ (opened name read.first ∷ opened other read.second ∷ closed read.first_left ∷ closed read.second_left ∷ []) none refl
+    (tt, (tt, (tt, (tt, tt))))
 
 none_failed : (names : SourceNames) (old before now : List Event) → NoStoring old before → FailsToOpen names before now → NoStoring old now
 none_failed no_source old before now none fails = absurd fails
@@ -60,7 +63,7 @@ none_failed (one_file name) old before now none fails = none_more old before now
 none_failed (file_and_input name) old before now none fails = none_more old before now (unopened name ∷ []) none fails (tt, tt)
 none_failed (two_files name other) old before now none (inl fails) = none_more old before now (unopened name ∷ []) none fails (tt, tt)
 none_failed (two_files name other) old before now none (inr fails) =
-    none_more old before now (opened name fails.0 ∷ unopened other ∷ []) none fails.1 (tt, (tt, tt))
+    none_more old before now (opened name fails.0 ∷ unopened other ∷ closed fails.0 ∷ []) none fails.1 (tt, (tt, (tt, tt)))
 
 nothing_stored : (run : Run) → NoStoring run.old.history run.new.history → StoresNothing run
 unfolding NoStoring
@@ -72,7 +75,7 @@ module _ (run : Run) (job : JobView) (rest : Bytes) where
   none_if_opened : (now : List Event) → IsOpened (reading run.old run.new job rest now) job → NoStoring run.old.history now
   none_if_opened now is =
       none_same run.old.history _ now
-      (none_opened (names_of job) is.read run.old.history _ (none_looked (stored_by job) run.old.history)) is.history
+      (none_read (names_of job) is.read run.old.history _ (none_looked (stored_by job) run.old.history)) is.history
 
   none_if_unopened : (now : List Event) → IsNotOpened (reading run.old run.new job rest now) job → NoStoring run.old.history now
   none_if_unopened now fails =
@@ -93,6 +96,9 @@ module _ (run : Run) (job : JobView) (rest : Bytes) where
       rest = rest;
       asks = asks;
       others = has.is.opened.others;
+      first_few = has.is.opened.first_few;
+      second_few = has.is.opened.second_few;
+      to_end = has.is.to_end;
       what = has.prepared.read;
       is_read = has.is.read;
       is_text = subst (λ (j : JobView). IsOutputText (output_of j.task) has.prepared.read text) has.is.job_is is;
@@ -197,7 +203,7 @@ want_none run job rest None has wants = none_same run.old.history has.read run.n
 want_none run job rest (Some name) has wants =
     none_more run.old.history has.read run.new.history (undrafted name (length run.old.history) ∷ []) (read_none run job rest has) wants (tt, tt)
 
--- nothing was asked of the folder
+-- if the command asked nothing of the folder, it stored nothing
 unasked : (run : Run) → run.new.history ≡ run.old.history → IsUndone run
 unasked run same = inl (nothing_stored run (none_same run.old.history run.old.history run.new.history (none_here run.old.history) same))
 
@@ -224,6 +230,6 @@ undone_by run status (Some (Office office.Memory)) some same (asked, kept) = by 
     by (inl (inr wants)) = inl (nothing_stored run (none_if_opened run asked.job asked.rest run.new.history wants.0))
     by (inr has) = inl (nothing_stored run (want_none run asked.job asked.rest (stored_by has.prepared.job) has has.holds))
 
--- a command with another status stored nothing, or may have
+-- a command with another status stored nothing, or may have stored its text
 pub run_undone : (run : Run) (status : ℕ) → IsRun run status → status ≢ 0 → IsUndone run
 run_undone run status performs some = undone_by run status performs.ending some performs.status_is performs.ends

@@ -7,13 +7,12 @@ use Rattle.docker_host.specs.History.{Bytes, Event, drafted, dropped, named_if, 
 use Rattle.docker_cmd.specs.Words.{Text}
 use Rattle.docker_cmd.specs.Writes.{Output, counts_written, docker_written, files_written, state_written}
 use Rattle.docker_cmd.specs.Tasks.{output_of}
-use Rattle.docker_cmd.specs.FaultLine.{status_of}
+use Rattle.docker_cmd.specs.FaultLine.{IsCounted, result_status, status_of}
 use Rattle.docker_cmd.specs.Prepared.{EndsEmitting, GainsOutput, IsDocker, IsRefused, IsRefusedDocker, PreparedView, ReadView, file_read, office_read}
 use Rattle.docker_cmd.specs.OfficeFault.{OfficeFault}
 use Rattle.docker_cmd.specs.OfficeFault.TheVariants as office
 use Rattle.docker_cmd.specs.declared.fault.Fault.TheVariants.{Office}
 use Rattle.docker_program.specs.SourceNames.{file_stored, stored_by}
-use Rattle.docker_program.specs.Program.{IsCounted, result_status}
 use Rattle.docker_program.specs.Writing.{Drafting, EndsWriting, WantsToWriteTo, Writes, WritesPart, WritesPartTo, WritesTo, Written, written}
 
 none_some : (name : Text) → ◌≡◌ {A = Option Text} None (Some name) → ⊥
@@ -26,7 +25,7 @@ no_docker (docker_written place day) words name is = λ docker. absurd (none_som
 no_docker files_written words name is = λ docker. docker
 no_docker state_written words name is = λ docker. docker
 
--- and so it is no docker of a refused day
+-- an output that is no docker is no docker of a refused day
 no_refused : (output : Output) (read : ReadView) → ¬ IsDocker output → ¬ IsRefusedDocker output read
 no_refused output (file_read file) none = λ refused. refused
 no_refused counts_written (office_read state) none = λ refused. refused
@@ -49,33 +48,33 @@ fails_alone taken failures old new prepared name office.Source is ends = elim en
 
 -- ---- a job that writes a file
 
--- no draft was made, because a device failed
+-- if no draft was made because a device failed, the job has written in part
 pub ends_unmade : (by : Drafting) (written : Written) (prepared : PreparedView) (name : Text) → stored_by prepared.job ≡ Some name
     → IsUndrafted name by.look written.before written.now → written.output_now ≡ written.output → WritesPart by written prepared
 ends_unmade by written prepared name is none kept =
     subst (λ (stored : Option Text). WritesPartTo stored by written prepared) (sym is) (inl none, kept)
 
--- no draft was made, because memory ran out
+-- if no draft was made because memory ran out, the job ends as out of memory
 pub ends_wanting : (by : Drafting) (written : Written) (prepared : PreparedView) (name : Text) → stored_by prepared.job ≡ Some name
     → IsUndrafted name by.look written.before written.now → written.output_now ≡ written.output → EndsWriting by written prepared (Err office.Memory)
 ends_wanting by written prepared name is none kept =
     (subst (λ (stored : Option Text). WantsToWriteTo stored by written prepared) (sym is) none, kept)
 
--- the draft failed, and was given up
+-- if the draft failed and was given up, the job ends with the draft's fault
 pub ends_dropped : (by : Drafting) (written : Written) (prepared : PreparedView) (name : Text) (fault : OfficeFault) → stored_by prepared.job ≡ Some name
     → fault ≡ office.Sink → IsDropped name by.look written.before written.now → written.output_now ≡ written.output → EndsWriting by written prepared (Err fault)
 ends_dropped by written prepared name fault is alone given_up kept =
     subst (λ (fault : OfficeFault). EndsWriting by written prepared (Err fault)) (sym alone)
     (subst (λ (stored : Option Text). WritesPartTo stored by written prepared) (sym is) (inr (inl given_up), kept))
 
--- and this failure is counted
+-- if only the draft failed, its failure is counted once
 pub counted_alone : (fault : OfficeFault) (before after : ℕ) → fault ≡ office.Sink → after ≡ before + 1 →
     IsCounted (status_of (Office fault)) before after
 counted_alone fault before after alone rose =
     subst (λ fault. IsCounted (status_of (Office fault)) before after) (sym alone)
     ((λ is. rose, λ is. refl), λ differs. absurd (differs refl))
 
--- what an empty draft gained is what it holds
+-- the text that an empty draft gained is the text that the draft holds
 holds_gained : (names_bytes : Bool) (empty taken : Bytes) (text : List ℕ) → empty ≡ named_if names_bytes [] → Takes empty text taken
     → taken ≡ named_if names_bytes text
 holds_gained true empty taken text none gained = subst (λ (b : Bytes). Takes b text taken) none gained
@@ -116,7 +115,7 @@ ends_unplaced by written prepared name middle empty taken is none gains made put
       kept,
     )
 
--- two events in a row
+-- a draft that was made and then given up adds these two events
 pub then_dropped : (before middle now : List Event) (name : Text) (look : ℕ) → middle ≡ before ++ drafted name look ∷ []
     → now ≡ middle ++ dropped name ∷ [] → now ≡ before ++ drafted name look ∷ dropped name ∷ []
 then_dropped before middle now name look made given_up =
@@ -124,7 +123,7 @@ then_dropped before middle now name look made given_up =
 
 -- ---- a job that prints
 
--- a job that writes no file ends as its writing to the output does
+-- a job that writes no file ends as its writing to the output ends
 pub ends_printed : {K : Type 0} (taken : K → Bytes) (failures : K → ℕ) (old new : K) (prepared : PreparedView) (history : List Event)
     (by : Drafting) (result : Result ⊤ OfficeFault) → stored_by prepared.job ≡ None
     → EndsEmitting taken failures (output_of prepared.job.task) prepared.read old new result → (IsRefused prepared → result ≡ Err office.Lapsed)

@@ -1,17 +1,26 @@
 -- What was read from opened files is what was read from the sources of a job.
-use Rattle.std.proofs.Common.{◌≡◌, ◌≢◌, ◌+◌, ℕ, List, [], arith, refl, sym, ◌∙◌, subst, inl, inr, Ok, Err, Some}
+use Rattle.std.proofs.Common.{◌≡◌, ◌≢◌, ◌+◌, ℕ, List, [], ◌∷◌, ◌++◌, arith, refl, sym, ◌∙◌, ap, subst, append_assoc, inl, inr, Ok, Err, Some}
 use Rattle.std.specs.Prelude.{Result, ⊤}
 use Rattle.docker_host.specs.History.{Bytes, Event}
+use Rattle.docker_host.specs.Opening.{one_of}
 use Rattle.docker_host.specs.declared.folder.OpenFault.{OpenFault}
 use Rattle.docker_host.specs.declared.folder.OpenFault.TheVariants as opening
+use Rattle.docker_cmd.specs.FaultLine.{IsCounted, result_status}
 use Rattle.docker_cmd.specs.Job.{JobView}
 use Rattle.docker_cmd.specs.Prepared.{CountsSources, PreparedView, ReadsInOrder}
 use Rattle.docker_cmd.specs.OfficeFault.{OfficeFault}
 use Rattle.docker_cmd.specs.OfficeFault.TheVariants as office
 use Rattle.docker_cmd.specs.Words.{Text}
 use Rattle.docker_program.specs.SourceNames.{SourceNames, no_source, standard_input, one_file, file_and_input, names_of}
-use Rattle.docker_program.specs.Sources.{AreRead, Asking, FailsToOpen, IsOpened, ReadsBy, ReadsNamed, asking, fault_of_opening}
-use Rattle.docker_program.specs.Program.{IsCounted, result_status}
+use Rattle.docker_program.specs.Sources.{AreRead, Asking, FailsToOpen, IsOpened, ReadsBy, ReadsNamed, asking}
+
+-- ---- histories
+
+-- one event more
+pub one_more : (old before now events : List Event) (event : Event) → before ≡ old ++ events → now ≡ before ++ event ∷ []
+    → now ≡ old ++ (events ++ event ∷ [])
+one_more old before now events event earlier last =
+    last ∙ ap (λ (history : List Event). history ++ event ∷ []) earlier ∙ append_assoc old events (event ∷ [])
 
 -- ---- what each result means
 
@@ -25,7 +34,7 @@ opened_by asked job result read = record {
   second_few = read.reads.second_few;
 }
 
--- so the result of reading them means what it should
+-- if a job's sources were read, the result means what it should
 by_reading : (asked : Asking) (job : JobView) (result : Result PreparedView OfficeFault) → AreRead (names_of job) asked job result
     → ReadsNamed asked job result
 unfolding opened_by
@@ -44,7 +53,7 @@ by_reading asked job (Err office.Sink) read = read.reads.ends
 
 -- and so does a fault of opening
 by_cause : (asked : Asking) (job : JobView) (cause : OpenFault) → FailsToOpen (names_of job) asked.before asked.now → asked.left ≡ asked.rest
-    → ReadsNamed asked job (Err (fault_of_opening cause))
+    → ReadsNamed asked job (Err (one_of office.Source office.Memory cause))
 by_cause asked job opening.Failed fails unread = inl (record { fails = fails; unread = unread })
 by_cause asked job opening.Memory fails unread = inl (record { fails = fails; unread = unread })
 
@@ -62,7 +71,7 @@ reads_named names asked job result is reads =
 
 -- ---- what each kind of sources is
 
--- no source
+-- a job without a source reads nothing
 pub reads_none : (history : List Event) (rest first first_left second second_left : Bytes) (job : JobView) (result : Result PreparedView OfficeFault)
     → first ≡ Some [] → second ≡ Some [] → ReadsInOrder job first first_left second second_left result
     → ReadsBy no_source (asking history history rest rest) job result
@@ -74,7 +83,7 @@ reads_none history rest first first_left second second_left job result none none
       reads = reads;
     })
 
--- standard input
+-- a job whose source is standard input reads the input
 pub reads_stdin : (history : List Event) (rest left second second_left : Bytes) (job : JobView) (result : Result PreparedView OfficeFault)
     → second ≡ Some [] → ReadsInOrder job rest left second second_left result
     → ReadsBy standard_input (asking history history rest left) job result
@@ -86,7 +95,7 @@ reads_stdin history rest left second second_left job result none_behind reads =
       reads = reads;
     })
 
--- one file, which was read as if no other came after it
+-- a job with one file reads this file and no other
 pub reads_alone : (name : Text) (before now : List Event) (rest second second_left : Bytes) (job : JobView)
     (result : Result PreparedView OfficeFault) → second ≡ Some [] → ReadsBy (file_and_input name) (asking before now second second_left) job result
     → ReadsBy (one_file name) (asking before now rest rest) job result
@@ -132,7 +141,7 @@ counted_beside status before after more all all_now counts is is_now = (
 -- a file that wasn't opened is counted if its device failed
 pub counted_opening : (cause : OpenFault) (before after more more_now : ℕ) → (cause ≡ opening.Failed → after ≡ before + 1)
     → (¬ (cause ≡ opening.Failed) → after ≡ before) → more_now ≡ more
-    → IsCounted (result_status {A = ⊤} (Err (fault_of_opening cause))) (more + before) (more_now + after)
+    → IsCounted (result_status {A = ⊤} (Err (one_of office.Source office.Memory cause))) (more + before) (more_now + after)
 counted_opening opening.Failed before after more more_now rose same still =
     let once : after ≡ before + 1 = rose refl in ((λ is. omega arith, λ rose. refl), λ differs. absurd (differs refl))
 counted_opening opening.Memory before after more more_now rose same still =

@@ -1,6 +1,7 @@
 -- How the program ends, by how far its job came.
 use Rattle.std.proofs.Common.{◌≡◌, ◌≢◌, ◌≤◌, ◌↔◌, ℕ, Bool, List, [], ◌∷◌, Option, None, Some, Err, arith, ap, inl, inr, refl, sym, ◌∙◌, subst}
 use Rattle.docker_host.specs.History.{Bytes, Event}
+use Rattle.docker_host.specs.FaultSink.{FaultsView, TellsText, faults_of, faults_view}
 use Rattle.docker_host.specs.Host.{HostView}
 use Rattle.docker_cmd.specs.Words.{Text}
 use Rattle.docker_cmd.specs.Job.{JobView, NameNoJob}
@@ -12,9 +13,9 @@ use Rattle.docker_cmd.specs.OfficeFault.{OfficeFault}
 use Rattle.docker_cmd.specs.OfficeFault.TheVariants as office
 use Rattle.docker_program.specs.SourceNames.{stored_by}
 use Rattle.docker_program.specs.Sources.{IsPrepared, ReadsNamed, asking, with_look_at}
-use Rattle.docker_cmd.specs.FaultLine.{status_of}
+use Rattle.docker_cmd.specs.FaultLine.{IsCounted, fault_line, status_of}
 use Rattle.docker_program.specs.Writing.{EndsWriting, Writes, Written, written}
-use Rattle.docker_program.specs.Program.{AskForNone, AskForSome, AsksAtMost, AsksFor, EndsBy, HasRead, IsAsked, IsCounted, IsNotAsked, IsUsageStatus, Performs, Tells, WantsMemory, ending_status, failures_of, from_first_look, reading}
+use Rattle.docker_program.specs.Program.{AskForNone, AskForSome, AsksAtMost, AsksFor, EndsBy, HasRead, IsAsked, IsNotAsked, IsUsageStatus, Performs, WantsMemory, ending_status, failures_of, from_first_look, reading}
 
 -- if a job is refused for what its sources held, the program ends with that fault
 unread : (words : List Text) (names_bytes : Bool) (old new : HostView) (job : JobView) (rest : Bytes) (fault : OfficeFault) →
@@ -49,7 +50,7 @@ unwritten words names_bytes old new job rest read prepared (office.File fault) a
 unwritten words names_bytes old new job rest read prepared (office.State fault) asks at_most is ends = elim ends [ ]
 unwritten words names_bytes old new job rest read prepared office.Source asks at_most is ends = elim ends [ ]
 
--- the same from what the host showed before, and from the history after the look
+-- as `unread`, for the host as it was seen before, and for the history after the look
 pub ends_unread : (words : List Text) (names_bytes : Bool) (before old new : HostView) (shown : List Event) (job : JobView) (rest : Bytes)
     (fault : OfficeFault) → before ≡ old → shown ≡ with_look_at (stored_by job) before.history → AsksFor words before.input job rest
     → AsksAtMost words before.input rest → new.output ≡ before.output → ReadsNamed (asking shown new.history rest new.input) job (Err fault)
@@ -90,16 +91,16 @@ ends_done words names_bytes before old new shown read job rest prepared same see
     })
 
 -- what the host shows once the sink of faults took something
-abbrev pub told : HostView → Bytes → ℕ → HostView
-told host faults failures = record host { faults = faults; faults_failures = failures }
+abbrev pub with_faults : HostView → Bytes → ℕ → HostView
+with_faults host faults failures = record host { faults = faults; faults_failures = failures }
 
--- a job that read its sources whole did so still
+-- that a job read its sources whole still holds then
 read_still : (old new : HostView) (faults : Bytes) (failures : ℕ) (Holds : Written → PreparedView → Type 0) (job : JobView) (rest : Bytes)
-    → HasRead old new Holds job rest → HasRead old (told new faults failures) Holds job rest
+    → HasRead old new Holds job rest → HasRead old (with_faults new faults failures) Holds job rest
 read_still old new faults failures Holds job rest has = record { prepared = has.prepared; read = has.read; is = has.is; holds = has.holds }
 
 asked_still : (words : List Text) (old new : HostView) (faults : Bytes) (failures : ℕ) (Holds : Written → PreparedView → Type 0)
-    → IsAsked words old.input (HasRead old new Holds) → IsAsked words old.input (HasRead old (told new faults failures) Holds)
+    → IsAsked words old.input (HasRead old new Holds) → IsAsked words old.input (HasRead old (with_faults new faults failures) Holds)
 asked_still words old new faults failures Holds asked = record {
   job = asked.job;
   rest = asked.rest;
@@ -109,12 +110,12 @@ asked_still words old new faults failures Holds asked = record {
 }
 
 unasked_still : (words : List Text) (old new : HostView) (faults : Bytes) (failures : ℕ) (Why : Type 0)
-    → IsNotAsked words old new Why → IsNotAsked words old (told new faults failures) Why
+    → IsNotAsked words old new Why → IsNotAsked words old (with_faults new faults failures) Why
 unasked_still words old new faults failures Why is = record { why = is.why; at_most = is.at_most; unasked = is.unasked }
 
 -- the ending is reported after all else
 ends_still : (words : List Text) (names_bytes : Bool) (old new : HostView) (faults : Bytes) (failures : ℕ) (fault : Fault)
-    → EndsBy words names_bytes old new (Some fault) → EndsBy words names_bytes old (told new faults failures) (Some fault)
+    → EndsBy words names_bytes old new (Some fault) → EndsBy words names_bytes old (with_faults new faults failures) (Some fault)
 ends_still words names_bytes old new faults failures (Job job.Usage) ends = (unasked_still words old new faults failures _ ends.0, ends.1)
 ends_still words names_bytes old new faults failures (Job job.Memory) ends = (unasked_still words old new faults failures _ ends.0, ends.1)
 ends_still words names_bytes old new faults failures (Job job.Source) ends = (unasked_still words old new faults failures _ ends.0, ends.1)
@@ -133,7 +134,7 @@ ends_still words names_bytes old new faults failures (Office office.Memory) ends
   ends.1,
 )
   where
-    by : WantsMemory names_bytes old new ends.0.job ends.0.rest → WantsMemory names_bytes old (told new faults failures) ends.0.job ends.0.rest
+    by : WantsMemory names_bytes old new ends.0.job ends.0.rest → WantsMemory names_bytes old (with_faults new faults failures) ends.0.job ends.0.rest
     by (inl reads) = inl reads
     by (inr has) = inr (read_still old new faults failures _ ends.0.job ends.0.rest has)
 ends_still words names_bytes old new faults failures (Office office.Sink) ends = asked_still words old new faults failures _ ends
@@ -142,15 +143,15 @@ ends_still words names_bytes old new faults failures (Office office.Sink) ends =
 pub performs_telling : (words : List Text) (names_bytes : Bool) (old shown new : HostView) (faults : Bytes) (failures : ℕ) (fault : Fault) (status : ℕ)
     → shown ≡ new → EndsBy words names_bytes old new (Some fault) → IsCounted (status_of fault) (failures_of old) (failures_of new)
     → new.faults ≡ old.faults → new.faults_failures ≡ old.faults_failures → status ≡ status_of fault
-    → Tells (Some fault) shown.faults faults shown.faults_failures failures
-    → Performs words names_bytes old (told shown faults failures) status
+    → TellsText (fault_line fault) (faults_of shown) (faults_view faults failures)
+    → Performs words names_bytes old (with_faults shown faults failures) status
 performs_telling words names_bytes old shown new faults failures fault status same ends counted kept untold is tells = record {
   ending = Some fault;
   ends = ends_still words names_bytes old shown faults failures fault
       (subst (λ (host : HostView). EndsBy words names_bytes old host (Some fault)) (sym same) ends);
   status_is = is;
-  tells = subst (λ (taken : Bytes). Tells (Some fault) taken faults old.faults_failures failures) (ap (λ (host : HostView). host.faults) same ∙ kept)
-      (subst (λ (n : ℕ). Tells (Some fault) shown.faults faults n failures) (ap (λ (host : HostView). host.faults_failures) same ∙ untold) tells);
+  tells = subst (λ (before : FaultsView). TellsText (fault_line fault) before (faults_view faults failures))
+      (ap faults_of same ∙ (λ i. faults_view (kept i) (untold i))) tells;
   counted = subst (λ (n : ℕ). IsCounted n (failures_of old) (failures_of shown)) (sym is)
       (subst (λ (host : HostView). IsCounted (status_of fault) (failures_of old) (failures_of host)) (sym same) counted);
 }
@@ -160,12 +161,12 @@ names_one : (words : List Text) (input : Bytes) (Holds : JobView → Bytes → T
 names_one [] input Holds some asked = absurd (some refl)
 names_one (word ∷ words) input Holds some asked = λ none. none asked.job asked.asks.0
 
--- words that ask for none name none
+-- words that ask for no job name no job
 names_none : (words : List Text) (input : Bytes) → words ≢ [] → AskForNone words input → NameNoJob words
 names_none [] input some none = absurd (some refl)
 names_none (word ∷ words) input some none = none
 
--- words that ask for some name one
+-- words that ask for some job name a job
 names_some : (words : List Text) (input : Bytes) → words ≢ [] → AskForSome words input → ¬ NameNoJob words
 names_some [] input some one = absurd (some refl)
 names_some (word ∷ words) input some one = one

@@ -1,16 +1,17 @@
--- What commands leave on a shelf, from nothing but their contract.
+-- What commands leave on a shelf, by their contract only.
 use Rattle.std.proofs.Common.{◌≡◌, ℕ, true, List, [], ◌∷◌, ◌++◌, Option, None, Some, length, refl, sym, ◌∙◌, ap, subst, arith, inl, inr, codes}
 use Rattle.docker_model.specs.file.Change.{changes}
 use Rattle.docker_model.specs.file.Text.{lines_of}
 use Rattle.docker_model.specs.run.Run.{united}
-use Rattle.cif_line.specs.Device.{Takes}
+use Rattle.docker_model.specs.state.StateText.{dks_2}
+use Rattle.cif_line.specs.Device.{IsEnd, Reads, Takes}
 use Rattle.cif_file.specs.SourceRead.{Held}
-use Rattle.docker_host.specs.History.{Bytes, Event, drafted, looked, opened, placed}
+use Rattle.docker_host.specs.History.{Bytes, Event, closed, drafted, looked, opened, placed}
 use Rattle.docker_host.specs.Host.{HostView}
 use Rattle.docker_host.specs.Shelf.{IsShelfHistory}
 use Rattle.docker_cmd.specs.CheckLine.{count_line}
 use Rattle.docker_cmd.specs.Job.{IsJobOf, JobView}
-use Rattle.docker_cmd.specs.Prepared.{IsOutputText, IsReadOf, ReadView, counts_written, file_read, office_read}
+use Rattle.docker_cmd.specs.Prepared.{IsOutputText, IsReadOf, ReadView, ReadsFewOfSecond, ReadsFewOfState, counts_written, file_read, office_read, state_and_file}
 use Rattle.docker_cmd.specs.Tasks.{TaskView, new_task, check_task, day_task, take_task, merge_task, print_task, files_task, horizon_task, migrate_task, name_of, subcommand_of}
 use Rattle.docker_cmd.specs.Words.{Text}
 use Rattle.docker_program.specs.SourceNames.{first_word, stored_by}
@@ -64,7 +65,7 @@ take_named files_task words more same = let other : ◌≡◌ {A = ℕ} 116 102 
 take_named (horizon_task day) words more same = let other : ◌≡◌ {A = ℕ} 116 104 = ap first_of same in let never : ⊥ = omega arith in absurd never
 take_named migrate_task words more same = let other : ◌≡◌ {A = ℕ} 116 109 = ap first_of same in let never : ⊥ = omega arith in absurd never
 
--- a job of these parts
+-- a job with this task and these words
 abbrev job_of : TaskView → List Text → JobView
 job_of task words = record { task = task; words = words }
 
@@ -76,7 +77,7 @@ take_job state file job is = λ i. job_of (take_named job.task job.words (state 
 
 -- ---- check
 
--- the counts of the file whose text a source held
+-- `check` writes the counts of the file whose text its source held
 counted : (extract : List ℕ) (first : Bytes) (what : ReadView) (text : List ℕ) → first ≡ Some extract → IsReadOf check_task first (Some []) what
     → IsOutputText counts_written what text → text ≡ count_line (length (lines_of extract)) (length (changes (lines_of extract)))
 counted extract first (office_read state) text same reads is = absurd reads
@@ -86,7 +87,7 @@ counted extract first (file_read file) text same reads is =
     is.1 ∙ (λ i. count_line ((reads.1.of_text.of_records.count_is ∙ ap length (sym lines)) i)
     ((reads.1.of_text.of_records.changes_are ∙ ap (λ (ls : List (List ℕ)). length (changes ls)) (sym lines)) i))
 
--- what `check` printed on a shelf
+-- a `check` with status 0 on a shelf printed the counts of the file
 pub check_printed : (extract : List ℕ) (old new : HostView) → old.history ≡ placed file_name (Some extract) ∷ [] → old.output ≡ Some []
     → IsShelfHistory new.history → Performs (codes "check" ∷ file_name ∷ []) true old new 0
     → new.output ≡ Some (count_line (length (lines_of extract)) (length (changes (lines_of extract))))
@@ -98,9 +99,10 @@ check_printed extract old new put empty met performs = by (run_done run performs
     printed : (read : SourcesRead) (text : List ℕ) → Prints run (job_of check_task (file_name ∷ [])) read text
         → new.output ≡ Some (count_line (length (lines_of extract)) (length (changes (lines_of extract))))
     printed read text prints =
-        let events : new.history ≡ placed file_name (Some extract) ∷ opened file_name read.first ∷ [] =
-        prints.history ∙ ap (λ (h : List Event). h ++ opened file_name read.first ∷ []) put in
-        let shelf : IsShelfHistory (placed file_name (Some extract) ∷ opened file_name read.first ∷ []) = subst IsShelfHistory events met in
+        let events : new.history ≡ placed file_name (Some extract) ∷ opened file_name read.first ∷ closed read.first_left ∷ [] =
+        prints.history ∙ ap (λ (h : List Event). h ++ opened file_name read.first ∷ closed read.first_left ∷ []) put in
+        let shelf : IsShelfHistory (placed file_name (Some extract) ∷ opened file_name read.first ∷ closed read.first_left ∷ []) =
+        subst IsShelfHistory events met in
         let first : read.first ≡ Some extract = shelf.1.0.0 in
         let shown : Takes (Some []) text new.output = subst (λ (o : Bytes). Takes o text new.output) empty prints.printed in
         shown ∙ ap Some (counted extract read.first prints.reads.what text first prints.reads.is_read prints.reads.is_text)
@@ -114,7 +116,7 @@ check_printed extract old new put empty met performs = by (run_done run performs
 some_one : (one two : List ℕ) → ◌≡◌ {A = Bytes} (Some one) (Some two) → one ≡ two
 some_one one two same = cc
 
--- the same from what the host shows after the command
+-- as `check_printed`, by what the host shows after the command
 pub check_result : (extract text : List ℕ) (words : List Text) (old shown new : HostView) (status : ℕ)
     → words ≡ codes "check" ∷ file_name ∷ [] → status ≡ 0 → shown ≡ new
     → old.history ≡ placed file_name (Some extract) ∷ [] → old.output ≡ Some [] → IsShelfHistory shown.history
@@ -128,6 +130,28 @@ check_result extract text words old shown new status named zero same put empty m
     (subst (λ (ws : List Text). Performs ws true old new status) named performs))))
 
 -- ---- take
+
+-- the rest of a source whose bytes are known is known
+rest_known : (held lost : List ℕ) (left : Bytes) → Reads (Some held) lost left → (rest : List ℕ) × (left ≡ Some rest)
+rest_known held lost None reads = absurd (none_some held (sym reads))
+rest_known held lost (Some rest) reads = (rest, refl)
+
+few_known : (state : List ℕ) (left : Bytes) → ReadsFewOfState dks_2 (Some state) left → (rest : List ℕ) × (left ≡ Some rest)
+few_known state left few = rest_known state (few.text ++ few.piece) left few.lost
+
+-- a source whose bytes are known, and that is at its end, has nothing left
+end_some : (left : Bytes) (rest : List ℕ) → left ≡ Some rest → IsEnd left → left ≡ Some []
+end_some None rest is end = absurd (none_some rest is)
+end_some (Some own) rest is end = ap Some end
+
+end_known : (extract : List ℕ) (first second left : Bytes) → second ≡ Some extract → ReadsFewOfSecond state_and_file first second left → IsEnd left
+    → left ≡ Some []
+end_known extract first second left held (inl same) end = end_some left extract (same ∙ held) end
+end_known extract first second left held (inr few) end =
+    let read : Reads (Some extract) (few.1.before ++ few.1.piece) left =
+    subst (λ (b : Bytes). Reads b (few.1.before ++ few.1.piece) left) held few.1.read in
+    let rest = rest_known extract (few.1.before ++ few.1.piece) left read in
+    end_some left rest.0 rest.1 end
 
 -- what `take` left on a shelf
 pub take_left : (state extract : List ℕ) (old new : HostView) → old.history ≡ both_put state extract
@@ -146,12 +170,14 @@ take_left state extract old new put met performs = by (run_done run performs)
 
     stored_after : SourcesRead → List ℕ → List Event → Text → ℕ → List Event
     stored_after read text before name look =
-        ((before ++ looked state_name ∷ []) ++ opened state_name read.first ∷ opened file_name read.second ∷ [])
+        ((before ++ looked state_name ∷ []) ++ opened state_name read.first ∷ opened file_name read.second
+        ∷ closed read.first_left ∷ closed read.second_left ∷ [])
         ++ drafted name look ∷ placed name (Some text) ∷ []
 
     all : SourcesRead → Text → ℕ → List ℕ → List Event
     all read name look text = placed state_name (Some state) ∷ placed file_name (Some extract) ∷ looked state_name
-        ∷ opened state_name read.first ∷ opened file_name read.second ∷ drafted name look ∷ placed name (Some text) ∷ []
+        ∷ opened state_name read.first ∷ opened file_name read.second ∷ closed read.first_left ∷ closed read.second_left
+        ∷ drafted name look ∷ placed name (Some text) ∷ []
 
     left : (read : SourcesRead) (text : List ℕ) → Stores run the_job read text → IsTaken state extract new.history
     left read text stores =
@@ -161,10 +187,16 @@ take_left state extract old new put met performs = by (run_done run performs)
         let shelf : IsShelfHistory (all read state_name 2 text) = subst IsShelfHistory events met in
         let first : read.first ≡ Some state = shelf.1.1.1.0.0 in
         let second : read.second ≡ Some extract = shelf.1.1.1.1.0.0 in
+        let few : ReadsFewOfState dks_2 (Some state) read.first_left = subst (λ (b : Bytes). ReadsFewOfState dks_2 b read.first_left) first stores.reads.first_few in
+        let left = few_known state read.first_left few in
+        let none : read.second_left ≡ Some [] = end_known extract read.first read.second read.second_left second stores.reads.second_few stores.reads.to_end in
         record {
           text = text;
+          left = left.0;
+          few = subst (ReadsFewOfState dks_2 (Some state)) left.1 few;
           history = events ∙ (λ i. placed state_name (Some state) ∷ placed file_name (Some extract) ∷ looked state_name
-              ∷ opened state_name (first i) ∷ opened file_name (second i) ∷ drafted state_name 2 ∷ placed state_name (Some text) ∷ []);
+              ∷ opened state_name (first i) ∷ opened file_name (second i) ∷ closed (left.1 i) ∷ closed (none i)
+              ∷ drafted state_name 2 ∷ placed state_name (Some text) ∷ []);
           known = λ known file of is_file. stores_known run the_job read text (united known (of_file file)) stores
               (known, file, (state, first, of), (extract, second, is_file), refl);
         }
@@ -175,7 +207,7 @@ take_left state extract old new put met performs = by (run_done run performs)
     by (job, read, text, inr prints) =
         absurd (none_some state_name (sym (subst (λ (j : JobView). stored_by j ≡ None) (take_job state_name file_name job prints.reads.asks.0) prints.unstored)))
 
--- the same from what the host shows after the command
+-- as `take_left`, by what the host shows after the command
 pub take_result : (state extract : List ℕ) (words : List Text) (old shown new : HostView) (status : ℕ)
     → words ≡ codes "take" ∷ state_name ∷ file_name ∷ [] → status ≡ 0 → shown ≡ new
     → old.history ≡ both_put state extract → IsShelfHistory shown.history

@@ -1,14 +1,15 @@
--- What the versions of STATE files know, and what that fixes.
+-- What the versions of STATE files know. What is known fixes their texts.
 use Rattle.std.proofs.Common.{◌≡◌, Some, ◌<◌, ◌⊎◌, ℕ, List, [], ◌∷◌, ◌++◌, length, map, refl, sym, ◌∙◌, ap, subst, arith, inl, inr, append-nil, append_assoc}
 use Rattle.std.specs.Prelude.{slice_index_or}
 use Rattle.std.specs.List.{AllZip}
 use Rattle.std.proofs.lemmas.List.{length-map}
 use Rattle.cif_laws.proofs.lists.ZipSteps.{zip_at, zip_end, zip_long}
+use Rattle.docker_model.specs.state.State.{State}
 use Rattle.docker_model.specs.state.StateText.{dks_2, state_text}
 use Rattle.docker_model.specs.state.Summary.{HaveDistinctMoments, IsSummary}
 use Rattle.docker_model.specs.state.Table.{Table, IsPlainTable}
 use Rattle.docker_model.specs.docker.DockerText.{IsDockerText}
-use Rattle.docker_model.specs.run.Run.{Known, nothing}
+use Rattle.docker_model.specs.run.Run.{Known, nothing, united}
 use Rattle.docker_model.specs.run.Knowledge.{AreOneKnowledge, HaveSameFiles}
 use Rattle.docker_laws.proofs.dockers.PrintedDocker.{printed_is_plain}
 use Rattle.docker_laws.proofs.runs.RunEnd.{docker_of_files}
@@ -16,17 +17,18 @@ use Rattle.state_laws.proofs.states.OnePlainTable.{some_plain_table}
 use Rattle.state_laws.proofs.states.SummaryLaws.{summary_unique}
 use Rattle.docker_host.specs.History.{Bytes}
 use Rattle.docker_cmd.specs.Job.{JobView}
-use Rattle.docker_cmd.specs.Tasks.{TaskView}
+use Rattle.docker_cmd.specs.Saved.{AreGained, Gain, Gains, HoldsVersion, IsSaved, file_gained, horizon_gained, version_gained}
+use Rattle.docker_cmd.specs.Tasks.{TaskView, horizon_task, merge_task, migrate_task, new_task, take_task}
 use Rattle.docker_cmd.specs.Words.{Text}
 use Rattle.docker_program.specs.Sources.{SourcesRead}
-use Rattle.docker_program.specs.Commands.{AreMade, AreVersions, HoldsKnown, HoldsOrigin, HoldsVersion, IsKnownText, IsMade, IsVersion, Knows, MayStore, Origin, Prints, PrintsKnown, Run, Stores, Version, begun, known_after, known_at, known_by, merged, migrated, printing, raised, taken, task_of}
-use Rattle.docker_program.proofs.CommandLemmas.{may_store_known, prints_known, stores_known}
+use Rattle.docker_program.specs.Commands.{AreMade, AreVersions, ByCommand, HoldsKnown, IsKnownText, IsMade, IsVersion, Knows, MayStore, Origin, Prints, PrintsKnown, Run, Stores, Version, begun, known_after, known_at, known_by, known_once, known_with, merged, migrated, of_file, of_horizon, printing, raised, saved, taken}
+use Rattle.docker_program.proofs.CommandLemmas.{IsKnown, known_held, known_joined, known_raised, known_text, may_store_known, prints_known, stores_known, taken_behind}
 
 -- the texts of versions
 abbrev pub texts_of : List Version → List (List ℕ)
 texts_of versions = map (λ (version : Version). version.text) versions
 
--- these texts are the texts of the summaries of what is known
+-- each of these texts has the summary of what is known of it
 abbrev AreKnown : List Known → List (List ℕ) → Type 0
 AreKnown knowns texts = AllZip (IsKnownText dks_2) knowns texts
 
@@ -39,32 +41,67 @@ version_held knowns texts bytes number are holds =
     let low : number < length knowns = omega arith in
     (slice_index_or texts number [], holds.held, zip_at (IsKnownText dks_2) knowns texts number nothing [] are low)
 
--- what the command of a version knows
-origin_knows : (knowns : List Known) (texts : List (List ℕ)) (origin : Origin) (first second : Bytes) → AreKnown knowns texts
-    → HoldsOrigin texts origin first second → Knows (task_of origin) first second (known_by knowns origin)
-origin_knows knowns texts begun first second are holds = refl
-origin_knows knowns texts (taken own file) first second are holds =
-    (known_at knowns own, file, version_held knowns texts first own are holds.0, holds.1, refl)
-origin_knows knowns texts (merged own other) first second are holds =
-    (known_at knowns own, known_at knowns other, version_held knowns texts first own are holds.0, version_held knowns texts second other are holds.1, refl)
-origin_knows knowns texts (raised own day) first second are holds = (known_at knowns own, version_held knowns texts first own are holds, refl)
-origin_knows knowns texts (migrated known) first second are holds = holds
-
 -- what was stored, or may have been, is known
 stored_either : (run : Run) (job : JobView) (read : SourcesRead) (text : List ℕ) (known : Known) → Stores run job read text ⊎ MayStore run job read text
     → Knows job.task read.first read.second known → IsKnownText dks_2 known text
 stored_either run job read text known (inl stores) knows = stores_known run job read text known stores knows
 stored_either run job read text known (inr stores) knows = may_store_known run job read text known stores knows
 
--- a version that was made from earlier ones is known
-made_known : (knowns : List Known) (texts : List (List ℕ)) (version : Version) → AreKnown knowns texts → IsMade texts version
-    → IsKnownText dks_2 (known_by knowns version.origin) version.text
-made_known knowns texts version are made =
-    stored_either made.run made.job made.read version.text (known_by knowns version.origin) made.stores
-    (subst (λ (t : TaskView). Knows t made.read.first made.read.second (known_by knowns version.origin)) (sym made.task)
-    (origin_knows knowns texts version.origin made.read.first made.read.second are made.origin))
+-- what a command stored, or may have, is known
+by_command : {Held : Bytes → Bytes → Type 0} (task : TaskView) (known : Known) (text : List ℕ) (by : ByCommand task Held text)
+    → Knows task by.read.first by.read.second known → IsKnownText dks_2 known text
+by_command task known text by knows =
+    stored_either by.run by.job by.read text known by.stores
+    (subst (λ (t : TaskView). Knows t by.read.first by.read.second known) (sym by.task_is) knows)
 
--- all versions are known
+-- a state that gained this is known
+gained_known : (knowns : List Known) (texts : List (List ℕ)) (gain : Gain) (known : Known) (old new : State) → AreKnown knowns texts
+    → IsKnown known old → Gains texts gain old new → IsKnown (known_with knowns known gain) new
+gained_known knowns texts (file_gained file) known old new are is gains = taken_behind known gains.0 file old new is gains.1 gains.2
+gained_known knowns texts (version_gained number) known old new are is gains =
+    known_joined known (known_at knowns number) old gains.2.received new is
+    (known_held (known_at knowns number) gains.0 gains.2.received (version_held knowns texts gains.0 number are gains.1) gains.2.read) gains.2.join
+gained_known knowns texts (horizon_gained day) known old new are is gains =
+    subst (IsKnown (united known (of_horizon day))) (sym gains.1) (known_raised known day old gains.0 is)
+
+-- and so is one that gained these
+all_gained : (knowns : List Known) (texts : List (List ℕ)) (gains : List Gain) (known : Known) (old new : State) → AreKnown knowns texts
+    → IsKnown known old → AreGained texts gains old new → IsKnown (known_once knowns known gains) new
+all_gained knowns texts [] known old new are is same = subst (IsKnown known) (sym same) is
+all_gained knowns texts (gain ∷ gains) known old new are is gained =
+    all_gained knowns texts gains (known_with knowns known gain) gained.0 new are
+    (gained_known knowns texts gain known old gained.0 are is gained.1) gained.2
+
+-- what was saved is known
+saved_known : (knowns : List Known) (texts : List (List ℕ)) (own : ℕ) (gains : List Gain) (text : List ℕ) → AreKnown knowns texts
+    → IsSaved texts own gains text → IsKnownText dks_2 (known_once knowns (known_at knowns own) gains) text
+saved_known knowns texts own gains text are is =
+    known_text (known_once knowns (known_at knowns own) gains) is.last text
+    (all_gained knowns texts gains (known_at knowns own) is.first is.last are
+    (known_held (known_at knowns own) is.held is.first (version_held knowns texts is.held own are is.holds) is.reads) is.gained) is.text_is
+
+-- a version that was made from earlier ones is known
+made_known : (knowns : List Known) (texts : List (List ℕ)) (origin : Origin) (text : List ℕ) → AreKnown knowns texts → IsMade texts origin text
+    → IsKnownText dks_2 (known_by knowns origin) text
+made_known knowns texts begun text are made = by_command new_task nothing text made refl
+made_known knowns texts (taken own file) text are made =
+    by_command take_task (united (known_at knowns own) (of_file file)) text made
+    (known_at knowns own, file, version_held knowns texts made.read.first own are made.held.0, made.held.1, refl)
+made_known knowns texts (merged own other) text are made =
+    by_command merge_task (united (known_at knowns own) (known_at knowns other)) text made (
+      known_at knowns own,
+      known_at knowns other,
+      version_held knowns texts made.read.first own are made.held.0,
+      version_held knowns texts made.read.second other are made.held.1,
+      refl,
+    )
+made_known knowns texts (raised own day) text are made =
+    by_command (horizon_task day) (united (known_at knowns own) (of_horizon day)) text made
+    (known_at knowns own, version_held knowns texts made.read.first own are made.held, refl)
+made_known knowns texts (migrated known) text are made = by_command migrate_task known text made made.held
+made_known knowns texts (saved own gains) text are made = saved_known knowns texts own gains text are made
+
+-- each of all versions is the text of what is known of it
 all_known : (knowns : List Known) (texts : List (List ℕ)) (versions : List Version) → AreKnown knowns texts → AreMade texts versions
     → AreKnown (known_after knowns versions) (texts ++ texts_of versions)
 all_known knowns texts [] are made = subst (AreKnown knowns) (sym (append-nil texts)) are
@@ -72,15 +109,15 @@ all_known knowns texts (version ∷ versions) are made =
     subst (AreKnown (known_after (knowns ++ known_by knowns version.origin ∷ []) versions))
     (append_assoc texts (version.text ∷ []) (texts_of versions))
     (all_known (knowns ++ known_by knowns version.origin ∷ []) (texts ++ version.text ∷ []) versions
-    (zip_end (IsKnownText dks_2) knowns texts (known_by knowns version.origin) version.text are (made_known knowns texts version are made.0)) made.1)
+    (zip_end (IsKnownText dks_2) knowns texts (known_by knowns version.origin) version.text are (made_known knowns texts version.origin version.text are made.0)) made.1)
 
--- there are as many known as there are versions
+-- for each version there is one entry of what is known
 known_long : (knowns : List Known) (texts : List (List ℕ)) (versions : List Version) → AreKnown knowns texts → AreMade texts versions
     → length (known_after knowns versions) ≡ length (texts ++ texts_of versions)
 known_long knowns texts versions are made =
     zip_long (IsKnownText dks_2) (known_after knowns versions) (texts ++ texts_of versions) (all_known knowns texts versions are made)
 
--- each version is the text of the summary of what it knows
+-- each version's text has the summary of what is known of the version
 pub version_known : (versions : List Version) (number : ℕ) (text : List ℕ) (known : Known) → AreVersions versions → IsVersion versions number text known
     → IsKnownText dks_2 known text
 version_known versions number text known are is =

@@ -1,8 +1,6 @@
 -- What commands know: of which files, and under which horizon, the texts that they store and print
--- are the summary.
+-- are the summary. The same of texts that were saved of a state that was kept.
 use Rattle.std.specs.Prelude.{◌≡◌, ◌⊎◌, ◌<◌, ℕ, Bool, List, [], ◌∷◌, ◌++◌, length, map, slice_index_or, Some, None, ⊤}
-use Rattle.docker_model.specs.file.File.{most_records}
-use Rattle.docker_model.specs.file.FileFault.{IsFileText}
 use Rattle.docker_model.specs.state.Lapse.{IsDayRefused}
 use Rattle.docker_model.specs.state.State.{State, live_table}
 use Rattle.docker_model.specs.state.StateText.{Format, dks_1, dks_2}
@@ -14,20 +12,21 @@ use Rattle.docker_host.specs.Asked.{IsStored, IsUnplaced}
 use Rattle.docker_host.specs.History.{Bytes, Event, placed, unplaced}
 use Rattle.docker_host.specs.Host.{HostView}
 use Rattle.docker_cmd.specs.Job.{JobView}
-use Rattle.docker_cmd.specs.Prepared.{IsOutputText, IsReadOf, IsRefusedDocker, ReadView}
-use Rattle.docker_cmd.specs.Tasks.{TaskView, new_task, check_task, day_task, take_task, merge_task, print_task, files_task, horizon_task, migrate_task, output_of}
+use Rattle.docker_cmd.specs.Prepared.{HasReadToEnd, IsOutputText, IsReadOf, IsRefusedDocker, ReadView, ReadsFewOfFirst, ReadsFewOfSecond}
+use Rattle.docker_cmd.specs.Saved.{Gain, HoldsFile, HoldsVersion, IsSaved, file_gained, horizon_gained, version_gained}
+use Rattle.docker_cmd.specs.Tasks.{TaskView, new_task, check_task, day_task, take_task, merge_task, print_task, files_task, horizon_task, migrate_task, output_of, sources_of}
 use Rattle.docker_cmd.specs.Words.{Text}
 use Rattle.docker_program.specs.SourceNames.{names_of, stored_by}
-use Rattle.docker_program.specs.Sources.{AreOthers, SourcesRead, with_look_at, with_openings}
+use Rattle.docker_program.specs.Sources.{AreOthers, SourcesRead, with_files_read, with_look_at}
 use Rattle.docker_program.specs.Program.{AsksFor, Performs}
 
 -- ---- one command
 
--- the history of a command once its sources were opened. It looked at the file that its job writes,
--- if it writes one, and then opened the files that the job reads
+-- the history of a command once its sources were read. It looked at the file that its job writes,
+-- if it writes one. Then it opened, read and closed the files that the job reads
 abbrev pub history_read : List Event → JobView → SourcesRead → List Event
 history_read before job read =
-    with_openings (names_of job) read (with_look_at (stored_by job) before)
+    with_files_read (names_of job) read (with_look_at (stored_by job) before)
 
 -- the words and the devices of a command, before and after
 pub record Run : Type 0 where
@@ -36,12 +35,16 @@ pub record Run : Type 0 where
   pub old : HostView
   pub new : HostView
 
--- a command read the sources of its job whole, and this is what it writes of them. A source that is
--- standard input held what was left of it after the job line
+-- a command read the sources of its job whole, each no further than the result needs, and this is
+-- what it writes of them. A source that is standard input held what was left of it after the job
+-- line
 pub record Reads (run : Run) (job : JobView) (read : SourcesRead) (text : List ℕ) : Type 0 where
   pub rest : Bytes
   pub asks : AsksFor run.words run.old.input job rest
   pub others : AreOthers (names_of job) read rest run.new.input
+  pub first_few : ReadsFewOfFirst (sources_of job.task) read.first read.first_left
+  pub second_few : ReadsFewOfSecond (sources_of job.task) read.first read.second read.second_left
+  pub to_end : HasReadToEnd (sources_of job.task) read.first_left read.second_left
   pub what : ReadView
   pub is_read : IsReadOf job.task read.first read.second what
   pub is_text : IsOutputText (output_of job.task) what text
@@ -124,10 +127,6 @@ abbrev pub HoldsKnown : Format → Bytes → Known → Type 0
 HoldsKnown format bytes known =
     (text : List ℕ) × (bytes ≡ Some text) × IsKnownText format known text
 
--- a source held the text of this file
-abbrev pub HoldsFile : Bytes → List (List ℕ) → Type 0
-HoldsFile bytes file = (text : List ℕ) × (bytes ≡ Some text) × IsFileText most_records text file
-
 -- what a command knows, from what its sources held. These are the files and the horizon of the
 -- states that it read, the file that it took or printed, and the horizon that it set
 abbrev pub Knows : TaskView → Bytes → Bytes → Known → Type 0
@@ -170,61 +169,66 @@ WritesKnown migrate_task known text = IsKnownText dks_2 known text
 -- ---- versions of STATE files
 
 -- how a version of a STATE file was made. Earlier versions, of any office, have their numbers in
--- the list, from 0. It was made by `new`; by `take` of a file's text; by `merge` of another
--- version; by `horizon`; by `migrate` of an older text, which knows this
+-- the list, from 0. A command made it: `new`; `take` of a file's text; `merge` of another version;
+-- `horizon`; or `migrate` of an older text, which knows this. Or a state was read from a version
+-- and kept, as a desk keeps it, and was saved after it gained this
 pub data Origin : Type 0 where
   begun : Origin
   taken : (own : ℕ) (file : List (List ℕ)) → Origin
   merged : (own other : ℕ) → Origin
   raised : (own day : ℕ) → Origin
   migrated : (known : Known) → Origin
+  saved : (own : ℕ) (gains : List Gain) → Origin
 
 -- a version of a STATE file: its text, and how it was made
 pub record Version : Type 0 where
   pub text : List ℕ
   pub origin : Origin
 
--- a source held this earlier version, if there is one of this number
-pub record HoldsVersion (earlier : List (List ℕ)) (bytes : Bytes) (number : ℕ) : Type 0 where
-  pub there : number < length earlier
-  pub held : bytes ≡ Some (slice_index_or earlier number [])
-
--- the task of the command that makes a version in this way
-abbrev pub task_of : Origin → TaskView
-task_of begun = new_task
-task_of (taken own file) = take_task
-task_of (merged own other) = merge_task
-task_of (raised own day) = horizon_task day
-task_of (migrated known) = migrate_task
-
--- the sources of that command held this
-abbrev pub HoldsOrigin : List (List ℕ) → Origin → Bytes → Bytes → Type 0
-HoldsOrigin earlier begun first second = ⊤
-HoldsOrigin earlier (taken own file) first second =
-    HoldsVersion earlier first own × HoldsFile second file
-HoldsOrigin earlier (merged own other) first second =
-    HoldsVersion earlier first own × HoldsVersion earlier second other
-HoldsOrigin earlier (raised own day) first second = HoldsVersion earlier first own
-HoldsOrigin earlier (migrated known) first second = HoldsKnown dks_1 first known
-
--- a version was made by a command, which stored its text or may have
-pub record IsMade (earlier : List (List ℕ)) (version : Version) : Type 0 where
+-- a command with this task stored this text or may have, and this holds of what its sources held
+pub record ByCommand (task : TaskView) (Held : Bytes → Bytes → Type 0) (text : List ℕ)
+    : Type 0 where
   pub run : Run
   pub job : JobView
   pub read : SourcesRead
-  pub stores : Stores run job read version.text ⊎ MayStore run job read version.text
-  pub task : job.task ≡ task_of version.origin
-  pub origin : HoldsOrigin earlier version.origin read.first read.second
+  pub stores : Stores run job read text ⊎ MayStore run job read text
+  pub task_is : job.task ≡ task
+  pub held : Held read.first read.second
 
--- each version was made by a command from earlier ones, after these texts
+-- a version with this text was made in this way from earlier ones, which have these texts
+abbrev pub IsMade : List (List ℕ) → Origin → List ℕ → Type 0
+IsMade earlier begun text = ByCommand new_task (λ first second. ⊤) text
+IsMade earlier (taken own file) text = ByCommand take_task
+    (λ first second. HoldsVersion earlier first own × HoldsFile second file) text
+IsMade earlier (merged own other) text = ByCommand merge_task
+    (λ first second. HoldsVersion earlier first own × HoldsVersion earlier second other) text
+IsMade earlier (raised own day) text =
+    ByCommand (horizon_task day) (λ first second. HoldsVersion earlier first own) text
+IsMade earlier (migrated known) text =
+    ByCommand migrate_task (λ first second. HoldsKnown dks_1 first known) text
+IsMade earlier (saved own gains) text = IsSaved earlier own gains text
+
+-- each version was made from earlier ones, after these texts
 abbrev pub AreMade : List (List ℕ) → List Version → Type 0
 AreMade earlier [] = ⊤
-AreMade earlier (version ∷ versions) =
-    IsMade earlier version × AreMade (earlier ++ version.text ∷ []) versions
+AreMade earlier (version ∷ versions) = IsMade earlier version.origin version.text
+    × AreMade (earlier ++ version.text ∷ []) versions
 
 -- what an earlier version knows
 abbrev pub known_at : List Known → ℕ → Known
 known_at earlier number = slice_index_or earlier number nothing
+
+-- what is known once this was gained, from what earlier versions know
+abbrev pub known_with : List Known → Known → Gain → Known
+known_with earlier known (file_gained file) = united known (of_file file)
+known_with earlier known (version_gained number) = united known (known_at earlier number)
+known_with earlier known (horizon_gained day) = united known (of_horizon day)
+
+-- what is known once these were gained
+abbrev pub known_once : List Known → Known → List Gain → Known
+known_once earlier known [] = known
+known_once earlier known (gain ∷ gains) =
+    known_once earlier (known_with earlier known gain) gains
 
 -- what a version knows, from how it was made and from what earlier ones know
 abbrev pub known_by : List Known → Origin → Known
@@ -233,6 +237,7 @@ known_by earlier (taken own file) = united (known_at earlier own) (of_file file)
 known_by earlier (merged own other) = united (known_at earlier own) (known_at earlier other)
 known_by earlier (raised own day) = united (known_at earlier own) (of_horizon day)
 known_by earlier (migrated known) = known
+known_by earlier (saved own gains) = known_once earlier (known_at earlier own) gains
 
 -- what each version knows, after these earlier ones
 abbrev pub known_after : List Known → List Version → List Known

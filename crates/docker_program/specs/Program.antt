@@ -1,16 +1,15 @@
 -- What the program does with its words, on its devices.
 use Rattle.std.specs.Prelude.{◌≡◌, ◌≢◌, ◌↔◌, ℕ, ◌+◌, Bool, List, [], ◌∷◌, length, Option, Some, None, Result, Ok, Err, ◌⊎◌}
-use Rattle.cif_line.specs.Device.{CountsFailure, Takes, TakesPart}
 use Rattle.docker_host.specs.History.{Bytes, Event}
+use Rattle.docker_host.specs.FaultSink.{FaultsView, TellsText, faults_of}
 use Rattle.docker_host.specs.Host.{HostView}
 use Rattle.docker_cmd.specs.Words.{Text}
 use Rattle.docker_cmd.specs.Job.{JobView, IsJobOf, NameNoJob}
 use Rattle.docker_cmd.specs.JobLine.{ReadsAtMost, ReadsJob, HasJob, HasNoJob}
 use Rattle.docker_cmd.specs.declared.job_fault.JobFault.TheVariants as job
-use Rattle.docker_cmd.specs.OfficeFault.{OfficeFault}
 use Rattle.docker_cmd.specs.OfficeFault.TheVariants as office
 use Rattle.docker_cmd.specs.Prepared.{PreparedView}
-use Rattle.docker_cmd.specs.FaultLine.{fault_line, status_of}
+use Rattle.docker_cmd.specs.FaultLine.{IsCounted, fault_line, status_of}
 use Rattle.docker_cmd.specs.declared.fault.Fault.{Fault}
 use Rattle.docker_cmd.specs.declared.fault.Fault.TheVariants.{Job, Office}
 use Rattle.docker_program.specs.SourceNames.{stored_by}
@@ -55,13 +54,14 @@ pub record IsNotAsked (words : List Text) (old new : HostView) (Why : Type 0) : 
   pub at_most : AsksAtMost words old.input new.input
   pub unasked : new.history ≡ old.history
 
--- how the sources of a job were opened and read, up to this history: after a look at the file that
--- the job writes, if it writes one
+-- how the sources of a job were opened, read and closed, up to this history: after a look at the
+-- file that the job writes, if it writes one
 abbrev pub reading : HostView → HostView → JobView → Bytes → List Event → Asking
 reading old new job rest now =
     asking (with_look_at (stored_by job) old.history) now rest new.input
 
--- the job ended while its sources were opened and read, and this holds of that
+-- the job ended once its sources were opened, read and closed, or once one wasn't opened, and this
+-- holds of that
 abbrev pub EndsReading : HostView → HostView → (Asking → JobView → Type 0)
     → JobView → Bytes → Type 0
 EndsReading old new Holds job rest = Holds (reading old new job rest new.history) job
@@ -78,7 +78,7 @@ writing old new before = written old.output new.output before new.history
 pub record HasRead (old new : HostView) (Holds : Written → PreparedView → Type 0) (job : JobView)
     (rest : Bytes) : Type 0 where
   pub prepared : PreparedView
-  -- the history once all was read
+  -- the history once all was read and closed
   pub read : List Event
   pub is : IsPrepared (reading old new job rest read) job prepared
   pub holds : Holds (writing old new read) prepared
@@ -130,22 +130,11 @@ abbrev pub ending_status : Option Fault → ℕ
 ending_status None = 0
 ending_status (Some fault) = status_of fault
 
--- the exit status for an office's result: 0, or the fault's status
-abbrev pub result_status : {A : Type 0} → Result A OfficeFault → ℕ
-result_status (Ok answer) = 0
-result_status (Err fault) = status_of (Office fault)
-
 -- without a fault, the sink of faults gained nothing. With one, it gained the fault's line; or it
 -- failed once more, and gained a proper prefix of the line
-abbrev pub Tells : Option Fault → (old new : Bytes) → (before after : ℕ) → Type 0
-Tells None old new before after = (new ≡ old) × (after ≡ before)
-Tells (Some fault) old new before after =
-    ((after ≡ before) × Takes old (fault_line fault) new)
-    ⊎ ((after ≡ before + 1) × TakesPart old (fault_line fault) new)
-
--- how often devices failed, before and after: once more exactly if the status is 4
-abbrev pub IsCounted : (status before after : ℕ) → Type 0
-IsCounted status before after = CountsFailure (status ≡ 4) before after
+abbrev pub Tells : Option Fault → (old new : FaultsView) → Type 0
+Tells None old new = (new.taken ≡ old.taken) × (new.failures ≡ old.failures)
+Tells (Some fault) old new = TellsText (fault_line fault) old new
 
 -- how often the input, the folder and the output failed
 abbrev pub failures_of : HostView → ℕ
@@ -158,7 +147,7 @@ pub record Performs (words : List Text) (names_bytes : Bool) (old new : HostView
   pub ending : Option Fault
   pub ends : EndsBy words names_bytes old new ending
   pub status_is : status ≡ ending_status ending
-  pub tells : Tells ending old.faults new.faults old.faults_failures new.faults_failures
+  pub tells : Tells ending (faults_of old) (faults_of new)
   pub counted : IsCounted status (failures_of old) (failures_of new)
 
 -- if there are words, the status is 2, which says usage, exactly if they name no job

@@ -1,6 +1,7 @@
 -- What a job asks of the folder before it writes, and what its sources held.
 use Rattle.std.specs.Prelude.{◌≡◌, ◌⊎◌, List, [], ◌∷◌, ◌++◌, Option, Some, None, Result, Ok, Err}
-use Rattle.docker_host.specs.History.{Bytes, Event, looked, opened, unopened}
+use Rattle.docker_host.specs.History.{Bytes, Event, looked, opened, unopened, closed}
+use Rattle.docker_host.specs.Opening.{one_of}
 use Rattle.cif_file.specs.declared.fault.FileFault.{FileFault}
 use Rattle.docker_cmd.specs.Job.{JobView}
 use Rattle.docker_cmd.specs.OfficeFault.{OfficeFault}
@@ -10,15 +11,9 @@ use Rattle.docker_cmd.specs.StateFault.{StateFault}
 use Rattle.docker_cmd.specs.Words.{Text}
 use Rattle.docker_program.specs.SourceNames.{SourceNames, no_source, standard_input, one_file, file_and_input, two_files, names_of}
 use Rattle.docker_host.specs.declared.folder.OpenFault.{OpenFault}
-use Rattle.docker_host.specs.declared.folder.OpenFault.TheVariants as opening
-
--- the office's fault for a source that wasn't opened
-abbrev pub fault_of_opening : OpenFault → OfficeFault
-fault_of_opening opening.Failed = office.Source
-fault_of_opening opening.Memory = office.Memory
 
 -- the two sources of a job: what each held before anything was read, and what is left of it. A file
--- held what it held when it was opened
+-- held what it held when it was opened, and what was left of it when it was closed is left
 pub record SourcesRead : Type 0 where
   pub first : Bytes
   pub first_left : Bytes
@@ -30,15 +25,18 @@ abbrev pub with_look_at : Option Text → List Event → List Event
 with_look_at None history = history
 with_look_at (Some name) history = history ++ looked name ∷ []
 
--- a history with the openings of the files of these names, each once, in the order of the words.
--- The first held what the first source held, and the second what the second held
-abbrev pub with_openings : SourceNames → SourcesRead → List Event → List Event
-with_openings no_source read history = history
-with_openings standard_input read history = history
-with_openings (one_file name) read history = history ++ opened name read.first ∷ []
-with_openings (file_and_input name) read history = history ++ opened name read.first ∷ []
-with_openings (two_files name other) read history =
-    history ++ opened name read.first ∷ opened other read.second ∷ []
+-- a history with the files of these names: all were opened, each once, in the order of the words,
+-- and then all were closed in this order. The first is the first source, and the second the second
+abbrev pub with_files_read : SourceNames → SourcesRead → List Event → List Event
+with_files_read no_source read history = history
+with_files_read standard_input read history = history
+with_files_read (one_file name) read history =
+    history ++ opened name read.first ∷ closed read.first_left ∷ []
+with_files_read (file_and_input name) read history =
+    history ++ opened name read.first ∷ closed read.first_left ∷ []
+with_files_read (two_files name other) read history =
+    history ++ opened name read.first ∷ opened other read.second
+    ∷ closed read.first_left ∷ closed read.second_left ∷ []
 
 -- the sources that aren't files: one is standard input, which held `rest` and has `left` now, or
 -- there is none, and it holds nothing. Standard input that is no source is as it was
@@ -52,15 +50,15 @@ AreOthers (file_and_input name) read rest left =
     (read.second ≡ rest) × (read.second_left ≡ left)
 AreOthers (two_files name other) read rest left = left ≡ rest
 
--- a file of these names wasn't opened: the first, or the second after the first was opened. The
--- history is what it was before, and then this
+-- a file of these names wasn't opened: the first, or the second after the first was opened, which
+-- is then closed with all that it held. The history is what it was before, and then this
 abbrev pub FailsToOpen : SourceNames → (before now : List Event) → Type 0
 FailsToOpen no_source before now = ⊥
 FailsToOpen standard_input before now = ⊥
 FailsToOpen (one_file name) before now = now ≡ before ++ unopened name ∷ []
 FailsToOpen (file_and_input name) before now = now ≡ before ++ unopened name ∷ []
 FailsToOpen (two_files name other) before now = (now ≡ before ++ unopened name ∷ [])
-    ⊎ ((bytes : Bytes) × (now ≡ before ++ opened name bytes ∷ unopened other ∷ []))
+    ⊎ ((bytes : Bytes) × (now ≡ before ++ opened name bytes ∷ unopened other ∷ closed bytes ∷ []))
 
 -- what was asked of the folder and of standard input while the sources of a job were opened and
 -- read. These are the history before and now, and what standard input held and has left
@@ -79,11 +77,11 @@ pub record IsNotOpened (asked : Asking) (job : JobView) : Type 0 where
   pub fails : FailsToOpen (names_of job) asked.before asked.now
   pub unread : asked.left ≡ asked.rest
 
--- all files that a job reads were opened, and nothing else was asked of the folder. Then the
--- sources were read, each no further than the result needs
+-- all files that a job reads were opened, and closed once the sources were read. Nothing else was
+-- asked of the folder. Each source was read no further than the result needs
 pub record IsOpened (asked : Asking) (job : JobView) : Type 0 where
   pub read : SourcesRead
-  pub history : asked.now ≡ with_openings (names_of job) read asked.before
+  pub history : asked.now ≡ with_files_read (names_of job) read asked.before
   pub others : AreOthers (names_of job) read asked.rest asked.left
   pub first_few : ReadsFewOfFirst (sources_of job.task) read.first read.first_left
   pub second_few : ReadsFewOfSecond (sources_of job.task) read.first read.second read.second_left
@@ -125,19 +123,20 @@ ReadsNamed asked job (Err office.Sink) = ⊥
 pub record AreNotOpened (names : SourceNames) (asked : Asking)
     (result : Result PreparedView OfficeFault) : Type 0 where
   pub cause : OpenFault
-  pub is : result ≡ Err (fault_of_opening cause)
+  pub is : result ≡ Err (one_of office.Source office.Memory cause)
   pub fails : FailsToOpen names asked.before asked.now
   pub unread : asked.left ≡ asked.rest
 
--- the files of these names were opened, and then the sources of a job were read, with this result
+-- the files of these names were opened, and closed once the sources of a job were read, with this
+-- result
 pub record AreRead (names : SourceNames) (asked : Asking) (job : JobView)
     (result : Result PreparedView OfficeFault) : Type 0 where
   pub read : SourcesRead
-  pub history : asked.now ≡ with_openings names read asked.before
+  pub history : asked.now ≡ with_files_read names read asked.before
   pub others : AreOthers names read asked.rest asked.left
   pub reads : ReadsInOrder job read.first read.first_left read.second read.second_left result
 
 -- how opening and reading the sources of these names ends: a file wasn't opened, or all files were,
--- and then the sources were read
+-- and were closed once the sources were read
 abbrev pub ReadsBy : SourceNames → Asking → JobView → Result PreparedView OfficeFault → Type 0
 ReadsBy names asked job result = AreNotOpened names asked result ⊎ AreRead names asked job result

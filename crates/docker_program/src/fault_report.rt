@@ -1,21 +1,22 @@
 //! How a fault is reported.
-ghost use Rattle.std.specs.Prelude.{◌≡◌, ◌-◌, ◌^◌, ◌<◌, Some};
-ghost use Rattle.docker_cmd.specs.FaultLine.{status_of};
-ghost use Rattle.docker_program.specs.Program.{Tells};
+ghost use Rattle.std.specs.Prelude.{◌≡◌, ◌-◌, ◌^◌, ◌<◌};
+ghost use Rattle.docker_cmd.specs.FaultLine.{fault_line, status_of};
+ghost use Rattle.docker_host.specs.FaultSink.{TellsText, faults_view};
 
-use cif_line::{Sink, write_all};
+use cif_line::Sink;
 use docker_cmd::{Fault, fault_text, status};
+use docker_host::tell_text;
 
 /// Writes the line of a fault and returns its exit status, whether or not the whole line is
 /// written.
 pub fn tell<L: Sink>(fault: &Fault, faults: &mut L) -> u8
     requires { L.failures faults.old < 2 ^ 64 - 1 }
     ensures status { result ≡ status_of fault.now }
-    ensures line { Tells (Some fault.now) (L.taken faults.old) (L.taken faults.new)
-        (L.failures faults.old) (L.failures faults.new) }
+    ensures line { TellsText (fault_line fault.now)
+        (faults_view (L.taken faults.old) (L.failures faults.old))
+        (faults_view (L.taken faults.new) (L.failures faults.new)) }
 {
     let text = fault_text(fault);
-    match write_all(faults, text.as_slice()) {
-        Ok(()) | Err(_) => status(fault),
-    }
+    tell_text(text.as_slice(), faults);
+    status(fault)
 }

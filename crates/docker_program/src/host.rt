@@ -52,7 +52,8 @@ fn run_strings(rt: &HostRuntime, words: &[String]) -> Result<u8, JobFault> {
     Ok(run_words(rt, words.as_slice()))
 }
 
-/// The words after the program's name. A word that is no text is a usage fault.
+/// The words after the program's name. `Usage` if a word is no text, and `Memory` if there is no
+/// room for the words.
 pub fn own_words(rt: &HostRuntime) -> Result<Vec<String>, JobFault> {
     let all = match env::args(rt) {
         Ok(all) => all,

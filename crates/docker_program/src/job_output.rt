@@ -1,13 +1,13 @@
 //! Where a job writes.
 ghost use Rattle.std.specs.Prelude.{◌≡◌, ◌+◌, ◌-◌, ◌^◌, ◌<◌, ℕ, IfSome, Some, option_map};
+ghost use Rattle.docker_cmd.specs.FaultLine.{IsCounted, result_status};
 ghost use Rattle.docker_program.specs.SourceNames.{stored_by};
-ghost use Rattle.docker_program.specs.Program.{IsCounted, result_status};
 ghost use Rattle.docker_program.specs.Writing.{EndsWriting, drafting, written};
 
 use crate::looks::Looked;
 use cif_line::Sink;
 use docker_cmd::{OfficeFault, Prepared, emit};
-use docker_host::{Folder, OpenFault};
+use docker_host::Folder;
 
 /// Writes what a job has read: to the file that was looked at for it or, if it writes no file, to
 /// the output.
@@ -49,8 +49,7 @@ fn write_file<D: Folder>(
 {
     let mut made = match folder.create(looked.name, &looked.seen) {
         Ok(made) => made,
-        Err(OpenFault::Failed) => return Err(OfficeFault::Sink),
-        Err(OpenFault::Memory) => return Err(OfficeFault::Memory),
+        Err(cause) => return Err(cause.one_of(OfficeFault::Sink, OfficeFault::Memory)),
     };
     match emit(prepared, &mut made.draft) {
         Ok(()) => {}

@@ -1,20 +1,19 @@
 //! The sources that a job reads.
 ghost use Rattle.std.specs.Prelude.{◌≡◌, ◌+◌, ◌-◌, ◌^◌, ◌<◌, OnOk};
+ghost use Rattle.docker_cmd.specs.FaultLine.{IsCounted, result_status};
 ghost use Rattle.docker_host.specs.History.{Bytes as HeldBytes};
-ghost use Rattle.docker_program.specs.Program.{IsCounted, result_status};
 ghost use Rattle.docker_program.specs.SourceNames.{file_and_input, two_files};
 ghost use Rattle.docker_program.specs.Sources.{ReadsBy, ReadsNamed, asking};
 
 use crate::job_names::names;
 use crate::names::SourceNames;
-use crate::opening::fault_of_opening;
 use cif_line::{Bytes, Source};
 use docker_cmd::{Job, OfficeFault, Prepared, prepare};
 use docker_host::Folder;
 use std::alloc::Global;
 
-/// Opens the files that a job reads, each once, in the order of its words, and then reads its
-/// sources. One of them may be what is left of standard input.
+/// Opens the files that a job reads, each once, in the order of its words. Then reads its sources,
+/// of which one may be what is left of standard input, and closes the files in the same order.
 pub(crate) fn read_sources<'a, S: Source, D: Folder>(
     alloc: Global,
     job: &'a Job,
@@ -40,7 +39,7 @@ pub(crate) fn read_sources<'a, S: Source, D: Folder>(
     }
 }
 
-/// Opens the file of this name, and then reads it and the second source.
+/// Opens the file of this name, reads it and the second source, and closes it.
 fn read_file<'a, T: Source, D: Folder>(
     alloc: Global,
     job: &'a Job,
@@ -60,14 +59,14 @@ fn read_file<'a, T: Source, D: Folder>(
 {
     let mut file = match folder.open(name) {
         Ok(file) => file,
-        Err(cause) => return Err(fault_of_opening(cause)),
+        Err(fault) => return Err(fault.one_of(OfficeFault::Source, OfficeFault::Memory)),
     };
     let prepared = prepare(alloc, job, &mut file, second);
     folder.close(file);
     prepared
 }
 
-/// Opens the files of these names, one after the other, and then reads them.
+/// Opens the files of these names, one after the other, reads them, and closes them in this order.
 fn read_files<'a, D: Folder>(
     alloc: Global,
     job: &'a Job,
@@ -84,17 +83,17 @@ fn read_files<'a, D: Folder>(
 {
     let mut first = match folder.open(name) {
         Ok(first) => first,
-        Err(cause) => return Err(fault_of_opening(cause)),
+        Err(cause) => return Err(cause.one_of(OfficeFault::Source, OfficeFault::Memory)),
     };
     let mut second = match folder.open(other) {
         Ok(second) => second,
         Err(cause) => {
             folder.close(first);
-            return Err(fault_of_opening(cause));
+            return Err(cause.one_of(OfficeFault::Source, OfficeFault::Memory));
         }
     };
     let prepared = prepare(alloc, job, &mut first, &mut second);
-    folder.close(second);
     folder.close(first);
+    folder.close(second);
     prepared
 }

@@ -1,8 +1,9 @@
 //! The order of the program's work.
 ghost use Rattle.std.specs.Prelude.{◌≡◌};
+ghost use Rattle.docker_cmd.specs.FaultLine.{IsCounted};
 ghost use Rattle.docker_cmd.specs.Words.{texts};
 ghost use Rattle.docker_host.specs.Host.{AreFew};
-ghost use Rattle.docker_program.specs.Program.{EndsBy, IsCounted, Performs, ending_status, failures_of, fault_in};
+ghost use Rattle.docker_program.specs.Program.{EndsBy, Performs, ending_status, failures_of, fault_in};
 
 use crate::fault_report::tell;
 use crate::job_output::write_output;
@@ -42,8 +43,8 @@ fn do_job<S: Source, D: Folder, K: Sink, L: Sink>(
 /// Does what the words ask for, and returns the exit status. If there are no words, the job is on
 /// the first line of standard input. A job that writes a file looks at it first. Then all files
 /// that the job reads are opened, each once, in the order of the words, before anything is read.
-/// Nothing is written, and no draft is made, before all is read. No draft is left. A fault is one
-/// line on the sink of faults.
+/// They are closed in this order once all is read. Nothing is written, and no draft is made, before
+/// that. No draft is left. A fault is one line on the sink of faults.
 pub fn perform<S: Source, D: Folder, K: Sink, L: Sink>(
     alloc: Global,
     words: &[&str],

@@ -1,4 +1,4 @@
--- The state of one file, made from its ledger item and the greatest of its rows.
+-- The state of one file, made from the file's ledger item and the greatest of its rows.
 use Rattle.std.proofs.Common.{◌≡◌, ℕ, ◌≤◌, List, [], ◌∷◌, ◌++◌, map, length, refl, ap, sym, ◌∙◌, subst, inl, inr, ◌⊎◌, Contains, All, Bool, true, false, Some, None, arith}
 use Rattle.std.specs.Prelude.{Option, ◌↔◌, slice_index_or, ◌==◌}
 use Rattle.std.specs.Cmp.{tied_itself}
@@ -39,7 +39,7 @@ use Rattle.docker_laws.proofs.dockers.ThinState.{kept_good, thin_valid}
 use Rattle.docker_join.proofs.MeantOrder.{ascending_meant}
 use Rattle.docker_state.proofs.StateJoin.{op_records}
 
--- two ways to take the first of some lines give the same line
+-- the first of some lines is the line with index 0
 pub first_is : (lines : List (List ℕ)) → slice_index_or lines 0 [] ≡ first_record lines
 first_is [] = refl
 first_is (line ∷ lines) = refl
@@ -56,7 +56,7 @@ only x z among = by (Contains-cons x [] z among)
 not_above_itself : (stamp : FileStamp) → IsAtMost file_stamp_cmp stamp stamp
 not_above_itself stamp above = let tied = tied_itself file_stamp_total stamp in cc
 
--- the floor of one item keeps it
+-- the floor of a ledger with only this item keeps the item's stamp
 abbrev OneFloor : stamps.LedgerItem → Type 0
 OneFloor item = (floor : Option FileStamp) × IsFloor (item ∷ []) floor × IsKept floor item.stamp
 
@@ -90,7 +90,7 @@ made_records all have stamp made made_is = all_members (λ (row : Key × Entry).
 pub file_records : (file : List (List ℕ)) → IsFile file → length file ≤ most_records → HaveRecords (changes file)
 file_records file is_file few change among = op_records change.key (op_of change.act) (file_change file is_file few change among).good.1
 
--- so have the changes that are kept of it
+-- the changes that are kept of a file have records
 pub thin_records : (place : List ℕ) (day : ℕ) (file : List (List ℕ)) → IsFile file → length file ≤ most_records → (all kept : List model.Change)
     → all ≡ changes file → IsThinning place day all kept → HaveRecords kept
 thin_records place day file is_file few all kept all_are thinning change among =
@@ -109,7 +109,7 @@ pub made_stamped : (item : LedgerItem) (stamp : code.FileStamp) → file_stamp_m
     → map row_meant made ≡ map (made_by (item_meant item).stamp) all
 made_stamped item stamp same all made made_is = made_is ∙ ap (λ (s : FileStamp). map (made_by s) all) same
 
--- the state of a ledger item and of the greatest of the rows that changes make
+-- the state of a ledger item and of the greatest rows is the one that the item and the changes make
 pub made_state : (item : stamps.LedgerItem) (all : List model.Change) (ledger : List LedgerItem) (made rows : List (Key × Entry))
     → map item_meant ledger ≡ item ∷ [] → map row_meant made ≡ map (made_by item.stamp) all → AreAscending rows
     → ((key : model.Key) (entry : ops.Entry) → Contains (map row_meant rows) (key, entry) ↔ IsGreatestAmong (map row_meant made) key entry)
@@ -127,7 +127,7 @@ module _ (file : List (List ℕ)) (state : State) (is : IsMadeState (ledger_item
   kept_one : (f : Option FileStamp) → IsKept f (file_stamp_of file) → IsKeptFile (file ∷ []) f file
   kept_one f kept = record { among = cons-Contains-first file []; kept = kept }
 
-  -- an entry that a change makes is among those that all changes make
+  -- an entry that a change makes is among the entries that all changes make
   to_made : (f : Option FileStamp) (key : model.Key) (entry : ops.Entry) → IsEntryOf (file ∷ []) f key entry
       → Contains (map (made_by (file_stamp_of file)) (changes file)) (key, entry)
   to_made f key entry of =
@@ -182,7 +182,7 @@ module _ (file : List (List ℕ)) (state : State) (is : IsMadeState (ledger_item
       (all_members (λ f. length f ≤ most_records) (file ∷ []) (λ f among. subst (λ (x : List (List ℕ)). length x ≤ most_records) (only file f among) few))
       file_summary
 
--- what a header's ledger item is
+-- the ledger item of a header line is the ledger item of a file that begins with the line
 pub item_is_of : (head line : List ℕ) (item : stamps.LedgerItem) (lines : List (List ℕ)) → head ≡ line → line ≡ slice_index_or lines 0 []
     → ((file : List (List ℕ)) → head ≡ first_record file → item ≡ ledger_item_of file) → item ≡ ledger_item_of lines
 item_is_of head line item lines same first_line told = told lines (same ∙ first_line ∙ first_is lines)
@@ -194,7 +194,7 @@ summary_of_made item all lines state item_is all_is is =
     file_summary lines state
     (subst (λ (i : stamps.LedgerItem). IsMadeState i (changes lines) state) item_is (subst (λ (a : List model.Change). IsMadeState item a state) all_is is))
 
--- it is valid
+-- the state that a file's changes make is valid
 pub valid_of_made : (item : stamps.LedgerItem) (all : List model.Change) (lines : List (List ℕ)) → item ≡ ledger_item_of lines → all ≡ changes lines
     → IsFile lines → length lines ≤ most_records → MakeValid item all
 valid_of_made item all lines item_is all_is is_file few state is =
@@ -202,14 +202,14 @@ valid_of_made item all lines item_is all_is is_file few state is =
     (subst (λ (i : stamps.LedgerItem). IsMadeState i (changes lines) state) item_is (subst (λ (a : List model.Change). IsMadeState item a state) all_is is))
     is_file few
 
--- kept changes of a file make such a state
+-- the state that kept changes make is a state of those changes
 pub kept_state : (item : stamps.LedgerItem) (kept : List model.Change) (lines : List (List ℕ)) (state : State) → item ≡ ledger_item_of lines
     → IsMadeState item kept state → IsStateOfChanges lines kept state
 kept_state item kept lines state item_is is =
     let of = subst (λ (i : stamps.LedgerItem). IsMadeState i kept state) item_is is in
     record { horizon = of.horizon; ledger = of.ledger; ascending = of.ascending; entries = of.entries }
 
--- it is valid, if enough was kept
+-- the state that kept changes make is valid if the changes are enough for the place and the day
 pub valid_of_kept : (place : List ℕ) (day : ℕ) (item : stamps.LedgerItem) (all kept : List model.Change) (lines : List (List ℕ))
     → item ≡ ledger_item_of lines → IsFile lines → length lines ≤ most_records → all ≡ changes lines → IsThinning place day all kept → MakeValid item kept
 valid_of_kept place day item all kept lines item_is is_file few all_are thinning state is =

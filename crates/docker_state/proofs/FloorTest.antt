@@ -1,4 +1,4 @@
--- What a floor keeps.
+-- The stamps that a floor keeps.
 use Rattle.std.proofs.Common.{◌≡◌, arith, List, [], ◌∷◌, length, map, refl, ap, sym, ◌∙◌, subst, Contains, Bool, true, false, cond, Some, None}
 use Rattle.std.specs.Prelude.{filter, Option, ◌↔◌, IsTrue}
 use Rattle.std.specs.declared.cmp.Ordering.TheVariants.{Less, Equal, Greater}
@@ -9,7 +9,7 @@ use Rattle.std.specs.declared.cmp.Ordering.{Ordering}
 use Rattle.docker_model.specs.state.Order.{IsBelow, IsStrictlyAscending}
 use Rattle.cif_laws.proofs.lists.FilteredMembers.{filter_back, filter_forth}
 
--- what a filter leaves, if its test never changes
+-- the elements that a filter leaves, if its test never changes
 module _ {X P : Type 0} (R : P → X → Bool → P → Type 0) (test : X → Bool) (p : P) (says : (x : X) (b : Bool) (q : P) → R p x b q → (b ≡ test x) × (q ≡ p)) where
   told : (bs : List Bool) (xs : List X) (s q : P) → s ≡ p → length bs ≡ length xs → ReturnsInTurn R s bs xs q → items_where_true bs xs ≡ filter test xs
   told [] [] s q is size turns = refl
@@ -23,7 +23,7 @@ module _ {X P : Type 0} (R : P → X → Bool → P → Type 0) (test : X → Bo
       step true h rest = (λ i. x ∷ rest i) ∙ (λ i. cond (h i) (x ∷ filter test xs) (filter test xs))
       step false h rest = rest ∙ (λ i. cond (h i) (x ∷ filter test xs) (filter test xs))
 
-  -- if its test never changes, a filter leaves just what passes
+  -- a filter whose test never changes leaves the elements that pass the test
   pub kept_by : (xs ys : List X) → IsFiltered R p xs ys → ys ≡ filter test xs
   kept_by xs ys is = is.4 ∙ told is.0 xs p is.1 refl is.2 is.3
 
@@ -46,7 +46,7 @@ module _ {A : Type 0} (cmp : A → A → Ordering) (test : A → Bool) where
       by true rest = (filter_above x xs up.0, rest)
       by false rest = rest
 
--- filtering by a test of images and then mapping is mapping first and then filtering
+-- filtering by a test of the images and then mapping gives the same as mapping and then filtering
 pub filter-map : {A B : Type 0} (f : A → B) (test : B → Bool) (xs : List A) → map f (filter (λ x. test (f x)) xs) ≡ filter test (map f xs)
 filter-map f test [] = refl
 filter-map f test (x ∷ xs) = by (test (f x)) (filter-map f test xs)
@@ -62,7 +62,7 @@ not_above Less = true
 not_above Equal = true
 not_above Greater = false
 
--- this file stamp isn't below the floor, or there is none
+-- this file stamp isn't below the floor, or there is no floor
 pub keeps : Option FileStamp → FileStamp → Bool
 keeps None stamp = true
 keeps (Some floor) stamp = not_above (file_stamp_cmp floor stamp)
@@ -84,7 +84,7 @@ is_keeps (Some floor) stamp kept = by (file_stamp_cmp floor stamp) kept
     by Equal below = refl
     by Greater below = absurd (below refl)
 
--- any test of whether a stamp is kept is this test
+-- any test that decides whether a stamp is kept gives the same as this test
 pub says_kept : (floor : Option FileStamp) (stamp : FileStamp) (b : Bool) → IsTrue b ↔ IsKept floor stamp → b ≡ keeps floor stamp
 says_kept floor stamp true told = sym (is_keeps floor stamp (told.0 refl))
 says_kept floor stamp false told = by (keeps floor stamp) refl

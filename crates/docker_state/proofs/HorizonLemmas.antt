@@ -1,4 +1,4 @@
--- A horizon that is set on a state: its rows lapse, or nothing changes.
+-- A horizon that is set on a state: the state's rows lapse, or nothing changes.
 use Rattle.std.proofs.Common.{◌≡◌, ℕ, ◌≤◌, List, map, ap, sym, ◌∙◌, subst}
 use Rattle.std.proofs.Math.Nat.{max-eq_left, max-eq_right}
 use Rattle.docker_model.specs.state.Lapse.{HasNotToLapse, lapse_entries}
@@ -25,7 +25,7 @@ module _ (own day : ℕ) (low : own ≤ day) (ledger : List LedgerItem) (rows af
       (λ i. record { horizon = day; ledger = map item_meant ledger; entries = lapsed i })
       ∙ ap (λ h. lapse_state h (state_meant own ledger rows)) (sym (max-eq_right low))
 
-  -- that state is valid
+  -- the state with the raised horizon is valid
   pub raised_valid : IsDay day → IsValid (state_meant own ledger rows) → IsValid (state_meant day ledger after)
   raised_valid within valid = subst IsValid (sym rows_raised) (raised_is_valid day (state_meant own ledger rows) within valid)
 

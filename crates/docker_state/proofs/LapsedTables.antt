@@ -1,4 +1,4 @@
--- Two tables that lapsed under one horizon join to what the join of the tables lapses to.
+-- The join of two tables that lapsed under one horizon is the lapsed join of the two tables.
 use Rattle.std.proofs.Common.{◌≡◌, ℕ, List, ◌++◌, map, ap, sym, ◌∙◌, subst, Contains, Bool, true, false, cond}
 use Rattle.std.specs.Prelude.{◌↔◌, nat_lt}
 use Rattle.std.proofs.lemmas.List.{map-append}

@@ -1,4 +1,4 @@
--- Sorted rows with their numbers: the last one of each key's run.
+-- Sorted rows with their numbers: the last row of each run of rows with one key.
 use Rattle.std.proofs.Common.{◌≡◌, ℕ, zero, suc, ◌<◌, ◌≤◌, List, [], ◌∷◌, ◌++◌, map, length, get_or, refl, ap, sym, ◌∙◌, subst, inl, inr, ◌⊎◌, Contains, Bool, true, false, cond, Some, None, arith}
 use Rattle.std.specs.Prelude.{slice_get}
 use Rattle.std.specs.List.{AllByRecursion}
@@ -56,7 +56,7 @@ pub sorted_made : (xs : List Made) → IsSorted by_made xs → AreSorted (rows_i
 sorted_made xs up = from_far xs
     (λ i j d before within. sorted_far (λ x y. is_lt (by_made x y)) (ranks_by by_made_total (λ m. m)) xs up i j d (omega arith) within)
 
--- leaving out the numbers, the last rows with numbers are the last rows
+-- the last rows with numbers, without their numbers, are the last rows
 pub last_is : (made : List Made) → rows_in (last_made made) ≡ last_rows (rows_in made)
 last_is [] = refl
 last_is (m ∷ []) = refl
@@ -103,7 +103,7 @@ picked_all items (m ∷ made) are =
     let rest = picked_all items made (λ z among. are z (cons-Contains m made z among)) in
     λ i. here i ∷ rest i
 
--- the last rows' numbers pick the items of the last rows
+-- the numbers of the last rows pick these rows' items
 pub last_picked : (items : List Item) (made sorted : List Made) → ((z : Made) → Contains sorted z → Contains made z) → AreNumbered items made
     → ArePicked items (numbers_in (last_made sorted)) (items_of (map row_meant (rows_in (last_made sorted))))
 last_picked items made sorted from are = picked_all items (last_made sorted) (λ z among. are z (from z (last_among sorted z among)))

@@ -1,4 +1,4 @@
--- Sorted rows: the last row of each key's run.
+-- Sorted rows: the last row of each run of rows with one key.
 use Rattle.std.proofs.Common.{◌≡◌, List, [], ◌∷◌, inl, inr, ◌⊎◌, refl, ap, sym, ◌∙◌, Bool, true, false, cond, subst, Contains}
 use Rattle.std.specs.List.{AllByRecursion}
 use Rattle.std.specs.declared.cmp.Ordering.{Ordering}
@@ -83,12 +83,12 @@ lasts_ascend (row ∷ next ∷ rows) sorted = by (row_cmp next row) refl (lasts_
     by Less is rest = in_front (λ tied. cc) rest
     by Greater is rest = in_front (λ tied. cc) rest
 
--- a sorted row is below the next row if that has another key
+-- a sorted row is below the next row if the next row has another key
 front_below : (row next : Key × Entry) → ¬ (row_cmp next row ≡ Equal) → LaterKey row next → row_cmp row next ≡ Less
 front_below row next apart (inl below) = below
 front_below row next apart (inr same) = absurd (apart (key_total.antisymm (key_meant next.0) (key_meant row.0) ∙ ap ordering_reverse same.0))
 
--- the only element of a list of one
+-- a member of a list of one element is that element
 alone : {A : Type 0} (x v : A) → Contains (x ∷ []) v → x ≡ v
 alone x v inside = by (Contains-cons x [] v inside)
   where

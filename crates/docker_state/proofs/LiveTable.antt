@@ -44,7 +44,7 @@ from_live (first ∷ entries) key body among = by first.1.op refl (from_live ent
         cases (inl same) = here other is same
         cases (inr behind) = later (rest behind)
 
--- whatever an entry puts, the walk has
+-- the walk has each body that an entry puts
 pub to_live : (entries : List (Key × Entry)) (key : Key) (entry : Entry) (body : Body) → entry.op ≡ put_with body → Contains entries (key, entry)
     → Contains (live_rows entries) (key, body)
 to_live [] key entry body is among = absurd (nil-Contains (key, entry) among)
@@ -68,7 +68,7 @@ put_of deleted body is = cc
 put_of lapsed body is = cc
 put_of (put_with other) body is = let same : other ≡ body = cc in ap put_with same
 
--- whatever an entry puts is live
+-- each body that an entry puts is live
 pub live_put : (state : State) → IsValid state → (key : Key) (body : Body) → PutThere state.entries key body → live_table state key ≡ Some body
 live_put state valid key body put = by (find_in state.entries key)
   where
@@ -78,7 +78,7 @@ live_put state valid key body put = by (find_in state.entries key)
         live_at state key found.0 found.1 ∙ (λ i. body_of (same i).op) ∙ ap body_of put.2
     by (inr gone) = absurd (gone.1 put.0 put.1)
 
--- whatever is live is put by an entry
+-- each live body is put by an entry
 pub live_has : (state : State) (key : Key) (body : Body) → live_table state key ≡ Some body → PutThere state.entries key body
 live_has state key body is = by (find_in state.entries key)
   where
@@ -107,7 +107,7 @@ live_above key (first ∷ entries) above = by first.1.op (live_above key entries
     by lapsed rest = rest
     by (put_with body) rest = (above.0, rest)
 
--- over entries in ascending order the walk ascends
+-- the walk over ascending entries ascends
 pub ascends : (entries : List (Key × Entry)) → AreAscending entries → AreInKeyOrder (live_rows entries)
 ascends [] up = tt
 ascends (first ∷ entries) up = by first.1.op (ascends entries up.1)

@@ -27,7 +27,8 @@ valid_with_entry ledger rows state view valid key entry here of after pushed =
     (valid_more (state_meant 0 ledger rows) (key_meant key) (entry_meant entry).stamp (entry_meant entry).op valid
     (subst (λ (s : State). IsStampHere s (key_meant key) (entry_meant entry).stamp) (sym view) here) of (none_has_to (entry_meant entry).op))
 
--- what its rows name is noted, if what the entry names is noted
+-- if the places of the rows and of one more entry are noted, the places of the rows with this entry
+-- are noted
 pub noted_with_entry : (rows after : List (Key × Entry)) (key : Key) (entry : Entry) (notes : Notes) → after ≡ rows ++ (key, entry) ∷ []
     → HasNoted (items_of (map row_meant rows) ++ (key_meant key, op_meant entry.op) ∷ []) notes → HasNoted (items_of (map row_meant after)) notes
 noted_with_entry rows after key entry notes pushed has =

@@ -24,7 +24,7 @@ use Rattle.state_laws.proofs.states.OneJoin.{floor_unique}
 use Rattle.cif_laws.proofs.orders.AtMost.{at_most_itself}
 use Rattle.docker_state.specs.Staging.{Staging, HasKeptItems, HasNothingNew, IsAboveStaged}
 
--- an empty list adds no element
+-- joining the empty list to a list adds no element
 in_first : {A : Type 0} (xs : List A) (x : A) → Contains (xs ++ []) x → Contains xs x
 in_first xs x among = by (Contains-append_cases xs [] x among)
   where
@@ -81,7 +81,7 @@ module _ (own : State) (valid : IsValid own) (items : List LedgerItem) (floor : 
         (at_most_itself entry_total other);
   }
 
-  -- if nothing is staged, our state is the join with what was received
+  -- if no entry is staged, our state is the join with the state that was received
   pub join_of_nothing_new : (staged : List (model.Key × ops.Entry)) → staged ≡ [] → IsJoin own (staged_state items staged) own
   join_of_nothing_new staged none = subst (λ (es : List (model.Key × ops.Entry)). IsJoin own (staged_state items es) own) (sym none) (record {
     horizon = sym (max-zero own.horizon);
@@ -112,7 +112,7 @@ pub entry_here : (items : List LedgerItem) (staged : List (model.Key × ops.Entr
 entry_here items staged key entry above good =
     ((good.key, all_members (λ (e : model.Key × ops.Entry). IsBelow key_cmp e.0 key) staged above), good.stamp)
 
--- whether an entry has to be staged, by our entry of its key
+-- our entry of a key, or its absence, decides whether a received entry has to be staged
 pub to_stage_tells : (own : State) → IsValid own → (floor : Option FileStamp) (key : model.Key) (entry : ops.Entry) (mine : Option ops.Entry)
     → mine ≡ entry_at own key
     → (b : Bool) → IsTrue b ↔ (IsKept floor entry.stamp.file × IsGreaterThan mine entry) → IsTrue b ↔ IsToStage own floor key entry
@@ -130,7 +130,7 @@ below_tells Kept kept Equal b same =
 below_tells Kept kept Greater b same =
     (λ true_is. absurd (let bad : false ≡ true = sym same ∙ true_is in cc), λ told. absurd (let bad : Greater ≡ Less = told.1 in cc))
 
--- if nothing new was received, our state is the join with it, and the result of the commit
+-- if nothing new was received, our state is the join of itself and the received state
 pub nothing_new_is_join : (own : State) → IsValid own → (staging : Staging) → IsFloor (own.ledger ++ staging.items) staging.floor → (ledger : List LedgerItem)
     → ledger ≡ own.ledger
     → HasNothingNew ledger staging → IsJoin own (staged_state staging.items staging.staged) own
@@ -142,13 +142,13 @@ none_in : {A : Type 0} (xs : List A) → (length xs == 0) ≡ true → xs ≡ []
 none_in [] empty = refl
 none_in (x ∷ xs) empty = absurd (let size : length (x ∷ xs) ≡ 0 = eqb-true (length (x ∷ xs)) 0 empty in omega arith)
 
--- nothing is new if no entry is staged and the ledger has each item that is kept
+-- if no entry is staged and the ledger has each item that is kept, nothing new was received
 pub nothing_new_tells : (ledger : List LedgerItem) (staging : Staging) (empty : Bool) → empty ≡ (length staging.staged == 0) → empty ≡ true
     → (b : Bool) → IsTrue b ↔ HasKeptItems ledger staging.items staging.floor → IsTrue b ↔ HasNothingNew ledger staging
 nothing_new_tells ledger staging empty size is b tells =
     (λ true_is. (none_in staging.staged (sym size ∙ is), tells.0 true_is), λ told. tells.1 told.1)
 
--- if the test for nothing new fails, something is new
+-- if the test for nothing new fails, something new was received
 pub something_new : (b : Bool) (ledger own : List LedgerItem) → ledger ≡ own → (staging : Staging) → IsTrue b ↔ HasNothingNew ledger staging → b ≡ false
     → ¬ HasNothingNew own staging
 something_new b ledger own same staging tells fails none =

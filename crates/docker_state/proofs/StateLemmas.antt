@@ -32,7 +32,7 @@ entry_of_rows horizon ledger (row ∷ rows) key = by (is_eq (key_cmp (key_meant 
     by true same = refl
     by false same = same
 
--- the first full item of a ledger, in the code and in the definitions
+-- the first full item found in the code is the first full item in the definitions
 pub find_meant : (items : List item.LedgerItem)
     → find (λ (i : LedgerItem). i.indicator == 70) (map item_meant items) ≡ option_map item_meant
     (find (λ (i : item.LedgerItem). (item_meant i).indicator == 70) items)

@@ -56,11 +56,11 @@ in_rows rows key value found =
     let same : row_meant row.0 ≡ (key, entry_meant value) = (λ i. (row.2 i, entry_meant (row.3 i))) in
     subst (Contains (map row_meant rows)) same (map-Contains row_meant rows row.0 row.1)
 
--- the greater entry
+-- the greater of two entries
 abbrev pub higher : Entry → Entry → Entry
 higher = ord_max (on entry_meant entry_cmp)
 
--- two values at one place are equal
+-- two values at one key are equal
 pub same_value : (a b : Entry) (o : Option Entry) → o ≡ Some a → o ≡ Some b → a ≡ b
 same_value a b o is_a is_b = cc
 

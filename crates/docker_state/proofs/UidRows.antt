@@ -1,4 +1,4 @@
--- The rows of a UID's schedules stand together. The live ones among them are the UID's live
+-- The rows of a UID's schedules stand together. The live rows among them are the UID's live
 -- schedules.
 use Rattle.std.proofs.Common.{◌≡◌, ℕ, zero, suc, ◌-◌, ◌<◌, ◌≤◌, List, [], ◌∷◌, ◌++◌, map, take, drop, length, get_or, refl, ap, sym, ◌∙◌, subst, inl, inr, ◌⊎◌, Bool, true, false, not, cond, nat_lt, Contains, Some, None, arith}
 use Rattle.std.specs.List.{AllByRecursion, AllPairs, position, position_or_len}
@@ -82,17 +82,17 @@ module _ (test : Ordering → Bool) (down : GoesDown test) (least : test Less �
 abbrev pub is_up_to : List ℕ → Key × Entry → Bool
 is_up_to uid row = is_le (to_uid (key_meant row.0) uid)
 
--- the rows before the UID's schedules are the first ones
+-- the rows before the UID's schedules are the first rows
 pub parted_before : (uid : List ℕ) (rows : List (Key × Entry)) → AreAscending rows → IsPartitionedBy (is_before uid) rows
 parted_before uid rows up = parted is_lt (refl, λ same. refl) refl uid rows up
 
--- the rows that aren't after the UID's schedules are the first ones
+-- the rows that aren't after the UID's schedules are the first rows
 pub parted_up_to : (uid : List ℕ) (rows : List (Key × Entry)) → AreAscending rows → IsPartitionedBy (is_up_to uid) rows
 parted_up_to uid rows up = parted is_le (refl, λ same. refl) refl uid rows up
 
 -- ---- where the UID's schedules begin, found by walking back
 
--- a row that isn't before the UID's schedules: the rows after it aren't before them either
+-- if a row isn't before the UID's schedules, the rows after it aren't before them either
 module _ (uid : List ℕ) (rows : List (Key × Entry)) (up : AreAscending rows) (first : ℕ) (within : first < length rows)
     (here : (d : Key × Entry) → is_before uid (get_or rows first d) ≡ false) where
   rest_behind : (k : ℕ) (d : Key × Entry) → first ≤ k → k < length rows → is_before uid (get_or rows k d) ≡ false
@@ -161,7 +161,7 @@ walk_parts uid rows end up end_is = (front, back)
     back : (k : ℕ) (d : Key × Entry) → end ≤ k → k < length rows → is_up_to uid (get_or rows k d) ≡ false
     back k d low high = by k d (is_up_to uid (get_or rows k d)) refl low high
 
--- if rows ascend, so do those that come after the first n
+-- if rows ascend, the rows after the first n ascend
 pub behind_ascends : (rows : List (Key × Entry)) (n : ℕ) → AreAscending rows → AreAscending (drop n rows)
 behind_ascends rows zero up = up
 behind_ascends [] (suc n) up = tt
@@ -170,7 +170,7 @@ behind_ascends (row ∷ rows) (suc n) up = behind_ascends rows n up.1
 -- ---- the piece of the UID's rows
 
 module _ {A : Type 0} (P : A → Type 0) where
-  -- a property of the first n elements holds for what is taken
+  -- a property of the first n elements holds for each element taken
   front_all : (xs : List A) (n : ℕ) → n ≤ length xs → ((k : ℕ) (d : A) → 0 ≤ k → k < n → P (get_or xs k d)) → (z : A) → Contains (take n xs) z → P z
   front_all xs zero bound all z among = absurd (nil-Contains z among)
   front_all [] (suc n) bound all z among = absurd (let none : suc n ≤ 0 = bound in omega arith)
@@ -181,7 +181,7 @@ module _ {A : Type 0} (P : A → Type 0) where
       by rest (inl same) = subst P same (all 0 x (omega arith) (omega arith))
       by rest (inr inside) = rest inside
 
-  -- a property of the others holds for what is left
+  -- a property of the elements after the first n holds for each element left
   back_all : (xs : List A) (n : ℕ) → n ≤ length xs → ((k : ℕ) (d : A) → n ≤ k → k < length xs → P (get_or xs k d)) → (z : A) → Contains (drop n xs) z → P z
   back_all [] zero bound all z among = absurd (nil-Contains z among)
   back_all [] (suc n) bound all z among = absurd (let none : suc n ≤ 0 = bound in omega arith)
@@ -243,7 +243,7 @@ schedule_of key (tiploc_body bytes) good = absurd good
 schedule_of key (association_body line) good = absurd good
 schedule_of key (schedule_body lines) good = (lines, refl)
 
--- what holds for all elements holds for the first ones
+-- a property of all elements is a property of the first ones
 front_of : {A : Type 0} (P : A → Type 0) (xs ys : List A) → AllByRecursion P (xs ++ ys) → AllByRecursion P xs
 front_of P [] ys all = tt
 front_of P (x ∷ xs) ys all = (all.0, front_of P xs ys all.1)

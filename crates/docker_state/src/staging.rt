@@ -52,7 +52,7 @@ impl Model for Staging {
 
 impl Staging {
     /// Staging for a state, with the ledger received, which is valid, and no entry yet. It takes no
-    /// memory.
+    /// memory, so it never returns `Memory`.
     pub fn new(alloc: Global, state: &State, items: Vec<LedgerItem>) -> Result<Staging, Memory>
         requires { IsLedger (map item_meant items.items) }
         ensures ok { IsOk result }

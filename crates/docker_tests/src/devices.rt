@@ -53,21 +53,24 @@ fn taken(office: &mut Office, text: &[u8], read: u64) -> Result<(), OfficeFault>
     office.take(&mut Fuse::new(Bytes::new(text, 1), read), 1000)
 }
 
-/// The result when an office receives a state from such a source.
+/// The result when an office receives a state. The source gives one byte per read, and fails only
+/// at this read.
 fn received(office: &mut Office, text: &[u8], read: u64) -> Result<(), OfficeFault>
     requires { 0 < read }
 {
     office.receive(&mut Fuse::new(Bytes::new(text, 1), read), 1000)
 }
 
-/// The result when an office reloads a state from such a source.
+/// The result when an office reloads a state. The source gives one byte per read, and fails only at
+/// this read.
 fn reloaded(office: &mut Office, text: &[u8], read: u64) -> Result<(), OfficeFault>
     requires { 0 < read }
 {
     office.reload(&mut Fuse::new(Bytes::new(text, 1), read), 1000)
 }
 
-/// The fault of making an office at Ashfeld from such a source. None if it is made.
+/// The fault of making an office at Ashfeld from a source that fails only at this read. None if the
+/// office is made.
 fn read_at_place(rt: &impl Abort, alloc: Global, text: &[u8], read: u64) -> Option<OfficeFault>
     requires { 0 < read }
 {
@@ -76,7 +79,8 @@ fn read_at_place(rt: &impl Abort, alloc: Global, text: &[u8], read: u64) -> Opti
     PlaceOffice::read(alloc, place, day, &mut source, 1000).err()
 }
 
-/// The fault of making an office with a ledger from such a source. None if it is made.
+/// The fault of making an office with a ledger from a source that fails only at this read. None if
+/// the office is made.
 fn read_ledger(alloc: Global, text: &[u8], read: u64) -> Option<OfficeFault>
     requires { 0 < read }
 {
@@ -134,7 +138,7 @@ fn fills_by_print(rt: &impl Abort, alloc: Global, office: &Office) {
     same(rt, kept.bytes(), FRONT);
 }
 
-/// Asserts that an office at Ashfeld that prints fills such a sink.
+/// Asserts that an office at Ashfeld that prints fills a sink with room for seventy bytes.
 fn fills_at_place(rt: &impl Abort, alloc: Global, office: &Office) {
     let (place, day) = (place_of(rt, "ASHFELD"), day_of(rt, "2024-06-10"));
     let office = at_place(rt, alloc, office, place, day);
@@ -151,7 +155,7 @@ fn fills_by_files(rt: &impl Abort, alloc: Global, office: &Office) {
     same(rt, kept.bytes(), b"2024-06-09".as_slice());
 }
 
-/// Asserts that an office with a ledger that lists its files fills such a sink.
+/// Asserts that an office with a ledger that lists its files fills a sink with room for ten bytes.
 fn fills_by_ledger(rt: &impl Abort, alloc: Global, office: &Office) {
     let ledger = ledger_of(rt, alloc, office);
     let mut kept = Kept::new(alloc, 10).expect(rt, "room");

@@ -57,7 +57,7 @@ fn line_of(rt: &impl Abort, alloc: Global, spaces: usize, end: &[u8]) -> Vec<u8>
     line
 }
 
-/// Asserts that such a line names a job, or gives this fault.
+/// Asserts that a line with this many spaces and this end names a job, or gives this fault.
 fn fault_is(
     rt: &impl Abort,
     alloc: Global,

@@ -16,11 +16,11 @@ pub(crate) const HD_10B: &str =
 pub(crate) const BS: &str =
     "BSNC100012406102406141111100 POO1A10                                           P";
 
-/// A revision of that schedule.
+/// A revision of C10001's permanent schedule.
 pub(crate) const BS_REVISED: &str =
     "BSRC100012406102406141111100 POO1A10                                           P";
 
-/// A deletion of that schedule.
+/// A deletion of C10001's permanent schedule.
 pub(crate) const BS_DELETED: &str =
     "BSDC10001240610              POO                                               P";
 
@@ -44,11 +44,11 @@ pub(crate) const BS_CANCELLED: &str =
 pub(crate) const BS_NIGHT: &str =
     "BSNC200012406102406101000000 POO2B20                                           P";
 
-/// A schedule of C30001 on that day.
+/// A schedule of C30001 on 10 June.
 pub(crate) const BS_C30001: &str =
     "BSNC300012406102406101000000 POO3C30                                           P";
 
-/// A schedule of C30002 on that day.
+/// A schedule of C30002 on 10 June.
 pub(crate) const BS_C30002: &str =
     "BSNC300022406102406101000000 POO3C32                                           P";
 
@@ -88,7 +88,7 @@ pub(crate) const LI_0010: &str =
 pub(crate) const LI_1010: &str =
     "LICOLWELL 1010 1012              3                                              ";
 
-/// A second call there from 10:40 to 10:42.
+/// A second call at Colwell, from 10:40 to 10:42.
 pub(crate) const LI_1040: &str =
     "LICOLWELL21040 1042              4                                              ";
 
@@ -140,7 +140,7 @@ pub(crate) const AA_DIVIDE: &str =
 pub(crate) const TA: &str =
     "TAASHFELD         ASHFIELD NEW                                          ASHFLDN ";
 
-/// The header of another update of that minute.
+/// The header of another update of 9 June 2024, 21:00.
 pub(crate) const HD_9B: &str =
     "HDTPS.UDFROC1.PD2406090906242100DFROC1BDFROC1AUA                                ";
 
@@ -156,7 +156,7 @@ pub(crate) const HD_5A: &str =
 pub(crate) const HD_7B: &str =
     "HDTPS.UDFROC1.PD2406090706242100DFROC1BDFROC1AFA                                ";
 
-/// The header of an update of 9 June that follows that extract.
+/// The header of an update of 9 June that follows the full extract of 7 June.
 pub(crate) const HD_9C: &str =
     "HDTPS.UDFROC1.PD2406090906242100DFROC1CDFROC1BUA                                ";
 
@@ -228,7 +228,7 @@ pub(crate) const LT_0006: &str =
 pub(crate) const BS_C40001: &str =
     "BSNC400012406102406101000000 POO4D40                                           P";
 
-/// A cancellation of C40001 on that day.
+/// A cancellation of C40001 on 10 June.
 pub(crate) const BS_C40001_CANCELLED: &str =
     "BSNC400012406102406101000000 POO4D40                                           C";
 
@@ -248,7 +248,7 @@ pub(crate) const LT_COLWELL_2350: &str =
 pub(crate) const BS_C40002: &str =
     "BSNC400022406112406110100000 POO4D42                                           P";
 
-/// A cancellation of C40002 on that day.
+/// A cancellation of C40002 on 11 June.
 pub(crate) const BS_C40002_CANCELLED: &str =
     "BSNC400022406112406110100000 POO4D42                                           C";
 

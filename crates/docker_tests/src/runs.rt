@@ -108,7 +108,7 @@ fn no_office(rt: HostRuntime) {
     same(&rt, left.messages().len(), 0);
 }
 
-/// The events at three offices up to the first office's reload, and then these.
+/// The events at three offices up to the first office's reload, and then these events.
 macro_rules! up_to_reload {
     ([$early:expr, $full:expr, $late:expr], $($more:expr),*) => {
         &[
@@ -170,7 +170,7 @@ fn three_offices(rt: HostRuntime) {
     message_is(&rt, alloc, &left, 4, LATE_STATE);
 }
 
-/// What is left by the same run, if it ends with the reload.
+/// What a run of three offices leaves that ends with the first office's reload.
 fn reload_left(rt: &impl Abort, alloc: Global) -> Exchange {
     let early = text_of(rt, alloc, FIFTH);
     let full = text_of(rt, alloc, SEVENTH);
@@ -243,7 +243,7 @@ fn a_delivery_before_the_horizon(rt: HostRuntime) {
     prints_there(&rt, rt.alloc(), &left, 1, "2024-06-10", ASHFELD_0900);
 }
 
-/// The events at one office up to the reload of its first message, and then these.
+/// The events at one office up to the reload of its first message, and then these events.
 macro_rules! up_to_loss {
     ([$text:expr, $revision:expr], $($more:expr),*) => {
         &[
@@ -257,7 +257,7 @@ macro_rules! up_to_loss {
     };
 }
 
-/// What is left if the reload has lost the revision.
+/// What a run leaves if the reload has lost the revision.
 fn lost_left(rt: &impl Abort, alloc: Global) -> Exchange {
     let text = text_of(rt, alloc, MORNING);
     let revision = text_of(rt, alloc, REVISION);
@@ -265,7 +265,7 @@ fn lost_left(rt: &impl Abort, alloc: Global) -> Exchange {
     left_by(rt, alloc, 1, events)
 }
 
-/// What is left if the revision is taken again after that.
+/// What a run leaves if the revision is taken again after the reload has lost it.
 fn found_left(rt: &impl Abort, alloc: Global) -> Exchange {
     let text = text_of(rt, alloc, MORNING);
     let revision = text_of(rt, alloc, REVISION);

@@ -14,13 +14,13 @@ ZZ
 /// The state of no file.
 const EMPTY: &[u8] = b"DKS2\0\0\0\0\0\0\0\0\0\0\0\0\0\0\0\0\0\0";
 
-/// The state of that file: day 23536, minute 1260.
+/// The state of the update of 9 June: day 23536, minute 1260.
 const STATE: &[u8] = b"DKS2\0\0\0\0\0\0\0\0\0\x01\x5b\xf0\x04\xecDFROC1AUDFROC1Z\0\0\0\0\0\0\0\0";
 
-/// The state of that file in the older format.
+/// The state of the update of 9 June in the older format.
 const OLD: &[u8] = b"DKS1\0\0\0\0\0\0\0\x01\x5b\xf0\x04\xecDFROC1AUDFROC1Z\0\0\0\0\0\0\0\0";
 
-/// The state of that file under the horizon of 15 June 2024, day 23542.
+/// The state of the update of 9 June under the horizon of 15 June 2024, day 23542.
 const RAISED: &[u8] =
     b"DKS2\x5b\xf6\0\0\0\0\0\0\0\x01\x5b\xf0\x04\xecDFROC1AUDFROC1Z\0\0\0\0\0\0\0\0";
 

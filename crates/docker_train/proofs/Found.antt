@@ -13,13 +13,13 @@ use Rattle.state_laws.proofs.joins.StagedEntry.{entry_at_iff}
 use Rattle.train_choice.specs.Along.{IsLiveTrain}
 use Rattle.docker_train.specs.TrainText.{IsStampOf}
 
--- if an op has a body, it puts it
+-- an op with a body is the put of this body
 put_of : (op : Op) (body : Body) → body_of op ≡ Some body → op ≡ put_with body
 put_of deleted body is = none_some body is
 put_of lapsed body is = none_some body is
 put_of (put_with own) body is = cc
 
--- the entry at a live schedule's key is its put, with its stamp
+-- the entry at a live schedule's key is the schedule's put, with its stamp
 pub stamp_is : (state : State) (train : Train) (entry : Entry) → IsLiveTrain (live_table state) train
     → Some entry ≡ entry_at state (schedule_key train.key) → IsStampOf state train entry.stamp
 stamp_is state train entry live at = sym at ∙ (λ i. Some (record { stamp = entry.stamp; op = put i }))

@@ -1,4 +1,4 @@
--- There is one answer for a UID and a day. Where it comes from, and which trains of a docker are
+-- A UID and a day have one answer. The file from which it comes, and the trains of a docker as
 -- answers.
 use Rattle.std.proofs.Common.{◌≡◌, ℕ, ◌+◌, ◌<◌, ◌≤◌, List, Bool, true, false, cond, refl, ap, sym, ◌∙◌, subst, inl, inr, ◌⊎◌, Some, None, Contains, arith}
 use Rattle.std.specs.Prelude.{Option, option_map, IsTrue, ◌&&◌, nat_le, nat_lt}
@@ -60,7 +60,7 @@ pub one_text : (state : State) (uid : List ℕ) (day : ℕ) (text other : List �
 one_text state uid day text other (found, is, text_is) (second, its, other_is) =
     text_is ∙ ap (train_text uid day) (one_found state uid day found second is its) ∙ sym other_is
 
--- ---- where it came from
+-- ---- the file from which an answer comes
 
 put_under : (horizon : ℕ) (op : Op) (body : Body) → lapse horizon op ≡ put_with body → op ≡ put_with body
 put_under horizon deleted body is = cc
@@ -177,7 +177,7 @@ found_to_run state start day key lines open_day near runs =
       runs = runs.no_cancellation;
     }
 
--- the train of an event is what is found for its UID on its start day
+-- the train of an event is the train found for its UID on its start day
 pub event_train : (state : State) (place : List ℕ) (day : ℕ) (line : DockerLine) → IsValid state → ¬ IsDayRefused state.horizon day
     → (made : IsEventLine (live_table state) place day line)
     → IsFoundToRun state line.uid line.start (record { key = made.key; lines = made.schedule })
@@ -186,7 +186,7 @@ event_train state place day line valid open_day made =
     subst (λ (l : DockerLine). IsFoundToRun state l.uid l.start (record { key = made.key; lines = made.schedule })) (sym made.is)
     (found_to_run state made.start day made.key made.schedule open_day near.1 made.train_runs)
 
--- the base train of an association is what is found for its UID on its start day
+-- the base train of an association is the train found for its UID on its start day
 pub base_train : (state : State) (place : List ℕ) (day : ℕ) (line : DockerLine) → IsValid state → ¬ IsDayRefused state.horizon day
     → (made : IsAssociationLine (live_table state) place day line)
     → IsFoundToRun state line.uid line.start (record { key = made.base_key; lines = made.base })

@@ -6,11 +6,11 @@ use Rattle.docker_model.specs.state.State.{State}
 use Rattle.docker_train.specs.TrainText.{IsTrainText, Stamped, found_text, heading, heading_with, train_text}
 use Rattle.docker_train.specs.Answer.{Answer, IsAnswerOf, text_of}
 
--- for what is found in a state, for a UID and a day
+-- the text written for a UID and a day is the train text of the schedule found in the state
 pub printed : (state : State) (uid : List ℕ) (day : ℕ) (answer : Answer) → IsAnswerOf state uid day answer → IsTrainText state uid day (text_of answer)
 printed state uid day answer is = (answer.found, is.is_found, λ i. train_text (is.uid_is i) (is.day_is i) answer.found)
 
--- the heading that is written
+-- the heading that is written is the heading in the definitions
 pub heading_is : (uid given : List ℕ) (day told : ℕ) (found : Option Stamped) (shown bytes : List ℕ) → given ≡ uid → told ≡ day → shown ≡ found_text found
     → bytes ≡ ended (heading_with given told shown) → bytes ≡ ended (heading uid day found)
 heading_is uid given day told found shown bytes one two three is = is ∙ (λ i. ended (heading_with (one i) (two i) (three i)))

@@ -73,7 +73,7 @@ fn check_f2(rt: &impl Abort, file: CifFile) {
     same(rt, file.into_changes().len(), 1);
 }
 
-/// Asserts that it has the header of the file of one schedule.
+/// Asserts that a file has the header of the file of one schedule.
 fn check_header(rt: &impl Abort, file: &CifFile) {
     let header = file.header();
     same(rt, header.day().number(), 23536);
@@ -127,8 +127,8 @@ fn read_fault(fault: Option<FileFault>) -> Option<ReadFault> {
     }
 }
 
-/// Asserts that the text has this fault, or none, in one piece and in pieces of any length; that
-/// each later call returns it again; and that a reader which keeps nothing finds the same fault.
+/// Asserts that the text has this fault, or none, in one piece and in pieces of several lengths.
+/// Each later call has to return the fault again, and `judge_file` has to find the same fault.
 fn check_fault(rt: &impl Abort, alloc: Global, text: &[u8], wanted: Option<FileFault>, name: &str) {
     let whole = read_pieces(alloc, &[text], 1000).err();
     same_in(rt, name, whole, wanted);
@@ -237,7 +237,7 @@ fn deletion(key: &Key) -> Change {
     }
 }
 
-/// What the second record puts for a timing point.
+/// The change by which the second record puts a timing point.
 fn put(key: &Key, body: [u8; 63]) -> Change {
     Change {
         number: 2,
@@ -296,14 +296,14 @@ fn check_f2_ends(rt: &impl Abort, alloc: Global, end: &[u8]) {
     check_f2_text(rt, alloc, whole.as_slice());
 }
 
-/// Asserts that they are accepted without the last line feed.
+/// Asserts that the file of one schedule is accepted without the last line feed.
 fn check_f2_open(rt: &impl Abort, alloc: Global) {
     let mut whole = text(alloc, &F2, b"\n").expect(rt, "room");
     whole.pop();
     check_f2_text(rt, alloc, whole.as_slice());
 }
 
-/// Asserts that they are accepted in pieces of one byte.
+/// Asserts that the file of one schedule is accepted in pieces of one byte.
 fn check_f2_bytes(rt: &impl Abort, alloc: Global) {
     let whole = text(alloc, &F2, b"\n").expect(rt, "room");
     let mut parser = FileParser::new(alloc, 4_294_967_294);
@@ -359,7 +359,7 @@ fn cut_fault(length: u32, width: u32) -> Option<FileFault>
     Some(at(records.saturating_add(1), FileCause::NoEnd))
 }
 
-/// Asserts that each proper beginning of the file of one schedule has its fault. A line has `width`
+/// Asserts that each proper prefix of the file of one schedule has its fault. A line has `width`
 /// bytes with its end.
 fn check_cuts(rt: &impl Abort, alloc: Global, end: &[u8], width: u32)
     requires { 80 < width }

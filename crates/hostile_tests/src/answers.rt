@@ -1,9 +1,9 @@
-//! What comes of a row of a table.
+//! The outcome of a row of a table.
 
 use crate::desk::Desk;
 use docker_cmd::{Fault, fault_text};
 
-/// What comes of a call.
+/// The outcome of a call.
 #[derive(Clone, Copy, PartialEq, Eq)]
 pub(crate) enum Answer {
     /// The call was done, with the result that the row names.

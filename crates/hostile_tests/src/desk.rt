@@ -1,6 +1,7 @@
 //! Where a row is run: the texts that it names, and what is printed for it.
 
 use crate::endings::Ending;
+use crate::records::lines_of;
 use std::alloc::Global;
 use std::fs;
 use std::io::Write;
@@ -31,14 +32,22 @@ impl<'a> Desk<'a> {
         }
     }
 
-    /// A text from the folder `data`.
+    /// The text with this name: made of records or of a docker's lines, or from the folder `data`.
     pub(crate) fn text(&self, name: &str) -> Vec<u8> {
-        match fs::read(&self.rt, name) {
-            Ok(text) => text,
-            Err(_) => {
+        match self.found(name) {
+            Some(text) => text,
+            None => {
                 self.trouble(name);
                 Vec::new(self.alloc())
             }
+        }
+    }
+
+    /// Like `text`. None if there is no such text.
+    fn found(&self, name: &str) -> Option<Vec<u8>> {
+        match lines_of(name) {
+            Some(lines) => lines.text(self.alloc()).ok(),
+            None => fs::read(&self.rt, name).ok(),
         }
     }
 
@@ -62,7 +71,7 @@ impl<'a> Desk<'a> {
         self.print(ending.line());
     }
 
-    /// Prints that something is so, or that it isn't.
+    /// Prints a statement, with a mark if it doesn't hold.
     pub(crate) fn report(&self, holds: bool, what: &str) {
         let front = if holds { "" } else { "not so: " };
         let _ = println!(self.rt; "  {front}{what}");
@@ -87,12 +96,12 @@ impl<'a> Desk<'a> {
         }
     }
 
-    /// Whether these bytes are the text with this name, in the folder `data`.
+    /// Whether these bytes are the text with this name.
     pub(crate) fn is_text(&self, bytes: &[u8], name: &str) -> bool {
         self.text(name).as_slice() == bytes
     }
 
-    /// Prints the name of a text in the folder `data`, and whether these bytes are that text.
+    /// Prints the name of a text, and whether these bytes are that text.
     pub(crate) fn compare(&self, bytes: &[u8], name: &str) {
         self.report(self.is_text(bytes, name), name);
     }

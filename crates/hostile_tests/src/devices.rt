@@ -1,5 +1,5 @@
-//! Devices that move one byte per call and fail at one call. That is first the first call, then the
-//! second, and so on.
+//! Devices that move one byte per call and fail at one call: at the first, then at the second, and
+//! so on.
 ghost use Rattle.std.specs.Prelude.{◌<◌, ◌^◌, ◌-◌};
 
 use crate::answers::Answer;

@@ -19,7 +19,7 @@ pub(crate) enum Ending {
 }
 
 impl Ending {
-    /// The line that is printed for it.
+    /// The line that is printed for the ending.
     pub(crate) fn line<'a>(self) -> &'a [u8] {
         match self {
             Ending::Done => b"  done\n",
@@ -29,9 +29,9 @@ impl Ending {
     }
 }
 
-/// A fault that may say out of memory.
+/// A fault that may be out of memory.
 pub(crate) trait MayWant {
-    /// Whether the fault says out of memory.
+    /// Whether the fault is out of memory.
     fn is_memory(&self) -> bool;
 }
 

@@ -154,7 +154,7 @@ pub(crate) fn of_file(desk: &Desk, words: &[&str]) {
     }
 }
 
-/// Makes the state of a file, whose text this is.
+/// Makes the state of the file that has this text.
 fn of_this_file(desk: &Desk, file: CifFile, text: &[u8], wanted: &str) {
     desk.begin();
     let made = State::of_file(desk.alloc(), file);

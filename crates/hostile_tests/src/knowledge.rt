@@ -47,7 +47,7 @@ const NINTH: Known = Known {
 };
 
 impl Known {
-    /// The files that either knows.
+    /// The files that this one or the other knows.
     fn with(self, other: Known) -> Known {
         Known {
             fifth: self.fifth | other.fifth,
@@ -56,7 +56,7 @@ impl Known {
         }
     }
 
-    /// The name of the text of their state. The full extract is the floor, if it is known.
+    /// The name of the text of these files' state. The full extract is the floor, if it is known.
     pub(crate) fn state<'a>(self) -> &'a str {
         if self.seventh {
             return if self.ninth {
@@ -73,7 +73,7 @@ impl Known {
         }
     }
 
-    /// The name of their docker for Ashfeld on 10 June.
+    /// The name of these files' docker for Ashfeld on 10 June.
     pub(crate) fn docker<'a>(self) -> &'a str {
         match (self.seventh, self.ninth) {
             (false, true) => "ninth.docker",

@@ -1,10 +1,11 @@
-//! The rows of hostile use, one per line of standard input. A row names a call, the texts in the
-//! folder `data` that it gets, and the text that has to come out. The program prints what comes
-//! out. If something is wrong it prints that too, and then differs from the file `stdout`.
+//! The rows of hostile use, one per line of standard input. A row names a call, the texts that it
+//! gets, and the text that has to come out. Files and dockers are in `records.rt`, and other texts
+//! in the folder `data`. The program prints what comes out. If something is wrong, it prints that
+//! too, so its output differs from the file `stdout`.
 //!
 //! A row that begins with `growth` is a call that allocates. It is made once, and once more if
-//! memory runs out. The program is meant to be run while the allocations of the first call are
-//! refused, one after the other.
+//! memory runs out. `tests/growth/calls` runs the program once for each allocation of the first
+//! call, and refuses that allocation.
 #![tactic(auto)]
 
 mod answers;
@@ -19,6 +20,7 @@ mod job_growths;
 mod knowledge;
 mod office_growths;
 mod part_growths;
+mod records;
 mod run_growth;
 mod spans;
 mod state_growths;

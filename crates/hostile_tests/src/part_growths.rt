@@ -95,7 +95,7 @@ pub(crate) fn parts(desk: &Desk, call: &str, words: &[&str]) {
     }
 }
 
-/// Lets a state receive one of one item and one entry.
+/// Lets a state receive a state of one item and one entry.
 fn receive(desk: &Desk, own: &mut State, other: &State, at: At) -> Result<(), Memory> {
     let (items, rows) = (other.ledger(), other.entries());
     if items.len() != 1 {

@@ -1,4 +1,4 @@
-//! What is made from texts, and the texts of what is made.
+//! Files, states and offices made from texts, and the texts of states.
 ghost use Rattle.std.specs.Prelude.{◌≡◌, IfSome};
 
 use crate::desk::Desk;
@@ -75,7 +75,7 @@ pub(crate) fn has_text(desk: &Desk, state: &State, text: &[u8]) -> bool {
     }
 }
 
-/// Prints the name of a text in the folder `data`, and whether a state has that text.
+/// Prints the name of a text, and whether a state has that text.
 pub(crate) fn compare_state(desk: &Desk, state: &State, name: &str) {
     let text = desk.text(name);
     desk.report(has_text(desk, state, text.as_slice()), name);

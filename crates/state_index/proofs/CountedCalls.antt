@@ -21,7 +21,7 @@ use Rattle.state_index.proofs.RowPlaces.{call_back}
 none_some : {A : Type 0} (a : A) → None ≡ Some a → ⊥
 none_some a h = cc
 
--- marks of one named place stand for as many spots
+-- marks of one named place stand for spots, one for each mark
 pub as_many_spots : (names : List (List ℕ)) (rank : ℕ) (place : List ℕ) → slice_get names rank ≡ Some place → (piece : List Mark)
     → ((mark : Mark) → Contains piece mark → mark.place ≡ rank) → length (spots_in names piece) ≡ length piece
 as_many_spots names rank place at [] here = refl
@@ -38,7 +38,7 @@ as_many_spots names rank place at (mark ∷ piece) here =
 abbrev IsSeen : List Keyed → Spot → Type 0
 IsSeen rows spot = (row : Row) × (live_at rows spot ≡ Some row)
 
--- spots that name live rows name as many
+-- spots that name live rows name one live row each
 as_many_rows : (rows : List Keyed) (piece : List Spot) → ((spot : Spot) → Contains piece spot → IsSeen rows spot)
     → length (rows_at_spots rows piece) ≡ length piece
 as_many_rows rows [] seen = refl
@@ -67,7 +67,7 @@ counted_there state up spots of place piece is =
               ∙ ap (λ op. option_and_then {U = Row} (λ (b : model.Body). Some (stands.0.0, b)) (body_of op)) calls.3,
         )
 
--- like `counted_there`, for the marks of the piece, and for equal spots and places
+-- as in `counted_there`, for the marks of the piece, and for equal spots and places
 pub calling_counted : (state : State) → AreAscending state.entries → (spots slice : List Spot) → slice ≡ spots
     → AreSpotsOf call_places state.entries spots → (place field : List ℕ) → field ≡ place → (names : List (List ℕ)) (piece : List Mark)
     → IsPieceAt field slice (spots_in names piece) → length (spots_in names piece) ≡ length piece → (count : ℕ) → count ≡ length piece

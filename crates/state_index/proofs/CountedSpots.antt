@@ -20,7 +20,7 @@ use Rattle.state_index.proofs.Positions.{Keyed}
 abbrev pub Pair : Type 0
 Pair = Key × Op
 
--- how many places these have in all
+-- the number of places that these keys and ops have together
 abbrev pub total : (Key → Op → ℕ) → List Pair → ℕ
 total count [] = 0
 total count (pair ∷ pairs) = count pair.0 pair.1 + total count pairs
@@ -40,7 +40,7 @@ total-append : (count : Key → Op → ℕ) (first second : List Pair) → total
 total-append count [] second = omega arith
 total-append count (pair ∷ first) second = let rest = total-append count first second in omega arith
 
--- a list, parted at one of its members
+-- a list with a member is a front, the member and a back
 cut_at : (pairs : List Pair) (pair : Pair) → Contains pairs pair → (front : List Pair) × (back : List Pair) × (pairs ≡ front ++ (pair ∷ back))
 cut_at [] pair among = absurd (nil-Contains pair among)
 cut_at (first ∷ pairs) pair among = by (cut_at pairs pair) (Contains-cons first pairs pair among)
@@ -105,11 +105,11 @@ at_most_all (pair ∷ pairs) = let one = few_links pair.0 pair.1 in let rest = a
 abbrev pub changed : List model.Change → List Pair
 changed changes = map (λ (change : model.Change). (change.key, op_of change.act)) changes
 
--- rows have as many calls as their keys and ops
+-- rows have as many call spots as the places where their keys and ops call
 pub places_of_rows : (rows : List Keyed) → length (spots_of call_places rows) ≡ total (λ key op. length (call_places key op)) (pairs_of rows)
 places_of_rows rows = spots_total call_places 0 rows
 
--- each row has at most one link
+-- each row has at most one link spot
 pub links_of_rows : (rows : List Keyed) → length (spots_of link_places rows) ≤ length rows
 links_of_rows rows =
     let one = spots_total link_places 0 rows in

@@ -1,5 +1,6 @@
 -- The spots of a join's rows are the spots of both tables, moved to where their rows go.
-use Rattle.std.proofs.Common.{◌≡◌, ℕ, ◌+◌, List, [], ◌∷◌, ◌++◌, map, length, refl, ap, sym, ◌∙◌, subst, inl, inr, ◌⊎◌, Bool, true, false, cond, Some, None, Contains, arith}
+use Rattle.std.proofs.Common.{◌≡◌, ℕ, ◌+◌, List, [], ◌∷◌, ◌++◌, map, length, refl, ap, sym, ◌∙◌, subst}
+use Rattle.std.proofs.Common.{inl, inr, ◌⊎◌, Bool, true, false, cond, Some, None, Contains, arith}
 use Rattle.std.specs.Prelude.{Option, ◌↔◌, ◌<◌, ◌≤◌, slice_get, ◌&&◌, option_map, option_and_then, filter}
 use Rattle.std.specs.List.{AllByRecursion, filter_map, cons_option}
 use Rattle.std.proofs.lemmas.List.{append_assoc, length-append, length-map}
@@ -86,7 +87,7 @@ module _ (places : Places) where
   pub moved_along : (moves : List (Option ℕ)) (rows : List Keyed) → length moves ≡ length rows → moved_spots moves (spots_of places rows) ≡ along moves rows
   moved_along moves rows size = along_from [] moves rows size
 
--- the first list has just the members of the two others
+-- the first list has the members of the two others, and no other members
 abbrev AreOfBoth : List Spot → List Spot → List Spot → Type 0
 AreOfBoth all first second = (spot : Spot) → Contains all spot ↔ (Contains first spot ⊎ Contains second spot)
 

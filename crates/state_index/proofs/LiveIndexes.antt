@@ -52,7 +52,7 @@ live_is_put state up key body live = by (entry_at state key) refl live
         let place = member_at state.entries (key, entry) ((entry_at_iff state up key entry).0 at) in
         (place.0, entry, place.1, put_of entry.op body is)
 
--- for both indexes at once
+-- for both indexes: the index of calls and the index of links
 module _ {K : Type 0} (wrap : K → Key) (row_of : List ℕ → Key → Option (List ℕ × K)) (cmp : K → K → Ordering)
     (unwrap : (place : List ℕ) (key : Key) (row : List ℕ × K) → row_of place key ≡ Some row → (row.0 ≡ place) × (key ≡ wrap row.1))
     (wrapped : (place : List ℕ) (k : K) → row_of place (wrap k) ≡ Some (place, k))
@@ -169,7 +169,7 @@ live_at_spots state up spots key body among = by (slice_get state.entries found.
     by None at told = absurd (none_some (key, body) told)
     by (Some row) at told = at_row row at row.1.op refl told
 
--- the index of calls
+-- the place and the key of a row in the index of calls
 call_unwrap : (place : List ℕ) (key : Key) (row : CallingRow) → calling_row place key ≡ Some row → (row.0 ≡ place) × (key ≡ schedule_key row.1)
 call_unwrap place (schedule_key key) row is =
     let same : (place, key) ≡ row = some_is (place, key) row is in (sym (ap (λ (r : CallingRow). r.0) same), ap (λ (r : CallingRow). schedule_key r.1) same)
@@ -292,7 +292,7 @@ module _ (state : State) (up : AreAscending state.entries) (spots : List Spot) w
           let calls = call_back stands.0.0 stands.0.1.op spot.place stands.2 in
           (stands.0, calls.0, schedule_body calls.1, stands.1, calls.2, calls.3)
 
-  -- in the other index they are the ones that are linked there
+  -- the rows that a place's piece of link spots names are the ones that are linked there
   pub linked_there : AreSpotsOf link_places state.entries spots → (place : List ℕ) (piece : List Spot) → IsPieceAt place spots piece
       → AreLinked (live_table state) place (rows_at_spots state.entries piece)
   linked_there of place piece is =
@@ -316,7 +316,7 @@ module _ (state : State) (up : AreAscending state.entries) (spots : List Spot) w
           let there = link_back stands.0.0 stands.0.1.op spot.place stands.2 in
           (stands.0, there.0, association_body there.1, stands.1, there.2, there.3)
 
--- like `calling_there`, for equal rows, spots and places
+-- as in `calling_there`, for equal rows, spots and places
 pub calling_found : (state : State) (rows : List Keyed) → state.entries ≡ rows → AreAscending rows → (spots slice : List Spot) → slice ≡ spots
     → AreSpotsOf call_places rows spots
     → (place field : List ℕ) → field ≡ place → (piece : List Spot) → IsPieceAt field slice piece → (result : List Row) → result ≡ rows_at_spots rows piece
@@ -326,7 +326,7 @@ calling_found state rows same up spots slice slice_is of place field field_is pi
     (calling_there state (subst AreAscending (sym same) up) spots (subst (λ (all : List Keyed). AreSpotsOf call_places all spots) (sym same) of) place piece
     (subst (λ p. IsPieceAt p spots piece) field_is (subst (λ zs. IsPieceAt field zs piece) slice_is is)))
 
--- like `linked_there`, for equal rows, spots and places
+-- as in `linked_there`, for equal rows, spots and places
 pub linked_found : (state : State) (rows : List Keyed) → state.entries ≡ rows → AreAscending rows → (spots slice : List Spot) → slice ≡ spots
     → AreSpotsOf link_places rows spots
     → (place field : List ℕ) → field ≡ place → (piece : List Spot) → IsPieceAt field slice piece → (result : List Row) → result ≡ rows_at_spots rows piece

@@ -17,7 +17,7 @@ use Rattle.state_index.specs.MarkOrder.{mark_cmp}
 use Rattle.state_index.specs.PlaceRows.{IsPieceOf}
 
 module _ {A : Type 0} (P : A → Type 0) where
-  -- a property of the first n elements holds for what is taken
+  -- a property of the first n elements holds for each element taken
   taken : (xs : List A) (n : ℕ) → n ≤ length xs → ((k : ℕ) (d : A) → 0 ≤ k → k < n → P (get_or xs k d)) → (z : A) → Contains (take n xs) z → P z
   taken xs zero bound all z among = absurd (nil-Contains z among)
   taken [] (suc n) bound all z among = absurd (let none : suc n ≤ 0 = bound in omega arith)
@@ -28,7 +28,7 @@ module _ {A : Type 0} (P : A → Type 0) where
       by rest (inl same) = subst P same (all 0 x (omega arith) (omega arith))
       by rest (inr inside) = rest inside
 
-  -- a property of the others holds for what is left
+  -- a property of the elements after the first n holds for each element left
   dropped : (xs : List A) (n : ℕ) → n ≤ length xs → ((k : ℕ) (d : A) → n ≤ k → k < length xs → P (get_or xs k d)) → (z : A) → Contains (drop n xs) z → P z
   dropped [] zero bound all z among = absurd (nil-Contains z among)
   dropped [] (suc n) bound all z among = absurd (let none : suc n ≤ 0 = bound in omega arith)
@@ -91,7 +91,7 @@ module _ (test : Ordering → Bool) (down : GoesDown test) (place : ℕ) where
           let same : j ≡ i = omega arith in
           subst (λ k. test (by_place place (get_or marks k d)) ≡ true) same passes
 
--- if marks ascend, so do those that come after the first n
+-- if marks ascend, the marks after the first n ascend
 pub behind_ascends : (marks : List Mark) (n : ℕ) → IsStrictlyAscending mark_cmp marks → IsStrictlyAscending mark_cmp (drop n marks)
 behind_ascends marks zero up = up
 behind_ascends [] (suc n) up = tt
@@ -101,7 +101,7 @@ behind_ascends (mark ∷ marks) (suc n) up = behind_ascends marks n up.1
 abbrev pub is_before : ℕ → Mark → Bool
 is_before place mark = is_lt (nat_cmp mark.place place)
 
--- the mark's place is this place or below it
+-- the mark's place is this place or a lower one
 abbrev pub is_up_to : ℕ → Mark → Bool
 is_up_to place mark = is_le (nat_cmp mark.place place)
 

@@ -115,7 +115,7 @@ same_rows names rank place at (mark ∷ piece) here rows =
         let same : spot ≡ spot_at mark.at place = some_is spot (spot_at mark.at place) told in
         λ i. cons_option (option_and_then live_row (slice_get rows (sym (ap (λ (s : Spot). s.at) same) i))) (rest i)
 
--- if all marks of a list are in another, all its spots are
+-- if all marks of a list are in another list, all its spots are in the other's spots
 pub same_spots : (names : List (List ℕ)) (marks others : List Mark) → ((mark : Mark) → Contains marks mark → Contains others mark) → (spot : Spot)
     → Contains (spots_in names marks) spot → Contains (spots_in names others) spot
 same_spots names marks others same spot among =

@@ -21,7 +21,7 @@ use Rattle.state_index.proofs.MovedSpots.{joined_spots}
 none_some : {A : Type 0} (a : A) → None ≡ Some a → ⊥
 none_some a h = cc
 
--- two filters that also map, one after the other, are one
+-- two filters that also map, one after the other, are one such filter
 fused : {A B C : Type 0} (f : A → Option B) (g : B → Option C) (xs : List A) → filter_map g (filter_map f xs) ≡ filter_map (λ x. option_and_then g (f x)) xs
 fused f g [] = refl
 fused {A} {B} {C} f g (x ∷ xs) = by (f x) (fused f g xs)
@@ -31,7 +31,7 @@ fused {A} {B} {C} f g (x ∷ xs) = by (f x) (fused f g xs)
     by None rest = rest
     by (Some y) rest = ap (cons_option (g y)) rest
 
--- moving marks makes no more of them
+-- there are at most as many moved marks as marks
 pub moved_few : (ranks : List ℕ) (moves : List (Option ℕ)) (marks : List Mark) → length (moved_marks ranks moves marks) ≤ length marks
 moved_few ranks moves [] = omega arith
 moved_few ranks moves (mark ∷ marks) = by (moved_mark ranks moves mark) (moved_few ranks moves marks)
@@ -94,7 +94,7 @@ module _ (names others : List (List ℕ)) (ranks : List ℕ) (are : AreRanks oth
           let same : record { place = rank; at = p } ≡ moved = some_is (record { place = rank; at = p }) moved told in
           (at ∙ ap (λ (m : Mark). Some m.place) same, there ∙ ap (λ (m : Mark). Some (Some m.at)) same)
 
-  -- the place with this rank
+  -- a rank in the list of ranks belongs to a place that both lists of names have
   placed : (i rank : ℕ) → slice_get ranks i ≡ Some rank → (place : List ℕ) × (slice_get names i ≡ Some place) × (slice_get others rank ≡ Some place)
   placed i rank is = by (slice_get names i) refl
     where

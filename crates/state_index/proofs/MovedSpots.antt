@@ -1,4 +1,4 @@
--- Spots, moved to where their rows go in a join: they stay in order, and are the spots of the
+-- Spots, moved to where their rows go in a join. They stay in order, and are the spots of the
 -- joined rows.
 use Rattle.std.proofs.Common.{◌≡◌, ℕ, List, refl, ap, sym, ◌∙◌, inl, inr, ◌⊎◌, Some, None, Contains}
 use Rattle.std.specs.Prelude.{Option, ◌↔◌, slice_get, option_map, option_and_then}
@@ -56,7 +56,7 @@ module _ (moves : List (Option ℕ)) where
   pub moved_ascends : AreRising moves → (spots : List Spot) → IsStrictlyAscending spot_cmp spots → IsStrictlyAscending spot_cmp (moved_spots moves spots)
   moved_ascends rise spots up = chosen_ascends (moved_spot moves) spot_cmp spot_cmp (moved_below rise) spots up
 
-  -- if all spots of a list are in another, all its moved spots are
+  -- if all spots of a list are in another list, all its moved spots are in the other's moved spots
   pub moved_same : (spots others : List Spot) → ((spot : Spot) → Contains spots spot → Contains others spot) → (spot : Spot)
       → Contains (moved_spots moves spots) spot → Contains (moved_spots moves others) spot
   moved_same spots others same spot among =

@@ -1,5 +1,6 @@
 -- The marks of noted rows stand for the rows' spots.
-use Rattle.std.proofs.Common.{◌≡◌, ℕ, zero, suc, ◌+◌, ◌≤◌, List, [], ◌∷◌, ◌++◌, map, take, drop, length, refl, ap, sym, ◌∙◌, subst, Bool, true, false, Some, None, arith, get_or}
+use Rattle.std.proofs.Common.{◌≡◌, ℕ, zero, suc, ◌+◌, ◌≤◌, List, [], ◌∷◌, ◌++◌, map, take, drop, length}
+use Rattle.std.proofs.Common.{refl, ap, sym, ◌∙◌, subst, Bool, true, false, Some, None, arith, get_or}
 use Rattle.std.specs.Prelude.{Option, slice_get, option_map}
 use Rattle.std.specs.List.{cons_option}
 use Rattle.std.proofs.lemmas.List.{length-append, length-map}
@@ -99,7 +100,7 @@ module _ (names sorted : List (List ℕ)) (ranks : List ℕ) (are : AreRanks sor
             → AreSpots at (row ∷ rows) (piece ∷ pieces) × (length (row ∷ rows) ≡ length (piece ∷ pieces))
         by rest = ((all_here (let len = rest.1 in omega arith) rest.0.0, len_here rest.0.1), ap suc rest.1)
 
--- the marks of calls
+-- the marks of calls noted for rows stand for the rows' call spots
 calls_noted : (names sorted : List (List ℕ)) (ranks numbers : List ℕ) → AreRanks sorted names ranks → (count : ℕ) (rows : List Keyed) (pieces : List Piece)
     → count ≡ length rows → AreNoted names numbers (items_of rows) pieces
     → (spots_in sorted (noted_marks false ranks numbers count pieces) ≡ spots_of call_places rows)
@@ -107,7 +108,7 @@ calls_noted : (names sorted : List (List ℕ)) (ranks numbers : List ℕ) → Ar
 calls_noted names sorted ranks numbers are count rows pieces count_is noted =
     (all_spots names sorted ranks are call_places false (λ ns item piece is. is.calls) numbers count 0 rows pieces noted (omega arith)).0
 
--- the marks of links
+-- the marks of links noted for rows stand for the rows' link spots
 links_noted : (names sorted : List (List ℕ)) (ranks numbers : List ℕ) → AreRanks sorted names ranks → (count : ℕ) (rows : List Keyed) (pieces : List Piece)
     → count ≡ length rows → AreNoted names numbers (items_of rows) pieces
     → (spots_in sorted (noted_marks true ranks numbers count pieces) ≡ spots_of link_places rows)
@@ -134,7 +135,7 @@ walked places rows sorted walk marks same told = subst (IsWalk places rows sorte
     in_order : AreBelow (length sorted) marks × AreFrom 0 marks
     in_order = made_of_rows places rows sorted marks told.0 (ap length told.0 ∙ sym told.1)
 
--- a walk over the calls of noted rows
+-- the walk over the noted calls gives the rows' marks of calls in row order
 pub calls_walk : (names sorted : List (List ℕ)) (ranks numbers : List ℕ) → AreRanks sorted names ranks → (count : ℕ) (rows : List Keyed) (pieces : List Piece)
     → count ≡ length rows → AreNoted names numbers (items_of rows) pieces → (walk : List Mark) → walk ≡ noted_marks false ranks numbers count pieces
     → IsWalk call_places rows sorted walk
@@ -142,7 +143,7 @@ calls_walk names sorted ranks numbers are count rows pieces count_is noted walk 
     walked call_places rows sorted walk (noted_marks false ranks numbers count pieces) walk_is
     (calls_noted names sorted ranks numbers are count rows pieces count_is noted)
 
--- a walk over the links of noted rows
+-- the walk over the noted links gives the rows' marks of links in row order
 pub links_walk : (names sorted : List (List ℕ)) (ranks numbers : List ℕ) → AreRanks sorted names ranks → (count : ℕ) (rows : List Keyed) (pieces : List Piece)
     → count ≡ length rows → AreNoted names numbers (items_of rows) pieces → (walk : List Mark) → walk ≡ noted_marks true ranks numbers count pieces
     → IsWalk link_places rows sorted walk
@@ -163,7 +164,7 @@ less_slots places few many slots less has = record {
   room = (let all = has.room in omega arith);
 }
 
--- if the rows have no more calls and links than a room is for, the room is enough for their index
+-- room for at least as many calls and links as the rows have is room for their index
 fits : (rows : List Keyed) (names : List (List ℕ)) (calls count : ℕ) (room : Room) → IsRoom names calls count room
     → length (spots_of call_places rows) ≤ calls → length (spots_of link_places rows) ≤ count → length rows ≤ count → HasRoomFor rows names room
 fits rows names calls count room is few_calls few_links few_rows = record {
@@ -174,8 +175,8 @@ fits rows names calls count room is few_calls few_links few_rows = record {
   links = less_slots (length room.places.items) (length (spots_of link_places rows)) count room.links few_links is.links;
 }
 
--- the pieces have at least as many numbers as their items have calls, and there are as many pieces
--- as items
+-- the pieces have at least as many numbers as their items have calls. There are as many pieces as
+-- items
 pieces_fit : (names : List (List ℕ)) (numbers : List ℕ) (items : List Item) (pieces : List Piece) → AreNoted names numbers items pieces
     → (total (λ key op. length (call_places key op)) items ≤ numbers_in pieces) × (length items ≡ length pieces)
 pieces_fit names numbers [] [] are = (omega arith, refl)

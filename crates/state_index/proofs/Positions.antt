@@ -48,7 +48,7 @@ module _ {A : Type 0} where
   at_ascends cmp (z ∷ zs) up (suc i) (suc j) x y before is_x is_y = at_ascends cmp zs up.1 i j x y (omega arith) is_x is_y
 
 module _ {A B : Type 0} (f : A → Option B) where
-  -- each member of a filtered list comes from an element
+  -- each member of a filtered list comes from an element of the list
   pub chosen_from : (xs : List A) (z : B) → Contains (filter_map f xs) z → (x : A) × Contains xs x × (f x ≡ Some z)
   chosen_from [] z among = absurd (nil-Contains z among)
   chosen_from (x ∷ xs) z among = by (f x) refl (chosen_from xs z) among

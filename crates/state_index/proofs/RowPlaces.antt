@@ -1,8 +1,11 @@
--- The places of a row: where its schedule calls, or where its association is.
+-- The places of a row: where its schedule calls, or where its trains are associated.
 use Rattle.std.proofs.Common.{◌≡◌, ℕ, List, [], refl, ap, subst, inl, inr, ◌⊎◌, true, false, Some, None, Contains}
 use Rattle.std.specs.Prelude.{Option, filter}
-use Rattle.docker_model.specs.records.Record.{Kind, header, tiploc_insert, tiploc_amend, tiploc_delete, association, basic_schedule, extra_details, origin_location, intermediate_location, terminating_location, change_en_route, trailer, kind_of, HasKind, columns, is_location}
-use Rattle.docker_model.specs.file.Change.{Key, tiploc_key, association_key, schedule_key, AssociationKey, ScheduleKey, tiploc_body, association_body, schedule_body}
+use Rattle.docker_model.specs.records.Record.{Kind, header, tiploc_insert, tiploc_amend, tiploc_delete, association}
+use Rattle.docker_model.specs.records.Record.{basic_schedule, extra_details, origin_location, intermediate_location}
+use Rattle.docker_model.specs.records.Record.{terminating_location, change_en_route, trailer, kind_of, HasKind, columns, is_location}
+use Rattle.docker_model.specs.file.Change.{Key, tiploc_key, association_key, schedule_key, AssociationKey}
+use Rattle.docker_model.specs.file.Change.{ScheduleKey, tiploc_body, association_body, schedule_body}
 use Rattle.docker_model.specs.state.Op.{Op, deleted, lapsed, put_with}
 use Rattle.docker_model.specs.file.Journey.{CallsAt}
 use Rattle.cif_laws.proofs.lists.Membership.{nil-Contains, Contains-map, map-Contains, Contains-single, single-Contains}

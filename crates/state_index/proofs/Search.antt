@@ -1,5 +1,6 @@
 -- What a binary search in an ascending list finds.
-use Rattle.std.proofs.Common.{◌≡◌, ℕ, zero, suc, ◌<◌, ◌≤◌, List, [], ◌∷◌, map, refl, Bool, true, false, length, get_or, ap, sym, ◌∙◌, subst, inl, inr, ◌⊎◌, Contains, Ok, Err, arith}
+use Rattle.std.proofs.Common.{◌≡◌, ℕ, zero, suc, ◌<◌, ◌≤◌, List, [], ◌∷◌, map, refl, Bool, true, false}
+use Rattle.std.proofs.Common.{length, get_or, ap, sym, ◌∙◌, subst, inl, inr, ◌⊎◌, Contains, Ok, Err, arith}
 use Rattle.std.proofs.lemmas.Bool.{cases_lt}
 use Rattle.std.specs.Prelude.{Result, ◌↔◌, IsTrue, is_ok}
 use Rattle.std.specs.List.{AllPairs}
@@ -20,7 +21,7 @@ member_at {A} [] at within = absurd (let none : at < length {A = A} [] = within 
 member_at (x ∷ xs) zero within = (x, cons-Contains-first x xs, refl)
 member_at (x ∷ xs) (suc at) within = let m = member_at xs at (omega arith) in (m.0, cons-Contains x xs m.0 m.1, m.2)
 
--- for a list whose images under a function ascend
+-- a list whose images under a function ascend
 module _ {A B : Type 0} (f : A → B) {cmp : B → B → Ordering} (total : IsTotalOrder cmp) (exact : (x y : B) → cmp x y ≡ Equal → x ≡ y)
     (xs : List A) (up : IsStrictlyAscending cmp (map f xs)) (z : B) where
   abbrev to : A → Ordering
@@ -53,8 +54,8 @@ module _ {A B : Type 0} (f : A → B) {cmp : B → B → Ordering} (total : IsTo
           let same : i ≡ j = omega arith in
           subst (λ k. ordering_index (to (get_or xs i d)) ≤ ordering_index (to (get_or xs k d))) same (omega arith)
 
-  -- if the elements before an index are below the value, and the others above it, the list doesn't
-  -- have it
+  -- if the elements before an index are below a value, and the others above it, the list doesn't
+  -- have the value
   absent : (at : ℕ) → IsPartitionPoint (λ x. to x ≡ Less) (λ x. to x ≡ Greater) xs at → ¬ Contains (map f xs) z
   absent at parts among = let found = Contains-map f xs z among in here found.0 found.1.0 found.1.1 found.1.2 found.2 (cases_lt found.1.0 at)
     where

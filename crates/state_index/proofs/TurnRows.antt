@@ -1,5 +1,5 @@
--- The turns of a walk over two tables: the rows they have, the rows that win, and where the winning
--- rows go.
+-- The turns of a walk over two tables: their rows, the rows that win, and where the winning rows
+-- go.
 use Rattle.std.proofs.Common.{◌≡◌, ℕ, suc, ◌+◌, ◌≤◌, List, [], ◌∷◌, map, length, refl, ap, Bool, true, false, cond, None, arith}
 use Rattle.std.specs.Prelude.{Option, ⊤}
 use Rattle.std.specs.List.{AllByRecursion}
@@ -15,7 +15,8 @@ use Rattle.docker_join.specs.declared.entry.Entry.{Entry}
 use Rattle.docker_join.specs.Meaning.{entry_meant}
 use Rattle.docker_join.specs.Rows.{row_cmp}
 use Rattle.docker_join.proofs.MergedRows.{row_out, walk_from, walk}
-use Rattle.state_index.specs.Turns.{AtKey, in_first, in_second, in_both, firsts, seconds, placed_turn, turns_from, turns_of, wins, goes, after, first_moves, second_moves}
+use Rattle.state_index.specs.Turns.{AtKey, in_first, in_second, in_both, firsts, seconds, placed_turn}
+use Rattle.state_index.specs.Turns.{turns_from, turns_of, wins, goes, after, first_moves, second_moves}
 
 -- a row of a table
 abbrev pub Row : Type 0
@@ -31,7 +32,7 @@ winner (in_first one) = one
 winner (in_second other) = other
 winner (in_both one other) = (one.0, picked one.1 other.1)
 
--- if both tables have a row at this turn, the rows have one key
+-- if both tables have a row at this turn, the two rows have one key
 abbrev pub IsLevel : AtKey → Type 0
 IsLevel (in_first one) = ⊤
 IsLevel (in_second other) = ⊤

@@ -1,5 +1,5 @@
--- The two indexes of a live table, and what is found by them: the schedules that call at a place,
--- the associations there. Also the schedules of a UID.
+-- The two indexes of a live table, and what they find: the schedules that call at a place, and the
+-- associations there. Also the schedules of a UID.
 use Rattle.std.specs.Prelude.{◌≡◌, ℕ, ◌↔◌, List, [], ◌∷◌, map, filter, Some, None, Contains, ◌⊎◌}
 use Rattle.std.specs.Str.{bytes_eq}
 use Rattle.std.specs.declared.cmp.Ordering.{Ordering}

@@ -28,8 +28,8 @@ pub record IsStaged (own : State) (floor : Option FileStamp) (offered staged : L
   pub ascending : AreAscending staged
   pub members : (key : Key) (entry : Entry) → Contains staged (key, entry) ↔ (Contains offered (key, entry) × IsToStage own floor key entry)
 
--- the entry is there after a commit. It was staged, or the state has it, it is kept, and none of
--- its key was staged
+-- the entry is there after a commit: it was staged, or it is a kept entry of the state at whose key
+-- none was staged
 abbrev pub IsPutIn : State → List (Key × Entry) → Option FileStamp → Key → Entry → Type 0
 IsPutIn own staged floor key entry =
     Contains staged (key, entry) ⊎ (Contains own.entries (key, entry) × IsKept floor entry.stamp.file × HasNoEntryOf staged key)

@@ -7,7 +7,8 @@ use Rattle.docker_model.specs.state.Stamp.{LedgerItem, Stamp}
 use Rattle.docker_model.specs.state.Op.{Op, put_with, deleted, lapsed}
 use Rattle.docker_model.specs.state.State.{State}
 use Rattle.docker_model.specs.state.StateText.{key_in, stamp_in, Format, dks_1, dks_2, item_in}
-use Rattle.docker_model.specs.state.StatePart.{Before, before_item, before_entry_count, before_tag, in_entry, at_end, before_line, before_body, EntryPart, before_key, before_stamp, before_op, before_horizon, before_ledger_count, before_mark}
+use Rattle.docker_model.specs.state.StatePart.{Before, before_item, before_entry_count, before_tag, in_entry, at_end, before_line, before_body}
+use Rattle.docker_model.specs.state.StatePart.{EntryPart, before_key, before_stamp, before_op, before_horizon, before_ledger_count, before_mark}
 
 -- what comes after these items, if there are `count` in all: the next item, or the count of entries
 abbrev pub after_items : (horizon : ℕ) → ℕ → List LedgerItem → Before
@@ -29,7 +30,8 @@ after_lines count state key stamp n lines =
     if nat_le n (length lines) then after_entries count (with_entry state (schedule_key key) stamp (put_with (schedule_body lines)))
     else in_entry count state (before_line key stamp n lines)
 
--- what comes after an op
+-- what comes after an op's byte. After 1 comes a body; 0, for deleted, and 2, for lapsed, end the
+-- entry
 abbrev pub after_op : ℕ → State → Key → Stamp → ℕ → Before
 after_op count state key stamp zero = after_entries count (with_entry state key stamp deleted)
 after_op count state key stamp (suc zero) = in_entry count state (before_body key stamp)

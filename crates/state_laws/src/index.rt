@@ -7,7 +7,8 @@ ghost use Rattle.docker_model.specs.state.State.{State, IsJoin, live_table, AreA
 ghost use Rattle.docker_model.specs.state.Table.{Table};
 ghost use Rattle.docker_model.specs.state.Lapse.{lapse_table};
 ghost use Rattle.state_laws.specs.Row.{Row, AreRowsOf};
-ghost use Rattle.state_laws.specs.Index.{CallingRow, LinkedRow, calling_cmp, linked_cmp, calls_of, links_of, IsCallingIndex, IsLinkedIndex, IsFromEither, IsCallingFromEither, IsLinkedFromEither, AreCalling, AreLinked, AreOfUid};
+ghost use Rattle.state_laws.specs.Index.{CallingRow, LinkedRow, calling_cmp, linked_cmp, calls_of, links_of, IsCallingIndex, IsLinkedIndex};
+ghost use Rattle.state_laws.specs.Index.{IsFromEither, IsCallingFromEither, IsLinkedFromEither, AreCalling, AreLinked, AreOfUid};
 
 /// A live table has one index of each kind, and one list of rows for each walk. An index is what
 /// all rows give, sorted and without duplicates.

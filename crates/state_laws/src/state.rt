@@ -82,8 +82,8 @@ pub fn summary_is_valid()
 {}
 
 /// The lapse keeps the order of ops, so the greatest op lapses to the greatest of the lapsed ops. A
-/// second lapse under the same horizon changes nothing. A lapse under two horizons is one under the
-/// greater. Without a horizon nothing lapses.
+/// second lapse under the same horizon changes nothing. A lapse under two horizons is a lapse under
+/// the greater one. Without a horizon nothing lapses.
 pub fn laws_of_lapse()
     ensures order { (horizon : ℕ) (first second : Op) → IsAtMost op_cmp first second
         → IsAtMost op_cmp (lapse horizon first) (lapse horizon second) }
@@ -113,7 +113,8 @@ pub fn laws_of_setting()
         → lapse_entry state.horizon entry ≡ entry }
 {}
 
-/// If a horizon is set on a summary, it becomes the summary under the greater of the two horizons.
+/// If a horizon is set on a summary, the result is the summary under the greater of the two
+/// horizons.
 pub fn setting_on_summary()
     ensures { (files : List (List (List ℕ))) (g h : ℕ) (state : State)
         → IsSummary files g state → IsSummary files (max g h) (raise_horizon h state) }

@@ -1,4 +1,5 @@
--- The schedules that call at a place are the live rows that pass a test, so they are as many.
+-- The schedules that call at a place are the live rows that pass a test, so both have the same
+-- number.
 use Rattle.std.proofs.Common.{◌≡◌, ℕ, List, [], ◌∷◌, length, refl, ap, sym, ◌∙◌, subst, inl, inr, ◌⊎◌, Bool, true, false, Contains, Some}
 use Rattle.std.specs.Prelude.{filter, ◌||◌}
 use Rattle.std.specs.List.{list_any}

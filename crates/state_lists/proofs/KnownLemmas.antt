@@ -16,7 +16,7 @@ use Rattle.state_lists.specs.Tallies.{IsTallyOf, known_lines}
 use Rattle.state_lists.specs.declared.tally.Tally.{Tally}
 use Rattle.state_lists.proofs.Counts.{rows_are}
 
--- the newest full extract of a valid state has a minute of the day
+-- if a valid state knows a full extract, the newest one has a minute of the day
 pub minute_of_full : (state : State) → IsValid state → (full : Option stamps.FileStamp) → IsFloor state.ledger (option_map file_stamp_meant full)
     → IfSome full (λ stamp. stamp.minute < 1440)
 minute_of_full state valid None is = tt
@@ -42,10 +42,10 @@ module _ (state : State) (valid : IsValid state) (entries : List (model.Key × o
         ++ count_line (codes "ASSOCIATIONS") (of_all.associations i) ++ count_line (codes "PLACES      ") (of_all.places i));
   }
 
-  -- if it is taken, the sink gains the text of what is known
+  -- if the text of what is known is taken, the sink gains this text
   pub known_taken : (old new : Option (List ℕ)) → Takes old bytes new → Gains (IsKnownText state) old new
   known_taken old new taken = record { text = bytes; is = is_known; gained = taken }
 
-  -- the same for a part
+  -- if a part of the text of what is known is taken, the sink gains this part
   pub known_begun : (old new : Option (List ℕ)) → TakesPart old bytes new → GainsPart (IsKnownText state) old new
   known_begun old new taken = record { text = bytes; is = is_known; gained = taken }

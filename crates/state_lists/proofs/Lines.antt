@@ -19,11 +19,11 @@ use Rattle.state_lists.specs.Places.{IsPlacesText, place_line, place_text, place
 use Rattle.state_lists.specs.RowLines.{line_by, row_line}
 use Rattle.state_lists.proofs.Counts.{count_is, rows_are}
 
--- a row of the code, with its line among these live rows
+-- the line of a row of the code, among these live rows
 abbrev pub kept_line : List Row → Kept × Held → List ℕ
 kept_line rows row = row_line rows (row_meant row)
 
--- the lines of entries are the lines of those that are live
+-- the lines of entries are the lines of the live entries
 lines_are : (rows : List Row) (entries : List (Key × Entry))
     → flat_map (row_line rows) entries ≡ flat_map (λ (row : Row). place_line rows row.0 row.1) (live_rows entries)
 lines_are rows [] = refl
@@ -45,12 +45,12 @@ module _ (state : State) (valid : IsValid state) (rows : List (Kept × Held)) (a
   is_text : IsPlacesText (live_table state) (flat_map (kept_line (live_rows state.entries)) rows)
   is_text = record { rows = live_rows state.entries; are = rows_are state valid; text_is = text_is }
 
-  -- if the lines of all entries are taken, the list is
+  -- if the lines of all entries are taken, the sink gains the list
   pub list_taken : (old new : Option (List ℕ)) → Takes old (flat_map (kept_line (live_rows state.entries)) rows) new
       → Gains (IsPlacesText (live_table state)) old new
   list_taken old new taken = record { text = flat_map (kept_line (live_rows state.entries)) rows; is = is_text; gained = taken }
 
-  -- the same for a part
+  -- if a part of the lines is taken, the sink gains a part of the list
   pub list_begun : (old new : Option (List ℕ)) → TakesPart old (flat_map (kept_line (live_rows state.entries)) rows) new
       → GainsPart (IsPlacesText (live_table state)) old new
   list_begun old new taken = record { text = flat_map (kept_line (live_rows state.entries)) rows; is = is_text; gained = taken }

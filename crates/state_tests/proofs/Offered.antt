@@ -17,7 +17,7 @@ pub record CanBeOffered (staging : Staging) (entries : List (Key × Entry)) : Ty
   pub above : AllByRecursion (λ (entry : Key × Entry). IsAboveStaged staging.staged entry.0) entries
   pub ascending : AreAscending entries
 
--- a key above the staged keys and above the offered one is above them all
+-- a key above the staged keys and above the offered key is above all of them
 above_both : (staged : List (Key × Entry)) (entry next : Key × Entry) → IsAboveStaged staged next.0 → key_cmp entry.0 next.0 ≡ Less
     → IsAboveStaged (staged ++ entry ∷ []) next.0
 above_both staged entry next above below other among = by (Contains-push_cases staged entry other among)
@@ -33,7 +33,7 @@ all_above : (staged : List (Key × Entry)) (entry : Key × Entry) (rest : List (
 all_above staged entry [] below above = tt
 all_above staged entry (next ∷ rest) below above = (above_both staged entry next above.0 below.0, all_above staged entry rest below.1 above.1)
 
--- once the first entry is offered, the others can be
+-- once the first entry is offered, the entries after it can be offered
 pub rest_offered : (own : State) (staging after : Staging) (entry : Key × Entry) (rest : List (Key × Entry)) → CanBeOffered staging (entry ∷ rest)
     → IsOffered own staging entry.0 entry.1 after → CanBeOffered after rest
 rest_offered own staging after entry rest can (inl to) =
@@ -42,7 +42,7 @@ rest_offered own staging after entry rest can (inl to) =
 rest_offered own staging after entry rest can (inr out) =
     subst (λ (s : Staging). CanBeOffered s rest) (sym out.1) (record { good = can.good.1; above = can.above.1; ascending = can.ascending.1 })
 
--- the floor is still the floor of both ledgers
+-- after an entry is offered, the floor is still the floor of both ledgers
 pub same_floor : (own : State) (staging after : Staging) (key : Key) (entry : Entry) → IsFloor (own.ledger ++ staging.items) staging.floor
     → IsOffered own staging key entry after → IsFloor (own.ledger ++ after.items) after.floor
 same_floor own staging after key entry floor (inl to) = subst (λ (s : Staging). IsFloor (own.ledger ++ s.items) s.floor) (sym to.1) floor

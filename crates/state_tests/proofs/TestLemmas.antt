@@ -10,7 +10,7 @@ use Rattle.docker_join.specs.Meaning.{entry_meant}
 use Rattle.docker_state.specs.declared.item.LedgerItem.{LedgerItem}
 use Rattle.docker_state.specs.Meaning.{item_meant, row_meant}
 
--- a list of one element, written out
+-- a list of length 1 has just its first element
 only_element : {A : Type 0} (xs : List A) (x d : A) → length xs ≡ 1 → x ≡ get_or xs 0 d → xs ≡ x ∷ []
 only_element [] x d one is = absurd (let bad : 0 ≡ 1 = one in omega arith)
 only_element (y ∷ []) x d one is = ap (λ v. v ∷ []) (sym is)
@@ -25,7 +25,7 @@ one_item items item other one is state items_are valid before none =
     (sym items_are ∙ ap (map item_meant) (only_element items item other one is) ∙ ap (λ (xs : List stamps.LedgerItem). xs ++ item_meant item ∷ []) (sym none))
     valid.ledger
 
--- the one entry is good over the one item
+-- the one entry is good in a ledger of only the one item
 good_entry : (items : List LedgerItem) (item other : LedgerItem) → length items ≡ 1 → item ≡ get_or items 0 other
     → (rows : List (Key × Entry)) (row next : Key × Entry) → length rows ≡ 1 → row ≡ get_or rows 0 next
     → (state : State) → map item_meant items ≡ state.ledger → map row_meant rows ≡ state.entries → IsValid state

@@ -31,7 +31,7 @@ takes_then (Some taken) x y c e first second =
     longer None = None
     longer (Some t) = Some (t ++ y)
 
--- a piece goes into the buffer
+-- a piece that is added to the buffer is gathered
 pub gathers_add : (start : Told) (held piece more : List ℕ) → more ≡ held ++ piece → Gathers start held piece start more
 gathers_add start held piece more is = ([], is, takes_none start)
 
@@ -51,7 +51,7 @@ take_past (x ∷ xs) ys n =
     let same : length (x ∷ xs) + n ≡ suc (length xs + n) = omega arith in
     ap (λ k. take k (x ∷ xs ++ ys)) same ∙ ap (λ zs. x ∷ zs) (take_past xs ys n)
 
--- a part of some bytes is also a part of longer ones
+-- a proper prefix of some bytes is also a proper prefix of those bytes and more
 part_longer : (a : Told) (x y : List ℕ) (e : Told) → TakesPart a x e → TakesPart a (x ++ y) e
 part_longer a x y e part =
     let size = length-append x y in
@@ -59,7 +59,7 @@ part_longer a x y e part =
     let within : part.0 ≤ length x = omega arith in
     (part.0, omega arith, subst (λ xs. Takes a xs e) (sym (take-append-le part.0 x y within)) part.2)
 
--- a part is taken after a piece was gathered
+-- if a piece was gathered and then a part of the bytes after it was taken, a part of both was taken
 gathers_part : (a : Told) (b p : List ℕ) (c : Told) (d q : List ℕ) (e : Told)
     → Gathers a b p c d → TakesPart c (d ++ q) e → TakesPart a (b ++ (p ++ q)) e
 gathers_part a b p c d q e first part =
@@ -76,14 +76,14 @@ gathers_part a b p c d q e first part =
 -- ---- what is given, by the result
 
 module _ {S A E : Type 0} (taken : S → Told) (failures : S → ℕ) where
-  -- when a buffer is written, its bytes are given to the sink
+  -- if a buffer is written, its bytes are given to the sink
   pub flush_gives : (old new : S) (held holds : List ℕ) (result : Result A E) → Flushes taken failures old held result new
       → OnOk result (holds ≡ []) → Gives taken failures old held [] result new holds
   flush_gives old new held holds (Ok done) whole empty = ((held, ap (λ xs. held ++ xs) empty, whole.0), whole.1)
   flush_gives old new held holds (Err failed) part empty =
       (subst (λ xs. TakesPart (taken old) xs (taken new)) (sym (append-nil held)) part.0, part.1)
 
-  -- one more piece is given after a piece that was gathered
+  -- if a piece was gathered and the next one is given, both are given
   pub then_gives : (old mid new : S) (b p d q h : List ℕ) (result : Result A E) → Gathers (taken old) b p (taken mid) d
       → failures mid ≡ failures old → Gives taken failures mid d q result new h → Gives taken failures old b (p ++ q) result new h
   then_gives old mid new b p d q h (Ok done) first same second =
@@ -91,7 +91,7 @@ module _ {S A E : Type 0} (taken : S → Told) (failures : S → ℕ) where
   then_gives old mid new b p d q h (Err failed) first same second =
       (gathers_part (taken old) b p (taken mid) d q (taken new) first second.0, second.1 ∙ ap (λ n. n + 1) same)
 
-  -- a failure at a first piece is a failure at the whole
+  -- a failure at the first of two pieces is a failure at both together
   pub fails_first : (old new : S) (b p q holds : List ℕ) (result : Result A E) (Q : E → Type 0) → IsErrAnd result Q
       → TakesPart (taken old) (b ++ p) (taken new) × (failures new ≡ failures old + 1)
       → Gives taken failures old b (p ++ q) result new holds
@@ -102,14 +102,14 @@ module _ {S A E : Type 0} (taken : S → Told) (failures : S → ℕ) where
     part.1,
   )
 
-  -- the two cases of a write, each as a clause
+  -- a write takes all bytes, or takes a part of them and fails
   pub flushed : (old new : S) (bytes : List ℕ) (result : Result A E) → Flushes taken failures old bytes result new
       → OnOk result (Takes (taken old) bytes (taken new)) × OnErr result (TakesPart (taken old) bytes (taken new))
       × CountsFailure (IsErr result) (failures old) (failures new)
   flushed old new bytes (Ok done) told = (told.0, tt, counts_error {A = A} {E = E} (Ok done) (failures old) (failures new) told.1 tt)
   flushed old new bytes (Err failed) told = (tt, told.0, counts_error {A = A} {E = E} (Err failed) (failures old) (failures new) tt told.1)
 
-  -- what was gathered of a text is written, in full or in part
+  -- if a text was gathered and the buffer is then written, the text is written in full or in part
   pub flush_written : (old mid new : S) (b p d whole : List ℕ) (result : Result A E) → Gathers (taken old) b p (taken mid) d
       → failures mid ≡ failures old → b ++ p ≡ whole → Flushes taken failures mid d result new → Flushes taken failures old whole result new
   flush_written old mid new b p d whole (Ok done) first same is second = (
@@ -124,7 +124,7 @@ module _ {S A E : Type 0} (taken : S → Told) (failures : S → ℕ) where
     second.1 ∙ ap (λ n. n + 1) same,
   )
 
-  -- a failure while a text was gathered leaves a part of it written
+  -- if a write fails while a text is gathered, a part of the text is written
   pub part_written : (old new : S) (b p whole : List ℕ) (result : Result A E) (Q : E → Type 0) → IsErrAnd result Q → b ++ p ≡ whole
       → TakesPart (taken old) (b ++ p) (taken new) × (failures new ≡ failures old + 1) → Flushes taken failures old whole result new
   part_written old new b p whole (Ok done) Q fails is part = absurd fails
@@ -133,7 +133,7 @@ module _ {S A E : Type 0} (taken : S → Told) (failures : S → ℕ) where
 -- ---- the bytes of a list, element by element
 
 module _ {X : Type 0} (bytes : List X → List ℕ) (joined : (xs ys : List X) → bytes (xs ++ ys) ≡ bytes xs ++ bytes ys) where
-  -- the bytes of the first elements and one more
+  -- the bytes of the first elements and the next one are the bytes of one element more
   pub one_more : (xs : List X) (i : ℕ) (x : X) (piece : List ℕ) → i < length xs → x ≡ get_or xs i x → bytes (x ∷ []) ≡ piece
       → bytes (take (i + 1) xs) ≡ bytes (take i xs) ++ piece
   one_more xs i x piece below at is =
@@ -141,13 +141,14 @@ module _ {X : Type 0} (bytes : List X → List ℕ) (joined : (xs ys : List X) �
       ∙ ap (λ p. bytes (take i xs) ++ p) is
 
   module _ (xs : List X) (i : ℕ) (x : X) (piece : List ℕ) (below : i < length xs) (at : x ≡ get_or xs i x) (is : bytes (x ∷ []) ≡ piece) where
-    -- after the first elements, one more is gathered
+    -- if the next element is gathered after the first ones, one element more is gathered
     pub each_given : (a : Told) (b : List ℕ) (c : Told) (d : List ℕ) (e : Told) (f : List ℕ)
         → Gathers a b (bytes (take i xs)) c d → Gathers c d piece e f → Gathers a b (bytes (take (i + 1) xs)) e f
     each_given a b c d e f first second =
         subst (λ p. Gathers a b p e f) (sym (one_more xs i x piece below at is)) (gathers_then a b (bytes (take i xs)) c d piece e f first second)
 
-    -- after the first elements, a part of one more is taken
+    -- if a part of the next element is taken after the first ones, a part of the whole list is
+    -- taken
     pub each_part : (a : Told) (b : List ℕ) (c : Told) (d : List ℕ) (e : Told)
         → Gathers a b (bytes (take i xs)) c d → TakesPart c (d ++ piece) e → TakesPart a (b ++ bytes xs) e
     each_part a b c d e first part =
@@ -159,7 +160,7 @@ module _ {X : Type 0} (bytes : List X → List ℕ) (joined : (xs ys : List X) �
         subst (λ ys. TakesPart a ys e) whole
         (part_longer a (b ++ now) rest e (subst (λ p. TakesPart a (b ++ p) e) (sym (one_more xs i x piece below at is)) so_far))
 
-    -- a failure to make room for one more element is a failure at the whole list
+    -- a failure to make room for the next element is a failure at the whole list
     pub each_room_fails : {S A E : Type 0} (taken : S → Told) (failures : S → ℕ) (old now new : S) (b d holds : List ℕ) (result : Result A E) (Q : E → Type 0)
         → Gathers (taken old) b (bytes (take i xs)) (taken now) d → failures now ≡ failures old → IsErrAnd result Q
         → TakesPart (taken now) (d ++ []) (taken new) × (failures new ≡ failures now + 1) → Gives taken failures old b (bytes xs) result new holds
@@ -170,7 +171,7 @@ module _ {X : Type 0} (bytes : List X → List ℕ) (joined : (xs ys : List X) �
       part.1 ∙ ap (λ n. n + 1) same,
     )
 
-    -- a failure at one more element is a failure at the whole list
+    -- a failure at the next element is a failure at the whole list
     pub each_fails : {S A E : Type 0} (taken : S → Told) (failures : S → ℕ) (old now new : S) (b d holds : List ℕ) (result : Result A E) (Q : E → Type 0)
         → Gathers (taken old) b (bytes (take i xs)) (taken now) d → failures now ≡ failures old → IsErrAnd result Q
         → TakesPart (taken now) (d ++ piece) (taken new) × (failures new ≡ failures now + 1) → Gives taken failures old b (bytes xs) result new holds
@@ -178,16 +179,16 @@ module _ {X : Type 0} (bytes : List X → List ℕ) (joined : (xs ys : List X) �
     each_fails taken failures old now new b d holds (Err failed) Q first same is part =
         (each_part (taken old) b (taken now) d (taken new) first part.0, part.1 ∙ ap (λ n. n + 1) same)
 
--- the bytes of two joined lists
+-- the bytes of two joined lists are the bytes of the first and then of the second
 pub mapped_join : {A B : Type 0} (f : B → List ℕ) (m : A → B) (xs ys : List A)
     → flat_map f (map m (xs ++ ys)) ≡ flat_map f (map m xs) ++ flat_map f (map m ys)
 mapped_join f m xs ys = ap (flat_map f) (map-append m xs ys) ∙ flat_map-append f (map m xs) (map m ys)
 
--- the bytes of two joined lists of lines
+-- the bytes of two joined lists of lines are the bytes of the first and then of the second
 pub concat_join : (xs ys : List (List ℕ)) → concat (xs ++ ys) ≡ concat xs ++ concat ys
 concat_join [] ys = refl
 concat_join (x ∷ xs) ys = ap (λ zs. x ++ zs) (concat_join xs ys) ∙ sym (append_assoc x (concat xs) (concat ys))
 
--- room was made, and then a piece was added
+-- a piece that is added after room was made for it is gathered
 pub room_then_add : (a : Told) (b : List ℕ) (c : Told) (d piece f : List ℕ) → Gathers a b [] c d → f ≡ d ++ piece → Gathers a b piece c f
 room_then_add a b c d piece f room is = gathers_then a b [] c d piece c f room (gathers_add c d piece f is)

@@ -7,6 +7,6 @@ pub mod KeyLemmas
 pub mod StampLemmas
 pub mod BodyLemmas
 pub mod ScheduleLemmas
-pub mod ToldLemmas
+pub mod PartsSoFarLemmas
 pub mod ReceivingLemmas
 pub mod StepLemmas

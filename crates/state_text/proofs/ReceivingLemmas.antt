@@ -1,4 +1,4 @@
--- What is staged of the entries given. Its commit is the join.
+-- The entries staged of those given. Their commit is the join.
 use Rattle.std.proofs.Common.{◌≡◌, ℕ, ◌-◌, List, [], ◌∷◌, ◌++◌, length, refl, ap, sym, ◌∙◌, subst, inl, inr, arith, length-append, All, Some, None}
 use Rattle.std.specs.Prelude.{Option, slice_get}
 use Rattle.docker_model.specs.file.Change.{Key}
@@ -12,16 +12,16 @@ use Rattle.state_laws.proofs.joins.StagedEntry.{nothing_staged, one_staged_more,
 use Rattle.docker_state.specs.declared.item.LedgerItem.{LedgerItem}
 use Rattle.docker_state.specs.Parts.{last_key}
 use Rattle.docker_state.specs.Staging.{Staging, IsOffered, IsAboveStaged}
-use Rattle.state_text.specs.Receiving.{told_state, items_of, IsStagedOf}
-use Rattle.state_text.specs.Told.{under}
+use Rattle.state_text.specs.Receiving.{given_state, items_of, IsStagedOf}
+use Rattle.state_text.specs.PartsSoFar.{under}
 
--- a key above the keys of all entries given is above what is staged of them
+-- a key above the keys of all entries given is above the keys of the entries staged
 pub above_staged : (own : State) (floor : Option FileStamp) (entries staged : List (Key × Entry)) (key : Key) → IsStaged own floor entries staged
     → All (λ (entry : Key × Entry). IsBelow key_cmp entry.0 key) entries → IsAboveStaged staged key
 above_staged own floor entries staged key are above other among =
     member_of (λ (entry : Key × Entry). IsBelow key_cmp entry.0 key) entries other above ((are.members other.0 other.1).0 among).0
 
--- an entry that was offered is among the entries given
+-- if one more entry was offered, the entries staged are of the entries given and this one
 pub offered_more : (own : State) (staging after : Staging) (entries : List (Key × Entry)) (key : Key) (entry : Entry) → IsStagedOf own staging entries
     → IsAboveStaged staging.staged key → IsOffered own staging key entry after → IsStagedOf own after (entries ++ (key, entry) ∷ [])
 offered_more own staging after entries key entry are above (inl to) =
@@ -31,7 +31,7 @@ offered_more own staging after entries key entry are above (inr out) =
     subst (λ (s : Staging). IsStagedOf own s (entries ++ (key, entry) ∷ [])) (sym out.1)
     (record { floor = are.floor; staged = one_left_out own staging.floor entries staging.staged key entry are.staged out.0 })
 
--- nothing is staged before the first entry
+-- no entry is staged before the first one is given
 pub none_staged : (own : State) (staging : Staging) (entries : List (Key × Entry)) → entries ≡ [] → staging.staged ≡ []
     → IsFloor (own.ledger ++ staging.items) staging.floor → IsStagedOf own staging entries
 none_staged own staging entries none empty floor = record {
@@ -40,16 +40,16 @@ none_staged own staging entries none empty floor = record {
       (subst (λ es. IsStaged own staging.floor [] es) (sym empty) (nothing_staged own staging.floor));
 }
 
--- a commit of what is staged is the join with what was given
+-- a commit of the entries staged is the join with the entries given
 pub commit_joins : (own after : State) (items : List LedgerItem) (held : Option Staging) (entries : List (Key × Entry)) (staging : Staging) (horizon : ℕ)
-    → IsValid own → IsValid (under horizon (told_state (items_of items held) entries)) → items_of items held ≡ staging.items
+    → IsValid own → IsValid (under horizon (given_state (items_of items held) entries)) → items_of items held ≡ staging.items
     → IsStagedOf own staging entries
     → ((offered : List (Key × Entry)) → IsStaged own staging.floor offered staging.staged → IsCommit own staging.items staging.staged after)
-    → IsJoin own (told_state (items_of items held) entries) after
+    → IsJoin own (given_state (items_of items held) entries) after
 commit_joins own after items held entries staging horizon valid told same are commit =
-    subst (λ its. IsJoin own (told_state its entries) after) (sym same)
-    (staging_joins_before own (under horizon (told_state staging.items entries)) staging.floor staging.staged after valid
-    (subst (λ its. IsValid (under horizon (told_state its entries))) same told) are.floor are.staged (commit entries are.staged))
+    subst (λ its. IsJoin own (given_state its entries) after) (sym same)
+    (staging_joins_before own (under horizon (given_state staging.items entries)) staging.floor staging.staged after valid
+    (subst (λ its. IsValid (under horizon (given_state its entries))) same told) are.floor are.staged (commit entries are.staged))
 
 -- if there are no entries, there is no last key
 pub no_last : (entries : List (Key × Entry)) → entries ≡ [] → None ≡ last_key entries

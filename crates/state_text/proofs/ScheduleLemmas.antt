@@ -36,7 +36,7 @@ one_line_more state key [] line are first begin = let told = first refl in (reco
 one_line_more state key (basic ∷ lines) line (inl none) first begin = cc
 one_line_more state key (basic ∷ lines) line (inr are) first begin = (record { begin = begin; new = are.0.new; key_is = are.0.key_is }, are.1)
 
--- if no line comes after the next one, that is the last of `count`
+-- if no line follows the next one, the next line is the last of `count`
 pub no_more : (more : Bool) (n count : ℕ) → (IsTrue more ↔ (n + 1 < count)) → n < count → more ≡ false → n + 1 ≡ count
 no_more more n count tells few none = by (cases_lt (n + 1) count)
   where
@@ -61,7 +61,7 @@ begin_up_to count lines line more tells begin (inl is) = record
     { begin = begin; complete = λ all. let size = length-append lines (line ∷ []) in let below = tells.0 is in absurd (omega arith) }
 begin_up_to count lines line more tells begin (inr whole) = record { begin = begin; complete = λ all. whole }
 
--- if more lines follow, a line may come next if some schedule begins with the lines and it
+-- if more lines follow, a line may come next if some schedule begins with the lines and this one
 pub more_up_to : (count : ℕ) (lines : Lines) (line : List ℕ) → length lines + 1 < count → BeginsSchedule (lines ++ line ∷ [])
     → BeginUpTo count (lines ++ line ∷ [])
 more_up_to count lines line more begin = record { begin = begin; complete = λ all. let size = length-append lines (line ∷ []) in absurd (omega arith) }
@@ -81,7 +81,7 @@ lines_up_to state key count lines line bytes same here first up_to =
     let are = one_line_more state key lines line here first up_to.begin in
     subst (λ b. AreLinesUpToIn state key count (lines ++ b ∷ [])) same (record { lines_of = are.0; complete = up_to.complete }, are.1)
 
--- why a line doesn't continue the key's lines
+-- the fault of a refused line says whether the line continues the key's lines
 pub line_refused : (state : State) (key : ScheduleKey) (count : ℕ) (lines : Lines) (line bytes : List ℕ) → line ≡ bytes
     → (lines ≡ []) ⊎ AreLinesIn state key lines → (lines ≡ [] → IsOfKey state.horizon key line)
     → (cause : Option StateCause) → IsLineRefusal count lines line cause → IsUpToRefusal state key count lines bytes cause

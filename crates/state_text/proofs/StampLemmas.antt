@@ -16,7 +16,7 @@ use Rattle.docker_model.specs.state.State.{IsGoodItem, IsLedger, IsStampIn}
 use Rattle.cif_laws.proofs.orders.Orders.{file_stamp_total, exact_file_stamp}
 use Rattle.cif_laws.proofs.lists.Membership.{Contains-map}
 use Rattle.state_laws.proofs.texts.LedgerGrown.{stamps_below}
-use Rattle.state_text.specs.Told.{file_stamps}
+use Rattle.state_text.specs.PartsSoFar.{file_stamps}
 
 module _ {A : Type 0} (item : A → LedgerItem) where
   above_at : (low : A) (items : List A) (j : ℕ) (d : A) → AllByRecursion (IsBelow ledger_item_cmp (item low)) (map item items) → j < length items

@@ -17,7 +17,7 @@ use Rattle.state_text.specs.Judged.{MayFollow, Judges}
 use Rattle.state_text.specs.declared.stage.Stage.{Stage}
 use Rattle.state_text.specs.Stage.{stage_meant, IsFresh}
 
--- a ledger with one more item that may follow is a ledger
+-- a ledger and one more item that may follow it are a ledger
 pub item_follows : (ledger told : List LedgerItem) (item meant : LedgerItem) → told ≡ ledger → IsLedger ledger → meant ≡ item → MayFollow told item
     → IsLedger (ledger ++ meant ∷ [])
 item_follows ledger told item meant same is equal may =
@@ -31,7 +31,7 @@ taken_all lines line taken n is last =
     let same : length taken ≡ length (lines ++ line ∷ []) = ap (λ (ls : List (List ℕ)). length ls) is in
     omega arith
 
--- an entry is given, or memory runs out for it
+-- if a result is the stage after an entry, or out of memory, the entry is judged
 pub entry_judged : (format : Format) (before after : Before) (bytes : List ℕ) (new : State) (lines : List (List ℕ)) (result : Result Stage StateCause)
     → IfOk result (λ s. (ls : List (List ℕ)) → stage_meant s new ls ≡ after) → IfOk result (λ s. IsFresh s new)
     → IfErr result (λ told. told ≡ cause.Memory) → after ≡ advance format before bytes → IsWantingHere format before bytes
@@ -41,7 +41,7 @@ entry_judged format before after bytes new lines (Ok s) is fresh err same here =
 entry_judged format before after bytes new lines (Err told) is fresh err same here =
     subst (λ (k : StateCause). IsBadHere format before bytes (cause_meant k)) (sym err) here
 
--- a part is judged at its own stage
+-- a part is judged the same at an equal stage
 pub judged_at : (meant format : Format) (at exact : Stage) → meant ≡ format → at ≡ exact → (state new : State) (lines after : List (List ℕ)) (bytes : List ℕ)
     (result : Result Stage StateCause) → Judges format (stage_meant exact state lines) bytes new after result
     → Judges meant (stage_meant at state lines) bytes new after result

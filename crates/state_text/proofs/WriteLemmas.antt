@@ -15,7 +15,7 @@ use Rattle.cif_line.specs.Device.{TakesPart}
 use Rattle.state_text.specs.Written.{body_text, Gathers, Gives}
 use Rattle.state_text.proofs.BufferLemmas.{gathers_then, then_gives, fails_first}
 
--- an entry is its head and then its lines
+-- an entry's bytes are its head and then its lines
 pub entry_text : (entry : Key × Entry) → entry_head entry ++ concat (op_lines entry.1.op) ≡ entry_bytes entry
 entry_text entry = by entry.1.op
   where
@@ -30,13 +30,13 @@ entry_text entry = by entry.1.op
     by (put_with (association_body line)) = append-nil (front ++ 1 ∷ line)
     by (put_with (schedule_body lines)) = append_assoc front (1 ∷ to_be_bytes w32 (length lines)) (concat lines)
 
--- what holds for all images holds for the image of an element
+-- a property of all images is a property of each element's image
 pub at_mapped : {A B : Type 0} (P : B → Type 0) (m : A → B) (xs : List A) (i : ℕ) (x : A) → All P (map m xs) → i < length xs → x ≡ get_or xs i x → P (m x)
 at_mapped P m xs i x all below at =
     let size = length-map xs m in
     subst P (get_or-map m xs i x ∙ ap m (sym at)) (all i (m x) (omega arith))
 
--- the text of a state is its head, the number of its items, and the rest
+-- the text of a state is its head, the number of its items, and the text after that
 pub state_text_is : {A : Type 0} (state : State) (item : A → LedgerItem) (items : List A) → map item items ≡ state.ledger
     → (head_text dks_2 state.horizon ++ to_be_bytes w64 (length items)) ++ body_text state ≡ state_text dks_2 state
 state_text_is state item items ledger =
@@ -60,7 +60,7 @@ module _ {S A B : Type 0} (taken : S → Option (List ℕ)) (failures : S → �
     given : Gathers (taken old) b (flat_map item_bytes state.ledger) (taken first) d
     given = subst (λ es. Gathers (taken old) b (flat_map item_bytes es) (taken first) d) ledger one
 
-    -- a failure at the number of entries is a failure at the rest
+    -- a failure at the number of entries is a failure at the text from there on
     pub count_fails : {X E : Type 0} (holds : List ℕ) (result : Result X E) (Q : E → Type 0) → IsErrAnd result Q
         → TakesPart (taken first) (d ++ to_be_bytes w64 (length rows)) (taken second) × (failures second ≡ failures first + 1)
         → Gives taken failures old b (body_text state) result second holds

@@ -1,7 +1,7 @@
 pub mod Written
 pub mod Entries
 pub mod FormatMeaning
-pub mod Told
+pub mod PartsSoFar
 pub mod Receiving
 pub mod Stage
 pub mod FaultMeaning

@@ -15,17 +15,17 @@ use Rattle.docker_state.specs.Staging.{Staging}
 use Rattle.state_text.specs.declared.receiving.Receiving.{Receiving}
 
 -- ledger items and entries, without a horizon
-abbrev pub told_state : List stamps.LedgerItem → List (model.Key × ops.Entry) → State
-told_state items entries = record { horizon = 0; ledger = items; entries = entries }
+abbrev pub given_state : List stamps.LedgerItem → List (model.Key × ops.Entry) → State
+given_state items entries = record { horizon = 0; ledger = items; entries = entries }
 
 -- the ledger items received; from the first entry on, they are with what is staged
 abbrev pub items_of : List LedgerItem → Option Staging → List stamps.LedgerItem
 items_of items None = map item_meant items
 items_of items (Some staging) = staging.items
 
--- the ledger items and entries that were given, as a state
-abbrev pub told_of : {R : Type 0} → Receiving R → State
-told_of it = told_state (items_of it.items.items it.staging) it.given.entries
+-- what was given
+abbrev pub given_of : {R : Type 0} → Receiving R → State
+given_of it = given_state (items_of it.items.items it.staging) it.given.entries
 
 -- of the given entries exactly those are staged that this state has to take over, under the floor
 -- of both ledgers
@@ -37,7 +37,7 @@ pub record IsStagedOf (own : State) (staging : Staging) (entries : List (model.K
 pub record IsReceiving {R : Type 0} (own : State) (it : Receiving R) : Type 0 where
   pub own_is : it.own ≡ own
   pub valid : IsValid it.own
-  pub ledger : IsLedger (told_of it).ledger
+  pub ledger : IsLedger (given_of it).ledger
   pub last : option_map key_meant it.last ≡ last_key it.given.entries
   pub count : it.count ≡ length it.given.entries
   pub none : it.staging ≡ None → it.given.entries ≡ []

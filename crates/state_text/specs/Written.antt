@@ -10,8 +10,8 @@ use Rattle.cif_line.specs.Device.{Takes, TakesPart}
 abbrev pub body_text : State → List ℕ
 body_text state = flat_map item_bytes state.ledger ++ to_be_bytes w64 (length state.entries) ++ flat_map entry_bytes state.entries
 
--- a piece was gathered after the bytes that the buffer held: of all these the sink has taken the
--- first, and the buffer holds the others
+-- a piece was gathered after the bytes that the buffer held. The sink has taken the first of all
+-- these bytes, and the buffer holds the others
 abbrev pub Gathers : Option (List ℕ) → List ℕ → List ℕ → Option (List ℕ) → List ℕ → Type 0
 Gathers old held piece new holds = (front : List ℕ) × (front ++ holds ≡ held ++ piece) × Takes old front new
 

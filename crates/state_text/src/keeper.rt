@@ -7,7 +7,7 @@ ghost use Rattle.cif_file.specs.Meaning.{key_meant};
 ghost use Rattle.docker_join.specs.Meaning.{entry_meant};
 ghost use Rattle.docker_state.specs.Meaning.{item_meant};
 ghost use Rattle.docker_state.specs.Parts.{last_key};
-ghost use Rattle.state_text.specs.Told.{horizon_meant, under, with_item, with_row};
+ghost use Rattle.state_text.specs.PartsSoFar.{horizon_meant, under, with_item, with_row};
 
 use cif_file::Key;
 use cif_line::{Day, Memory};
@@ -21,14 +21,14 @@ pub trait Keeper: Drop + Sized {
     // keeps them or not
     ghost given: { Self → State };
 
-    /// Takes the next ledger item.
+    /// Takes the next ledger item. After `Memory` no clause says what it was given.
     fn item(&mut self, item: LedgerItem) -> Result<(), Memory>
         requires before_entries { (given self.old).entries ≡ [] }
         requires ledger { IsLedger ((given self.old).ledger ++ item_meant item ∷ []) }
         ensures { IsOk result
             → given self.new ≡ with_item (given self.old) (item_meant item) };
 
-    /// Takes the next entry, with its key.
+    /// Takes the next entry, with its key. After `Memory` no clause says what it was given.
     fn entry(&mut self, key: Key, entry: Entry) -> Result<(), Memory>
         requires few { length (given self.old).entries < 2 ^ 64 - 1 }
         requires here { IsStampHere (given self.old) (key_meant key) (entry_meant entry).stamp }
@@ -58,7 +58,8 @@ pub trait Maker: Keeper {
     // the value is made from this state
     ghost makes: { Self.Made → State → Type 0 };
 
-    /// Makes the value from the parts, under the horizon that was read.
+    /// Makes the value from the parts, under the horizon that was read. If memory runs out, the
+    /// parts are dropped.
     fn finish(self, horizon: Option<Day>) -> Result<Self::Made, Memory>
         requires { IsValid (under (horizon_meant horizon) (Self.given self)) }
         ensures { IfOk result (λ made.

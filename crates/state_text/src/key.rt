@@ -14,8 +14,8 @@ use crate::format::{
     SCHEDULE_STP_AT, START_AT, SUFFIX_AT, TIPLOC_KEY,
 };
 use crate::keeper::Keeper;
+use crate::parts_so_far::PartsSoFar;
 use crate::stage::Tag;
-use crate::told::Told;
 use cif_file::{AssocKey, Key, ScheduleKey};
 use cif_line::{Day, Stp, Tiploc, Uid, is_printable};
 
@@ -85,7 +85,7 @@ fn key_in(tag: Tag, bytes: &[u8]) -> Option<Key>
 }
 
 /// Whether a key is above the keys of all entries so far.
-fn is_above<K: Keeper>(parts: &Told<K>, key: &Key) -> bool
+fn is_above<K: Keeper>(parts: &PartsSoFar<K>, key: &Key) -> bool
     requires { AreAscending parts.now.entries }
     ensures { IsTrue result ↔ IsAboveEntries parts.now (key_meant key.now) }
 {
@@ -98,7 +98,7 @@ fn is_above<K: Keeper>(parts: &Told<K>, key: &Key) -> bool
 /// The key of the next entry, or why it is bad.
 pub(crate) fn judged_key<K: Keeper>(
     tag: Tag,
-    parts: &Told<K>,
+    parts: &PartsSoFar<K>,
     bytes: &[u8],
 ) -> Result<Key, StateCause>
     requires wide { length bytes.now ≡ key_width (tag_meant tag) }

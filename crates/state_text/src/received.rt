@@ -1,7 +1,7 @@
 //! A keeper for a state that receives the parts.
 ghost use Rattle.std.specs.Prelude.{◌≡◌, [], IsOk, IsErr};
 ghost use Rattle.docker_model.specs.state.State.{State, IsValid, IsJoin};
-ghost use Rattle.state_text.specs.Told.{horizon_meant, under};
+ghost use Rattle.state_text.specs.PartsSoFar.{horizon_meant, under};
 
 use crate::keeper::Keeper;
 use crate::receiving::{Receiver, Receiving};
@@ -20,11 +20,11 @@ pub struct Received<R: Receiver> {
 
 impl<R: Receiver> Model for Received<R> {
     ghost use Rattle.docker_model.specs.state.State as states;
-    ghost use Rattle.state_text.specs.Receiving.{told_of, IsReceiving};
+    ghost use Rattle.state_text.specs.Receiving.{given_of, IsReceiving};
 
     ghost Value = { states.State };
 
-    ghost view = { λ received. told_of received.receiving };
+    ghost view = { λ received. given_of received.receiving };
 
     ghost invariant = { λ received. IsReceiving R.own received.receiving };
 }

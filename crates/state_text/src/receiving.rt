@@ -7,8 +7,8 @@ ghost use Rattle.cif_file.specs.Meaning.{key_meant};
 ghost use Rattle.docker_join.specs.Meaning.{entry_meant};
 ghost use Rattle.docker_state.specs.Meaning.{item_meant};
 ghost use Rattle.docker_state.specs.Parts.{last_key};
-ghost use Rattle.state_text.specs.Told.{under, with_item, with_row};
-ghost use Rattle.state_text.specs.Receiving.{told_state, told_of, IsStagedOf, IsReceiving};
+ghost use Rattle.state_text.specs.PartsSoFar.{under, with_item, with_row};
+ghost use Rattle.state_text.specs.Receiving.{given_state, given_of, IsStagedOf, IsReceiving};
 
 use crate::given::Given;
 use cif_file::Key;
@@ -56,7 +56,7 @@ fn offer(
     entry: Entry,
 ) -> Result<(), Memory>
     requires staged { IsStagedOf own.now staging.old given.now.entries }
-    requires here { IsStampHere (told_state staging.old.items given.now.entries)
+    requires here { IsStampHere (given_state staging.old.items given.now.entries)
         (key_meant key) (entry_meant entry).stamp }
     requires op { IsOpOf (key_meant key) (entry_meant entry).op }
     ensures ok { IsOk result
@@ -74,7 +74,7 @@ impl<R: Receiver> Receiving<R> {
         requires valid { IsValid own }
         requires own { own ≡ R.own }
         ensures receiving { IsReceiving R.own result }
-        ensures none { told_of result ≡ told_state [] [] }
+        ensures none { given_of result ≡ given_state [] [] }
     {
         Receiving {
             alloc,
@@ -92,9 +92,9 @@ impl<R: Receiver> Receiving<R> {
     pub(crate) fn item(&mut self, item: LedgerItem) -> Result<(), Memory>
         requires receiving { IsReceiving R.own self.old }
         requires before_entries { self.old.given.entries ≡ [] }
-        requires ledger { IsLedger ((told_of self.old).ledger ++ item_meant item ∷ []) }
+        requires ledger { IsLedger ((given_of self.old).ledger ++ item_meant item ∷ []) }
         ensures ok { IsOk result
-            → told_of self.new ≡ with_item (told_of self.old) (item_meant item) }
+            → given_of self.new ≡ with_item (given_of self.old) (item_meant item) }
         ensures receiving { IsReceiving R.own self.new }
     {
         if self.staging.is_some() {
@@ -110,7 +110,7 @@ impl<R: Receiver> Receiving<R> {
         requires none { self.old.staging ≡ None }
         ensures ok { IsOk result }
         ensures some { IsSome self.new.staging }
-        ensures same { told_of self.new ≡ told_of self.old }
+        ensures same { given_of self.new ≡ given_of self.old }
         ensures receiving { IsReceiving R.own self.new }
     {
         let items = mem::replace(&mut self.items, Vec::new(self.alloc));
@@ -122,10 +122,10 @@ impl<R: Receiver> Receiving<R> {
     pub(crate) fn entry(&mut self, key: Key, entry: Entry) -> Result<(), Memory>
         requires receiving { IsReceiving R.own self.old }
         requires few { length self.old.given.entries < 2 ^ 64 - 1 }
-        requires here { IsStampHere (told_of self.old) (key_meant key) (entry_meant entry).stamp }
+        requires here { IsStampHere (given_of self.old) (key_meant key) (entry_meant entry).stamp }
         requires op { IsOpOf (key_meant key) (entry_meant entry).op }
-        ensures ok { IsOk result → told_of self.new
-            ≡ with_row (told_of self.old) (key_meant key, entry_meant entry) }
+        ensures ok { IsOk result → given_of self.new
+            ≡ with_row (given_of self.old) (key_meant key, entry_meant entry) }
         ensures receiving { IsReceiving R.own self.new }
     {
         if self.staging.is_none() {
@@ -144,7 +144,7 @@ impl<R: Receiver> Receiving<R> {
 
     /// The ledger items so far, ascending.
     pub(crate) fn ledger(&self) -> &[LedgerItem]
-        ensures { map item_meant result.now ≡ (told_of self.now).ledger }
+        ensures { map item_meant result.now ≡ (given_of self.now).ledger }
     {
         match &self.staging {
             Some(staging) => staging.items(),
@@ -155,7 +155,7 @@ impl<R: Receiver> Receiving<R> {
     /// How many entries were given.
     pub(crate) fn len(&self) -> u64
         requires { IsReceiving R.own self.now }
-        ensures { result ≡ length (told_of self.now).entries }
+        ensures { result ≡ length (given_of self.now).entries }
     {
         self.count
     }
@@ -164,7 +164,7 @@ impl<R: Receiver> Receiving<R> {
     pub(crate) fn last(&self) -> Option<&Key>
         requires { IsReceiving R.own self.now }
         ensures { option_map key_meant (option_copied result)
-            ≡ last_key (told_of self.now).entries }
+            ≡ last_key (given_of self.now).entries }
     {
         self.last.as_ref()
     }
@@ -172,8 +172,8 @@ impl<R: Receiver> Receiving<R> {
     /// The state, joined with what was received. If memory runs out, the state is as it was.
     pub(crate) fn finish(self) -> (State, Result<(), Memory>)
         requires { IsReceiving R.own self }
-        ensures ok { IsOk result.1 → (horizon : ℕ) → IsValid (under horizon (told_of self))
-            → IsJoin R.own (told_of self) result.0 }
+        ensures ok { IsOk result.1 → (horizon : ℕ) → IsValid (under horizon (given_of self))
+            → IsJoin R.own (given_of self) result.0 }
         ensures err { IsErr result.1 → result.0 ≡ R.own }
     {
         let Receiving {

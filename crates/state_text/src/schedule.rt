@@ -11,7 +11,7 @@ use crate::body::is_first_of;
 use crate::cause::StateCause;
 use crate::format::LINE;
 use crate::keeper::Keeper;
-use crate::told::Told;
+use crate::parts_so_far::PartsSoFar;
 use cif_file::{Journey, Lines, ScheduleKey};
 use cif_line::Line;
 use std::alloc::{AllocError, Global};
@@ -212,37 +212,43 @@ impl Gathered {
 /// Whether a line may come next, as far as the key and the horizon decide. It may after other
 /// lines, or as the first line of a new schedule with this key that doesn't lapse. The reader of
 /// lines judges its fields.
-fn may_follow<K: Keeper>(key: &ScheduleKey, told: &Told<K>, lines: &Gathered, line: &Line) -> bool
+fn may_follow<K: Keeper>(
+    key: &ScheduleKey,
+    parts: &PartsSoFar<K>,
+    lines: &Gathered,
+    line: &Line,
+) -> bool
     ensures first { IsTrue result → lines.now ≡ [] →
-        IsOfKey told.now.horizon (schedule_meant key.now) line.now }
+        IsOfKey parts.now.horizon (schedule_meant key.now) line.now }
     ensures refused { result ≡ false → (lines.now ≡ []) ×
-        (¬ IsFirstOf told.now.horizon (schedule_meant key.now) line.now) }
+        (¬ IsFirstOf parts.now.horizon (schedule_meant key.now) line.now) }
 {
-    !lines.is_empty() || is_first_of(key, told.horizon(), line)
+    !lines.is_empty() || is_first_of(key, parts.horizon(), line)
 }
 
 /// Takes the next of `count` lines of this key. `Body` if the line doesn't continue a schedule with
-/// this key and `count` lines, or if the schedule lapses under the horizon that was read.
+/// this key and `count` lines, or if the schedule lapses under the horizon that was read. `Memory`
+/// if the lines have no room to grow.
 pub fn judged_line<K: Keeper>(
     key: &ScheduleKey,
-    told: &Told<K>,
+    parts: &PartsSoFar<K>,
     count: u32,
     lines: &mut Gathered,
     bytes: &[u8],
 ) -> Result<(), StateCause>
     requires lines_of { (lines.old ≡ [])
-        ⊎ AreLinesIn told.now (schedule_meant key.now) lines.old }
+        ⊎ AreLinesIn parts.now (schedule_meant key.now) lines.old }
     requires more { length lines.old < count }
     ensures taken { IsOk result → lines.new ≡ lines.old ++ bytes.now ∷ [] }
-    ensures up_to { IsOk result → AreLinesUpToIn told.now (schedule_meant key.now) count
+    ensures up_to { IsOk result → AreLinesUpToIn parts.now (schedule_meant key.now) count
         (lines.old ++ bytes.now ∷ []) }
-    ensures err { IfErr result (λ cause. IsUpToRefusal told.now
+    ensures err { IfErr result (λ cause. IsUpToRefusal parts.now
         (schedule_meant key.now) count lines.old bytes.now (cause_meant cause)) }
 {
     let Ok(line) = Line::new(bytes) else {
         return Err(StateCause::Body);
     };
-    if !may_follow(key, told, lines, &line) {
+    if !may_follow(key, parts, lines, &line) {
         return Err(StateCause::Body);
     }
     lines.take(&line, count)
@@ -252,22 +258,22 @@ pub fn judged_line<K: Keeper>(
 #[inline(always)]
 pub fn judged_inner_line<K: Keeper>(
     key: &ScheduleKey,
-    told: &Told<K>,
+    parts: &PartsSoFar<K>,
     count: u32,
     lines: &mut Gathered,
     bytes: &[u8],
 ) -> Result<(), StateCause>
     requires lines_of { (lines.old ≡ [])
-        ⊎ AreLinesIn told.now (schedule_meant key.now) lines.old }
+        ⊎ AreLinesIn parts.now (schedule_meant key.now) lines.old }
     requires more { length lines.old + 1 < count }
     ensures taken { IsOk result → lines.new ≡ lines.old ++ bytes.now ∷ [] }
-    ensures up_to { IsOk result → AreLinesUpToIn told.now (schedule_meant key.now) count
+    ensures up_to { IsOk result → AreLinesUpToIn parts.now (schedule_meant key.now) count
         (lines.old ++ bytes.now ∷ []) }
-    ensures err { IfErr result (λ cause. IsUpToRefusal told.now
+    ensures err { IfErr result (λ cause. IsUpToRefusal parts.now
         (schedule_meant key.now) count lines.old bytes.now (cause_meant cause)) }
 {
     if lines.is_empty() {
-        return judged_line(key, told, count, lines, bytes);
+        return judged_line(key, parts, count, lines, bytes);
     }
     lines.take_inner(bytes, count)
 }

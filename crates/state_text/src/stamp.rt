@@ -5,7 +5,7 @@ ghost use Rattle.docker_model.specs.state.State.{IsLedger, IsStampIn};
 ghost use Rattle.docker_model.specs.state.StateText.{stamp_in};
 ghost use Rattle.docker_join.specs.Meaning.{file_stamp_meant, stamp_meant};
 ghost use Rattle.docker_state.specs.Meaning.{item_meant};
-ghost use Rattle.state_text.specs.Told.{file_stamps};
+ghost use Rattle.state_text.specs.PartsSoFar.{file_stamps};
 
 use crate::fields::{field, number_16, number_32};
 use crate::format::{MINUTE_AT, NUMBER_AT, REFERENCE_AT, STAMP};

@@ -24,10 +24,10 @@ use crate::format::{
 use crate::item::judged_item;
 use crate::keeper::Keeper;
 use crate::key::judged_key;
+use crate::parts_so_far::PartsSoFar;
 use crate::schedule::{Gathered, judged_line};
 use crate::stage::{Stage, Tag};
 use crate::stamp::judged_stamp;
-use crate::told::Told;
 use cif_file::{AssocKey, Body, Key, ScheduleKey};
 use cif_line::{Day, Tiploc};
 use docker_join::{Entry, Op, Stamp};
@@ -61,7 +61,7 @@ fn after_mark(format: Format, bytes: &[u8]) -> Result<Stage, StateCause>
 }
 
 /// Takes the horizon.
-fn after_horizon<K: Keeper>(parts: &mut Told<K>, bytes: &[u8]) -> Result<Stage, StateCause>
+fn after_horizon<K: Keeper>(parts: &mut PartsSoFar<K>, bytes: &[u8]) -> Result<Stage, StateCause>
     ghost format: { formats.Format }
     requires fresh { IsFresh Stage.Horizon parts.old }
     requires wide { length bytes.now ≡ HORIZON }
@@ -78,7 +78,7 @@ fn after_horizon<K: Keeper>(parts: &mut Told<K>, bytes: &[u8]) -> Result<Stage, 
 }
 
 /// The stage after the items so far, of `count` items.
-fn stage_in_ledger<K: Keeper>(count: u64, parts: &Told<K>) -> Stage
+fn stage_in_ledger<K: Keeper>(count: u64, parts: &PartsSoFar<K>) -> Stage
     requires entries { parts.now.entries ≡ [] }
     ensures is { (lines : List (List ℕ)) →
         stage_meant result parts.now lines
@@ -93,7 +93,7 @@ fn stage_in_ledger<K: Keeper>(count: u64, parts: &Told<K>) -> Stage
 }
 
 /// The stage after the entries so far, of `count` entries.
-fn stage_in_entries<K: Keeper>(count: u64, parts: &Told<K>) -> Stage
+fn stage_in_entries<K: Keeper>(count: u64, parts: &PartsSoFar<K>) -> Stage
     ensures is { (lines : List (List ℕ)) →
         stage_meant result parts.now lines ≡ after_entries count parts.now }
     ensures fresh { IsFresh result parts.now }
@@ -106,7 +106,11 @@ fn stage_in_entries<K: Keeper>(count: u64, parts: &Told<K>) -> Stage
 }
 
 /// Takes a ledger item.
-fn after_item<K: Keeper>(count: u64, parts: &mut Told<K>, bytes: &[u8]) -> Result<Stage, StateCause>
+fn after_item<K: Keeper>(
+    count: u64,
+    parts: &mut PartsSoFar<K>,
+    bytes: &[u8],
+) -> Result<Stage, StateCause>
     ghost format: { formats.Format }
     requires good { AreGood format
         (before_item parts.old.horizon count parts.old.ledger) }
@@ -140,7 +144,7 @@ fn after_tag(count: u64, bytes: &[u8]) -> Result<Stage, StateCause>
 fn after_key<K: Keeper>(
     count: u64,
     tag: Tag,
-    parts: &Told<K>,
+    parts: &PartsSoFar<K>,
     bytes: &[u8],
 ) -> Result<Stage, StateCause>
     ghost format: { formats.Format }
@@ -158,7 +162,7 @@ fn after_key<K: Keeper>(
 fn after_stamp<K: Keeper>(
     count: u64,
     key: Key,
-    parts: &Told<K>,
+    parts: &PartsSoFar<K>,
     bytes: &[u8],
 ) -> Result<Stage, StateCause>
     ghost format: { formats.Format }
@@ -177,7 +181,7 @@ fn after_stamp<K: Keeper>(
 /// Gives the keeper an entry whose parts are all there.
 fn give<K: Keeper>(
     count: u64,
-    parts: &mut Told<K>,
+    parts: &mut PartsSoFar<K>,
     key: Key,
     stamp: Stamp,
     op: Op,
@@ -201,7 +205,7 @@ fn after_op<K: Keeper>(
     count: u64,
     key: Key,
     stamp: Stamp,
-    parts: &mut Told<K>,
+    parts: &mut PartsSoFar<K>,
     bytes: &[u8],
 ) -> Result<Stage, StateCause>
     requires good { AreGood (format_meant format)
@@ -225,7 +229,7 @@ fn after_tiploc_body<K: Keeper>(
     count: u64,
     code: Tiploc,
     stamp: Stamp,
-    parts: &mut Told<K>,
+    parts: &mut PartsSoFar<K>,
     bytes: &[u8],
 ) -> Result<Stage, StateCause>
     ghost format: { formats.Format }
@@ -248,7 +252,7 @@ fn after_assoc_body<K: Keeper>(
     count: u64,
     key: AssocKey,
     stamp: Stamp,
-    parts: &mut Told<K>,
+    parts: &mut PartsSoFar<K>,
     bytes: &[u8],
 ) -> Result<Stage, StateCause>
     ghost format: { formats.Format }
@@ -298,9 +302,9 @@ fn after_line_count(
         state lines.new result }
 {
     match line_count(bytes) {
-        Some(told) => {
+        Some(lines_named) => {
             lines.clear();
-            Ok(Stage::Line(count, key, stamp, told))
+            Ok(Stage::Line(count, key, stamp, lines_named))
         }
         None => Err(StateCause::Body),
     }
@@ -319,7 +323,7 @@ fn after_last_line<K: Keeper>(
     alloc: Global,
     count: u64,
     schedule: Schedule,
-    parts: &mut Told<K>,
+    parts: &mut PartsSoFar<K>,
     lines: &mut Gathered,
     bytes: &[u8],
 ) -> Result<Stage, StateCause>
@@ -343,7 +347,7 @@ pub fn step<K: Keeper>(
     alloc: Global,
     format: Format,
     stage: Stage,
-    parts: &mut Told<K>,
+    parts: &mut PartsSoFar<K>,
     lines: &mut Gathered,
     bytes: &[u8],
 ) -> Result<Stage, StateCause>

@@ -20,27 +20,27 @@ pub const AA_NO_END: &[u8] =
 pub const AA_NO_END_DIVIDE: &[u8] =
     b"AANC10001C200012406109999991111100VVSCOLWELL  TP                               P";
 
-/// C30001 divides at its second call at Colwell, and C30002 goes on.
+/// C30002 divides from C30001 at its second call at Colwell.
 pub const AA_DIVIDE: &[u8] =
     b"AANC30001C300022406102406101000000VVSCOLWELL2 TP                               P";
 
-/// C40001 becomes C40002, on the next day.
+/// C40002 is the next working of C40001 at Colwell, on the next day.
 pub const AA_N: &[u8] =
     b"AANC40001C400022406102406101000000NPNCOLWELL  TP                               P";
 
-/// C40001 becomes C40002, on the same day.
+/// C40002 is the next working of C40001 at Colwell, on the same day.
 pub const AA_S: &[u8] =
     b"AANC40001C400022406102406101000000NPSCOLWELL  TP                               P";
 
-/// C40001 becomes C40002, on the day before.
+/// C40002 is the next working of C40001 at Colwell, on the day before.
 pub const AA_P: &[u8] =
     b"AANC40001C400022406102406101000000NPPCOLWELL  TP                               P";
 
-/// C40001 becomes C40002, without a date indicator.
+/// C40002 is the next working of C40001 at Colwell, without a date indicator.
 pub const AA_BLANK: &[u8] =
     b"AANC40001C400022406102406101000000NP COLWELL  TP                               P";
 
-/// C40001 becomes C40002, with an unknown date indicator.
+/// C40002 is the next working of C40001 at Colwell, with an unknown date indicator.
 pub const AA_X: &[u8] =
     b"AANC40001C400022406102406101000000NPXCOLWELL  TP                               P";
 
@@ -48,6 +48,6 @@ pub const AA_X: &[u8] =
 pub const AA_OTHER: &[u8] =
     b"AANC40001C400022406102406101000000XXNCOLWELL  TP                               P";
 
-/// C40001 becomes C40002, on 31 December 2059.
+/// C40002 is the next working of C40001 at Colwell, on the day after 31 December 2059.
 pub const AA_LAST: &[u8] =
     b"AANC40001C400025912315912310010000NPNCOLWELL  TP                               P";

@@ -4,13 +4,13 @@
 /// The heading of the docker of Ashfeld on 10 June 2024.
 pub const AT_ASHFELD: &[u8] = b"DOCKER ASHFELD 2024-06-10                               ";
 
-/// The heading of the docker of Ashfeld on that day, under its new code and description.
+/// The heading of the docker of Ashfeld on 10 June, under its new code and description.
 pub const AT_ASHFLDN: &[u8] = b"DOCKER ASHFLDN 2024-06-10 ASHFIELD NEW                  ";
 
-/// The heading of the docker of Colwell on that day.
+/// The heading of the docker of Colwell on 10 June.
 pub const AT_COLWELL: &[u8] = b"DOCKER COLWELL 2024-06-10                               ";
 
-/// The heading of the docker of Elm on that day.
+/// The heading of the docker of Elm on 10 June.
 pub const AT_ELM: &[u8] = b"DOCKER ELM     2024-06-10                               ";
 
 /// The last line of a docker.
@@ -64,7 +64,7 @@ pub const FIRST_LEAVES: &[u8] = b"1012  D 3C30 C30001 P   3                ASHFE
 /// C30001 arrives at Colwell a second time, at 10:40.
 pub const AGAIN_COMES: &[u8] = b"1040  A 3C30 C30001 P 2 4                ASHFELD BRAYTON";
 
-/// C30002 divides from C30001 there.
+/// C30002 divides from C30001 at Colwell.
 pub const DIVIDES: &[u8] = b"1040  V 3C30 C30001 P 2 4                C30002  3C32   ";
 
 /// C30001 leaves Colwell a second time, at 10:42.
@@ -76,10 +76,10 @@ pub const OTHER_LEAVES: &[u8] = b"1045  D 3C32 C30002 P   5                COLWE
 /// C40001 arrives at Colwell at 23:50.
 pub const COMES_2350: &[u8] = b"2350  A 4D40 C40001 P   1                ASHFELD COLWELL";
 
-/// C40001 becomes C40002 there.
+/// C40002 is the next working of C40001 at Colwell.
 pub const WORKS_ON: &[u8] = b"2350  N 4D40 C40001 P   1                C40002  4D42   ";
 
-/// C40001 becomes C40002 there, whose identity isn't known.
+/// C40002 is the next working of C40001 at Colwell, with an identity that isn't known.
 pub const WORKS_ON_UNKNOWN: &[u8] = b"2350  N 4D40 C40001 P   1                C40002  ????   ";
 
 /// C50001 leaves Ashfeld at 12:00.
@@ -88,7 +88,7 @@ pub const LEAVES_AS_5E50: &[u8] = b"1200  D 5E50 C50001 P                    ASH
 /// C50001 passes Colwell at 12:10, with another identity.
 pub const PASSES_AS_5E51: &[u8] = b"1210  P 5E51 C50001 P                    ASHFELD BRAYTON";
 
-/// C50001 arrives at Brayton at 12:30, with that identity.
+/// C50001 arrives at Brayton at 12:30, with its other identity.
 pub const COMES_AS_5E51: &[u8] = b"1230  A 5E51 C50001 P                    ASHFELD BRAYTON";
 
 /// The docker of Ashfeld on which C10001 leaves at 09:00.

@@ -8,11 +8,11 @@ pub const HD: &[u8] =
 pub const HD_FULL: &[u8] =
     b"HDTPS.UDFROC1.PD2406090906242100DFROC1ADFROC1ZFA                                ";
 
-/// The header of an update of 10 June, which follows that file.
+/// The header of an update of 10 June, which follows the update of 9 June.
 pub const HD_10B: &[u8] =
     b"HDTPS.UDFROC1.PD2406091006242100DFROC1BDFROC1AUA                                ";
 
-/// The header of an update of 10 June, 06:05, which follows it too.
+/// The header of an update of 10 June, 06:05, which also follows the update of 9 June.
 pub const HD_10B_0605: &[u8] =
     b"HDTPS.UDFROC1.PD2406101006240605DFROC1BDFROC1AUA                                ";
 

@@ -4,15 +4,15 @@
 pub const BS: &[u8] =
     b"BSNC100012406102406141111100 POO1A10                                           P";
 
-/// Its revision.
+/// The revision of C10001's permanent schedule.
 pub const BS_REVISED: &[u8] =
     b"BSRC100012406102406141111100 POO1A10                                           P";
 
-/// Its deletion.
+/// The deletion of C10001's permanent schedule.
 pub const BS_DELETED: &[u8] =
     b"BSDC10001240610              POO                                               P";
 
-/// Its deletion, without a status.
+/// The deletion of C10001's permanent schedule, without a status.
 pub const BS_DELETED_PLAIN: &[u8] =
     b"BSDC10001240610                                                                P";
 
@@ -60,7 +60,7 @@ pub const BS_NEW: &[u8] =
 pub const BS_CANCELLED: &[u8] =
     b"BSNC100012406142406140000100 POO1A10                                           C";
 
-/// The deletion of that cancellation, without a status.
+/// The deletion of C10001's cancellation on 14 June, without a status.
 pub const BS_CANCELLED_DELETED: &[u8] =
     b"BSDC10001240614                                                                C";
 
@@ -100,7 +100,7 @@ pub const BS_C30001: &[u8] =
 pub const BS_C30002: &[u8] =
     b"BSNC300022406102406101000000 POO3C32                                           P";
 
-/// The deletion of that schedule of C30002.
+/// The deletion of the schedule of C30002 on 10 June.
 pub const BS_C30002_DELETED: &[u8] =
     b"BSDC30002240610              POO                                               P";
 

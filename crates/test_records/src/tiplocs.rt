@@ -4,7 +4,7 @@
 pub const TI: &[u8] =
     b"TIASHFELD         ASHFIELD CENTRAL                                              ";
 
-/// The body that this insertion gives Ashfeld.
+/// The body that the insertion of Ashfeld gives its code.
 pub const BODY_OF_TI: [u8; 63] =
     *b"         ASHFIELD CENTRAL                                      ";
 
@@ -12,7 +12,7 @@ pub const BODY_OF_TI: [u8; 63] =
 pub const TA: &[u8] =
     b"TAASHFELD         ASHFIELD NEW                                          ASHFLDN ";
 
-/// The body that this amendment gives the new code.
+/// The body that the amendment of Ashfeld gives the new code.
 pub const BODY_OF_TA: [u8; 63] =
     *b"         ASHFIELD NEW                                          ";
 

@@ -78,7 +78,7 @@ good_rows live (row ∷ rows) good each = (
 pub good_of_uid : (live : Table) (uid : List ℕ) (rows : List Row) → HasGoodBodies live → AreOfUid live uid rows → AreGoodRows rows
 good_of_uid live uid rows good are = good_rows live rows good (λ key body among. ((are.members key body).0 among).4)
 
--- if each row is live, the rows are
+-- if each of some rows is live, all of them are
 live_rows : (live : Table) (rows : List Row) → ((key : Key) (body : Body) → Contains rows (key, body) → live key ≡ Some body) → AreLive live rows
 live_rows live [] each = tt
 live_rows live (row ∷ rows) each = (
@@ -154,7 +154,8 @@ next_link_is_none group day found (schedule_key key) body none = refl
 abbrev row_of : Train → Row
 row_of train = (schedule_key train.key, schedule_body train.lines)
 
--- rows that have each schedule of a UID still have each, with one more live one in front
+-- rows that have each schedule of a UID still have each of them after one more live row is put
+-- first
 has_in_front : (live : Table) (train : Train) (rows : List Row) → IsLiveTrain live train → HasSchedulesOf live train.key.uid rows
     → HasSchedulesOf live train.key.uid (row_of train ∷ rows)
 has_in_front live train rows is_live has = record {
@@ -176,8 +177,8 @@ best_alone train day runs =
     running : is_running train.key.uid day train ≡ true
     running = λ i. (bytes_eq-Decides train.key.uid train.key.uid).1 refl i && runs i
 
--- the best of its UID's rows, where the walk begins with the schedule, is the day's train unless it
--- is a cancellation
+-- if a walk begins with a schedule, the best of the rows of its UID is the day's train unless it is
+-- a cancellation
 train_from_it : (live : Table) (rows : List Row) (train : Train) (day : ℕ) (walk : List Row) (found : Option Train) → AreRowsOf live rows
     → IsLiveTrain live train → schedule_runs (first_record train.lines) day ≡ true → HasSchedulesOf live train.key.uid walk
     → found ≡ chosen_along train.key.uid day (Some train) walk → unless_cancelled found ≡ train_in rows train.key.uid day
@@ -187,7 +188,7 @@ train_from_it live rows train day walk found are is_live runs has is =
     (subst (IsChosenSoFar train.key.uid day (row_of train ∷ walk)) (sym is)
     (chosen_behind train.key.uid day (row_of train ∷ []) walk (Some train) (best_alone train day runs))))
 
--- what such a walk finds is the day's train
+-- a walk that begins with a schedule finds the day's train
 pub train_from_told : (live : Table) (rows : List Row) (train : Train) (key : ScheduleKey) (day : ℕ) (walk : List Row) (best found : Option Train)
     → key ≡ train.key → AreRowsOf live rows → IsLiveTrain live train → schedule_runs (first_record train.lines) day ≡ true → HasSchedulesOf live key.uid walk
     → best ≡ chosen_along key.uid day (Some train) walk → found ≡ unless_cancelled best → found ≡ train_in rows train.key.uid day

@@ -54,12 +54,12 @@ falls_there lines number None is = ((λ some. absurd (none_is some)), λ there. 
     none_is some = cc
 falls_there lines number (Some falls) is = ((λ some. (told lines number falls (sym is)).there), λ there. refl)
 
--- the falls found for a number are those up to the event
+-- the falls found for an event's number are the falls up to that event
 pub falls_are : (lines : List (List ℕ)) (number : ℕ) (falls : Option ℕ) → falls ≡ falls_among number (occurrences lines)
     → IfSome falls (λ n. n ≡ falls_to lines number)
 falls_are lines number None is = tt
 falls_are lines number (Some falls) is = (told lines number falls (sym is)).is
 
--- there are at most two of them
+-- the falls found for a number are at most two
 pub falls_few : (lines : List (List ℕ)) (number falls : ℕ) → falls_among number (occurrences lines) ≡ Some falls → ((n : ℕ) → falls_to lines n ≤ 2) → falls ≤ 2
 falls_few lines number falls found few = subst (λ (n : ℕ). n ≤ 2) (sym (told lines number falls found).is) (few number)

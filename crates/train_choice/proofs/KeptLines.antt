@@ -1,4 +1,4 @@
--- What is known of the lines of a schedule or an association that fits its key.
+-- The facts about the lines of a schedule or an association that fits its key.
 use Rattle.std.proofs.Common.{◌≡◌, ℕ, ◌<◌, ◌≤◌, ◌^◌, true, false, List, ◌∷◌, ◌++◌, length, ap, sym, ◌∙◌, subst, inl, inr, ◌⊎◌, All, arith}
 use Rattle.std.specs.Prelude.{IsTrue, ◌==◌, ◌&&◌, nat_le}
 use Rattle.std.specs.List.{AllByRecursion}
@@ -47,12 +47,13 @@ lines_good key lines of =
 pub falls_few : (key : ScheduleKey) (lines : List (List ℕ)) (number : ℕ) → IsScheduleOf key lines → falls_to lines number ≤ 2
 falls_few key lines number of = let all = few_midnights key lines of in let some = falls_below lines number in omega arith
 
--- ---- on which days it runs, by the runs-from date in its key
+-- ---- on which days a schedule runs, by the runs-from date in its key
 
 same_key : (a b : ScheduleKey) → schedule_key a ≡ schedule_key b → a ≡ b
 same_key a b h = cc
 
--- on which days it runs, by the runs-from date in its key and two fields of its basic schedule
+-- the runs-from date in its key and two fields of its basic schedule say on which days a schedule
+-- runs
 pub runs_by_key : (key : ScheduleKey) (lines : List (List ℕ)) (day : ℕ) → IsScheduleOf key lines
     → (nat_le key.runs_from day && runs_until (columns 16 21 (first_record lines)) (columns 22 28 (first_record lines)) day)
     ≡ schedule_runs (first_record lines) day

@@ -1,4 +1,4 @@
--- What is kept is right, and is still right after one more look-up.
+-- The identities and associations kept are right, and still are after one more look-up.
 use Rattle.std.proofs.Common.{◌≡◌, ℕ, Bool, true, false, cond, List, refl, ap, sym, ◌∙◌, subst, Some}
 use Rattle.std.specs.Prelude.{Option, ◌&&◌, ◌==◌}
 use Rattle.std.specs.declared.cmp.Ordering.{Ordering}
@@ -26,7 +26,7 @@ use Rattle.train_choice.proofs.BestSoFar.{best_stays, best_goes}
 
 -- ---- identities
 
--- the kept identities are still right with one more that is right
+-- if the kept identities are right and one more is right, all of them are right
 pub one_more_identity : (live : Table) (before after : BTreeMap (List ℕ × ℕ) (List ℕ)) (uid : List ℕ) (day : ℕ) (identity : List ℕ)
     → AreIdentities live before → Updates uid_day_cmp before after (uid, day) (Some identity)
     → ((rows : List Row) → AreRowsOf live rows → identity ≡ identity_of (train_in rows uid day)) → AreIdentities live after
@@ -66,7 +66,7 @@ regrouped true true false d = refl
 regrouped true false c d = refl
 regrouped false b c d = refl
 
--- a group is equal to an association's group if and only if the association is of it
+-- a group equals an association's group if and only if the association is in this group
 at_group : (key : AssociationKey) (group : Group) → is_eq (group_cmp (group_of key) group) ≡ is_of_group group key
 at_group key group =
     sym (tied_then (bytes_cmp key.base group.base) (ordering_then (bytes_cmp key.associated group.associated) rest))
@@ -83,7 +83,7 @@ at_group key group =
 own_group : (key : AssociationKey) (group : Group) → is_of_group group key ≡ true → group_of key ≡ group
 own_group key group is = exact_group (group_of key) group (eq_is (group_cmp (group_of key) group) (at_group key group ∙ is))
 
--- the association kept for a group is the one chosen, so it decides whether another one is
+-- an association is the chosen one if and only if it is the one kept for its group
 pub counts_told : (live : Table) (place : List ℕ) (day : ℕ) (best : GroupLinks) (key : AssociationKey) (link : Link) (answer : Bool)
     → AreDayLinks live place day best → key.location ≡ place → Some link ≡ get group_cmp best (group_of key)
     → answer ≡ is_eq (association_key_cmp link.key key)

@@ -29,8 +29,8 @@ fall_is (Some last) time = refl
 sum : (a b c : ℕ) → a ≡ 0 → b ≡ c → a + b ≡ c
 sum a b c none same = omega arith
 
--- what some times decide: if they ascend, the last is this one and no midnight has been passed; if
--- they don't, one has been passed before some event
+-- the times say whether a midnight is passed: if they ascend, none is passed and the last time is
+-- this one; if not, one is passed before some event
 abbrev Told : Progress → List ℕ → Times → Option ℕ → Type 0
 Told p line times None = (rest : List Occurrence) → some_late (occurrences_at p line times ++ rest) ≡ true
 Told p line times (Some last) =
@@ -81,15 +81,15 @@ along p (line ∷ lines) zero =
 pub late_by_times : (basic : List ℕ) (lines : List (List ℕ)) → falls_along 0 lines ≡ some_late (occurrences_from (before_all basic) lines)
 late_by_times basic lines = along (before_all basic) lines refl
 
--- if all lines have good fields, so has the first
+-- if all lines have good fields, the first line has good fields
 pub first_good : (lines rest : List (List ℕ)) (line : List ℕ) → All HasGoodFields lines → lines ≡ line ∷ rest → HasGoodFields line
 first_good lines rest line good is = (recursion_from_All HasGoodFields (line ∷ rest) (subst (All HasGoodFields) is good)).0
 
--- if all lines have good fields, so have the others
+-- if all lines have good fields, the other lines have good fields
 pub rest_good : (lines rest : List (List ℕ)) (line : List ℕ) → All HasGoodFields lines → lines ≡ line ∷ rest → All HasGoodFields rest
 rest_good lines rest line good is = All-from_recursion HasGoodFields rest (recursion_from_All HasGoodFields (line ∷ rest) (subst (All HasGoodFields) is good)).1
 
--- if the times of the first line ascend, the other lines decide
+-- if the times of the first line ascend, the other lines say whether a midnight is passed
 pub goes_on : (last time : ℕ) (line : List ℕ) (rest lines : List (List ℕ)) → lines ≡ line ∷ rest → ascends last (times_of line) ≡ Some time
     → falls_along time rest ≡ falls_along last lines
 goes_on last time line rest lines is up =

@@ -65,7 +65,7 @@ module _ (whole : List (List ℕ)) (place : ℕ) (line : List ℕ) (identity : L
         identity = (same ∙ sym (identity_is event refl)) i;
       }
 
--- what the walk carries after them
+-- what the walk carries after these times
 times_passed : (before : List ℕ) (times : Times) (p : Progress) → HasMet before p → HasMet (before ++ clock_times times) (past_times p times)
 times_passed before [] p has = subst (λ (ts : List ℕ). HasMet ts p) (sym (append-nil before)) has
 times_passed before (time ∷ times) p has =
@@ -95,7 +95,7 @@ identity_more basic front line p same =
     by true = refl
     by false = same
 
--- the events of the lines after some first lines
+-- a walk over the lines after some first lines meets these lines' events
 lines_met : (whole front rest : List (List ℕ)) (p : Progress) → whole ≡ front ++ rest → HasMet (times_along front) p
     → p.identity ≡ changed_identity (last_change front) (first_record whole)
     → occurrences_from p rest ≡ map (occurrence_of whole) (events_from p.number (length front) rest)

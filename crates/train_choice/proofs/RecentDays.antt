@@ -14,8 +14,8 @@ use Rattle.train_choice.specs.RecentRuns.{AreRecentRuns, runs_back, runs_back_by
 use Rattle.train_choice.specs.declared.recent_runs.RecentRuns.{RecentRuns}
 use Rattle.train_choice.proofs.KeptLines.{runs_by_key}
 
--- if two tests agree on all numbers of days back, three flags that are the one's are also the
--- other's
+-- if two tests agree on all numbers of days back, the three flags for one are the flags for the
+-- other
 pub same_recent_runs : (test other : ℕ → Bool) (recent : RecentRuns) → ((back : ℕ) → test back ≡ other back) → AreRecentRuns test recent → AreRecentRuns other recent
 same_recent_runs test other recent same are = record {
   today_is = are.today_is ∙ same 0;
@@ -39,7 +39,7 @@ never_yet key lines day of late back =
         (λ i. sym h i && runs_until (columns 16 21 (first_record lines)) (columns 22 28 (first_record lines)) (day - back))
         ∙ runs_by_key key lines (day - back) of
 
--- four tests, in the order in which the code makes them
+-- the order in which the code makes four tests doesn't change their result
 four_tests : (a b c e : Bool) → ((a && (b && c)) && e) ≡ (a && (b && (e && c)))
 four_tests false b c e = refl
 four_tests true false c e = refl
@@ -57,7 +57,7 @@ recent_runs_are key lines day of back =
     (nat_le (day - back) (end_number (columns 16 21 (first_record lines))))
     ∙ ap (λ b. nat_le back day && b) (runs_by_key key lines (day - back) of)
 
--- this is what the code returns if the schedule has begun by the day
+-- if the schedule has begun by the day, the flags that the code returns are right
 pub recent_runs_told : (key : ScheduleKey) (lines : List (List ℕ)) (line : List ℕ) (first day : ℕ) (recent : RecentRuns) → IsScheduleOf key lines
     → line ≡ first_record lines → first ≡ key.runs_from → AreRecentRuns (runs_back_by_fields line first day) recent → AreRecentRuns (runs_back lines day) recent
 recent_runs_told key lines line first day recent of line_is first_is are =
@@ -65,14 +65,14 @@ recent_runs_told key lines line first day recent of line_is first_is are =
     (subst (λ (n : ℕ). AreRecentRuns (runs_back_by_fields (first_record lines) n day) recent) first_is
     (subst (λ (l : List ℕ). AreRecentRuns (runs_back_by_fields l first day) recent) line_is are))
 
--- this is what the code returns if it begins later
+-- if the schedule begins after the day, the flags that the code returns are right
 pub never_told : (key : ScheduleKey) (lines : List (List ℕ)) (first day : ℕ) (recent : RecentRuns) → IsScheduleOf key lines
     → first ≡ key.runs_from → nat_lt day first ≡ true → AreRecentRuns (λ back. false) recent → AreRecentRuns (runs_back lines day) recent
 never_told key lines first day recent of first_is late are =
     let behind = ltb-true day first late in
     same_recent_runs (λ back. false) (runs_back lines day) recent (never_yet key lines day of (omega arith)) are
 
--- if two of four tests don't both pass, the four don't all pass
+-- if the first and the third of four tests don't both pass, the four don't all pass
 both_of : (a b c e : Bool) → (a && c) ≡ false → ((a && (b && c)) && e) ≡ false
 both_of false b c e none = refl
 both_of true false c e none = refl

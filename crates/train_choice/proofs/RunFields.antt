@@ -8,7 +8,7 @@ use Rattle.docker_model.specs.records.Field.{CheckedField, checked, HasGoodField
 use Rattle.cif_laws.proofs.records.Columns.{good_fields, IsGoodIn}
 use Rattle.docker_laws.proofs.dockers.KeptSchedules.{schedule_first, schedule_last, schedule_days}
 
--- three tests, grouped from the left
+-- three tests give the same result if they are grouped from the left
 pub three_tests : (a b c : Bool) → (a && (b && c)) ≡ ((a && b) && c)
 three_tests true b c = refl
 three_tests false b c = refl
@@ -19,7 +19,7 @@ pub ruleset schedule_fields = (schedule_first, schedule_last, schedule_days, thr
 pub association_first : (line : List ℕ) → HasKind association line → HasGoodFields line → is_date (columns 16 21 line) ≡ true
 association_first line is good = (good_fields association line is good).1.0
 
--- the checked fields after that date
+-- the checked fields of an association after its first date
 association_later : Bool → List CheckedField
 association_later deletion =
     cond deletion [] (checked 22 27 is_end_date ∷ checked 28 34 is_days ∷ []) ++ checked 38 44 is_tiploc ∷ checked 80 80 is_stp_indicator ∷ []
@@ -30,12 +30,12 @@ unfolding association_later
 association_behind line is good stays =
     subst (λ b. AllByRecursion (IsGoodIn line) (association_later b)) stays (good_fields association line is good).1.1
 
--- the last date is good
+-- the last date of an association is good
 pub association_last : (line : List ℕ) → HasKind association line → HasGoodFields line → is_deletion line ≡ false → is_end_date (columns 22 27 line) ≡ true
 unfolding association_later
 association_last line is good stays = (association_behind line is good stays).0
 
--- the days run are good
+-- the days run of an association are good
 pub association_days : (line : List ℕ) → HasKind association line → HasGoodFields line → is_deletion line ≡ false → is_days (columns 28 34 line) ≡ true
 unfolding association_later
 association_days line is good stays = (association_behind line is good stays).1.0

@@ -8,7 +8,7 @@ use Rattle.docker_model.specs.state.State.{IsScheduleOf}
 use Rattle.train_choice.specs.UpTo.{names_place, before_named, up_to_last}
 use Rattle.train_choice.proofs.KeptLines.{lines_good, lines_few}
 
--- a line that comes before a last line stays
+-- a line stays if a line after it stays
 kept : (named : Bool) (line last : List ℕ) (lines : List (List ℕ)) → before_named named line (lines ++ last ∷ []) ≡ (line ∷ lines) ++ last ∷ []
 kept named line last [] = refl
 kept named line last (next ∷ lines) = refl
@@ -20,7 +20,7 @@ last_named place last [] named = λ i. before_named (named i) last []
 last_named place last (line ∷ lines) named =
     ap (before_named (names_place place line) line) (last_named place last lines named) ∙ kept (names_place place line) line last lines
 
--- if it isn't, it is left out
+-- if the last line isn't at the place, it is left out
 pub last_elsewhere : (place last : List ℕ) (lines : List (List ℕ)) → names_place place last ≡ false
     → up_to_last place (lines ++ last ∷ []) ≡ up_to_last place lines
 last_elsewhere place last [] elsewhere = λ i. before_named (elsewhere i) last []
@@ -48,18 +48,18 @@ few_before true line [] n few = omega arith
 few_before false line [] n few = omega arith
 few_before named line (next ∷ lines) n few = omega arith
 
--- there are at most as many of them as lines
+-- the lines up to the last one at a place are at most as many as all lines
 pub few_up_to : (place : List ℕ) (lines : List (List ℕ)) → length (up_to_last place lines) ≤ length lines
 few_up_to place [] = omega arith
 few_up_to place (line ∷ lines) =
     let few = few_before (names_place place line) line (up_to_last place lines) (length lines) (few_up_to place lines) in omega arith
 
--- in a schedule they have good fields
+-- the lines of a schedule up to its last one at a place have good fields
 pub lines_to_good : (place : List ℕ) (key : ScheduleKey) (lines : List (List ℕ)) → IsScheduleOf key lines
     → All HasGoodFields (up_to_last place lines)
 lines_to_good place key lines of = all_up_to HasGoodFields place lines (lines_good key lines of)
 
--- in a schedule their number fits in 32 bits
+-- the number of a schedule's lines up to its last one at a place fits in 32 bits
 pub lines_to_few : (place : List ℕ) (key : ScheduleKey) (lines : List (List ℕ)) → IsScheduleOf key lines
     → length (up_to_last place lines) < 2 ^ 32
 lines_to_few place key lines of =

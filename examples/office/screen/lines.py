@@ -1,4 +1,5 @@
 """A docker's text as its heading and its lines, by the columns that docs/FORMATS.md has."""
+import operator
 from typing import NamedTuple
 
 KINDS = {"A": "arrives", "P": "passes", "D": "departs", "J": "is joined", "V": "divides", "N": "goes on"}
@@ -66,14 +67,19 @@ class Docker(NamedTuple):
     lines: list
 
 
-def fields(text, columns):
-    return [text[first - 1:last].strip() for first, last in columns.values()]
+def cutter(*tables):
+    """What cuts a text into the fields of these tables."""
+    return operator.itemgetter(*(slice(first - 1, last) for columns in tables for first, last in columns.values()))
+
+
+HEADING_FIELDS, EVENT_FIELDS, LINK_FIELDS = cutter(HEADING), cutter(COLUMNS, ENDS), cutter(COLUMNS, PARTNER)
 
 
 def line_of(text):
-    none = ["", ""]
-    end = [*none, *fields(text, PARTNER)] if text[6] in LINKS else [*fields(text, ENDS), *none]
-    return Line(*fields(text, COLUMNS), *end)
+    if text[6] in LINKS:
+        *fields, partner, identity = map(str.strip, LINK_FIELDS(text))
+        return Line(*fields, "", "", partner, identity)
+    return Line(*map(str.strip, EVENT_FIELDS(text)), "", "")
 
 
 def docker_of(text):
@@ -81,4 +87,4 @@ def docker_of(text):
     heading, *lines, end, rest = text.decode("ascii").split("\n")
     if not heading.startswith("DOCKER ") or end.rstrip() != "END" or rest or any(len(line) != 56 or line.startswith("DOCKER ") for line in lines):
         raise ValueError("this is no docker")
-    return Docker(*fields(heading, HEADING), [line_of(line) for line in lines])
+    return Docker(*map(str.strip, HEADING_FIELDS(heading)), [line_of(line) for line in lines])

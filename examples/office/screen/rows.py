@@ -1,6 +1,11 @@
 """The rows of a docker's table as HTML. A busy place has thousands, so no template makes them."""
+import bisect
 from html import escape
+from typing import NamedTuple, Optional
 import urllib.parse
+
+import changes
+import lines
 
 
 def part(word):
@@ -16,14 +21,45 @@ class Escaped(dict):
         return self[text]
 
 
-class Rows:
-    """How the rows of a docker are made. They link to their trains if single trains can be shown. Without a list of names they have codes."""
+class Row(NamedTuple):
+    """A line of a docker, or a permanent one that isn't on it, and how it differs, if it does."""
+    line: lines.Line
+    change: Optional[changes.Change]
+    is_gone: bool
 
-    def __init__(self, docker, labels, is_linked):
+
+def rows_of(docker, differing):
+    """A docker's lines in their order, and in their places among them what is gone. Nothing differs where that isn't known."""
+    found = [Row(line, differing and differing.of.get(number), False) for number, line in enumerate(docker.lines)]
+    for line, change in differing.gone if differing else ():
+        at = bisect.bisect_right(found, changes.place_in_day(line), key=lambda row: changes.place_in_day(row.line))
+        found.insert(at, Row(line, change, True))
+    return found
+
+
+def once_here(docker):
+    """The UIDs with one call on a docker. It belongs to one train, and a link to that needs no time. A train may also end here, and another one start."""
+    events = {}
+    for line in docker.lines:
+        if line.kind in changes.EVENTS:
+            events.setdefault(line.uid, []).append(line)
+    return {
+        uid for uid, found in events.items()
+        if len(found) == 1 or [line.kind for line in found] == ["A", "D"] and found[0].suffix == found[1].suffix and docker.tiploc not in (found[0].destination, found[1].origin)
+    }
+
+
+class Rows:
+    """How the rows of a docker are made. They link to their trains if single trains can be shown. Without a list of names they have codes. Where it is
+    known what differs, `when` is the day in words, and each row has a cell for it."""
+
+    def __init__(self, docker, labels, is_linked, when=""):
         self.docker = docker
         self.labels = labels
         self.is_linked = is_linked
+        self.when = when
         self.place = part(docker.tiploc)
+        self.once = once_here(docker)
         self.cells = {}
         self.escaped = Escaped()
 
@@ -37,25 +73,42 @@ class Rows:
         return self.cells[tiploc]
 
     def linked(self, text, uid, time):
+        """A link to the train that is here at a time."""
+        return self.link(text, uid, f"{self.docker.date}?at={self.place}.{time}")
+
+    def link(self, text, uid, address):
         if not self.is_linked or len(uid) != 6 or not text:
             return self.escaped[text]
-        return f'<a href="/train/{part(uid)}/{self.docker.date}?at={self.place}.{time}">{self.escaped[text]}</a>'
+        return f'<a href="/train/{part(uid)}/{address}">{self.escaped[text]}</a>'
 
-    def row(self, line, after, mark):
-        """A line of the docker. `after` is how many half minutes lie between the page's midnight and the docker's."""
-        _, _, train, uid, stp, suffix, platform, track, path, *_ = map(self.escaped.__getitem__, line)
+    def train(self, row):
+        """The train's identity. One that isn't here is found by its start day."""
+        line = row.line
+        return self.link(line.train, line.uid, row.change.start) if row.is_gone else self.linked(line.train, line.uid, "" if line.uid in self.once else line.time)
+
+    def difference(self, row):
+        """The cell that says how a row differs, if any row has it."""
+        if not self.when:
+            return ""
+        return f'<td class="change">{self.escaped[changes.told(row.line, row.change, self.labels, self.when)]}</td>' if row.change else "<td></td>"
+
+    def row(self, row, after, mark):
+        """A row of the table. `after` is how many half minutes lie between the page's midnight and the docker's."""
+        line = row.line
+        _, _, _, uid, stp, suffix, platform, track, path, *_ = map(self.escaped.__getitem__, line)
         if line.link:
             end = f'<td class="link" colspan="2">{self.linked(line.link, line.partner, "")}</td>'
         else:
             end = f'<td class="from"{self.cell(line.origin)}<td class="to"{self.cell(line.destination)}'
+        kind = f"{stp}{' gone' if row.is_gone else ''} {row.change.kind}" if row.change else stp
         return (
-            f'<tr{mark} class="{stp}" data-at="{line.half_minutes + after}"><td class="time">{line.clock}</td><td class="kind">{self.escaped[line.word]}</td>'
-            f'<td class="train">{self.linked(line.train, line.uid, line.time) if self.is_linked else train}</td><td class="platform">{platform}</td>'
+            f'<tr{mark} class="{kind}" data-at="{line.half_minutes + after}"><td class="time">{line.clock}</td><td class="kind">{self.escaped[line.word]}</td>'
+            f'<td class="train">{self.train(row)}</td><td class="platform">{platform}</td>'
             f'<td class="path">{path}</td><td class="line">{track}</td><td class="public">{line.public_clock}</td>{end}'
-            f'<td class="uid">{uid}</td><td class="suffix">{suffix}</td><td class="stp">{stp}</td></tr>\n'
+            f'<td class="uid">{uid}</td><td class="suffix">{suffix}</td><td class="stp">{stp}</td>{self.difference(row)}</tr>\n'
         )
 
-    def all(self, after=0, now=None):
-        """The rows of all lines. The first that isn't past is marked."""
-        first = next((number for number, line in enumerate(self.docker.lines) if now is not None and line.half_minutes >= now), None)
-        return "".join(self.row(line, after, ' id="now"' if number == first else "") for number, line in enumerate(self.docker.lines))
+    def all(self, rows, after=0, now=None):
+        """These rows. The first that isn't past is marked."""
+        first = next((number for number, row in enumerate(rows) if now is not None and row.line.half_minutes >= now), None)
+        return "".join(self.row(row, after, ' id="now"' if number == first else "") for number, row in enumerate(rows))

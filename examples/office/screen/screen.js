@@ -32,7 +32,8 @@ function daysBetween(from, to) {
 function fold() {
   const [date, time] = now();
   const table = document.getElementById("docker");
-  if (!table) return;
+  // A list of what differs is shown whole.
+  if (!table || "whole" in table.dataset) return;
   const days = daysBetween(page.dataset.date, date);
   const start = days === 0 || isOfToday && days > 0 ? halfMinutes(time) + 2880 * days : 0;
   const rows = table.querySelectorAll("tr[data-at]");
@@ -70,6 +71,36 @@ function mark() {
   line.setAttribute("class", "now");
   line.setAttribute("d", `M${70 + halfMinutes(time) * 2} 18V${svg.height.baseVal.value}`);
   svg.append(line);
+}
+
+// The platforms' names by themselves, to stand still beside a graph that is moved across.
+function names(graph) {
+  const svg = graph.cloneNode(false);
+  svg.setAttribute("viewBox", `0 0 60 ${graph.getAttribute("height")}`);
+  svg.setAttribute("width", 60);
+  svg.append(...[...graph.querySelectorAll(":scope > title, :scope > text[x='8']")].map((it) => it.cloneNode(true)));
+  const box = document.createElement("div");
+  box.className = "names";
+  box.append(svg);
+  return box;
+}
+
+// Fetches the platforms of the day, when somebody opens them, and shows them from now on.
+async function draw(across) {
+  if (across.dataset.of && !across.firstElementChild) {
+    try {
+      const answer = await fetch(across.dataset.of, {signal: AbortSignal.timeout(PATIENCE)});
+      if (!answer.ok) throw new Error(answer.status);
+      const graph = document.importNode(new DOMParser().parseFromString(await answer.text(), "image/svg+xml").documentElement, true);
+      across.replaceChildren(names(graph), graph);
+    } catch {
+      across.textContent = "The server gives no answer";
+      return;
+    }
+    mark();
+  }
+  const first = document.querySelector("#docker tr[data-at]");
+  across.scrollLeft = (now()[0] === page.dataset.date ? halfMinutes(now()[1]) : Number(first.dataset.at)) * 2 - 200;
 }
 
 function tick() {
@@ -136,9 +167,7 @@ document.addEventListener("click", (event) => {
   fold();
 });
 document.addEventListener("toggle", (event) => {
-  if (event.target.id !== "platforms" || !event.target.open) return;
-  const across = event.target.querySelector(".across");
-  across.scrollLeft = now()[0] === page.dataset.date ? halfMinutes(now()[1]) * 2 - 200 : Number(document.querySelector("#docker tr[data-at]").dataset.at) * 2 - 200;
+  if (event.target.id === "platforms" && event.target.open) draw(event.target.querySelector(".across"));
 }, true);
 lastAnswer = now()[1].slice(0, 5);
 tick();

@@ -99,7 +99,8 @@ def date_of(digits):
     return f"{1900 + year if year >= 60 else 2000 + year}-{digits[2:4]}-{digits[4:]}"
 
 
-def calls_of(records):
+def calls_of(records, only):
+    """The calls of a schedule; if a place is named, only those there."""
     calls, identity, is_changed, before, day = [], part(records[0], BASIC["train identity"]), False, 0, 0
     for record in records:
         kind = record[:2]
@@ -113,6 +114,9 @@ def calls_of(records):
             # A time below the one before begins a new day.
             day, before = day + (half_minutes(time) < before), half_minutes(time)
             days[what] = day
+        if only not in (None, record[2:9].rstrip()):
+            is_changed = False
+            continue
         public = {what: part(record, columns) for what, columns in PUBLIC[kind].items()}
         platform, line, path = (part(record, columns) for columns in TRACKS[kind])
         calls.append(Call(part(record, (3, 9)), part(record, (10, 10)), times, days, public, platform, line, path, identity, is_changed))
@@ -120,8 +124,8 @@ def calls_of(records):
     return calls
 
 
-def train_of(text):
-    """The train that a text is: a heading, records and `END`, each of 80 columns."""
+def train_of(text, only=None):
+    """The train that a text is: a heading, records and `END`, each of 80 columns. If a place is named, the train has its calls there only."""
     heading, *records, end, rest = text.decode("ascii").split("\n")
     if not heading.startswith("TRAIN ") or end.rstrip() != "END" or rest or any(len(record) != 80 for record in records):
         raise ValueError("this is no train")
@@ -130,7 +134,13 @@ def train_of(text):
         return Train(*fields, "", "", "", "", [])
     basic = records[0]
     runs_from, runs_to = (date_of(part(basic, BASIC[name])) for name in ("runs from", "runs to"))
-    return Train(*fields, part(basic, BASIC["train identity"]), runs_from, runs_to, part(basic, BASIC["days"]), calls_of(records))
+    return Train(*fields, part(basic, BASIC["train identity"]), runs_from, runs_to, part(basic, BASIC["days"]), calls_of(records, only))
+
+
+def indicator_of(text):
+    """The STP indicator of the schedule that is chosen, by the heading of a text of `train`; nothing if there is none."""
+    first, last = HEADING["STP indicator"]
+    return text[first - 1:last].decode("ascii").strip()
 
 
 def weekdays(days):

@@ -63,23 +63,32 @@ def places_of(office):
     return found
 
 
-def prints_places(office, reader, date):
-    """Writes the dockers of the office's places. If one is refused it says so, and the others follow. If STATE or the day is refused, it stops: the others would
+def dockers_of(office, reader, date):
+    """The dockers of the office's places. If one is refused it says so, and the others follow. If STATE or the day is refused, it stops: the others would
     be refused too."""
     if not dockers.is_date(date):
         says_refusal(office, "print", reader.print_docker("A", date))
         return
     for place in places_of(office):
         answer = reader.print_docker(place, date)
-        if answer.status != 0:
-            says_refusal(office, place, answer)
-            if answer.status == 1:
-                return
-        else:
-            with writing():
-                sys.stdout.buffer.write(answer.text)
-                sys.stdout.flush()
-            says_unknown(office, place, answer.text)
+        if answer.status == 0:
+            yield place, answer.text
+            continue
+        says_refusal(office, place, answer)
+        if answer.status == 1:
+            return
+
+
+def prints_places(office, reader, date):
+    """Writes the dockers of the office's places. The places whose dockers were written."""
+    printed = []
+    for place, text in dockers_of(office, reader, date):
+        with writing():
+            sys.stdout.buffer.write(text)
+            sys.stdout.flush()
+        says_unknown(office, place, text)
+        printed.append(place)
+    return printed
 
 
 @contextlib.contextmanager

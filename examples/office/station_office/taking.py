@@ -56,7 +56,7 @@ def takes(office, path):
 
 
 def looks_at(office, path):
-    """The extract in a file. What is none is refused, by docker or by its first bytes, and so is what is withdrawn."""
+    """The extract in a file. A file that is no extract is refused, by docker or by its first bytes, and so is one that is withdrawn."""
     plain = office.unpacked(path)
     with open(plain, "rb") as text:
         head = text.read(512)

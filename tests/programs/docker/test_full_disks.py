@@ -33,7 +33,7 @@ def full_disk(*words):
 
 
 def test_take_on_a_full_disk():
-    """The fault's line, which goes to a file here, isn't taken either."""
+    """The fault's line goes to a file, which takes nothing either."""
     give(STATE_OF_BOTH, "office")
     assert full_disk("take", "office", "places") == (Ended(4, b"", None), b"")
     holds_only("office", STATE_OF_BOTH)

@@ -115,7 +115,7 @@ def locked(given):
 
 @pytest.fixture
 def unlocked(given):
-    """A folder that is not, of the user of these cases."""
+    """A folder of this user that isn't read only, with a state."""
     os.mkdir("open")
     give(STATE_OF_ONE, "open/office")
     if os.getuid() == 0:
@@ -129,7 +129,7 @@ def test_new_in_a_folder_that_is_read_only(stranger, locked):
 
 
 def test_take_in_a_folder_that_is_read_only(stranger, locked):
-    """A docker of it is printed all the same."""
+    """A docker of the state is printed all the same."""
     assert run([*stranger, "take", "locked/office", "revised"]) == DEVICE
     holds_only("locked/office", STATE_OF_ONE)
     printed = run([*stranger, "print", "locked/office", "ASHFELD", "2024-06-10"])
@@ -137,7 +137,7 @@ def test_take_in_a_folder_that_is_read_only(stranger, locked):
 
 
 def test_take_of_a_state_that_is_read_only_in_a_folder_that_is_not(stranger, unlocked):
-    """It stays read only."""
+    """The state stays read only."""
     os.chmod("open/office", 0o444)
     assert run([*stranger, "take", "open/office", "revised"]) == DONE
     holds_only("open/office", STATE_OF_BOTH)

@@ -22,17 +22,17 @@ const MOST_BYTES: u64 = 1_099_511_627_776;
 const HEAD_OF_MOST: &[u8] =
     b"\x03C10001\x5b\xf1P\x5b\xf0\x04\xecDFROC1A\x00\x00\x00\x02\x01\xff\xff\xff\xfe";
 
-/// An entry of the schedule up to its lines, with one line more than that.
+/// An entry of the schedule up to its lines, with one line more than the greatest number.
 const HEAD_ABOVE_MOST: &[u8] =
     b"\x03C10001\x5b\xf1P\x5b\xf0\x04\xecDFROC1A\x00\x00\x00\x02\x01\xff\xff\xff\xff";
 
 /// The mark, and the schedule's last day, 2024-06-14, as the horizon.
 const UNDER_LAST: &[u8] = b"DKS2\x5b\xf5";
 
-/// The mark, and the day after that as the horizon.
+/// The mark, and the day after the schedule's last day as the horizon.
 const UNDER_AFTER: &[u8] = b"DKS2\x5b\xf6";
 
-/// The mark, and a horizon after the last day of all.
+/// The mark, and a horizon after the last day of the calendar.
 const UNDER_TOO_LATE: &[u8] = b"DKS2\x8e\xad";
 
 /// Asserts that a text is refused, both when it is read `step` bytes at a time and when a state

@@ -81,13 +81,13 @@ type Records = &'static [&'static [u8]];
 /// The file with the schedule.
 const PLAIN: Records = &[HD, BS, LO, LT, ZZ];
 
-/// The text of its state.
+/// The text of the state of the file with the schedule.
 const OF_PLAIN: Records = &[MARK, ONE, ITEM, ONE, HEAD, BS, LO, LT];
 
 /// The file with the schedule's revision, a day later.
 const REVISION: Records = &[HD_10B, BS_REVISED, LO_0905, LT_0935, ZZ];
 
-/// The text of the state of both files.
+/// The text of the state of the files with the schedule and with its revision.
 const OF_REVISION: Records = &[
     MARK, TWO, ITEM, ITEM_10B, ONE, HEAD_10B, BS, LO_0905, LT_0935,
 ];

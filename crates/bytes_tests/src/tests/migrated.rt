@@ -18,7 +18,7 @@ fn old_text(rt: &impl Abort, alloc: Global) -> Vec<u8> {
     joined_text(rt, alloc, &[OLD_MARK, ONE, ITEM, ONE, HEAD, BS, LO, LT])
 }
 
-/// The offsets at which the parts of that text begin, for cutting it.
+/// The offsets at which the parts of the older text begin, for cutting it.
 const BEGINNINGS: [u64; 5] = [0, 4, 12, 31, 39];
 
 /// Asserts that a source is refused with this fault.

@@ -1,4 +1,4 @@
-//! States that receive texts. A text that is refused leaves them unchanged.
+//! States that receive texts. A text that is refused leaves the state unchanged.
 
 use super::compare::same;
 use super::endless::refused_each_way;

@@ -1,10 +1,11 @@
--- The worked file is a file, and its text has no fault. Some texts that have one.
+-- The worked file is a file, and its text has no fault. Some other texts have a fault.
 use Rattle.std.proofs.Common.{◌≡◌, ℕ, List, [], ◌∷◌, ◌++◌, refl, inl, inr, lit≤, ◌<◌, arith, ap, sym, ◌∙◌}
 use Rattle.std.proofs.lemmas.List.Elements.{All-from_recursion}
 use Rattle.docker_model.specs.records.Record.{HasKind, header, kind_of}
 use Rattle.docker_model.specs.file.File.{IsFile, IsUnit, BeginsFile}
 use Rattle.docker_model.specs.file.Text.{lines_of}
-use Rattle.docker_model.specs.file.FileFault.{IsFileText, IsFileFault, IsOutOfPlace, HoldsOf, FileCause, cause_rank, too_many, after_trailer, bad_length, bad_byte, bad_kind, bad_place, bad_field, third_midnight, no_end}
+use Rattle.docker_model.specs.file.FileFault.{IsFileText, IsFileFault, IsOutOfPlace, HoldsOf, FileCause, cause_rank, too_many, after_trailer}
+use Rattle.docker_model.specs.file.FileFault.{bad_length, bad_byte, bad_kind, bad_place, bad_field, third_midnight, no_end}
 use Rattle.cif_laws.proofs.records.Builders.{f2, f2_header, f2_basic, f2_origin, f2_terminus, f2_schedule, zz}
 use Rattle.cif_laws.proofs.schedules.WorkedSchedule.{record_by_test, f2_is_schedule}
 
@@ -23,18 +24,18 @@ f2_is_file = record {
   trailer_kind = refl;
 }
 
--- each record with a line feed after it
+-- the worked text: each record with a line feed after it
 abbrev pub f2_text : List ℕ
 f2_text = f2_header ++ 10 ∷ f2_basic ++ 10 ∷ f2_origin ++ 10 ∷ f2_terminus ++ 10 ∷ zz ++ 10 ∷ []
 
 lines_of_f2 : lines_of f2_text ≡ f2
 lines_of_f2 = refl
 
--- the worked text is the worked file's
+-- the worked text is the text of the worked file
 pub f2_text_is : IsFileText 5 f2_text f2
 f2_text_is = record { lines = refl; is = f2_is_file; within = lit≤ tt }
 
--- no records begin some file
+-- the empty list of records begins some file
 pub empty_begins : BeginsFile []
 empty_begins = (f2, f2_is_file)
 
@@ -46,7 +47,7 @@ empty_is_no_file file = let whole = file.whole in cc
 pub empty_text_unended : IsFileFault 10 [] (record { number = 1; cause = no_end })
 empty_text_unended = inr (record { within = lit≤ tt; begin = empty_begins; unended = empty_is_no_file; number = refl; cause = refl })
 
--- the first of some records, or this one if there are none
+-- the first record of a list, or the default if the list is empty
 first_or : List ℕ → List (List ℕ) → List ℕ
 first_or default [] = default
 first_or default (line ∷ lines) = line
@@ -56,7 +57,7 @@ pub file_begins : (line : List ℕ) (rest : List (List ℕ)) → IsFile (line �
 unfolding first_or
 file_begins line rest file = ap kind_of (ap (first_or line) file.whole) ∙ file.header_kind
 
--- a basic schedule begins no file
+-- no file begins with a basic schedule
 basic_begins_none : ¬ BeginsFile (f2_basic ∷ [])
 basic_begins_none begins = let kind = file_begins f2_basic begins.0 begins.1 in cc
 

@@ -2,7 +2,8 @@
 use Rattle.std.proofs.Common.{◌≡◌, ℕ, List, [], ◌∷◌, ◌++◌, length, refl, map, Some, None, true, false}
 use Rattle.std.specs.Prelude.{codes}
 use Rattle.jiff_core.specs.Calendar.{days_from_civil, day_count, days_of_years, days_of_months}
-use Rattle.docker_model.specs.records.Record.{kind_of, header, basic_schedule, origin_location, terminating_location, trailer, columns, column, leftmost_bad_byte}
+use Rattle.docker_model.specs.records.Record.{kind_of, header, basic_schedule, origin_location}
+use Rattle.docker_model.specs.records.Record.{terminating_location, trailer, columns, column, leftmost_bad_byte}
 use Rattle.docker_model.specs.records.Date.{day_number, date_number, is_date, weekday_of, end_number}
 use Rattle.docker_model.specs.records.Clock.{scheduled_time, public_time}
 use Rattle.docker_model.specs.records.Field.{leftmost_bad_field}
@@ -10,7 +11,8 @@ use Rattle.docker_model.specs.file.Journey.{times_along, midnights}
 use Rattle.docker_model.specs.file.Text.{lines_of}
 use Rattle.docker_model.specs.file.Change.{tiploc_key, schedule_named, tiploc_body, schedule_body, delete, put, Change, changes}
 use Rattle.cif_laws.specs.UnitChange.{changes_of_unit, changes_of_units}
-use Rattle.cif_laws.proofs.records.Builders.{wide, no_text, hd, bs, lo, li, lt, ta, zz, f2, f2_header, f2_basic, f2_origin, f2_terminus, f2_schedule, rename, rename_amend, night_schedule}
+use Rattle.cif_laws.proofs.records.Builders.{wide, no_text, hd, bs, lo, li, lt, ta, zz, f2, f2_header, f2_basic}
+use Rattle.cif_laws.proofs.records.Builders.{f2_origin, f2_terminus, f2_schedule, rename, rename_amend, night_schedule}
 
 kinds : map kind_of f2 ≡ Some header ∷ Some basic_schedule ∷ Some origin_location ∷ Some terminating_location ∷ Some trailer ∷ []
 kinds = refl
@@ -89,7 +91,7 @@ half_minute = refl
 public_times : map public_time (codes "0000" ∷ codes "    " ∷ codes "0932" ∷ []) ≡ None ∷ None ∷ Some 572 ∷ []
 public_times = refl
 
--- 23:55, 00:00½ twice, 00:10 and 00:20: one fall
+-- the times 23:55, 00:00½ twice, 00:10 and 00:20 fall once
 night_times : times_along night_schedule ≡ 2870 ∷ 1 ∷ 1 ∷ 20 ∷ 40 ∷ []
 night_times = refl
 
@@ -136,7 +138,7 @@ change_of_deletion : changes_of_unit 2 (bs (codes "D") (codes "C10001") (codes "
     ≡ record { number = 2; key = schedule_named f2_basic; act = delete } ∷ []
 change_of_deletion = refl
 
--- a journey whose last arrival makes the third fall if it is at 00:01, and none if it is at 00:06
+-- a journey passes midnight a third time if its last arrival is at 00:01, and not if it is at 00:06
 abbrev late_schedule : List ℕ → List (List ℕ)
 late_schedule arrives =
     bs (codes "N") (codes "C20001") (codes "240610") (codes "240610") (codes "1000000") (codes "2B20") (codes "P")

@@ -1,4 +1,4 @@
--- Worked places in files, and causes.
+-- Worked places in files, and worked causes of faults.
 use Rattle.std.proofs.Common.{◌≡◌, ℕ, List, [], ◌∷◌, ◌++◌, refl, Some, None}
 use Rattle.std.specs.Prelude.{codes}
 use Rattle.docker_model.specs.file.FileFault.{too_many, after_trailer, bad_length, bad_byte, bad_kind, bad_place, bad_field, third_midnight}
@@ -58,7 +58,7 @@ deleted_time = refl
 deleted_alone : place_at (f2_header ∷ deleted_basic ∷ zz ∷ []) ≡ Some after_end
 deleted_alone = refl
 
--- records that make a third fall
+-- records at which the schedule passes midnight a third time
 abbrev call_at : List ℕ → List ℕ
 call_at time = li (codes "COLWELL") no_text no_text no_text time no_text no_text no_text no_text no_text
 

@@ -6,7 +6,8 @@ use Rattle.std.specs.List.{AllByRecursion, AllPairs}
 use Rattle.std.specs.Cmp.Lexicographic.{other_text}
 use Rattle.docker_model.specs.records.Record.{Kind, tiploc_insert, tiploc_amend, tiploc_delete, association, basic_schedule, kind_of, columns}
 use Rattle.docker_model.specs.records.Clock.{is_blank}
-use Rattle.docker_model.specs.file.Change.{Key, tiploc_key, Act, Change, tiploc_named, new_tiploc_named, keeps_code, acts_by_kind, changes_of_record, changes_from, changes}
+use Rattle.docker_model.specs.file.Change.{Key, tiploc_key, Act, Change, tiploc_named, new_tiploc_named}
+use Rattle.docker_model.specs.file.Change.{keeps_code, acts_by_kind, changes_of_record, changes_from, changes}
 use Rattle.cif_laws.proofs.lists.Later.{AllLater, later_append_all, later_weaker_always, pairs_from_later}
 use Rattle.cif_laws.proofs.lists.AllOf.{all_append, all_weaker}
 

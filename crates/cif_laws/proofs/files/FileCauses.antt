@@ -1,19 +1,24 @@
--- The cause of a record at fault, by the place of the earlier records. A text that isn't a file's
--- has a fault.
-use Rattle.std.proofs.Common.{◌≡◌, refl, true, [], ◌∷◌, Some, None, ℕ, ◌+◌, List, ◌++◌, sym, ◌∙◌, Bool, false, cond, ◌⊎◌, inl, inr, Contains, ap, subst, ◌<◌, ◌≤◌, length, arith, eqb-true, append_assoc, append-nil, length-append}
+-- The cause of a record at fault, by the place to which the earlier records lead. A text that isn't
+-- the text of a file has a fault.
+use Rattle.std.proofs.Common.{◌≡◌, refl, true, [], ◌∷◌, Some, None, ℕ, ◌+◌, List, ◌++◌, sym, ◌∙◌, Bool, false, cond, ◌⊎◌, inl, inr}
+use Rattle.std.proofs.Common.{Contains, ap, subst, ◌<◌, ◌≤◌, length, arith, eqb-true, append_assoc, append-nil, length-append}
 use Rattle.std.specs.Prelude.{Any, Option, is_some, ◌&&◌, ◌||◌, nat_le, is_none, ◌==◌}
 use Rattle.std.specs.List.{flat_map, AllByRecursion}
 use Rattle.std.proofs.lemmas.Bool.{leb-false, leb-true, eqb-false}
 use Rattle.std.proofs.lemmas.List.Elements.{Contains-append_right, All-from_recursion}
-use Rattle.docker_model.specs.records.Record.{Lines, trailer, HasKind, kind_of, Kind, basic_schedule, intermediate_location, change_en_route, origin_location, extra_details, IsRecord, leftmost_bad_byte}
+use Rattle.docker_model.specs.records.Record.{Lines, trailer, HasKind, kind_of, Kind, basic_schedule, intermediate_location}
+use Rattle.docker_model.specs.records.Record.{change_en_route, origin_location, extra_details, IsRecord, leftmost_bad_byte}
 use Rattle.docker_model.specs.records.Field.{HasGoodFields, leftmost_bad_field, is_deletion}
 use Rattle.docker_model.specs.file.Journey.{midnights}
 use Rattle.docker_model.specs.file.File.{IsFile, follows_basic, IsWithinJourney, AreExtraDetails, first_record, BeginsFile}
 use Rattle.docker_model.specs.file.Text.{lines_of}
-use Rattle.docker_model.specs.file.FileFault.{EndsInSchedule, HasThirdFall, FileCause, too_many, after_trailer, bad_length, bad_byte, bad_kind, bad_place, bad_field, third_midnight, no_end, cause_rank, IsOutOfPlace, HoldsOf, IsCause, IsRecordFault, IsUnended, FileFault, IsFileFault, IsFileText}
+use Rattle.docker_model.specs.file.FileFault.{EndsInSchedule, HasThirdFall, FileCause, too_many, after_trailer, bad_length, bad_byte}
+use Rattle.docker_model.specs.file.FileFault.{bad_kind, bad_place, bad_field, third_midnight, no_end, cause_rank, IsOutOfPlace}
+use Rattle.docker_model.specs.file.FileFault.{HoldsOf, IsCause, IsRecordFault, IsUnended, FileFault, IsFileFault, IsFileText}
 use Rattle.cif_laws.specs.RecordTest.{has_good_fields, is_record}
 use Rattle.cif_laws.specs.ScheduleStage.{may_end, Stage, stage_after, after_basic, after_details, in_journey, after_journey, is_sound_next}
-use Rattle.cif_laws.specs.FileStage.{Place, after_end, next_place, place_from, before_header, between_units, in_schedule, in_stage_or, place_by_kind, unit_by_kind, is_sound_at, IsPlaceOf, place_at}
+use Rattle.cif_laws.specs.FileStage.{Place, after_end, next_place, place_from, before_header, between_units, in_schedule}
+use Rattle.cif_laws.specs.FileStage.{in_stage_or, place_by_kind, unit_by_kind, is_sound_at, IsPlaceOf, place_at}
 use Rattle.cif_laws.specs.RecordCause.{is_after_end, with_column, cause_of, place_cause, length_cause, field_cause, end_cause, byte_cause, kind_cause}
 use Rattle.cif_laws.proofs.lists.Membership.{Contains-cons, nil-Contains, cons-Contains-first}
 use Rattle.cif_laws.proofs.lists.AllOf.{all_weaker, all_append}
@@ -21,7 +26,8 @@ use Rattle.cif_laws.proofs.files.GoodChanges.{Follows, follows_by, journey_follo
 use Rattle.cif_laws.proofs.lists.BoolsAndOptions.{then_some, test_by_none, and_true, some_by_test}
 use Rattle.cif_laws.proofs.records.RecordTests.{record_iff_test, printable_by_none}
 use Rattle.cif_laws.proofs.schedules.ScheduleStages.{HasShape, details_of, IsSound, IsFront, midnights_of_journey, witness, witness_kind}
-use Rattle.cif_laws.proofs.files.FileStages.{next_by_test, stage_stops, IsWithin, IsAt, next_at, at_of_place, witness_next, at_begins, begins_iff_place, file_iff_place, place_of_more, begins_next_iff, one_place}
+use Rattle.cif_laws.proofs.files.FileStages.{next_by_test, stage_stops, IsWithin, IsAt, next_at, at_of_place, witness_next, at_begins}
+use Rattle.cif_laws.proofs.files.FileStages.{begins_iff_place, file_iff_place, place_of_more, begins_next_iff, one_place}
 
 -- ---- trailers
 
@@ -135,7 +141,7 @@ ends_in_schedule stage lines records within = record {
       (shape_follows stage within.front.extra within.front.journey within.front.shape)));
 }
 
--- if a line has good fields but isn't sound, it makes the third fall
+-- if a line has good fields but isn't sound, the schedule passes midnight a third time there
 third_fall : (stage : Stage) (lines records : Lines) (line : List ℕ) → IsWithin stage lines records → HasGoodFields line → is_sound_next lines line ≡ false
     → HasThirdFall records line
 third_fall stage lines records line within fields test = (lines, ends_in_schedule stage lines records within, few within.front.sound, third)
@@ -169,7 +175,7 @@ module _ (limit : ℕ) (earlier : Lines) (place : Place) (line : List ℕ) (foun
   at : IsAt place earlier
   at = at_of_place earlier place found
 
-  -- no cause with a lower rank holds, if each of them is excluded
+  -- no cause with a lower rank holds, if each such cause is excluded
   none_below : (rank : ℕ) → rank ≤ 7 → (0 < rank → ¬ (limit ≤ length earlier)) → (1 < rank → ¬ Any (HasKind trailer) earlier) → (2 < rank → length line ≡ 80)
       → (3 < rank → leftmost_bad_byte line ≡ None) → (4 < rank → ¬ (kind_of line ≡ None)) → (5 < rank → ¬ IsOutOfPlace earlier line)
       → (6 < rank → leftmost_bad_field line ≡ None)
@@ -206,7 +212,8 @@ module _ (limit : ℕ) (earlier : Lines) (place : Place) (line : List ℕ) (foun
           (at_begins there.0 (earlier ++ witness kind ∷ [])
           (next_at place earlier (witness kind) there.0 at (witness_next place earlier kind there.0 at there.1)))
 
-  -- a record that is in place and has good fields, but leads nowhere, makes a third fall
+  -- if a record is in place and has good fields, but leads nowhere, its schedule passes midnight a
+  -- third time
   third : (next : Place) → IsRecord line → place_by_kind place (kind_of line) line ≡ Some next → HasGoodFields line → next_place place line ≡ None
       → HasThirdFall earlier line
   third next is told fields nowhere = by place at unsound
@@ -345,7 +352,7 @@ module _ (limit : ℕ) (earlier : Lines) (place : Place) (line : List ℕ) (foun
           let reached = (begins_iff_place (earlier ++ line ∷ [])).0 begins in
           let bad : None ≡ Some reached.0 = sym nowhere ∙ sym (place_of_more earlier place line found) ∙ reached.1 in cc)
 
--- records that lead to a place before the end are unended
+-- if records lead to a place before the end, the fault is that the file doesn't end
 pub no_end_behind : (limit : ℕ) (records : Lines) (place : Place) → IsPlaceOf records place → is_after_end place ≡ false → length records ≤ limit
     → IsUnended limit records (record { number = length records + 1; cause = no_end })
 no_end_behind limit records place found open_end within = record {
@@ -395,7 +402,7 @@ pass_from (line ∷ rest) limit records earlier place found within whole =
 pub pass_or_fault : (limit : ℕ) (records : Lines) → Pass limit records ⊎ HasRecordFault limit records
 pass_or_fault limit records = pass_from records limit records [] before_header refl (omega arith) refl
 
--- a text is a file's within the limit, or has a fault
+-- a text is the text of a file within the limit, or it has a fault
 pub file_or_fault : (limit : ℕ) (text : List ℕ) → ((file : Lines) × IsFileText limit text file) ⊎ ((fault : FileFault) × IsFileFault limit text fault)
 file_or_fault limit text = by (pass_or_fault limit (lines_of text))
   where

@@ -4,7 +4,8 @@ use Rattle.std.specs.List.{AllByRecursion, flat_map}
 use Rattle.std.proofs.lemmas.List.Elements.{recursion_from_All}
 use Rattle.docker_model.specs.records.Record.{kind_of}
 use Rattle.docker_model.specs.file.File.{IsFile, IsUnit, IsSchedule, most_records}
-use Rattle.docker_model.specs.file.Change.{Key, tiploc_key, association_key, schedule_key, Act, put, Body, schedule_body, Change, acts_by_kind, changes_of_record, changes_from, changes}
+use Rattle.docker_model.specs.file.Change.{Key, tiploc_key, association_key, schedule_key, Act, put, Body, schedule_body}
+use Rattle.docker_model.specs.file.Change.{Change, acts_by_kind, changes_of_record, changes_from, changes}
 use Rattle.docker_model.specs.state.Op.{op_of}
 use Rattle.docker_model.specs.state.State.{IsBodyOf, IsOpOf}
 use Rattle.cif_laws.proofs.lists.Membership.{below_by_recursion}

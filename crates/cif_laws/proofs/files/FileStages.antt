@@ -1,23 +1,30 @@
 -- Where a reader of a file is after the records so far: which record may come next, and whether the
 -- records are a file.
-use Rattle.std.proofs.Common.{◌≡◌, ℕ, List, ◌∷◌, ◌++◌, [], true, Some, refl, Bool, false, cond, None, ◌∙◌, ap, sym, append-nil, inl, inr, subst, append_assoc, ◌<◌, length, arith, length-append, ◌⊎◌}
+use Rattle.std.proofs.Common.{◌≡◌, ℕ, List, ◌∷◌, ◌++◌, [], true, Some, refl, Bool, false, cond, None, ◌∙◌, ap, sym}
+use Rattle.std.proofs.Common.{append-nil, inl, inr, subst, append_assoc, ◌<◌, length, arith, length-append, ◌⊎◌}
 use Rattle.std.specs.Prelude.{◌&&◌, Option, is_some, option_and_then, ◌↔◌, ⊤}
 use Rattle.std.specs.List.{AllByRecursion, flat_map}
 use Rattle.std.proofs.lemmas.Grind.{flat_map-append}
 use Rattle.std.proofs.lemmas.List.Elements.{All-from_recursion, recursion_from_All}
-use Rattle.docker_model.specs.records.Record.{header, IsRecord, HasKind, Lines, kind_of, Kind, tiploc_insert, tiploc_amend, tiploc_delete, association, basic_schedule, trailer, terminating_location, origin_location, extra_details, intermediate_location, change_en_route}
+use Rattle.docker_model.specs.records.Record.{header, IsRecord, HasKind, Lines, kind_of, Kind, tiploc_insert, tiploc_amend}
+use Rattle.docker_model.specs.records.Record.{tiploc_delete, association, basic_schedule, trailer, terminating_location}
+use Rattle.docker_model.specs.records.Record.{origin_location, extra_details, intermediate_location, change_en_route}
 use Rattle.docker_model.specs.records.Field.{HasGoodFields, leftmost_bad_field}
 use Rattle.docker_model.specs.file.File.{IsUnit, IsFile, BeginsFile, follows_basic, IsSingleKind}
 use Rattle.cif_laws.specs.RecordTest.{is_record, has_good_fields}
-use Rattle.cif_laws.specs.ScheduleStage.{Stage, after_basic, may_end, after_details, in_journey, after_journey, next_stage, stage_after, is_sound_next, stage_from, is_first_line, stage_of}
-use Rattle.cif_laws.specs.FileStage.{in_schedule, Place, after_end, between_units, before_header, place_by_kind, is_sound_at, next_place, unit_by_kind, place_in, in_stage_or, is_header_kind, place_from, IsPlaceOf, place_at}
+use Rattle.cif_laws.specs.ScheduleStage.{Stage, after_basic, may_end, after_details, in_journey, after_journey}
+use Rattle.cif_laws.specs.ScheduleStage.{next_stage, stage_after, is_sound_next, stage_from, is_first_line, stage_of}
+use Rattle.cif_laws.specs.FileStage.{in_schedule, Place, after_end, between_units, before_header, place_by_kind, is_sound_at, next_place}
+use Rattle.cif_laws.specs.FileStage.{unit_by_kind, place_in, in_stage_or, is_header_kind, place_from, IsPlaceOf, place_at}
 use Rattle.cif_laws.proofs.files.OneFileFault.{begins_front}
 use Rattle.cif_laws.proofs.lists.AllOf.{all_append}
 use Rattle.cif_laws.proofs.records.Columns.{fields_good}
 use Rattle.cif_laws.proofs.lists.BoolsAndOptions.{both, and_true, none_by_test, test_by_none, then_some, some_then}
 use Rattle.cif_laws.proofs.files.GoodChanges.{StopsHere, units_stop}
 use Rattle.cif_laws.proofs.records.RecordTests.{record_iff_test}
-use Rattle.cif_laws.proofs.schedules.ScheduleStages.{IsFront, front_of_basic, schedule_of_front, next_front, test_by_next_line, witness, witness_kind, witness_record, witness_fields, witness_sound, next_line_by_test, IsNextLine, first_line_iff_test, stage_of_schedule, stage_of_more}
+use Rattle.cif_laws.proofs.schedules.ScheduleStages.{IsFront, front_of_basic, schedule_of_front, next_front, test_by_next_line}
+use Rattle.cif_laws.proofs.schedules.ScheduleStages.{witness, witness_kind, witness_record, witness_fields, witness_sound}
+use Rattle.cif_laws.proofs.schedules.ScheduleStages.{next_line_by_test, IsNextLine, first_line_iff_test, stage_of_schedule, stage_of_more}
 
 -- ---- what a place means for the records
 
@@ -82,7 +89,7 @@ between_more records unit between is = record {
   each = all_append IsUnit between.units (unit ∷ []) between.each (is, tt);
 }
 
--- after a record of this kind, records that were between units are at this place
+-- records between units and one more record of this kind are at the place that the kind gives
 unit_more : (records : Lines) (kind : Kind) (line : List ℕ) (next : Place) → IsBetween records → IsRecord line → HasKind kind line → HasGoodFields line
     → unit_by_kind (Some kind) line ≡ Some next
     → IsAt next (records ++ line ∷ [])
@@ -118,7 +125,7 @@ unit_more records trailer line next between is kind fields found =
     })
 unit_more records _ line next between is kind fields found = cc
 
--- after a record between units, the records are at the place that its kind gives
+-- records between units and one more record are at the place that the record's kind gives
 unit_more_of : (records : Lines) (line : List ℕ) (next : Place) → IsBetween records → IsRecord line → HasGoodFields line
     → unit_by_kind (kind_of line) line ≡ Some next → IsAt next (records ++ line ∷ [])
 unit_more_of records line next between is fields found = by (kind_of line) refl found
@@ -147,7 +154,7 @@ within_more stage lines records line next within found = record {
   front = next_front stage lines line next within.front found;
 }
 
--- if one more record leads to a next place, the records are at that place
+-- if a record leads to a next place, the records up to and including it are at that place
 pub next_at : (place : Place) (records : Lines) (line : List ℕ) (next : Place) → IsAt place records → next_place place line ≡ Some next
     → IsAt next (records ++ line ∷ [])
 next_at before_header records line next at found = by (next_by_test before_header line next found) (kind_of line) refl
@@ -204,13 +211,13 @@ at_from (line ∷ rest) place records final at found =
     subst (IsAt final) (append_assoc records (line ∷ []) rest)
     (at_from rest step.0 (records ++ line ∷ []) final (next_at place records line step.0 at step.1) step.2)
 
--- records that lead to a place are at it
+-- records that lead to a place are at that place
 pub at_of_place : (records : Lines) (place : Place) → IsPlaceOf records place → IsAt place records
 at_of_place records place found = at_from records before_header [] place refl found
 
 -- ---- records at a place begin some file
 
--- some good record of each kind that may come next leads to a next place
+-- for each kind that may come next, some good record leads to a next place
 pub witness_next : (place : Place) (records : Lines) (kind : Kind) (next : Place) → IsAt place records → place_by_kind place (Some kind)
     (witness kind) ≡ Some next → next_place place (witness kind) ≡ Some next
 witness_next place records kind next at found = test_by_next place (witness kind) next (record {
@@ -273,7 +280,7 @@ place_from_append (line ∷ front) place middle more found =
     let step = then_some (λ next. place_from next front) (next_place place line) middle found in
     (λ i. option_and_then (λ next. place_from next (front ++ more)) (step.1 i)) ∙ place_from_append front step.0 middle more step.2
 
--- a line that leads to a schedule's next stage leads to the place there
+-- a line that leads a schedule to a next stage leads to the place of that stage
 pub next_of_stage : (stage : Stage) (lines : Lines) (line : List ℕ) (next : Stage) → next_stage stage lines line ≡ Some next
     → next_place (in_schedule stage lines) line ≡ Some (place_in next (lines ++ line ∷ []))
 next_of_stage stage lines line next found =
@@ -423,11 +430,11 @@ file_iff_place records = (place_of_file records, at_of_place records after_end)
 pub one_place : (records : Lines) (first second : Place) → IsPlaceOf records first → IsPlaceOf records second → first ≡ second
 one_place records first second one two = let both_are : Some first ≡ Some second = sym one ∙ two in cc
 
--- the place after one more record
+-- after one more record, the place is the next place from where the records were
 pub place_of_more : (records : Lines) (place : Place) (line : List ℕ) → IsPlaceOf records place → place_at (records ++ line ∷ []) ≡ next_place place line
 place_of_more records place line found = place_from_append records before_header place (line ∷ []) found ∙ some_then (next_place place line)
 
--- with one more record they begin a file if and only if it leads to a next place
+-- records and one more begin a file if and only if the last one leads to a next place
 pub begins_next_iff : (records : Lines) (place : Place) (line : List ℕ) → IsPlaceOf records place → BeginsFile (records ++ line ∷ [])
     ↔ ((next : Place) × IsNext place line next)
 begins_next_iff records place line found = (

@@ -1,20 +1,27 @@
 -- The changes of a file within the limit have well formed keys and bodies. The lines of a
 -- schedule's body are a schedule.
-use Rattle.std.proofs.Common.{◌≡◌, ℕ, ◌+◌, ◌-◌, ◌^◌, ◌<◌, ◌⊎◌, inl, inr, List, [], ◌∷◌, ◌++◌, length, take, All, subst, refl, ap, sym, ◌∙◌, Bool, true, false, cond, Some, arith, append_assoc, length-append}
+use Rattle.std.proofs.Common.{◌≡◌, ℕ, ◌+◌, ◌-◌, ◌^◌, ◌<◌, ◌⊎◌, inl, inr, List, [], ◌∷◌, ◌++◌, length, take, All, subst}
+use Rattle.std.proofs.Common.{refl, ap, sym, ◌∙◌, Bool, true, false, cond, Some, arith, append_assoc, length-append}
 use Rattle.std.specs.Prelude.{Option, ⊤, ◌||◌, ◌==◌}
 use Rattle.std.specs.List.{AllByRecursion, flat_map, prefix_len}
 use Rattle.std.proofs.Math.Seq.{take-append_seam}
 use Rattle.std.proofs.lemmas.List.Elements.{All-from_recursion, recursion_from_All}
-use Rattle.docker_model.specs.records.Record.{Kind, tiploc_insert, tiploc_amend, tiploc_delete, association, basic_schedule, extra_details, origin_location, intermediate_location, terminating_location, change_en_route, trailer, IsRecord, HasKind, kind_of, columns, column}
+use Rattle.docker_model.specs.records.Record.{Kind, tiploc_insert, tiploc_amend, tiploc_delete, association, basic_schedule}
+use Rattle.docker_model.specs.records.Record.{extra_details, origin_location, intermediate_location, terminating_location}
+use Rattle.docker_model.specs.records.Record.{change_en_route, trailer, IsRecord, HasKind, kind_of, columns, column}
 use Rattle.docker_model.specs.records.Date.{is_date, date_number, is_end_date, is_days}
 use Rattle.docker_model.specs.records.Clock.{is_blank}
-use Rattle.docker_model.specs.records.Field.{HasGoodFields, is_deletion, is_stp_letter, is_stp_indicator, is_tiploc, is_transaction, checked, checked_fields, as_new, IsTiploc}
-use Rattle.docker_model.specs.file.File.{IsSchedule, IsJourney, IsSoundJourney, IsWithinJourney, AreExtraDetails, MayLackJourney, IsSingleKind, IsUnit, follows_basic}
-use Rattle.docker_model.specs.file.Change.{Key, association_key, schedule_key, Act, Change, association_named, schedule_named, keeps_code, schedule_rest, acts_by_kind, changes_of_record, changes_from}
+use Rattle.docker_model.specs.records.Field.{HasGoodFields, is_deletion, is_stp_letter, is_stp_indicator, is_tiploc}
+use Rattle.docker_model.specs.records.Field.{is_transaction, checked, checked_fields, as_new, IsTiploc}
+use Rattle.docker_model.specs.file.File.{IsSchedule, IsJourney, IsSoundJourney, IsWithinJourney, AreExtraDetails}
+use Rattle.docker_model.specs.file.File.{MayLackJourney, IsSingleKind, IsUnit, follows_basic}
+use Rattle.docker_model.specs.file.Change.{Key, association_key, schedule_key, Act, Change, association_named, schedule_named}
+use Rattle.docker_model.specs.file.Change.{keeps_code, schedule_rest, acts_by_kind, changes_of_record, changes_from}
 use Rattle.docker_model.specs.state.Op.{op_of}
 use Rattle.docker_model.specs.state.State.{IsGoodKey, IsOpOf}
 use Rattle.cif_laws.proofs.lists.AllOf.{all_append, all_weaker, all_map}
-use Rattle.cif_laws.proofs.records.Columns.{IsGoodIn, good_fields, fields_good, text_in, one_column, printable_column, new_columns, new_column, new_kind, new_record, is_new}
+use Rattle.cif_laws.proofs.records.Columns.{IsGoodIn, good_fields, fields_good, text_in, one_column, printable_column}
+use Rattle.cif_laws.proofs.records.Columns.{new_columns, new_column, new_kind, new_record, is_new}
 use Rattle.cif_laws.proofs.records.GoodFields.{date_is_day, tiploc_starts, new_tiploc_starts}
 
 -- the key and the op of a change are well formed and fit
@@ -86,7 +93,7 @@ same_association line = λ i. association_key (record {
   indicator = new_column line 80 (omega arith) i;
 })
 
--- setting the transaction to N leaves the schedule's key
+-- setting the transaction to N keeps the schedule's key
 pub same_schedule : (line : List ℕ) → schedule_named (as_new line) ≡ schedule_named line
 same_schedule line = λ i. schedule_key (record {
   uid = new_columns line 4 9 (omega arith) i;
@@ -236,8 +243,8 @@ new_is_schedule lines schedule kept =
     sound (inl deletion) = let bad : false ≡ true = sym kept ∙ deletion in cc
     sound (inr good) = inr good
 
--- the schedule before these records ends with them: they don't begin with a record that can follow
--- a basic schedule
+-- the first of these records, if there is one, can't follow a basic schedule, so a schedule before
+-- them ends there
 abbrev pub StopsHere : List (List ℕ) → Type 0
 StopsHere [] = ⊤
 StopsHere (line ∷ lines) = follows_basic (kind_of line) ≡ false
@@ -257,7 +264,7 @@ prefix_is (line ∷ lines) rest all stops =
 pub rest_is : (lines rest : List (List ℕ)) → AllByRecursion Follows lines → StopsHere rest → schedule_rest (lines ++ rest) ≡ lines
 rest_is lines rest all stops = ap (λ n. take n (lines ++ rest)) (prefix_is lines rest all stops) ∙ take-append_seam lines rest
 
--- a record whose kind can follow a basic schedule
+-- a record can follow a basic schedule if its kind can
 pub follows_by : (kind : Kind) (line : List ℕ) → HasKind kind line → follows_basic (Some kind) ≡ true → Follows line
 follows_by kind line is follows = ap follows_basic is ∙ follows
 
@@ -336,7 +343,7 @@ no_acts (Some terminating_location) line following h = tt
 no_acts (Some change_en_route) line following h = tt
 no_acts _ line following h = cc
 
--- each change of these records is good
+-- each change of these records is well formed
 abbrev pub AllChangesGood : List (List ℕ) → Type 0
 AllChangesGood lines = (n : ℕ) → AllByRecursion IsGoodChange (changes_from n lines)
 
@@ -372,7 +379,7 @@ unit_stops unit rest (inl single) = subst (λ u. StopsHere (u ++ rest)) (sym sin
     by (inr (inr (inr kind))) = stops_by association single.0 kind refl
 unit_stops unit rest (inr schedule) = subst (λ u. StopsHere (u ++ rest)) (sym schedule.whole) (stops_by basic_schedule schedule.basic schedule.kind refl)
 
--- a schedule before these units and the trailer ends with them
+-- the first record of units and a trailer can't follow a basic schedule
 pub units_stop : (units : List (List (List ℕ))) (last : List ℕ) → AllByRecursion IsUnit units → HasKind trailer last
     → StopsHere (flat_map (λ unit. unit) units ++ last ∷ [])
 units_stop [] last all end = stops_by trailer last end refl

@@ -1,5 +1,6 @@
 -- Records are the lines of a text exactly if the text consists of them and their line ends.
-use Rattle.std.proofs.Common.{◌≡◌, ℕ, suc, ◌-◌, ◌<◌, ◌≤◌, ◌⊎◌, List, [], ◌∷◌, ◌++◌, length, map, take, refl, ap, sym, ◌∙◌, subst, inl, inr, Bool, true, false, cond, arith, All, eqb-true, append_assoc, append-nil, length-append}
+use Rattle.std.proofs.Common.{◌≡◌, ℕ, suc, ◌-◌, ◌<◌, ◌≤◌, ◌⊎◌, List, [], ◌∷◌, ◌++◌, length, map, take, refl, ap, sym, ◌∙◌, subst}
+use Rattle.std.proofs.Common.{inl, inr, Bool, true, false, cond, arith, All, eqb-true, append_assoc, append-nil, length-append}
 use Rattle.std.specs.Prelude.{◌↔◌, ◌==◌, slice_index, ◌≢◌, nat_le, ◌&&◌}
 use Rattle.std.specs.List.{slice_split, join_with_byte, AllByRecursion, AllPass}
 use Rattle.std.specs.Str.Lines.{strip_carriage_return}
@@ -89,7 +90,7 @@ keeps_first : (piece : List ℕ) (pieces : List (List ℕ)) → 0 < length piece
 keeps_first piece [] some = absurd (omega arith)
 keeps_first piece (next ∷ pieces) some = refl
 
--- the first line of a text that begins with a piece and a line feed
+-- if a text begins with a piece and a line feed, its first line is the piece's line
 lines_after : (piece rest : List ℕ) → All (λ b. (b == 10) ≡ false) piece → lines_of (piece ++ 10 ∷ rest) ≡ strip_carriage_return piece ∷ lines_of rest
 lines_after piece rest plain =
     let split = slice_split_at (λ b. b == 10) piece 10 rest plain refl in
@@ -102,7 +103,7 @@ lines_last piece plain some =
     (λ i. map strip_carriage_return (without_empty_last (slice_split_none (λ b. b == 10) piece plain i)))
     ∙ ap (map strip_carriage_return) (keeps_last piece some)
 
--- the first line of a text that begins with a plain line and its line end
+-- if a text begins with a plain line and a line end, its first line is this line
 lines_one : (line rest end : List ℕ) → IsPlain line → IsLineEnd end → lines_of ((line ++ end) ++ rest) ≡ line ∷ lines_of rest
 lines_one line rest end plain (inl e) =
     (λ i. lines_of ((line ++ e i) ++ rest)) ∙ ap lines_of (append_assoc line (10 ∷ []) rest)

@@ -25,7 +25,7 @@ records_of_80 (line ∷ rest) place final reached =
     let next = then_some (λ (n : Place). place_from n rest) (next_place place line) final reached in
     ((next_by_test place line next.0 next.1).is.0, records_of_80 rest next.0 final next.2)
 
--- the bytes of pieces, counting one more after each
+-- how many bytes the pieces have, with one more for each piece
 bytes_in : Lines → ℕ
 bytes_in [] = 0
 bytes_in (piece ∷ pieces) = length piece + 1 + bytes_in pieces
@@ -35,8 +35,7 @@ unfolding bytes_in
 bytes_more b [] some = absurd (omega arith)
 bytes_more b (piece ∷ pieces) some = omega arith
 
--- counted so, the pieces of a text have one byte more than the text, as no line feed follows the
--- last
+-- the pieces of a text count one byte more than the text, as no line feed follows the last piece
 bytes_of_split : (p : ℕ → Bool) (text : List ℕ) → bytes_in (slice_split p text) ≡ length text + 1
 unfolding bytes_in
 bytes_of_split p [] = refl
@@ -50,7 +49,7 @@ bytes_of_split p (b ∷ text) = by (p b) refl (bytes_of_split p text)
         let more = bytes_more b (slice_split p text) (omega arith) in
         omega arith
 
--- the bytes of all pieces: all but the last, and the last
+-- the count of pieces is the count of all but the last, plus the last one's bytes and one
 bytes_but_last : (pieces : Lines) → 0 < length pieces → bytes_in pieces ≡ bytes_in (but_last pieces) + length (last_of pieces) + 1
 unfolding bytes_in
 bytes_but_last [] some = absurd (omega arith)

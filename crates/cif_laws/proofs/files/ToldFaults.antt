@@ -1,6 +1,7 @@
 -- A fault that the bytes so far show is the fault of every longer text. If they show none, their
 -- complete lines begin some file.
-use Rattle.std.proofs.Common.{ℕ, ◌+◌, ◌-◌, ◌≤◌, List, take, length, Bool, true, false, cond, arith, ◌≡◌, refl, Some, None, [], ◌∷◌, ◌++◌, ◌<◌, sym, ◌∙◌, append_assoc, ◌⊎◌, inl, inr, map, subst, length-append, ap}
+use Rattle.std.proofs.Common.{ℕ, ◌+◌, ◌-◌, ◌≤◌, List, take, length, Bool, true, false, cond, arith, ◌≡◌, refl, Some, None}
+use Rattle.std.proofs.Common.{[], ◌∷◌, ◌++◌, ◌<◌, sym, ◌∙◌, append_assoc, ◌⊎◌, inl, inr, map, subst, length-append, ap}
 use Rattle.std.specs.Prelude.{◌==◌, slice_index, ◌≢◌, Option, nat_le}
 use Rattle.std.specs.List.{slice_split}
 use Rattle.std.specs.Str.Lines.{strip_carriage_return}
@@ -9,7 +10,8 @@ use Rattle.std.proofs.lemmas.List.{length-take-le, take_at}
 use Rattle.docker_model.specs.records.Record.{Lines}
 use Rattle.docker_model.specs.file.File.{BeginsFile}
 use Rattle.docker_model.specs.file.Text.{without_empty_last, lines_of}
-use Rattle.docker_model.specs.file.FileFault.{FileCause, too_many, after_trailer, bad_length, bad_byte, bad_kind, bad_place, bad_field, third_midnight, no_end, cause_rank, HoldsOf, IsCause, FileFault, IsRecordFault, IsFileFault}
+use Rattle.docker_model.specs.file.FileFault.{FileCause, too_many, after_trailer, bad_length, bad_byte, bad_kind, bad_place, bad_field}
+use Rattle.docker_model.specs.file.FileFault.{third_midnight, no_end, cause_rank, HoldsOf, IsCause, FileFault, IsRecordFault, IsFileFault}
 use Rattle.docker_model.specs.file.FaultSoFar.{IsFaultSoFar, lines_told, last_of}
 use Rattle.cif_laws.specs.FileStage.{Place, next_place, IsPlaceOf}
 use Rattle.cif_laws.specs.RecordCause.{is_after_end, byte_cause, cause_of, cause_of_long}
@@ -78,7 +80,7 @@ behind_front (first ∷ front) last (second ∷ earlier) line later e same =
 
 -- ---- a fault that is shown stays
 
--- the cause of a line that doesn't have 80 bytes is the cause of any other such line there
+-- lines that don't have 80 bytes have the same cause at the same place
 cause_stays : (limit : ℕ) (earlier : Lines) (line other : List ℕ) (cause : FileCause) → length line ≢ 80 → length other ≢ 80 → IsCause limit earlier line cause
     → IsCause limit earlier other cause
 cause_stays limit earlier line other cause one two is = by cause is
@@ -205,7 +207,7 @@ pub lines_told_short : (text : List ℕ) → length (open_line text) ≤ 81 → 
 lines_told_short text short =
     lines_told_is text ∙ ap (λ b. length (told_lines text) + cond b 1 0) (lt-leb 82 (length (open_line text)) (omega arith)) ∙ omega arith
 
--- if the unfinished line has more, it is sure too
+-- an unfinished line of more than 81 bytes is sure too
 pub lines_told_long : (text : List ℕ) → 82 ≤ length (open_line text) → lines_told text ≡ length (told_lines text) + 1
 lines_told_long text long = lines_told_is text ∙ ap (λ b. length (told_lines text) + cond b 1 0) (le-leb 82 (length (open_line text)) long)
 
@@ -279,7 +281,7 @@ fault_so_far_or_passes limit text = by (fault_so_far_or_none limit text)
     by (inl fault) = inl fault
     by (inr none) = inr (passes_so_far limit text none)
 
--- never both
+-- bytes that pass so far show no fault
 pub passes_no_fault : (limit : ℕ) (text : List ℕ) (fault : FileFault) → PassesSoFar limit text → ¬ IsFaultSoFar limit text fault
 passes_no_fault limit text fault passes told = by told.is.here
   where
@@ -307,7 +309,8 @@ cause_of_length limit count place line apart =
     λ i. cond (nat_le limit count) too_many
     (cond (is_after_end place) after_trailer (cond (ne_eqb (length line) 80 apart i) (byte_cause place line) bad_length))
 
--- if the complete lines lead to a place, they have no fault
+-- if the complete lines lead to a place within the limit, and the unfinished line has at most 81
+-- bytes, the bytes show no fault
 pub no_fault_told : (limit : ℕ) (text : List ℕ) (place : Place) → IsPlaceOf (told_lines text) place → length (told_lines text) ≤ limit
     → length (open_line text) ≤ 81
     → (fault : FileFault) → ¬ IsFaultSoFar limit text fault

@@ -1,6 +1,7 @@
 -- A text as it comes in: the complete lines, whose line feed has come, and the unfinished line
 -- after them.
-use Rattle.std.proofs.Common.{ℕ, ◌<◌, List, length, Bool, arith, ◌≡◌, ◌+◌, [], ◌∷◌, ◌++◌, refl, ap, sym, ◌∙◌, true, false, map, append-nil, ◌≤◌, subst, cond, length-append}
+use Rattle.std.proofs.Common.{ℕ, ◌<◌, List, length, Bool, arith, ◌≡◌, ◌+◌, [], ◌∷◌, ◌++◌, refl, ap, sym}
+use Rattle.std.proofs.Common.{◌∙◌, true, false, map, append-nil, ◌≤◌, subst, cond, length-append}
 use Rattle.std.specs.Prelude.{◌==◌, nat_le, if◌then◌else◌}
 use Rattle.std.specs.List.{slice_split, onto_first}
 use Rattle.std.specs.Str.Lines.{strip_carriage_return}
@@ -64,7 +65,7 @@ go_on_empty : (pieces : Lines) → 0 < length pieces → pieces ≡ going_on [] 
 go_on_empty [] some = absurd (omega arith)
 go_on_empty (piece ∷ pieces) some = refl
 
--- the pieces of a longer text: the last piece so far goes on, and others may follow
+-- the pieces of a longer text: more bytes continue the last piece so far, and others may follow
 pub split_append : (p : ℕ → Bool) (text more : List ℕ) → slice_split p (text ++ more) ≡ but_last (slice_split p text) ++ going_on (last_of (slice_split p text))
     (slice_split p more)
 split_append p [] more = go_on_empty (slice_split p more) (some_pieces p more)
@@ -169,7 +170,7 @@ open_line_ended text front plain = open_line_cut text front [] plain
 
 -- ---- the lines of a longer text
 
--- more bytes after a text: they go on with its unfinished line, and may bring line feeds
+-- more bytes after a text: they continue its unfinished line, and may bring line feeds
 pub record GoesOn (text more : List ℕ) : Type 0 where
   pub first : List ℕ
   pub pieces : Lines
@@ -177,7 +178,7 @@ pub record GoesOn (text more : List ℕ) : Type 0 where
   pub told : told_lines (text ++ more) ≡ told_lines text ++ map strip_carriage_return (but_last ((open_line text ++ first) ∷ pieces))
   pub open_is : open_line (text ++ more) ≡ last_of ((open_line text ++ first) ∷ pieces)
 
--- more bytes go on with the text in this way
+-- any text, with any more bytes, goes on as `GoesOn` says
 pub goes_on : (text more : List ℕ) → GoesOn text more
 goes_on text more = by (slice_split (λ b. b == 10) more) refl
   where

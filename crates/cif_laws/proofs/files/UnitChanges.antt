@@ -1,10 +1,11 @@
--- The units of a file, in order, make its changes. A schedule goes on up to the first record that
+-- The units of a file, in order, make its changes. A schedule ends before the first record that
 -- can't follow a basic schedule.
 use Rattle.std.proofs.Common.{◌≡◌, ℕ, ◌+◌, inl, inr, List, [], ◌∷◌, ◌++◌, length, map, subst, refl, ap, sym, ◌∙◌, true, Some, arith, append_assoc, append-nil}
 use Rattle.std.specs.Prelude.{Option}
 use Rattle.std.specs.List.{AllByRecursion, flat_map}
 use Rattle.std.proofs.lemmas.List.Elements.{recursion_from_All}
-use Rattle.docker_model.specs.records.Record.{Kind, tiploc_insert, tiploc_amend, tiploc_delete, association, basic_schedule, extra_details, origin_location, intermediate_location, terminating_location, change_en_route, trailer, HasKind, kind_of}
+use Rattle.docker_model.specs.records.Record.{Kind, tiploc_insert, tiploc_amend, tiploc_delete, association, basic_schedule, extra_details}
+use Rattle.docker_model.specs.records.Record.{origin_location, intermediate_location, terminating_location, change_en_route, trailer, HasKind, kind_of}
 use Rattle.docker_model.specs.file.File.{IsFile, IsSchedule, IsSingleKind, IsUnit, follows_basic}
 use Rattle.docker_model.specs.file.Change.{Key, Act, Change, schedule_rest, acts_by_kind, changes_of_record, changes_from, changes}
 use Rattle.cif_laws.specs.UnitChange.{changes_of_unit, changes_of_units, change_of_schedule}
@@ -30,7 +31,7 @@ single_alike n line following others (inr (inl is)) = alike_by n tiploc_amend li
 single_alike n line following others (inr (inr (inl is))) = alike_by n tiploc_delete line following others is refl
 single_alike n line following others (inr (inr (inr is))) = alike_by n association line following others is refl
 
--- only the records up to the next one that can't follow a basic schedule matter
+-- a basic schedule's change depends only on the records up to one that can't follow it
 basic_alike : (n : ℕ) (basic : List ℕ) (following others : List (List ℕ)) → HasKind basic_schedule basic → schedule_rest following ≡ others
     → changes_of_record n basic following ≡ change_of_schedule n basic others ∷ []
 basic_alike n basic following others is run =
@@ -92,7 +93,7 @@ schedule_then n basic others rest is stops =
     follow : AllByRecursion Follows others
     follow = others_follow basic others is
 
--- first the changes of a unit, then the changes of the records after it
+-- the changes of a unit come first, and then the changes of the records after the unit
 pub unit_then : (n : ℕ) (unit rest : List (List ℕ)) → IsUnit unit → StopsHere rest → changes_from n (unit ++ rest) ≡ changes_of_unit n unit ++ changes_from
     (n + length unit) rest
 unit_then n unit rest (inl single) stops =
@@ -105,7 +106,7 @@ unit_then n unit rest (inr schedule) stops = by unit schedule schedule.whole
     by [] is whole = absurd (let size = ap length whole in omega arith)
     by (basic ∷ others) is whole = schedule_then n basic others rest is stops
 
--- the changes of units before a trailer
+-- units and a trailer make the changes of the units
 units_then : (n : ℕ) (units : List (List (List ℕ))) (last : List ℕ) → AllByRecursion IsUnit units → HasKind trailer last
     → changes_from n (flat_map (λ unit. unit) units ++ last ∷ []) ≡ changes_of_units n units
 units_then n [] last all end = λ i. map (change_of_act n) (acts_by_kind (end i) last []) ++ []

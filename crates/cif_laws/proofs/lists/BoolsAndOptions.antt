@@ -17,12 +17,12 @@ pub not_true : (b : Bool) → not b ≡ true → b ≡ false
 not_true true h = cc
 not_true false h = refl
 
--- an option that passes the test of being none is none
+-- an option that passes `is_none` is none
 pub none_by_test : {A : Type 0} (o : Option A) → is_none o ≡ true → o ≡ None
 none_by_test None h = refl
 none_by_test (Some x) h = cc
 
--- an option that is none passes that test
+-- an option that is none passes `is_none`
 pub test_by_none : {A : Type 0} (o : Option A) → o ≡ None → is_none o ≡ true
 test_by_none o none = λ i. is_none (none i)
 

@@ -5,7 +5,8 @@ use Rattle.std.specs.List.{AllByRecursion, AllPairs, flat_map}
 use Rattle.std.proofs.lemmas.List.Elements.{All-from_recursion, Contains-append_cases}
 use Rattle.std.proofs.lemmas.List.Kept.{AllPairs-cons}
 use Rattle.cif_laws.proofs.lists.AllOf.{all_append, all_map, all_weaker}
-use Rattle.cif_laws.proofs.lists.Membership.{Contains-cons, nil-Contains, below_by_recursion, cons-Contains, cons-Contains-first, each_member, Contains-flat_map}
+use Rattle.cif_laws.proofs.lists.Membership.{Contains-cons, nil-Contains, below_by_recursion, cons-Contains}
+use Rattle.cif_laws.proofs.lists.Membership.{cons-Contains-first, each_member, Contains-flat_map}
 
 -- each member is in the relation to each later one
 abbrev pub AllLater : {A : Type 0} → (A → A → Type 0) → List A → Type 0
@@ -23,7 +24,7 @@ one_before R (x ∷ xs) a b later in_a in_b = by (one_before R xs a b later.1) (
     by rest (inr here) (inl f) = inr (inr (subst (λ v. R v a) f (below_by_recursion (R x) xs a later.0 here)))
     by rest (inr here) (inr there) = rest here there
 
--- if the members' relation implies another one for them, they are in that one too
+-- if the relation implies another one for all members, the members are in the other one too
 pub later_weaker : {A : Type 0} (R S : A → A → Type 0) (xs : List A) → ((a b : A) → Contains xs a → Contains xs b → R a b → S a b) → AllLater R xs
     → AllLater S xs
 later_weaker R S [] to later = tt
@@ -58,8 +59,8 @@ later_map {A} R f (x ∷ xs) later = (above xs later.0, later_map R f xs later.1
     above [] all = tt
     above (y ∷ ys) all = (all.0, above ys all.1)
 
--- the concatenation of two lists, if each member of the first is in the relation to each of the
--- second
+-- a concatenation keeps the relation if each member of the first list is in it to each member of
+-- the second
 pub later_append : {A : Type 0} (R : A → A → Type 0) (xs ys : List A) → AllLater R xs → AllLater R ys → ((a b : A) → Contains xs a → Contains ys b → R a b)
     → AllLater R (xs ++ ys)
 later_append R [] ys first second across = second
@@ -72,7 +73,8 @@ later_append {A} R (x ∷ xs) ys first second across = (
     by z (inl here) = below_by_recursion (R x) xs z first.0 here
     by z (inr there) = across x z (cons-Contains-first x xs) there
 
--- the concatenation of the lists that a function gives for members
+-- concatenated lists keep the relation if it holds in each list, and from each list to every later
+-- one
 pub later_flat_map : {A B : Type 0} (R : B → B → Type 0) (S : A → A → Type 0) (f : A → List B) (xs : List A) → AllLater S xs
     → ((x : A) → Contains xs x → AllLater R (f x))
     → ((x y : A) → Contains xs x → Contains xs y → S x y → (a b : B) → Contains (f x) a → Contains (f y) b → R a b) → AllLater R (flat_map f xs)
@@ -91,7 +93,7 @@ pub later_append_all : {A : Type 0} (R : A → A → Type 0) (xs ys : List A) �
 later_append_all R [] ys left right across = right
 later_append_all R (x ∷ xs) ys left right across = (all_append (R x) xs ys left.0 across.0, later_append_all R xs ys left.1 right across.1)
 
--- the mapped list, if the relation of the images follows from the members'
+-- if the members' relation implies another one for their images, the images are in that one
 pub later_map_weaker : {A B : Type 0} (f : A → B) (R : A → A → Type 0) (S : B → B → Type 0) → ((x y : A) → R x y → S (f x) (f y))
     → (xs : List A) → AllLater R xs
     → AllLater S (map f xs)
@@ -99,7 +101,7 @@ later_map_weaker f R S keeps [] all = tt
 later_map_weaker f R S keeps (x ∷ xs) all =
     (all_map f (S (f x)) xs (all_weaker (R x) (λ y. S (f x) (f y)) (λ y r. keeps x y r) xs all.0), later_map_weaker f R S keeps xs all.1)
 
--- if the members' relation implies another one for all values, they are in that one too
+-- if the members' relation implies another one for all values, the members are in the other one too
 pub later_weaker_always : {A : Type 0} (R S : A → A → Type 0) → ((x y : A) → R x y → S x y) → (xs : List A) → AllLater R xs → AllLater S xs
 later_weaker_always R S weaker [] all = tt
 later_weaker_always R S weaker (x ∷ xs) all = (all_weaker (R x) (S x) (weaker x) xs all.0, later_weaker_always R S weaker xs all.1)

@@ -33,7 +33,7 @@ below_by_recursion P (x ∷ xs) z all among = by (below_by_recursion P xs z all.
     by rest (inl same) = subst P same all.0
     by rest (inr inside) = rest inside
 
--- the element at an index of a list of one
+-- the element at an index of a list of one is its only element
 pub only : {A : Type 0} (x y : A) (k : ℕ) → k < length (x ∷ []) → get_or (x ∷ []) k y ≡ y → x ≡ y
 only x y zero below is = is
 only x y (suc k) below is = absurd (omega arith)

@@ -17,7 +17,7 @@ abbrev pub AreApart : {A : Type 0} → (A → A → Ordering) → List A → Typ
 AreApart cmp xs = AllLater (λ a b. ¬ (cmp a b ≡ Equal)) xs
 
 module _ {A : Type 0} {cmp : A → A → Ordering} (total : IsTotalOrder cmp) where
-  -- 1 if the two tie in the order, else 0
+  -- 1 if two elements tie in the order, else 0
   tie : A → A → ℕ
   tie x y = cond (is_eq (cmp x y)) 1 0
 

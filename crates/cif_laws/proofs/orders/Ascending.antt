@@ -33,7 +33,7 @@ module _ {A : Type 0} {cmp : A → A → Ordering} (total : IsTotalOrder cmp) wh
       absurd (irreflexive x (subst (IsBelow cmp x) (sym (heads ∙ same)) (below_by_recursion (IsBelow cmp x) xs z above_x among)))
   in_tail x y z xs ys heads above_x among (inr inside) = inside
 
-  -- so two ascending lists with the same members are equal
+  -- two ascending lists with the same members are equal
   pub same_list : (xs ys : List A) → IsStrictlyAscending cmp xs → IsStrictlyAscending cmp ys → ((z : A) → Contains xs z ↔ Contains ys z) → xs ≡ ys
   same_list [] [] up_x up_y same = refl
   same_list [] (y ∷ ys) up_x up_y same = absurd (nil-Contains y ((same y).1 (cons-Contains-first y ys)))
@@ -62,7 +62,7 @@ pub ascending_of : {A : Type 0} (cmp : A → A → Ordering) (xs : List A) → A
 ascending_of cmp [] up = tt
 ascending_of cmp (x ∷ xs) up = (up.0, ascending_of cmp xs up.1)
 
--- an ascending list with a last element that is above the others is ascending
+-- an ascending list stays ascending if it gets a last element above all others
 pub ascending_last : {A : Type 0} (cmp : A → A → Ordering) (xs : List A) (y : A) → IsStrictlyAscending cmp xs → AllByRecursion (λ x. IsBelow cmp x y) xs
     → IsStrictlyAscending cmp (xs ++ y ∷ [])
 ascending_last cmp [] y up below = (tt, tt)

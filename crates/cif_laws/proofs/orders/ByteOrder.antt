@@ -29,7 +29,7 @@ fronts_first (x ∷ xs) [] more others behind same is = absurd (omega arith)
 fronts_first (x ∷ xs) (y ∷ ys) more others behind same is =
     ap (ordering_then (nat_cmp x y)) (fronts_first xs ys more others behind (omega arith) is) ∙ sym (then_assoc (nat_cmp x y) (bytes_cmp xs ys) behind)
 
--- a number of two bytes compares by its high byte, then by its low byte
+-- numbers of two bytes compare by their high bytes first, and then by their low bytes
 digits_cmp : (m n : ℕ) → m < 2 ^ 16 → n < 2 ^ 16 → (high low : Ordering) → high ≡ nat_cmp (m / 256 % 256) (n / 256 % 256) → low ≡ nat_cmp (m % 256) (n % 256)
     → ordering_then high low ≡ nat_cmp m n
 digits_cmp m n few others Less low above behind = nat_cmp_is m n Less (let it = ranked (m / 256 % 256) (n / 256 % 256) Less above in omega arith)

@@ -11,7 +11,8 @@ use Rattle.std.proofs.lemmas.Map.Lookups.{CmpEqualImpliesEq, exact_unsigned, exa
 use Rattle.docker_model.specs.file.Change.{Key, tiploc_key, association_key, AssociationKey, schedule_key, ScheduleKey}
 use Rattle.docker_model.specs.state.Order.{bytes_cmp}
 use Rattle.docker_model.specs.state.Stamp.{moment_cmp, file_stamp_cmp, stamp_cmp, ledger_item_cmp}
-use Rattle.docker_model.specs.state.Op.{association_key_cmp, schedule_key_cmp, key_tag, key_cmp, body_cmp, body_end, body_bytes, body_tag, Op, deleted, lapsed, put_with, op_cmp, entry_cmp}
+use Rattle.docker_model.specs.state.Op.{association_key_cmp, schedule_key_cmp, key_tag, key_cmp, body_cmp, body_end}
+use Rattle.docker_model.specs.state.Op.{body_bytes, body_tag, Op, deleted, lapsed, put_with, op_cmp, entry_cmp}
 use Rattle.docker_model.specs.docker.DockerLine.{docker_line_cmp, occasion_rank, associated_uid}
 use Rattle.cif_laws.proofs.orders.AtMost.{eq_is}
 

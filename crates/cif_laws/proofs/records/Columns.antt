@@ -1,5 +1,6 @@
 -- Columns of a record and its good fields, also of a line whose transaction is set to N.
-use Rattle.std.proofs.Common.{◌≡◌, ℕ, zero, suc, ◌+◌, ◌-◌, ◌<◌, ◌≤◌, List, [], ◌∷◌, take, drop, set, get_or, subst, refl, ap, sym, ◌∙◌, Bool, true, false, cond, Some, None, arith, length-drop, length-set}
+use Rattle.std.proofs.Common.{◌≡◌, ℕ, zero, suc, ◌+◌, ◌-◌, ◌<◌, ◌≤◌, List, [], ◌∷◌, take, drop, set, get_or, subst, refl}
+use Rattle.std.proofs.Common.{ap, sym, ◌∙◌, Bool, true, false, cond, Some, None, arith, length-drop, length-set}
 use Rattle.std.specs.Prelude.{not, option_map, find, slice_index}
 use Rattle.std.specs.List.{AllByRecursion}
 use Rattle.std.proofs.lemmas.List.{length-take-le, get_or-drop, get_or-take, get_or-set_other, get_or-set_same, take-set}
@@ -86,6 +87,6 @@ new_kind line =
 pub new_record : (line : List ℕ) → IsRecord line → IsRecord (as_new line)
 new_record line is = (length-set line 2 78 ∙ is.0, All-set (λ b. is_printable b ≡ true) line 2 78 refl is.1)
 
--- the transaction of such a line is N
+-- a record whose transaction is set to N has the transaction N
 pub is_new : (line : List ℕ) → IsRecord line → HasNewTransaction (as_new line)
 is_new line is = let size = is.0 in get_or-set_same line 2 78 0 (omega arith)

@@ -1,5 +1,6 @@
 -- What good fields give: days, minutes, TIPLOCs, letters.
-use Rattle.std.proofs.Common.{◌≡◌, ℕ, zero, suc, ◌≤◌, List, [], ◌∷◌, true, arith, ◌+◌, refl, Bool, false, cond, pos, ◌<◌, take, sym, ◌∙◌, ◌⊎◌, inl, inr, eqb-true}
+use Rattle.std.proofs.Common.{◌≡◌, ℕ, zero, suc, ◌≤◌, List, [], ◌∷◌, true, arith, ◌+◌, refl, Bool}
+use Rattle.std.proofs.Common.{false, cond, pos, ◌<◌, take, sym, ◌∙◌, ◌⊎◌, inl, inr, eqb-true}
 use Rattle.std.specs.Prelude.{slice_index, nat_le, ◌&&◌, nat_lt, not, ◌==◌, ◌||◌}
 use Rattle.std.specs.List.{list_all}
 use Rattle.std.specs.Char.{is_ascii_digit}
@@ -7,7 +8,8 @@ use Rattle.std.proofs.lemmas.Bool.{leb-true, leb-false, ltb-true}
 use Rattle.jiff_core.specs.Calendar.{day_count, days_of_years, days_of_months, days_in_month}
 use Rattle.jiff_core.proofs.SignedLemmas.{signed_arith}
 use Rattle.jiff_core.proofs.CalendarLemmas.{day_count-lt_year}
-use Rattle.docker_model.specs.records.Date.{two_digits, full_year, is_calendar_day, day_number, IsDay, is_date, date_number, is_date_day_first, date_number_day_first}
+use Rattle.docker_model.specs.records.Date.{two_digits, full_year, is_calendar_day, day_number, IsDay}
+use Rattle.docker_model.specs.records.Date.{is_date, date_number, is_date_day_first, date_number_day_first}
 use Rattle.docker_model.specs.records.Clock.{is_clock, minute_of, is_blank}
 use Rattle.docker_model.specs.records.Field.{is_tiploc, is_new_tiploc}
 use Rattle.cif_laws.proofs.records.Dates.{is_calendar_day-IsDate, day_number-day_count}

@@ -1,12 +1,14 @@
 -- Tests of a record, and how often a schedule passes midnight as its lines come in.
-use Rattle.std.proofs.Common.{ℕ, List, ◌≡◌, refl, true, ◌+◌, [], ◌∷◌, length, ◌∙◌, cond, arith, Bool, false, suc, ◌≤◌, Some, None, sym, ap, eqb-true, ◌++◌, map, subst, ◌*◌, ◌⊎◌, inl, inr}
+use Rattle.std.proofs.Common.{ℕ, List, ◌≡◌, refl, true, ◌+◌, [], ◌∷◌, length, ◌∙◌, cond, arith, Bool, false}
+use Rattle.std.proofs.Common.{suc, ◌≤◌, Some, None, sym, ap, eqb-true, ◌++◌, map, subst, ◌*◌, ◌⊎◌, inl, inr}
 use Rattle.std.specs.Prelude.{not, option_map, nat_lt, ◌==◌, ◌↔◌, Option, slice_index, ◌||◌}
 use Rattle.std.specs.List.{prefix_len, AllByRecursion, AllPass, flat_map}
 use Rattle.std.proofs.lemmas.Bool.{ltb-true, ltb-false}
 use Rattle.std.proofs.lemmas.List.{map-append}
 use Rattle.std.proofs.lemmas.Grind.{flat_map-append}
 use Rattle.std.proofs.lemmas.List.Elements.{recursion_from_All, All-from_recursion}
-use Rattle.docker_model.specs.records.Record.{is_printable, leftmost_bad_byte, IsRecord, Kind, HasKind, origin_location, intermediate_location, terminating_location, columns, kind_of}
+use Rattle.docker_model.specs.records.Record.{is_printable, leftmost_bad_byte, IsRecord, Kind, HasKind, origin_location}
+use Rattle.docker_model.specs.records.Record.{intermediate_location, terminating_location, columns, kind_of}
 use Rattle.docker_model.specs.records.Clock.{is_clock, is_present_time, half_minutes, minute_of, is_blank, is_scheduled_time, scheduled_time}
 use Rattle.docker_model.specs.records.Field.{HasGoodFields}
 use Rattle.docker_model.specs.file.Journey.{fall_count, Occasion, times_of, times_along, midnights, times_by_kind, timed, departure, arrival, pass}
@@ -69,24 +71,24 @@ record_iff_test line = (
 
 -- ---- midnights
 
--- times in two parts: the first part's falls, and the second part's after the first part's last
--- time
+-- times in two parts fall as often as the first part falls, plus the falls of the second part after
+-- the first part's last time
 pub fall_count-append : (times later : List ℕ) → fall_count (times ++ later) ≡ fall_count times + falls_after (last_of times) later
 fall_count-append [] later = omega arith
 fall_count-append (time ∷ []) later = omega arith
 fall_count-append (time ∷ next ∷ times) later = let rest = fall_count-append (next ∷ times) later in omega arith
 
--- more times don't make fewer falls, if there is a first time
+-- further times never make fewer falls, if there is a first time
 pub fall_count_behind : (time : ℕ) (times later : List ℕ) → fall_count (time ∷ times) ≤ fall_count ((time ∷ times) ++ later)
 fall_count_behind time [] later = omega arith
 fall_count_behind time (next ∷ times) later = let rest = fall_count_behind next times later in omega arith
 
--- more times don't make fewer falls
+-- further times never make fewer falls
 pub fewer_falls : (times later : List ℕ) → fall_count times ≤ fall_count (times ++ later)
 fewer_falls [] later = omega arith
 fewer_falls (time ∷ times) later = fall_count_behind time times later
 
--- the last of times in two parts is the second part's last time, or the first part's if the second
+-- the last of two lists of times is the second list's last time, or the first list's if the second
 -- is empty
 pub last_of-append : (times later : List ℕ) → last_of (times ++ later) ≡ later_or (last_of later) (last_of times)
 last_of-append [] later = by (last_of later)
@@ -120,28 +122,29 @@ pub no_fall_last : (times : List ℕ) → AllByRecursion (λ t. t ≤ last_time)
 no_fall_last [] all = refl
 no_fall_last (time ∷ times) all = no_fall_behind time times all
 
--- the times of two lists of lines, one after the other
+-- the times of concatenated lines are the times of the first lines, then of the others
 pub times_append : (lines more : List (List ℕ)) → times_along (lines ++ more) ≡ times_along lines ++ times_along more
 times_append lines more =
     ap (map (λ (time : Occasion × ℕ). time.1)) (flat_map-append times_of lines more) ∙ map-append (λ (time : Occasion × ℕ). time.1) (flat_map times_of lines)
     (flat_map times_of more)
 
--- more lines don't pass midnight less often
+-- a schedule never passes midnight less often when lines are added
 pub fewer_midnights : (lines more : List (List ℕ)) → midnights lines ≤ midnights (lines ++ more)
 fewer_midnights lines more =
     subst (λ times. midnights lines ≤ fall_count times) (sym (times_append lines more)) (fewer_falls (times_along lines) (times_along more))
 
--- one more record passes midnight as often as its times fall, after the last time so far
+-- one more record adds as many midnights as its times fall, starting from the last time so far
 pub midnights_step : (lines : List (List ℕ)) (line : List ℕ) → midnights (lines ++ line ∷ []) ≡ midnights lines + falls_after (last_of (times_along lines))
     (times_along (line ∷ []))
 midnights_step lines line = ap fall_count (times_append lines (line ∷ [])) ∙ fall_count-append (times_along lines) (times_along (line ∷ []))
 
--- the last time with one more record
+-- the last time after one more record is the record's last time, or the one so far if the record
+-- has no time
 pub last_time_step : (lines : List (List ℕ)) (line : List ℕ) → last_of (times_along (lines ++ line ∷ [])) ≡ later_or (last_of (times_along (line ∷ [])))
     (last_of (times_along lines))
 last_time_step lines line = ap last_of (times_append lines (line ∷ [])) ∙ last_of-append (times_along lines) (times_along (line ∷ []))
 
--- a record whose kind has no times has none
+-- a record has no times if its kind has none
 pub no_times : (kind : Kind) (line : List ℕ) → HasKind kind line → times_by_kind (Some kind) line ≡ [] → times_of line ≡ []
 no_times kind line is none = ap (λ k. times_by_kind k line) is ∙ none
 

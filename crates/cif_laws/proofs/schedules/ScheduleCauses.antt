@@ -1,21 +1,28 @@
 -- The cause of a record that can't continue a schedule, by the stage of the earlier lines. A file's
 -- record at such a place has the same cause.
-use Rattle.std.proofs.Common.{◌≡◌, ℕ, List, refl, ap, ◌<◌, ◌⊎◌, inl, inr, sym, ◌∙◌, ◌≤◌, None, arith, [], ◌∷◌, Bool, true, false, cond, Some, ◌++◌, subst, length}
+use Rattle.std.proofs.Common.{◌≡◌, ℕ, List, refl, ap, ◌<◌, ◌⊎◌, inl, inr, sym, ◌∙◌, ◌≤◌, None}
+use Rattle.std.proofs.Common.{arith, [], ◌∷◌, Bool, true, false, cond, Some, ◌++◌, subst, length}
 use Rattle.std.specs.Prelude.{unwrap_or, Option, is_none, is_some, option_map, ◌&&◌, ◌==◌}
 use Rattle.std.proofs.lemmas.Bool.{cases_order, lt-leb}
-use Rattle.docker_model.specs.records.Record.{Lines, kind_of, Kind, basic_schedule, IsRecord, extra_details, origin_location, intermediate_location, terminating_location, change_en_route}
+use Rattle.docker_model.specs.records.Record.{Lines, kind_of, Kind, basic_schedule, IsRecord, extra_details, origin_location}
+use Rattle.docker_model.specs.records.Record.{intermediate_location, terminating_location, change_en_route}
 use Rattle.docker_model.specs.records.Field.{leftmost_bad_field, is_deletion}
 use Rattle.docker_model.specs.file.Journey.{midnights}
 use Rattle.docker_model.specs.file.File.{BeginsSchedule, first_record, follows_basic}
-use Rattle.docker_model.specs.file.FileFault.{FileCause, too_many, after_trailer, bad_length, bad_byte, bad_kind, bad_place, bad_field, third_midnight, no_end, cause_rank}
+use Rattle.docker_model.specs.file.FileFault.{FileCause, too_many, after_trailer, bad_length, bad_byte, bad_kind}
+use Rattle.docker_model.specs.file.FileFault.{bad_place, bad_field, third_midnight, no_end, cause_rank}
 use Rattle.cif_laws.specs.ScheduleFault.{HoldsInSchedule, IsScheduleFault, IsOutOfSchedule}
 use Rattle.cif_laws.specs.RecordTest.{is_record, has_good_fields}
 use Rattle.cif_laws.specs.ScheduleStage.{after_basic, is_first_line, is_basic_kind, Stage, next_stage, stage_of, stage_after, may_end, is_sound_next}
 use Rattle.cif_laws.specs.FileStage.{unit_by_kind, in_schedule, place_in, in_stage_or, is_sound_at, next_place, Place, between_units, IsPlaceOf}
-use Rattle.cif_laws.specs.RecordCause.{with_column, field_cause, first_line_cause, schedule_cause, is_after_end, kind_cause, byte_cause, length_cause, end_cause, cause_of}
+use Rattle.cif_laws.specs.RecordCause.{with_column, field_cause, first_line_cause, schedule_cause, is_after_end}
+use Rattle.cif_laws.specs.RecordCause.{kind_cause, byte_cause, length_cause, end_cause, cause_of}
 use Rattle.cif_laws.proofs.files.OneFileFault.{column_of, column_told, same_cause}
 use Rattle.cif_laws.proofs.records.RecordTests.{record_iff_test, no_bad_byte}
-use Rattle.cif_laws.proofs.schedules.ScheduleStages.{begins_iff_stage, witness, witness_kind, witness_record, witness_fields, front_of_basic, front_begins, first_line_iff_test, no_lines_begin, next_line_by_test, begins_more_iff, IsSound, IsFront, details_of, midnights_of_journey, test_by_next_line, front_of_stage, schedule_out_of_place, schedule_in_place, IsNoNextLine, no_next_line}
+use Rattle.cif_laws.proofs.schedules.ScheduleStages.{begins_iff_stage, witness, witness_kind, witness_record, witness_fields, front_of_basic}
+use Rattle.cif_laws.proofs.schedules.ScheduleStages.{front_begins, first_line_iff_test, no_lines_begin, next_line_by_test, begins_more_iff}
+use Rattle.cif_laws.proofs.schedules.ScheduleStages.{IsSound, IsFront, details_of, midnights_of_journey, test_by_next_line, front_of_stage}
+use Rattle.cif_laws.proofs.schedules.ScheduleStages.{schedule_out_of_place, schedule_in_place, IsNoNextLine, no_next_line}
 use Rattle.cif_laws.proofs.files.FileStages.{stage_stops, tracked_place}
 
 -- ---- one cause
@@ -32,7 +39,7 @@ column_in earlier line (bad_field at) holds = ap (λ o. unwrap_or o 0) holds
 column_in earlier line third_midnight holds = refl
 column_in earlier line no_end holds = refl
 
--- a line has at most one cause why it can't continue a schedule
+-- a line that can't continue a schedule has at most one cause
 pub one_schedule_cause : (earlier : Lines) (line : List ℕ) (first second : FileCause) → IsScheduleFault earlier line first → IsScheduleFault earlier line second
     → first ≡ second
 one_schedule_cause earlier line first second is_first is_second = by (cases_order (cause_rank first) (cause_rank second))
@@ -46,7 +53,7 @@ one_schedule_cause earlier line first second is_first is_second = by (cases_orde
 
 -- ---- the first line
 
--- no cause with a lower rank holds, if each of them is excluded
+-- no cause with a lower rank holds, if each such cause is excluded
 none_below : (earlier : Lines) (line : List ℕ) (rank : ℕ) → rank ≤ 7 → (4 < rank → ¬ (kind_of line ≡ None)) → (5 < rank → ¬ IsOutOfSchedule earlier line)
     → (6 < rank → leftmost_bad_field line ≡ None)
     → (other : FileCause) → cause_rank other < rank → ¬ HoldsInSchedule earlier line other
@@ -83,7 +90,7 @@ witness_begins = front_begins after_basic (witness basic_schedule ∷ []) (front
 kind_is_known : (line : List ℕ) (kind : Kind) → kind_of line ≡ Some kind → ¬ (kind_of line ≡ None)
 kind_is_known line kind is none = let bad : None ≡ Some kind = sym none ∙ is in cc
 
--- a record that can't be the first line of a schedule has this cause
+-- the cause of a record that can't be the first line of a schedule is `first_line_cause`
 pub first_line_fault : (line : List ℕ) → IsRecord line → is_first_line line ≡ false → IsScheduleFault [] line (first_line_cause line)
 first_line_fault line is test = by (kind_of line) refl
   where
@@ -132,14 +139,14 @@ first_line_fault line is test = by (kind_of line) refl
 
 -- ---- a later line
 
--- if a line leads to a next stage, the lines with it begin a schedule
+-- if a line leads to a next stage, the lines so far and this one begin a schedule
 pub begins_next_stage : (lines : Lines) (stage : Stage) (line : List ℕ) (next : Stage) → stage_of lines ≡ Some stage → next_stage stage lines line ≡ Some next
     → BeginsSchedule (lines ++ line ∷ [])
 begins_next_stage [] stage line next at found = cc
 begins_next_stage (basic ∷ rest) stage line next at found =
     (begins_more_iff basic rest stage line at).1 (next, next_line_by_test stage (basic ∷ rest) line next found)
 
--- if the lines with it begin no schedule, a line leads to no next stage
+-- if the lines so far and one more begin no schedule, the last one leads to no next stage
 pub no_next_stage : (lines : Lines) (stage : Stage) (line : List ℕ) → stage_of lines ≡ Some stage → ¬ BeginsSchedule (lines ++ line ∷ [])
     → next_stage stage lines line ≡ None
 no_next_stage lines stage line at here = by (next_stage stage lines line) refl
@@ -148,7 +155,7 @@ no_next_stage lines stage line at here = by (next_stage stage lines line) refl
     by None h = h
     by (Some next) h = absurd (here (begins_next_stage lines stage line next at h))
 
--- a record that leads to no next stage has this cause
+-- the cause of a record that leads to no next stage is `schedule_cause`
 pub schedule_fault : (earlier : Lines) (stage : Stage) (line : List ℕ) → stage_of earlier ≡ Some stage → IsRecord line → next_stage stage earlier line ≡ None
     → IsScheduleFault earlier line (schedule_cause stage line)
 schedule_fault [] stage line at is nowhere = cc
@@ -257,7 +264,7 @@ no_other stage lines line (inr none) = by (may_end stage lines)
     by true = none
     by false = refl
 
--- the place after such a record is the one at the schedule's next stage
+-- the place after a record that can only belong to the schedule has the schedule's next stage
 pub next_place_of_stage : (stage : Stage) (lines : Lines) (line : List ℕ) → IsOfSchedule stage lines line
     → next_place (in_schedule stage lines) line ≡ option_map (λ next. place_in next (lines ++ line ∷ [])) (next_stage stage lines line)
 next_place_of_stage stage lines line of =
@@ -291,7 +298,7 @@ cause_of_record limit count place line under open_end is =
     ∙ (λ i. cond (ap (λ n. n == 80) is.0 i) (byte_cause place line) bad_length)
     ∙ (λ i. with_column bad_byte (no_bad_byte line is.1 i) (kind_cause place line))
 
--- such a record has the same cause in a file as in a schedule
+-- a record that can only belong to the schedule has the same cause in a file as in a schedule
 pub cause_in_schedule : (limit count : ℕ) (stage : Stage) (lines : Lines) (line : List ℕ) → count < limit → IsRecord line → IsOfSchedule stage lines line
     → cause_of limit count (in_schedule stage lines) line ≡ schedule_cause stage line
 cause_in_schedule limit count stage lines line under is of =

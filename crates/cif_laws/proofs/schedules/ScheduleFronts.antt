@@ -1,12 +1,15 @@
 -- It is decided whether lines are a schedule, and whether they begin one.
-use Rattle.std.proofs.Common.{◌≡◌, ℕ, List, length, true, Some, [], ◌∷◌, ◌⊎◌, inr, inl, ◌+◌, ◌++◌, ap, refl, sym, subst, ◌≤◌, IsTrue, All, Bool, false, arith, if◌then◌else◌, nat_lt, map, ◌||◌, None, cond, not, find, ◌∙◌, codes, append-nil, lit≤}
+use Rattle.std.proofs.Common.{◌≡◌, ℕ, List, length, true, Some, [], ◌∷◌, ◌⊎◌, inr, inl, ◌+◌, ◌++◌, ap, refl, sym, subst, ◌≤◌, IsTrue, All}
+use Rattle.std.proofs.Common.{Bool, false, arith, if◌then◌else◌, nat_lt, map, ◌||◌, None, cond, not, find, ◌∙◌, codes, append-nil, lit≤}
 use Rattle.std.specs.Prelude.{⊤, slice_index, ◌==◌, option_map, Option}
 use Rattle.std.specs.List.{AllByRecursion, flat_map}
 use Rattle.std.proofs.lemmas.Bool.{ltb-true, le-ltb}
 use Rattle.std.proofs.lemmas.Grind.{flat_map-append}
 use Rattle.std.proofs.lemmas.List.{map-append}
 use Rattle.std.proofs.lemmas.List.Elements.{All-from_recursion, recursion_from_All}
-use Rattle.docker_model.specs.records.Record.{IsRecord, Lines, is_printable, Kind, kind_of, HasKind, intermediate_location, change_en_route, terminating_location, origin_location, column, extra_details, basic_schedule, columns, header, tiploc_insert, tiploc_amend, tiploc_delete, association, trailer}
+use Rattle.docker_model.specs.records.Record.{IsRecord, Lines, is_printable, Kind, kind_of, HasKind, intermediate_location, change_en_route}
+use Rattle.docker_model.specs.records.Record.{terminating_location, origin_location, column, extra_details, basic_schedule, columns}
+use Rattle.docker_model.specs.records.Record.{header, tiploc_insert, tiploc_amend, tiploc_delete, association, trailer}
 use Rattle.docker_model.specs.records.Date.{two_digits}
 use Rattle.docker_model.specs.records.Clock.{is_clock, is_present_time, half_minutes, is_blank, is_scheduled_time, scheduled_time}
 use Rattle.docker_model.specs.records.Field.{leftmost_bad_field, HasGoodFields, is_deletion, CheckedField, fields_of}
@@ -15,7 +18,8 @@ use Rattle.docker_model.specs.file.File.{IsWithinJourney, IsJourney, MayLackJour
 use Rattle.cif_laws.proofs.records.Builders.{lt, no_text, f2_origin, f2_terminus, f2_schedule}
 use Rattle.cif_laws.proofs.schedules.WorkedSchedule.{record_by_test, f2_journey, f2_is_schedule}
 use Rattle.cif_laws.proofs.lists.AllOf.{all_append, all_front}
-use Rattle.cif_laws.proofs.lists.Decisions.{Decided, both_decided, bool_decided, nat_decided, All_decided, kind_decided, none_decided, either_decided, empty_decided, le_decided, all_decided, decided_along}
+use Rattle.cif_laws.proofs.lists.Decisions.{Decided, both_decided, bool_decided, nat_decided, All_decided, kind_decided}
+use Rattle.cif_laws.proofs.lists.Decisions.{none_decided, either_decided, empty_decided, le_decided, all_decided, decided_along}
 use Rattle.cif_laws.proofs.lists.BoolsAndOptions.{both}
 
 abbrev AreRecords : Lines → Type 0
@@ -254,7 +258,7 @@ scheduled_from_present field present = by (is_blank field)
 some_is_not_none : (n : ℕ) → Some n ≡ None → ⊥
 some_is_not_none n h = cc
 
--- if none of some fields is the leftmost bad one, they are all good
+-- if no field is the leftmost bad one, all fields are good
 all_good : (line : List ℕ) (fields : List CheckedField)
     → option_map (λ (field : CheckedField). field.first) (find (λ field. not (field.is_good (columns field.first field.last line))) fields) ≡ None
     → AllByRecursion (λ (field : CheckedField). field.is_good (columns field.first field.last line) ≡ true) fields
@@ -322,8 +326,8 @@ small_along (line ∷ lines) good =
     times_of-times : List ℕ → List ℕ
     times_of-times l = times_in (times_of l)
 
--- a prefix of some times has no more falls than all of them, and the day's last half minute adds
--- none
+-- a prefix of some times has no more falls than all the times. The day's last half minute adds no
+-- fall
 falls_front : (times more : List ℕ) → fall_count times ≤ fall_count (times ++ more)
 falls_front [] more = omega arith
 falls_front (time ∷ []) more = omega arith
@@ -374,7 +378,7 @@ front_here_decided (basic ∷ lines) =
     both_decided (both_decided (records_decided (basic ∷ lines)) (basic_decided basic))
     (either_decided (front_part_decided basic lines) (extra_and_front_decided basic lines))
 
--- lines that begin a schedule are such a prefix
+-- lines that begin a schedule have the form `FrontHere`
 front_of_whole : (lines rest : Lines) → WholeCalls (lines ++ rest) → FrontOfCalls lines
 front_of_whole [] rest calls = tt
 front_of_whole (line ∷ lines) rest (inl told) = inl (told.0, nothing lines told.1)
@@ -406,7 +410,7 @@ front_of_schedule (basic ∷ lines) rest here = ((all_front IsRecord (basic ∷ 
     by [] (inr part) = inl tt
     by (extra ∷ others) (inr part) = inr (part.0, front_of_part basic others rest part.1)
 
--- lines that complete such a prefix to a schedule
+-- lines that complete a prefix to a schedule
 record Ending (basic : List ℕ) (lines : Lines) : Type 0 where
   rest : Lines
   records : AreRecords rest

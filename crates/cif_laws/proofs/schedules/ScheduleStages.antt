@@ -1,22 +1,27 @@
 -- Where a reader of a schedule is after the lines so far: which line may come next, and whether the
 -- lines are a schedule.
-use Rattle.std.proofs.Common.{◌≡◌, ℕ, List, ◌∷◌, [], ◌⊎◌, true, ◌+◌, ◌++◌, inl, refl, Some, ap, inr, arith, ◌∙◌, ◌≤◌, Bool, false, subst, append_assoc, cond, None, sym, eqb-true, append-nil, All, ◌<◌}
+use Rattle.std.proofs.Common.{◌≡◌, ℕ, List, ◌∷◌, [], ◌⊎◌, true, ◌+◌, ◌++◌, inl, refl, Some, ap, inr, arith, ◌∙◌, ◌≤◌}
+use Rattle.std.proofs.Common.{Bool, false, subst, append_assoc, cond, None, sym, eqb-true, append-nil, All, ◌<◌}
 use Rattle.std.specs.Prelude.{Option, ◌&&◌, ◌↔◌, nat_le, ◌||◌, ◌==◌, codes, option_and_then, is_none}
 use Rattle.std.specs.List.{AllByRecursion}
 use Rattle.std.proofs.lemmas.Bool.{leb-true, le-leb, leb-false}
 use Rattle.std.proofs.lemmas.List.Elements.{All-from_recursion, recursion_from_All}
-use Rattle.docker_model.specs.records.Record.{origin_location, HasKind, Lines, basic_schedule, IsRecord, Kind, kind_of, extra_details, intermediate_location, terminating_location, change_en_route, column, header, tiploc_insert, tiploc_amend, tiploc_delete, association, trailer}
+use Rattle.docker_model.specs.records.Record.{origin_location, HasKind, Lines, basic_schedule, IsRecord, Kind, kind_of}
+use Rattle.docker_model.specs.records.Record.{extra_details, intermediate_location, terminating_location, change_en_route}
+use Rattle.docker_model.specs.records.Record.{column, header, tiploc_insert, tiploc_amend, tiploc_delete, association, trailer}
 use Rattle.docker_model.specs.records.Field.{is_deletion, HasGoodFields, leftmost_bad_field}
 use Rattle.docker_model.specs.file.Journey.{times_along, fall_count, midnights}
 use Rattle.docker_model.specs.file.File.{IsWithinJourney, IsJourney, AreExtraDetails, IsSoundJourney, first_record, MayLackJourney, IsSchedule, BeginsSchedule}
 use Rattle.cif_laws.specs.RecordTest.{is_record, has_good_fields}
 use Rattle.cif_laws.specs.TimesSoFar.{falls_after, last_of}
-use Rattle.cif_laws.specs.ScheduleStage.{in_journey, after_basic, Stage, after_details, after_journey, is_basic_kind, is_first_line, is_sound_next, stage_after, next_stage, may_lack, may_end, stage_from, stage_of}
+use Rattle.cif_laws.specs.ScheduleStage.{in_journey, after_basic, Stage, after_details, after_journey, is_basic_kind, is_first_line}
+use Rattle.cif_laws.specs.ScheduleStage.{is_sound_next, stage_after, next_stage, may_lack, may_end, stage_from, stage_of}
 use Rattle.cif_laws.proofs.records.Builders.{no_text, hd, ti, ta, aa, bs, lo, li, lt, cr, zz, wide}
 use Rattle.cif_laws.proofs.lists.AllOf.{all_append}
 use Rattle.cif_laws.proofs.records.Columns.{fields_good}
 use Rattle.cif_laws.proofs.lists.BoolsAndOptions.{both, none_by_test, test_by_none, and_true, either, then_some, some_then}
-use Rattle.cif_laws.proofs.records.RecordTests.{record_iff_test, no_times, no_times_before, midnights_step, last_time, no_fall_last, times_append, along_within, fewer_midnights}
+use Rattle.cif_laws.proofs.records.RecordTests.{record_iff_test, no_times, no_times_before, midnights_step, last_time}
+use Rattle.cif_laws.proofs.records.RecordTests.{no_fall_last, times_append, along_within, fewer_midnights}
 
 -- ---- what a stage means for the lines
 
@@ -118,7 +123,7 @@ midnights_of_journey basic extra journey kind details =
 pub no_extra_fields : (line : List ℕ) → HasKind extra_details line → HasGoodFields line
 no_extra_fields line kind = fields_good extra_details line kind tt
 
--- the next line has good fields and makes no third fall
+-- the next line has good fields, and with it the schedule passes midnight at most twice
 pub record IsSoundNext (lines : Lines) (line : List ℕ) : Type 0 where
   pub fields : HasGoodFields line
   pub falls : midnights (lines ++ line ∷ []) ≤ 2
@@ -134,7 +139,7 @@ sound_next_by_test lines line test = by (either (is_deletion (first_record lines
         let parts = both (has_good_fields line) _ good in
         inr (record { fields = none_by_test (leftmost_bad_field line) parts.0; falls = leb-true (midnights (lines ++ line ∷ [])) 2 parts.1 })
 
--- if the schedule is a deletion or the line is sound, it passes the test
+-- if the schedule is a deletion or the line is sound, the line passes the test
 pub test_by_sound_next : (lines : Lines) (line : List ℕ) → (is_deletion (first_record lines) ≡ true) ⊎ IsSoundNext lines line → is_sound_next lines line ≡ true
 test_by_sound_next lines line (inl deletion) = ap (λ b. b || (has_good_fields line && nat_le (midnights (lines ++ line ∷ [])) 2)) deletion
 test_by_sound_next lines line (inr good) = by (is_deletion (first_record lines))
@@ -143,15 +148,15 @@ test_by_sound_next lines line (inr good) = by (is_deletion (first_record lines))
     by true = refl
     by false = and_true (has_good_fields line) _ (test_by_none (leftmost_bad_field line) good.fields) (le-leb (midnights (lines ++ line ∷ [])) 2 good.falls)
 
--- the test, from what a reader keeps: whether the schedule is a deletion, how often it has passed
--- midnight, and the last time
+-- the test is computed from what a reader keeps: whether the schedule is a deletion, how often it
+-- has passed midnight, and the last time
 pub sound_next_by_count : (lines : Lines) (line : List ℕ)
     → is_sound_next lines line
     ≡ (is_deletion (first_record lines) || (has_good_fields line && nat_le (midnights lines + falls_after (last_of (times_along lines))
     (times_along (line ∷ []))) 2))
 sound_next_by_count lines line = λ i. is_deletion (first_record lines) || (has_good_fields line && nat_le (midnights_step lines line i) 2)
 
--- the journey is still sound with a line that passes the test
+-- a journey stays sound after a line that passes the test
 sound_more : (stage : Stage) (lines : Lines) (line : List ℕ) (front : IsFront stage lines) → is_sound_next lines line ≡ true
     → IsSound front.basic (front.journey ++ line ∷ [])
 sound_more stage lines line front test = by (sound_next_by_test lines line test) front.sound
@@ -196,7 +201,7 @@ pub test_by_next_line : (stage : Stage) (lines : Lines) (line : List ℕ) (next 
 test_by_next_line stage lines line next told =
     (λ i. cond (and_true (is_record line) _ ((record_iff_test line).0 told.is) told.sound i) (stage_after stage (kind_of line)) None) ∙ told.stage_is
 
--- one more line inside a journey
+-- an open journey stays open after a line within the journey
 journey_more : (journey : Lines) (line : List ℕ) → IsOpenJourney journey → IsWithinJourney line → IsOpenJourney (journey ++ line ∷ [])
 journey_more journey line so_far is = (
   so_far.0,
@@ -206,7 +211,7 @@ journey_more journey line so_far is = (
   all_append IsWithinJourney so_far.1 (line ∷ []) so_far.4 (is, tt),
 )
 
--- one more line, at the stage to which its kind leads
+-- after one more line, the schedule has the shape of the stage to which the line's kind leads
 shape_more : (stage : Stage) (kind : Kind) (next : Stage) (extra journey : Lines) (line : List ℕ) → HasShape stage extra journey → HasKind kind line
     → stage_after stage (Some kind) ≡ Some next
     → (HasShape next extra (journey ++ line ∷ [])) ⊎ (HasShape next (line ∷ []) journey × (extra ≡ []) × (journey ≡ []))
@@ -293,7 +298,7 @@ lack_by_test basic test = by (either (is_deletion basic) _ test)
     by (inl deletion) = inl deletion
     by (inr letter) = inr (eqb-true (column 80 basic) 67 letter)
 
--- if its journey may be missing, a basic schedule passes the test
+-- if the journey of a basic schedule may be missing, the basic schedule passes the test
 pub test_by_lack : (basic : List ℕ) → MayLackJourney basic → may_lack basic ≡ true
 test_by_lack basic (inl deletion) = ap (λ b. b || (column 80 basic == 67)) deletion
 test_by_lack basic (inr letter) = or_right (is_deletion basic) (ap (λ n. n == 67) letter)
@@ -343,7 +348,7 @@ witness terminating_location = lt (codes "BRAYTON") no_text (codes "2359H") no_t
 witness change_en_route = cr (codes "CLAYDON") no_text (codes "1A11")
 witness trailer = zz
 
--- the record has that kind
+-- the record that `witness` gives has the right kind
 pub witness_kind : (kind : Kind) → HasKind kind (witness kind)
 unfolding witness
 witness_kind header = refl
@@ -359,7 +364,7 @@ witness_kind terminating_location = refl
 witness_kind change_en_route = refl
 witness_kind trailer = refl
 
--- the record passes the test of a record
+-- the record that `witness` gives passes the test of a record
 pub witness_record : (kind : Kind) → is_record (witness kind) ≡ true
 unfolding witness
 witness_record header = refl
@@ -375,7 +380,7 @@ witness_record terminating_location = refl
 witness_record change_en_route = refl
 witness_record trailer = refl
 
--- the record has good fields
+-- the record that `witness` gives has good fields
 pub witness_fields : (kind : Kind) → HasGoodFields (witness kind)
 unfolding witness
 witness_fields header = refl
@@ -406,7 +411,7 @@ witness_times intermediate_location = inl refl
 witness_times change_en_route = inl refl
 witness_times trailer = inl refl
 
--- the record makes no third fall, after lines at any stage
+-- the record that `witness` gives is a sound next line after lines at any stage
 pub witness_sound : (stage : Stage) (lines : Lines) (kind : Kind) → IsFront stage lines → is_sound_next lines (witness kind) ≡ true
 witness_sound stage lines kind front = test_by_sound_next lines (witness kind) (by front.sound)
   where
@@ -432,7 +437,7 @@ witness_sound stage lines kind front = test_by_sound_next lines (witness kind) (
             (along_within front.journey (recursion_from_All HasGoodFields front.journey good.fields)) in
             let falls = good.falls in omega arith
 
--- if its kind leads to a next stage, the record leads there
+-- the record that `witness` gives leads to the stage to which its kind leads
 pub witness_front : (stage : Stage) (lines : Lines) (kind : Kind) (next : Stage) → IsFront stage lines → stage_after stage (Some kind) ≡ Some next
     → IsFront next (lines ++ witness kind ∷ [])
 witness_front stage lines kind next front after =
@@ -479,7 +484,7 @@ front_from (line ∷ rest) stage done final front found =
     subst (IsFront final) (append_assoc done (line ∷ []) rest)
     (front_from rest step.0 (done ++ line ∷ []) final (next_front stage done line step.0 front step.1) step.2)
 
--- lines that have a stage are at it
+-- lines that have a stage are at that stage
 pub front_of_stage : (lines : Lines) (stage : Stage) → stage_of lines ≡ Some stage → IsFront stage lines
 front_of_stage [] stage found = cc
 front_of_stage (basic ∷ rest) stage found = by (is_first_line basic) refl found
@@ -497,7 +502,7 @@ stage_from_append (line ∷ front) stage done middle more found =
     ∙ stage_from_append front step.0 (done ++ line ∷ []) middle more step.2
     ∙ (λ i. stage_from middle (append_assoc done (line ∷ []) front i) more)
 
--- the stage of more lines, from the first lines' stage
+-- the stage after more lines follows from the first lines' stage
 pub stage_of_append : (front : Lines) (stage : Stage) (more : Lines) → stage_of front ≡ Some stage → stage_of (front ++ more) ≡ stage_from stage front more
 stage_of_append [] stage more found = cc
 stage_of_append (basic ∷ rest) stage more found = by (is_first_line basic) refl found
@@ -508,11 +513,11 @@ stage_of_append (basic ∷ rest) stage more found = by (is_first_line basic) ref
         (λ i. cond (h i) (stage_from after_basic (basic ∷ []) (rest ++ more)) None) ∙ stage_from_append rest after_basic (basic ∷ []) stage more told
     by false h told = cc
 
--- the stage with one more line
+-- one more line leads from the lines' stage to its next stage
 pub stage_of_more : (lines : Lines) (stage : Stage) (line : List ℕ) → stage_of lines ≡ Some stage → stage_of (lines ++ line ∷ []) ≡ next_stage stage lines line
 stage_of_more lines stage line found = stage_of_append lines stage (line ∷ []) found ∙ some_then (next_stage stage lines line)
 
--- the stage of one line
+-- a first line is at the stage after the basic schedule, and any other single line at none
 pub stage_of_first : (line : List ℕ) → stage_of (line ∷ []) ≡ cond (is_first_line line) (Some after_basic) None
 stage_of_first line = refl
 
@@ -524,7 +529,7 @@ stage_from_front (line ∷ front) rest stage done final found =
     let more = stage_from_front front rest step.0 (done ++ line ∷ []) final step.2 in
     (more.0, (λ i. option_and_then (λ next. stage_from next (done ++ line ∷ []) front) (step.1 i)) ∙ more.1)
 
--- each prefix of lines that have a stage has one too
+-- if lines have a stage, each prefix with the first line has a stage too
 pub stage_of_front : (basic : List ℕ) (front rest : Lines) (final : Stage) → stage_of (basic ∷ front ++ rest) ≡ Some final
     → (stage : Stage) × (stage_of (basic ∷ front) ≡ Some stage)
 stage_of_front basic front rest final found = by (is_first_line basic) refl found
@@ -543,8 +548,8 @@ abbrev pub stage_along : Stage → Lines → Option Stage
 stage_along stage [] = Some stage
 stage_along stage (line ∷ rest) = option_and_then (λ next. stage_along next rest) (stage_after stage (kind_of line))
 
--- the lines to come are sound: the schedule is a deletion, or they have good fields and make no
--- third fall
+-- the lines to come are sound: the schedule is a deletion, or they have good fields and the
+-- schedule passes midnight at most twice
 abbrev IsSoundRest : List ℕ → Lines → Lines → Type 0
 IsSoundRest basic done rest = (is_deletion basic ≡ true) ⊎ (AllByRecursion HasGoodFields rest × (midnights (basic ∷ done ++ rest) ≤ 2))
 
@@ -594,7 +599,7 @@ pub record IsWholeBy (lines : Lines) (stage : Stage) : Type 0 where
   pub found : stage_of lines ≡ Some stage
   pub may : may_end stage lines ≡ true
 
--- the schedule's other lines lead to the stage where it ends, by their kinds
+-- the kinds of the schedule's other lines lead to the stage where the schedule ends
 record LeadsToEnd (basic : List ℕ) (rest : Lines) : Type 0 where
   pub final : Stage
   pub along : stage_along after_basic rest ≡ Some final
@@ -660,7 +665,7 @@ begins_iff_stage basic rest = (
   λ at. front_begins at.0 (basic ∷ rest) (front_of_stage (basic ∷ rest) at.0 at.1),
 )
 
--- no lines begin some schedule
+-- the empty list of lines begins some schedule
 pub no_lines_begin : BeginsSchedule []
 no_lines_begin =
     begins_shorter [] (witness basic_schedule ∷ []) (front_begins after_basic (witness basic_schedule ∷ []) (front_of_basic (witness basic_schedule) (record {
@@ -669,7 +674,7 @@ no_lines_begin =
       fields = witness_fields basic_schedule;
     })))
 
--- with one more line they begin a schedule if and only if it leads to a next stage
+-- lines and one more begin a schedule if and only if the last one leads to a next stage
 pub begins_more_iff : (basic : List ℕ) (rest : Lines) (stage : Stage) (line : List ℕ) → stage_of (basic ∷ rest) ≡ Some stage
     → BeginsSchedule (basic ∷ rest ++ line ∷ []) ↔ ((next : Stage) × IsNextLine stage (basic ∷ rest) line next)
 begins_more_iff basic rest stage line at = (
@@ -729,15 +734,15 @@ schedule_in_place basic rest stage kind next at found =
 
 -- ---- why a record leads to no next stage
 
--- the record's kind is out of place, a field isn't good, or it makes the third fall. In a deletion
--- only the kind counts
+-- the record's kind is out of place, a field isn't good, or the schedule passes midnight a third
+-- time. In a deletion only the kind counts
 abbrev pub IsNoNextLine : Stage → Lines → List ℕ → Type 0
 IsNoNextLine stage lines line =
     (stage_after stage (kind_of line) ≡ None)
     ⊎ (((at : ℕ) × (leftmost_bad_field line ≡ Some at) × (is_deletion (first_record lines) ≡ false))
     ⊎ (HasGoodFields line × (2 < midnights (lines ++ line ∷ [])) × (is_deletion (first_record lines) ≡ false)))
 
--- if a record leads to no next stage, one of these is why
+-- if a record leads to no next stage, `IsNoNextLine` says why
 pub no_next_line : (stage : Stage) (lines : Lines) (line : List ℕ) → IsRecord line → next_stage stage lines line ≡ None → IsNoNextLine stage lines line
 no_next_line stage lines line is nowhere = by (stage_after stage (kind_of line)) refl
   where

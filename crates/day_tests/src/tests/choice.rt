@@ -72,7 +72,7 @@ fn chosen_is(rt: &impl Abort, state: &State, on: &str, wanted: Option<Stp>) {
     same(rt, stp, wanted);
 }
 
-/// A cancellation may be what is chosen.
+/// The schedule chosen may be a cancellation.
 #[test]
 fn chosen_cancellation(rt: HostRuntime) {
     let state = state(&rt, rt.alloc(), &[HD, BS_WEEK, LO, LT, BS_CANCELLED, ZZ]);

@@ -29,7 +29,7 @@ const DIVIDED: &[&[u8]] = &[
     ZZ,
 ];
 
-/// The state of that file.
+/// The state of the file with the train that divides.
 fn divided(rt: &impl Abort, alloc: Global) -> State {
     match state_of(alloc, DIVIDED) {
         Some(state) => state,
@@ -48,7 +48,7 @@ fn counts_are(rt: &impl Abort, state: &State, items: usize, entries: usize, rows
     same(rt, live, rows);
 }
 
-/// The text that a sink gets of a docker. If memory runs out, it is written a second time.
+/// The text that a sink gets of a docker. If memory runs out, the docker is written a second time.
 fn taken(rt: &impl Abort, alloc: Global, docker: &Docker<'_>) -> Kept {
     match written(alloc, docker) {
         Some(kept) => kept,

@@ -47,7 +47,7 @@ fn midnights_are(rt: &impl Abort, state: &State, event: u64, wanted: Option<u8>)
     same(rt, falls(&view, event), wanted);
 }
 
-/// How often it passes midnight before each event. For an event that doesn't exist there is no
+/// How often C20001 passes midnight before each event. For an event that doesn't exist there is no
 /// answer.
 #[test]
 fn midnights_up_to_events(rt: HostRuntime) {

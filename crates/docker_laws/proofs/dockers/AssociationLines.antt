@@ -1,5 +1,5 @@
--- The docker line that an association gives for one start day of the base train. It is in the
--- docker, and each line of an association in the docker is one of these.
+-- The docker line that an association gives for one start day of the base train. The docker has
+-- these lines, and no other lines of associations.
 use Rattle.std.proofs.Common.{◌≡◌, ℕ, List, [], ◌∷◌, refl, ap, sym, ◌∙◌, subst, inl, inr, Some, None, Bool, true, false, cond, Contains, eqb-true, arith}
 use Rattle.std.specs.Prelude.{Option, not, ◌&&◌, ◌==◌}
 use Rattle.std.specs.Ordering.{is_eq}
@@ -172,7 +172,7 @@ module _ (live : Table) (trains : List ℕ → ℕ → Option Train) (links : Gr
       by false h inside = absurd (nil-Contains docker_line inside)
       by true h inside = with_category (in_force_back key line start is_live h) (category_occasion (columns 35 36 line)) refl inside
 
-  -- a docker line of an association is the one that it gives for its start day
+  -- each docker line of an association is the line that the association gives for the start day
   pub link_piece_forth : (docker_line : DockerLine) (made : IsAssociationLine live place day docker_line)
       → Contains (link_piece trains links day made.key made.association made.start) docker_line
   link_piece_forth docker_line made =
@@ -213,7 +213,7 @@ module _ (live : Table) (trains : List ℕ → ℕ → Option Train) (links : Gr
           subst (λ at. Contains (line_at trains day made.start made.key made.association made.occasion base at) docker_line) (sym first)
           (at_day base same.0 same.1)
 
-  -- there is at most one such line
+  -- no two lines that an association gives for one start day tie
   pub link_piece_apart : (key : AssociationKey) (line : List ℕ) (start : ℕ) → AreApart docker_line_cmp (link_piece trains links day key line start)
   link_piece_apart key line start = by (is_in_force links start key line) (category_occasion (columns 35 36 line)) (trains key.base start)
     where

@@ -51,7 +51,7 @@ module _ {A : Type 0} {cmp : A → A → Ordering} (total : IsTotalOrder cmp) (t
       by z passes (inl here) = at_most_trans total x b z (at_most_below cmp x b below) (best.2 z here passes)
       by z passes (inr last) = subst (IsAtMost cmp x) (Contains-single x z last) (at_most_itself total x)
 
-  -- if it doesn't come before, the best so far stays
+  -- if an element doesn't come before the best so far, the best so far stays
   stays : (xs : List A) (x b : A) → ¬ (cmp x b ≡ Less) → IsBest cmp test xs (Some b) → IsBest cmp test (xs ++ x ∷ []) (Some b)
   stays xs x b not_below best = (Contains-append_left xs (x ∷ []) b best.0, best.1, λ z among passes. by z passes (Contains-append_cases xs (x ∷ []) z among))
     where
@@ -62,7 +62,7 @@ module _ {A : Type 0} {cmp : A → A → Ordering} (total : IsTotalOrder cmp) (t
       by z passes (inl here) = best.2 z here passes
       by z passes (inr last) = subst (IsAtMost cmp b) (Contains-single x z last) at_most
 
-  -- the best, with any one more element
+  -- `with_one_more` gives the best after one more element
   pub best_more : (xs : List A) (x : A) (found : Option A) → IsBest cmp test xs found → IsBest cmp test (xs ++ x ∷ []) (with_one_more cmp test found x)
   best_more xs x found best = by (test x) refl found best
     where

@@ -1,6 +1,7 @@
 -- The events of a schedule, as a walk over its lines meets them. The walk carries along the falls
 -- and the last change en route.
-use Rattle.std.proofs.Common.{◌≡◌, ℕ, zero, suc, ◌+◌, ◌<◌, ◌≤◌, Bool, true, false, cond, List, [], ◌∷◌, ◌++◌, map, length, get_or, take, refl, ap, sym, ◌∙◌, subst, arith, Contains, Some, None, append_assoc, append-nil, length-append}
+use Rattle.std.proofs.Common.{◌≡◌, ℕ, zero, suc, ◌+◌, ◌<◌, ◌≤◌, Bool, true, false, cond, List, [], ◌∷◌, ◌++◌, map, length, get_or}
+use Rattle.std.proofs.Common.{take, refl, ap, sym, ◌∙◌, subst, arith, Contains, Some, None, append_assoc, append-nil, length-append}
 use Rattle.std.specs.Prelude.{Option, ◌↔◌, nat_lt, filter, codes}
 use Rattle.std.specs.List.{enumerate_from, last_or, flat_map}
 use Rattle.std.proofs.lemmas.List.{map-append, length-map, get_or-map}
@@ -45,19 +46,19 @@ from_is n place (line ∷ lines) =
     ∙ (λ i. here_is n place (times_of line) i ++ (ap (λ k. map as_event (enumerate_from (n + k) (flat_map times_at (enumerate_from (place + 1) lines)))) long
     ∙ from_is (n + length (times_of line)) (place + 1) lines) i)
 
--- the events of a schedule are those that a walk meets
+-- the events of a schedule are the events that a walk meets
 pub events_walked : (lines : List (List ℕ)) → events_of lines ≡ events_from 1 0 lines
 events_walked lines = from_is 1 0 lines
 
 -- ---- falls
 
--- the falls of times and one more time
+-- one more time adds a fall if it is below the last time so far
 pub falls_more : (times : List ℕ) (time : ℕ) → fall_count (times ++ time ∷ []) ≡ fall_count times + fall_at (last_time times) time
 falls_more [] time = refl
 falls_more (first ∷ []) time = (let e : cond (nat_lt time first) 1 0 + 0 ≡ 0 + cond (nat_lt time first) 1 0 = omega arith in e)
 falls_more (first ∷ second ∷ times) time = let rest = falls_more (second ∷ times) time in omega arith
 
--- the falls up to an event, from the times before it and its own
+-- the falls up to an event are counted from the earlier times and the event's own
 pub falls_here : (lines : List (List ℕ)) (before later : List ℕ) (time : ℕ) (number : ℕ) → times_along lines ≡ (before ++ time ∷ []) ++ later
     → number ≡ length before + 1
     → falls_to lines number ≡ fall_count before + fall_at (last_time before) time
@@ -69,7 +70,7 @@ falls_here lines before later time number whole is =
     front : (xs : List ℕ) (x : ℕ) (ys : List ℕ) → take (length xs + 1) ((xs ++ x ∷ []) ++ ys) ≡ xs ++ x ∷ []
     front xs x ys = ap (take (length xs + 1)) (append_assoc xs (x ∷ []) ys) ∙ take-append-add xs (x ∷ ys) 1
 
--- the times of all lines: before a line, its own, and after it
+-- the times of all lines are the times before a line, the line's times, and the times after it
 pub times_split : (front : List (List ℕ)) (line : List ℕ) (rest : List (List ℕ))
     → times_along (front ++ line ∷ rest) ≡ times_along front ++ (map (λ (time : Occasion × ℕ). time.1) (times_of line) ++ times_along rest)
 times_split front line rest =
@@ -79,7 +80,7 @@ times_split front line rest =
 
 -- ---- the line and the identity at an event
 
--- an event whose place is the walk's has the line at which the walk is
+-- an event at the walk's place has the line that the walk has reached
 pub line_here : (front : List (List ℕ)) (line : List ℕ) (rest : List (List ℕ)) (event : Event) → event.place ≡ length front
     → event_line (front ++ line ∷ rest) event ≡ line
 line_here front line rest event is = ap (λ n. get_or (front ++ line ∷ rest) n []) is ∙ get_or-append_seam front line rest []
@@ -90,12 +91,12 @@ pub identity_here : (front rest : List (List ℕ)) (event : Event) → event.pla
 identity_here front rest event is =
     ap (λ before. changed_identity (last_change before) (first_record (front ++ rest))) (ap (λ n. take n (front ++ rest)) is ∙ take-append_seam front rest)
 
--- the last element of a list and one more
+-- the last element of a list with one more element is that element
 last_behind : {A : Type 0} (o : Option A) (xs : List A) (x : A) → last_or o (xs ++ x ∷ []) ≡ Some x
 last_behind o [] x = refl
 last_behind o (y ∷ xs) x = last_behind (Some y) xs x
 
--- the last change en route, with one more line
+-- one more line becomes the last change en route if it is one; otherwise the last change stays
 pub change_more : (front : List (List ℕ)) (line : List ℕ) → last_change (front ++ line ∷ []) ≡ cond (has_identity (codes "CR") line) (Some line)
     (last_change front)
 change_more front line =
@@ -125,7 +126,7 @@ as_many lines =
         ∙ (λ i. length-map {B = Placed} (times_of l) (λ (time : Occasion × ℕ). (n, time)) i + placed_long (n + 1) ls i)
         ∙ sym (length-append (times_of l) (flat_map times_of ls))
 
--- an event has this number if and only if it is from 1 to the number of times
+-- an event has a given number if and only if the number is from 1 to the count of times
 pub number_there : (lines : List (List ℕ)) (number : ℕ) → ((event : Event) × Contains (events_of lines) event × (event.number ≡ number))
     ↔ ((1 ≤ number) × (number ≤ length (times_along lines)))
 number_there lines number = (forth, back)

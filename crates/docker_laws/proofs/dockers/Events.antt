@@ -1,9 +1,11 @@
 -- The events of a schedule: one for each number, each at a location record.
-use Rattle.std.proofs.Common.{◌≡◌, ℕ, zero, suc, ◌+◌, ◌<◌, ◌≤◌, List, [], ◌∷◌, ◌++◌, length, get_or, refl, ap, sym, ◌∙◌, subst, inl, inr, ◌⊎◌, Some, None, Contains, map, arith}
+use Rattle.std.proofs.Common.{◌≡◌, ℕ, zero, suc, ◌+◌, ◌<◌, ◌≤◌, List, [], ◌∷◌, ◌++◌, length, get_or, refl}
+use Rattle.std.proofs.Common.{ap, sym, ◌∙◌, subst, inl, inr, ◌⊎◌, Some, None, Contains, map, arith}
 use Rattle.std.specs.Prelude.{Option, slice_index_or}
 use Rattle.std.specs.List.{enumerate_from}
 use Rattle.std.proofs.lemmas.List.Elements.{Contains-append_cases}
-use Rattle.docker_model.specs.records.Record.{Kind, header, tiploc_insert, tiploc_amend, tiploc_delete, association, basic_schedule, extra_details, origin_location, intermediate_location, terminating_location, change_en_route, trailer, kind_of, columns}
+use Rattle.docker_model.specs.records.Record.{Kind, header, tiploc_insert, tiploc_amend, tiploc_delete, association, basic_schedule, extra_details}
+use Rattle.docker_model.specs.records.Record.{origin_location, intermediate_location, terminating_location, change_en_route, trailer, kind_of, columns}
 use Rattle.docker_model.specs.records.Clock.{scheduled_time}
 use Rattle.docker_model.specs.file.Journey.{Occasion, arrival, pass, departure, timed, times_by_kind, times_of, CallsAt}
 use Rattle.docker_model.specs.docker.Event.{Event, placed_times, events_of, event_line}
@@ -71,7 +73,7 @@ same_at [] k x low is = absurd (omega arith)
 same_at (y ∷ ys) zero x low is = is
 same_at (y ∷ ys) (suc k) x low is = same_at ys k x (omega arith) is
 
--- one of the times of the line at the event's place
+-- an event is one of its line's times if its place is the line's and the line has its time
 time_of_line : (lines : List (List ℕ)) (event : Event) (k : ℕ) (line : List ℕ) → k < length lines → get_or lines k [] ≡ line → event.place ≡ k
     → Contains (times_of line) (event.occasion, event.time) → IsTimeOf lines event
 time_of_line lines event k line low is place among =

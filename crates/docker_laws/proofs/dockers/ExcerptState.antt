@@ -168,7 +168,7 @@ module _ (test : Key → Bool) where
       by false true h g rest = absurd (let bad : false ≡ true = sym h ∙ ap test (same_key x.0 key g) ∙ passes in cc)
       by false false h g rest = rest
 
-  -- a key that fails the test isn't found among them
+  -- a key that fails the test isn't found among the entries that pass
   find_dropped : (key : Key) → test key ≡ false → (xs : List Keyed)
       → find (λ entry. is_eq (key_cmp entry.0 key)) (filter (λ entry. test entry.0) xs) ≡ None
   find_dropped key fails xs = by (find (λ entry. is_eq (key_cmp entry.0 key)) (filter (λ entry. test entry.0) xs)) refl
@@ -185,13 +185,13 @@ module _ (test : Key → Bool) where
   abbrev pub with_passing : State → State
   with_passing state = record { horizon = state.horizon; ledger = state.ledger; entries = filter (λ (entry : Keyed). test entry.0) state.entries }
 
-  -- at a key that passes, it has what the state has
+  -- at a key that passes, the state of the passing entries has what the whole state has
   pub live_kept : (state : State) (key : Key) → test key ≡ true → live_table (with_passing state) key ≡ live_table state key
   live_kept state key passes =
       ap (λ (found : Option Keyed).
       option_and_then (λ (entry : Entry). body_of entry.op) (option_and_then (λ (pair : Keyed). Some pair.1) found)) (find_kept key passes state.entries)
 
-  -- at a key that fails, it has nothing
+  -- at a key that fails, the state of the passing entries has nothing
   pub live_dropped : (state : State) (key : Key) → test key ≡ false → live_table (with_passing state) key ≡ None
   live_dropped state key fails = live_none (with_passing state) key (find_dropped key fails state.entries)
 
@@ -220,12 +220,12 @@ is_needed place entries (tiploc_key code) = bytes_eq code place
 is_needed place entries (association_key key) = bytes_eq key.location place
 is_needed place entries (schedule_key key) = is_concerned place entries key.uid
 
--- if the second of two tests passes, one does
+-- if the second of two tests passes, one of the tests passes
 pub or_right : (a b : Bool) → b ≡ true → (a || b) ≡ true
 or_right true b h = refl
 or_right false b h = h
 
--- if the first of two tests passes, one does
+-- if the first of two tests passes, one of the tests passes
 pub or_left : (a b : Bool) → a ≡ true → (a || b) ≡ true
 or_left true b h = refl
 or_left false b h = absurd (let bad : false ≡ true = h in cc)

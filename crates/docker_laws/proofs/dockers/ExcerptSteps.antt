@@ -1,6 +1,6 @@
--- The walk that makes an excerpt, entry by entry: what it has after each, and what it keeps in the
--- end.
-use Rattle.std.proofs.Common.{All, ◌≡◌, ℕ, List, [], ◌∷◌, ◌++◌, subst, inl, inr, ◌⊎◌, refl, ap, sym, ◌∙◌, Bool, true, false, cond, Some, Contains, append-nil, append_assoc}
+-- The walk that makes an excerpt: what the walk has after each entry, and what it keeps in the end.
+use Rattle.std.proofs.Common.{All, ◌≡◌, ℕ, List, [], ◌∷◌, ◌++◌, subst, inl, inr, ◌⊎◌, refl, ap, sym}
+use Rattle.std.proofs.Common.{◌∙◌, Bool, true, false, cond, Some, Contains, append-nil, append_assoc}
 use Rattle.std.specs.Prelude.{Option, ◌||◌, ◌↔◌, filter, fold, option_and_then}
 use Rattle.std.specs.List.{list_any}
 use Rattle.std.specs.Str.{bytes_eq}
@@ -8,14 +8,16 @@ use Rattle.std.specs.Ordering.{on}
 use Rattle.std.proofs.lemmas.Slice.Eq.{bytes_eq-Decides}
 use Rattle.std.proofs.lemmas.List.Elements.{filter-append, filter_map-append, Contains-append_cases, Contains-append_right}
 use Rattle.std.proofs.lemmas.List.Folds.{list_any-append}
-use Rattle.docker_model.specs.file.Change.{Key, tiploc_key, association_key, schedule_key, AssociationKey, ScheduleKey, tiploc_body, association_body, schedule_body}
+use Rattle.docker_model.specs.file.Change.{Key, tiploc_key, association_key, schedule_key, AssociationKey}
+use Rattle.docker_model.specs.file.Change.{ScheduleKey, tiploc_body, association_body, schedule_body}
 use Rattle.docker_model.specs.file.Journey.{CallsAt}
 use Rattle.docker_model.specs.state.Op.{Op, deleted, lapsed, put_with, Entry, body_of, key_cmp}
 use Rattle.docker_model.specs.state.Order.{IsBelow}
 use Rattle.docker_model.specs.state.Stamp.{LedgerItem}
 use Rattle.docker_model.specs.state.State.{State, AreAscending, AreEntries, live_table}
 use Rattle.docker_laws.specs.Excerpt.{IsNeeded, IsConcerned, IsSublist}
-use Rattle.docker_laws.specs.ExcerptWalk.{ExcerptSoFar, nothing_kept, is_here, has_uid, name_in, names_in, is_call, is_run_named, is_run_calling, is_run_needed, kept_after_run, goes_on, with_entry_of, next_kept, kept_from, kept_so_far, excerpt_for}
+use Rattle.docker_laws.specs.ExcerptWalk.{ExcerptSoFar, nothing_kept, is_here, has_uid, name_in, names_in, is_call, is_run_named, is_run_calling}
+use Rattle.docker_laws.specs.ExcerptWalk.{is_run_needed, kept_after_run, goes_on, with_entry_of, next_kept, kept_from, kept_so_far, excerpt_for}
 use Rattle.cif_laws.proofs.orders.Ascending.{later_of}
 use Rattle.cif_laws.proofs.lists.Membership.{member_of, cons-Contains-first, nil-Contains, Contains-single}
 use Rattle.docker_laws.proofs.dockers.Sublists.{sublist_itself, sublist_append, sublist_onward, sublist_member, sublist_front}
@@ -33,12 +35,12 @@ fold_more : {A B : Type 0} (f : B → A → B) (first : B) (xs ys : List A) → 
 fold_more f first [] ys = refl
 fold_more f first (x ∷ xs) ys = fold_more f (f first x) xs ys
 
--- the walk after one more entry
+-- one more entry takes the walk to where `next_kept` leads
 pub so_far_more : (place : List ℕ) (entries : List Keyed) (entry : Keyed)
     → kept_so_far place (entries ++ entry ∷ []) ≡ next_kept place (kept_so_far place entries) entry
 so_far_more place entries entry = fold_more (next_kept place) nothing_kept entries (entry ∷ [])
 
--- what is kept in the end, from any entry on
+-- a walk that goes on from any entry keeps in the end what the whole walk keeps
 pub kept_from_there : (place : List ℕ) (front rest : List Keyed)
     → kept_from place (kept_so_far place front) rest ≡ kept_after_run place (kept_so_far place (front ++ rest))
 kept_from_there place front rest = ap (kept_after_run place) (sym (fold_more (next_kept place) nothing_kept front rest))
@@ -57,7 +59,7 @@ module _ (place : List ℕ) (P : List Keyed → ExcerptSoFar → Type 0)
 
 -- ---- what is kept, and then the run, are some of the entries so far
 
--- what is kept after a run is some of what was kept before and of the run
+-- after a run, the kept entries are a sublist of the entries kept before and the run
 pub after_run_within : (place : List ℕ) (so_far : ExcerptSoFar) → IsSublist (kept_after_run place so_far) (so_far.kept ++ so_far.run)
 after_run_within place so_far = by (is_run_needed place so_far)
   where
@@ -99,7 +101,8 @@ module _ (place : List ℕ) where
       by false = with_last done so_far x here
 
   within_other : (done : List Keyed) (so_far : ExcerptSoFar) (x : Keyed) (b : Bool) → Within done so_far
-      → Within (done ++ x ∷ []) (cond b (record { kept = kept_after_run place so_far ++ x ∷ []; run = [] }) (record { kept = kept_after_run place so_far; run = [] }))
+      → Within (done ++ x ∷ [])
+      (cond b (record { kept = kept_after_run place so_far ++ x ∷ []; run = [] }) (record { kept = kept_after_run place so_far; run = [] }))
   within_other done so_far x true here =
       subst (λ xs. IsSublist xs (done ++ x ∷ [])) (sym (append-nil (kept_after_run place so_far ++ x ∷ []))) (with_last done so_far x here)
   within_other done so_far x false here =
@@ -111,7 +114,7 @@ module _ (place : List ℕ) where
   within_more done so_far (tiploc_key code) entry here = within_other done so_far (tiploc_key code, entry) (is_here place (tiploc_key code)) here
   within_more done so_far (association_key key) entry here = within_other done so_far (association_key key, entry) (is_here place (association_key key)) here
 
-  -- what is kept, and then the run, are some of the entries so far
+  -- the kept entries, and then the run, are a sublist of the entries so far
   pub so_far_within : (entries : List Keyed) → IsSublist ((kept_so_far place entries).kept ++ (kept_so_far place entries).run) entries
   so_far_within = all_along place Within (λ done so_far x here. within_more done so_far x.0 x.1 here) tt
 
@@ -165,7 +168,7 @@ module _ (place : List ℕ) where
   run_of_one_uid : (entries : List Keyed) → OfOneUid entries (kept_so_far place entries)
   run_of_one_uid = all_along place OfOneUid (λ done so_far x here. one_uid_more done so_far x.0 x.1 here) ([], λ r among. absurd (nil-Contains r among))
 
-  -- if a schedule of this UID goes on with the run, all entries of the run have the UID
+  -- if a schedule of this UID continues the run, all entries of the run have the UID
   pub run_uid : (entries : List Keyed) (uid : List ℕ) (r : Keyed) → goes_on (kept_so_far place entries).run uid ≡ true
       → Contains (kept_so_far place entries).run r → has_uid uid r.0 ≡ true
   run_uid entries uid r goes among =
@@ -173,7 +176,7 @@ module _ (place : List ℕ) where
       let first = goes_first (kept_so_far place entries).run uid goes in
       subst (λ other. has_uid other r.0 ≡ true) (uid_once of.0 uid first.0.0 (of.1 first.0 first.1) first.2) (of.1 r among)
 
-  -- when a TIPLOC or an association comes, in key order, no run is open
+  -- when a TIPLOC or an association comes, in key order, no schedules of a UID are being gathered
   pub no_run_before : (entries : List Keyed) (key : Key) → All (λ (e : Keyed). IsBelow key_cmp e.0 key) entries
       → ((uid : List ℕ) → has_uid uid key ≡ false) → (kept_so_far place entries).run ≡ []
   no_run_before entries key above never =
@@ -223,7 +226,8 @@ module _ (place : List ℕ) where
       by false = (names_after_run done so_far here ∙ ap names_in (sym same), refl)
 
   named_other : (done : List Keyed) (so_far : ExcerptSoFar) (x : Keyed) (b : Bool) → is_here place x.0 ≡ b → AreNamed done so_far
-      → AreNamed (done ++ x ∷ []) (cond b (record { kept = kept_after_run place so_far ++ x ∷ []; run = [] }) (record { kept = kept_after_run place so_far; run = [] }))
+      → AreNamed (done ++ x ∷ [])
+      (cond b (record { kept = kept_after_run place so_far ++ x ∷ []; run = [] }) (record { kept = kept_after_run place so_far; run = [] }))
   named_other done so_far x b h here = by b same
     where
       same : at_place (done ++ x ∷ []) ≡ at_place done ++ cond b (x ∷ []) []
@@ -285,12 +289,13 @@ module _ (place : List ℕ) (so_far : ExcerptSoFar) where
   pub drops_run : is_run_needed place so_far ≡ false → kept_after_run place so_far ≡ so_far.kept
   drops_run unneeded = λ i. cond (unneeded i) (so_far.kept ++ so_far.run) so_far.kept
 
-  -- if no run is open, nothing is added
+  -- if no run is open, the kept entries stay as they are
   pub ends_none : so_far.run ≡ [] → kept_after_run place so_far ≡ so_far.kept
   ends_none none = subst (λ (run : List Keyed). kept_after_run place (record { kept = so_far.kept; run = run }) ≡ so_far.kept) (sym none) refl
 
   here_then : (x : Keyed) (b : Bool) → b ≡ true → so_far.run ≡ []
-      → ◌≡◌ {A = ExcerptSoFar} (cond b (record { kept = kept_after_run place so_far ++ x ∷ []; run = [] }) (record { kept = kept_after_run place so_far; run = [] }))
+      → ◌≡◌ {A = ExcerptSoFar}
+      (cond b (record { kept = kept_after_run place so_far ++ x ∷ []; run = [] }) (record { kept = kept_after_run place so_far; run = [] }))
       (record { kept = so_far.kept ++ x ∷ []; run = [] })
   here_then x true h none = λ i. record { kept = ends_none none i ++ x ∷ []; run = [] }
   here_then x false h none = false_true h
@@ -315,7 +320,7 @@ module _ (place : List ℕ) (so_far : ExcerptSoFar) where
   drops_elsewhere (association_key key) entry never elsewhere none =
       elsewhere_then (association_key key, entry) (is_here place (association_key key)) elsewhere none
 
--- whether a run's UID is among the names, by the run's first schedule
+-- a run is named if and only if the UID of its first schedule is among the names
 pub named_iff : (names : List (List ℕ)) (key : ScheduleKey) (entry : Entry) (others : List Keyed)
     → (is_run_named names ((schedule_key key, entry) ∷ others) ≡ true) ↔ Contains names key.uid
 named_iff names key entry others = (
@@ -331,7 +336,8 @@ pub run_needed_iff : (place : List ℕ) (so_far : ExcerptSoFar) (key : ScheduleK
     → so_far.run ≡ (schedule_key key, entry) ∷ others
     → (is_run_needed place so_far ≡ true)
     ↔ (Contains (names_in so_far.kept) key.uid ⊎ ((r : Keyed) × Contains so_far.run r × (is_call place r.1.op ≡ true)))
-run_needed_iff place so_far key entry others is = (λ h. forth (either (is_run_named (names_in so_far.kept) so_far.run) (is_run_calling place so_far.run) h), back)
+run_needed_iff place so_far key entry others is =
+    (λ h. forth (either (is_run_named (names_in so_far.kept) so_far.run) (is_run_calling place so_far.run) h), back)
   where
     named : (is_run_named (names_in so_far.kept) so_far.run ≡ true) ↔ Contains (names_in so_far.kept) key.uid
     named =
@@ -350,7 +356,7 @@ run_needed_iff place so_far key entry others is = (λ h. forth (either (is_run_n
         or_right (is_run_named (names_in so_far.kept) so_far.run) (is_run_calling place so_far.run)
         (any_forth (λ (e : Keyed). is_call place e.1.op) so_far.run call.0 call.1 call.2)
 
--- a test, or one that fails, is the test
+-- a test, or false, is the test
 pub or_false : (b : Bool) → (b || false) ≡ b
 or_false true = refl
 or_false false = refl
@@ -362,16 +368,17 @@ calls_more place run entry =
     list_any-append (λ (e : Keyed). is_call place e.1.op) run (entry ∷ [])
     ∙ ap (λ b. is_run_calling place run || b) (or_false (is_call place entry.1.op))
 
--- the names in entries and one more: those before, and the one that it names
+-- the names in entries and one more are the names in the entries, and the name in the last entry
 pub names_with : (xs : List Keyed) (entry : Keyed) → names_in (xs ++ entry ∷ []) ≡ names_in xs ++ names_in (entry ∷ [])
 names_with xs entry = filter_map-append (λ (e : Keyed). name_in e.0 e.1.op) xs (entry ∷ [])
 
 -- ---- what is kept in the end
 
--- the live table has at an entry's key the body of that entry
+-- at an entry's key, the live table has the entry's body
 live_of : (state : State) → AreAscending state.entries → (key : Key) (entry : Entry) → Contains state.entries (key, entry)
     → live_table state key ≡ body_of entry.op
-live_of state up key entry among = ap (λ (found : Option Entry). option_and_then (λ (e : Entry). body_of e.op) found) ((entry_at_iff state up key entry).1 among)
+live_of state up key entry among =
+    ap (λ (found : Option Entry). option_and_then (λ (e : Entry). body_of e.op) found) ((entry_at_iff state up key entry).1 among)
 
 call_back : (place : List ℕ) (op : Op) → is_call place op ≡ true → (lines : List (List ℕ)) × (op ≡ put_with (schedule_body lines)) × CallsAt place lines
 call_back place deleted h = false_true h

@@ -1,4 +1,4 @@
--- The walk that makes an excerpt, as a loop makes it. From entry to entry it carries what is kept,
+-- The walk that makes an excerpt, as a loop. From entry to entry the loop carries the kept entries,
 -- the run, and whether the run is needed.
 use Rattle.std.proofs.Common.{◌≡◌, ℕ, List, [], ◌∷◌, ◌++◌, subst, refl, ap, sym, ◌∙◌, Bool, true, false, cond, Contains}
 use Rattle.std.specs.Prelude.{◌||◌, ◌↔◌}
@@ -8,10 +8,12 @@ use Rattle.docker_model.specs.state.Stamp.{LedgerItem}
 use Rattle.docker_model.specs.state.State.{State, AreEntries}
 use Rattle.docker_model.specs.state.StatePart.{IsAboveEntries}
 use Rattle.docker_laws.specs.Excerpt.{IsSublist}
-use Rattle.docker_laws.specs.ExcerptWalk.{ExcerptSoFar, is_here, has_uid, names_in, is_call, is_run_named, is_run_calling, kept_after_run, goes_on, next_kept, kept_so_far, excerpt_for, HasKept}
+use Rattle.docker_laws.specs.ExcerptWalk.{ExcerptSoFar, is_here, has_uid, names_in, is_call, is_run_named, is_run_calling}
+use Rattle.docker_laws.specs.ExcerptWalk.{kept_after_run, goes_on, next_kept, kept_so_far, excerpt_for, HasKept}
 use Rattle.state_laws.proofs.states.PlainTable.{Keyed}
 use Rattle.docker_laws.proofs.dockers.ExcerptWalk.{false_true, same_tests}
-use Rattle.docker_laws.proofs.dockers.ExcerptSteps.{so_far_more, so_far_within, so_far_good, no_run_before, names_stay, joins_run, begins_run, keeps_here, drops_elsewhere, calls_more, named_iff, or_false}
+use Rattle.docker_laws.proofs.dockers.ExcerptSteps.{so_far_more, so_far_within, so_far_good, no_run_before, names_stay, joins_run}
+use Rattle.docker_laws.proofs.dockers.ExcerptSteps.{begins_run, keeps_here, drops_elsewhere, calls_more, named_iff, or_false}
 
 abbrev at : List Keyed → List Keyed → ExcerptSoFar
 at kept run = record { kept = kept; run = run }
@@ -25,7 +27,7 @@ pub kept_first : (place : List ℕ) → HasKept place [] [] [] false
 kept_first place = record { so_far = refl; is_needed = refl }
 
 module _ (place : List ℕ) (entries kept run : List Keyed) (needed : Bool) (has : HasKept place entries kept run needed) where
-  -- where the walk is after one more entry
+  -- one more entry takes the walk to where `next_kept` leads
   next_is : (x : Keyed) → kept_so_far place (entries ++ x ∷ []) ≡ next_kept place (at kept run) x
   next_is x = so_far_more place entries x ∙ ap (λ (so_far : ExcerptSoFar). next_kept place so_far x) has.so_far
 
@@ -83,7 +85,7 @@ module _ (place : List ℕ) (entries kept run : List Keyed) (needed : Bool) (has
           same_tests (is_run_named (names_in (cond needed (kept ++ run) kept)) ((schedule_key key, entry) ∷ [])) named (λ h. tells.1 (told.0 h))
           (λ h. told.1 (tells.0 h))
 
-  -- what is kept, and then the run, are some of the entries so far
+  -- the kept entries, and then the run, are a sublist of the entries so far
   pub kept_within : IsSublist (kept ++ run) entries
   kept_within = subst (λ (so_far : ExcerptSoFar). IsSublist (so_far.kept ++ so_far.run) entries) has.so_far (so_far_within place entries)
 
@@ -92,7 +94,7 @@ module _ (place : List ℕ) (entries kept run : List Keyed) (needed : Bool) (has
   kept_good ledger are = subst (λ (so_far : ExcerptSoFar). AreEntries ledger (so_far.kept ++ so_far.run)) has.so_far (so_far_good place ledger entries are)
 
 module _ (place : List ℕ) (state : State) (kept run : List Keyed) (needed : Bool) (has : HasKept place state.entries kept run needed) where
-  -- when a TIPLOC or an association comes, no run is open
+  -- when a TIPLOC or an association comes, no schedules of a UID are being gathered
   pub kept_alone : (key : Key) → IsAboveEntries state key → ((uid : List ℕ) → has_uid uid key ≡ false) → run ≡ []
   kept_alone key above never = sym (ap (λ (so_far : ExcerptSoFar). so_far.run) has.so_far) ∙ no_run_before place state.entries key above never
 
@@ -115,6 +117,6 @@ module _ (place : List ℕ) (state : State) (kept run : List Keyed) (needed : Bo
     is_needed = refl;
   }
 
-  -- at the end, the excerpt is what was kept, with the run if it is needed
+  -- at the end, the excerpt is the kept entries, with the run if the run is needed
   pub kept_last : (excerpt_for place state).entries ≡ cond needed (kept ++ run) kept
   kept_last = ap (kept_after_run place) has.so_far ∙ ended place state.entries kept run needed has

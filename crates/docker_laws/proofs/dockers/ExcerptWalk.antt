@@ -1,6 +1,7 @@
 -- A walk over entries in key order keeps exactly the entries whose keys are needed. Which keys are
 -- needed is found from the entries.
-use Rattle.std.proofs.Common.{◌≡◌, ℕ, List, [], ◌∷◌, ◌++◌, subst, inl, inr, ◌⊎◌, refl, ap, sym, ◌∙◌, Bool, true, false, cond, Some, None, Contains, append-nil, append_assoc}
+use Rattle.std.proofs.Common.{◌≡◌, ℕ, List, [], ◌∷◌, ◌++◌, subst, inl, inr, ◌⊎◌, refl, ap, sym, ◌∙◌}
+use Rattle.std.proofs.Common.{Bool, true, false, cond, Some, None, Contains, append-nil, append_assoc}
 use Rattle.std.specs.Prelude.{◌↔◌, Option, ◌||◌, filter}
 use Rattle.std.specs.List.{list_any}
 use Rattle.std.specs.declared.cmp.Ordering.{Ordering}
@@ -18,7 +19,8 @@ use Rattle.docker_model.specs.docker.DockerLine.{DockerLine}
 use Rattle.docker_model.specs.docker.DockerList.{IsDockerList}
 use Rattle.docker_model.specs.docker.DockerText.{IsDockerText}
 use Rattle.docker_laws.specs.Excerpt.{IsExcerptState}
-use Rattle.docker_laws.specs.ExcerptWalk.{ExcerptSoFar, nothing_kept, is_here, has_uid, name_in, names_in, is_call, is_run_calling, is_run_needed, kept_after_run, goes_on, with_entry_of, next_kept, kept_from, kept_so_far, excerpt_for}
+use Rattle.docker_laws.specs.ExcerptWalk.{ExcerptSoFar, nothing_kept, is_here, has_uid, name_in, names_in, is_call, is_run_calling, is_run_needed}
+use Rattle.docker_laws.specs.ExcerptWalk.{kept_after_run, goes_on, with_entry_of, next_kept, kept_from, kept_so_far, excerpt_for}
 use Rattle.cif_laws.proofs.orders.Ascending.{later_of}
 use Rattle.cif_laws.proofs.orders.AtMost.{level}
 use Rattle.cif_laws.proofs.lists.Later.{AllLater}
@@ -50,7 +52,7 @@ above_uid (schedule_key a) (association_key b) uid below h = absurd (let bad : G
 above_uid (tiploc_key a) b uid below h = false_true h
 above_uid (association_key a) b uid below h = false_true h
 
--- the key of a TIPLOC or an association is no schedule's
+-- the key of a TIPLOC or an association isn't a schedule's key
 here_no_uid : (place uid : List ℕ) (key : Key) → is_here place key ≡ true → has_uid uid key ≡ true → ⊥
 here_no_uid place uid (schedule_key key) h g = false_true h
 here_no_uid place uid (tiploc_key code) h g = false_true g
@@ -369,7 +371,7 @@ module _ (place : List ℕ) (all : List Keyed) (order : AllLater Below all) wher
           at.apart z y other here (Contains-append_right so_far.run ((schedule_key key, entry) ∷ rest) y behind) of_z of_y
       by z y other (inr here) behind of_z of_y = ended z y other here behind of_z of_y
 
-  -- where the walk is after one more entry
+  -- after some of the entries, the walk is before this rest
   abbrev Goes : ExcerptSoFar → List Keyed → Type 0
   Goes so_far rest = (now : List Keyed) × IsAt place all now so_far rest
 
@@ -383,7 +385,7 @@ module _ (place : List ℕ) (all : List Keyed) (order : AllLater Below all) wher
       by true goes = (done, joins done so_far key entry rest at goes)
       by false stops = (done ++ so_far.run, begins done so_far key entry rest at stops)
 
-  -- when a TIPLOC or an association comes, no run is open
+  -- when a TIPLOC or an association comes, no schedules of a UID are being gathered
   no_run : (done : List Keyed) (so_far : ExcerptSoFar) (key : Key) (entry : Entry) (rest : List Keyed) → ((uid : List ℕ) → ¬ (has_uid uid key ≡ true))
       → IsAt place all done so_far ((key, entry) ∷ rest) → (r : Keyed) → ¬ Contains so_far.run r
   no_run done so_far key entry rest never at r among =
@@ -420,7 +422,8 @@ module _ (place : List ℕ) (all : List Keyed) (order : AllLater Below all) wher
         where
           inner : Contains done z ⊎ Contains so_far.run z → ⊥
           inner (inl here) =
-              at.apart z y other here (Contains-append_right so_far.run ((key, entry) ∷ rest) y (cons-Contains {A = Keyed} (key, entry) rest y behind)) of_z of_y
+              at.apart z y other here
+              (Contains-append_right so_far.run ((key, entry) ∷ rest) y (cons-Contains {A = Keyed} (key, entry) rest y behind)) of_z of_y
           inner (inr here) = none z here
 
       there : (kept : List Keyed) → kept ≡ filter (λ (e : Keyed). is_needed place all e.0) ((done ++ so_far.run) ++ (key, entry) ∷ [])
@@ -474,11 +477,11 @@ module _ (place : List ℕ) (all : List Keyed) (order : AllLater Below all) wher
     apart = λ z y other in_done behind of_z of_y. nil-Contains z in_done;
   }
 
-  -- a walk over all entries keeps what is needed
+  -- a walk over all entries keeps exactly the needed ones
   pub walk_keeps : kept_after_run place (kept_so_far place all) ≡ filter (λ (entry : Keyed). is_needed place all entry.0) all
   walk_keeps = from_here all [] nothing_kept at_first
 
--- what a walk over a state's entries in key order leaves is an excerpt
+-- a walk over a state's entries in key order leaves an excerpt
 pub walk_is_excerpt : (place : List ℕ) (state : State) → AreAscending state.entries → IsExcerptState place state (excerpt_for place state)
 walk_is_excerpt place state up =
     subst (λ (entries : List Keyed). IsExcerptState place state (record { horizon = state.horizon; ledger = state.ledger; entries = entries }))
@@ -495,7 +498,7 @@ pub walk_list_iff : (place : List ℕ) (state : State) (day : ℕ) (lines : List
 walk_list_iff place state day lines valid =
     excerpt_list_iff place (live_table state) (live_table (excerpt_for place state)) (walk_is_excerpt place state valid.entries.1).live day lines
 
--- the excerpt has the same docker text
+-- the excerpt has the same docker text at the place
 pub walk_text_iff : (place : List ℕ) (state : State) (day : ℕ) (text : List ℕ) → IsValid state
     → IsDockerText (live_table state) place day text ↔ IsDockerText (live_table (excerpt_for place state)) place day text
 walk_text_iff place state day text valid =

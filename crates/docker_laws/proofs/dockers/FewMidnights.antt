@@ -38,7 +38,7 @@ few_midnights key lines of = by of.schedule.sound
         let same : midnights lines ≡ midnights is.journey = ap midnights is.whole ∙ midnights_of_journey is.basic is.extra is.journey is.kind is.details in
         subst (λ n. n ≤ 2) (sym same) falls
 
--- in a table with good bodies each schedule does
+-- each schedule of a table with good bodies passes midnight at most twice
 pub bodies_few : (live : Table) → HasGoodBodies live → HasFewMidnights live
 bodies_few live good key lines is = few_midnights key lines (good (schedule_key key) (schedule_body lines) is)
 

@@ -1,6 +1,7 @@
--- The summary of one file, made entry by entry: it is the summary. The join of an empty state with
--- it.
-use Rattle.std.proofs.Common.{◌≡◌, ℕ, List, [], ◌∷◌, length, append-nil, refl, ap, sym, ◌∙◌, subst, inl, inr, ◌⊎◌, Some, None, Bool, true, false, Contains, All, ◌≤◌, arith}
+-- A file's summary, made entry by entry, is the summary of the file. The join of an empty state
+-- with a valid state is the valid state.
+use Rattle.std.proofs.Common.{◌≡◌, ℕ, List, [], ◌∷◌, length, append-nil, refl, ap, sym, ◌∙◌, subst, inl}
+use Rattle.std.proofs.Common.{inr, ◌⊎◌, Some, None, Bool, true, false, Contains, All, ◌≤◌, arith}
 use Rattle.std.specs.Prelude.{Option, ◌↔◌, ◌==◌}
 use Rattle.std.specs.declared.cmp.Ordering.{Ordering}
 use Rattle.std.specs.declared.cmp.Ordering.TheVariants.{Less, Equal, Greater}
@@ -20,7 +21,8 @@ use Rattle.docker_model.specs.state.Summary.{IsSummary}
 use Rattle.docker_laws.specs.FileSummary.{placed, with_earlier, latest_entries, summary_of}
 use Rattle.cif_laws.proofs.orders.Orders.{key_total, exact_key, entry_total, file_stamp_total}
 use Rattle.cif_laws.proofs.orders.AtMost.{at_most_itself, at_most_below}
-use Rattle.cif_laws.proofs.lists.Membership.{Contains-cons, cons-Contains, cons-Contains-first, nil-Contains, Contains-single, single-Contains, Contains-map, below_by_recursion, each_member, all_members, member_of}
+use Rattle.cif_laws.proofs.lists.Membership.{Contains-cons, cons-Contains, cons-Contains-first, nil-Contains, Contains-single}
+use Rattle.cif_laws.proofs.lists.Membership.{single-Contains, Contains-map, below_by_recursion, each_member, all_members, member_of}
 use Rattle.cif_laws.proofs.lists.Later.{AllLater, later_map_weaker}
 use Rattle.cif_laws.proofs.files.ChangeOrder.{Apart, changes_apart}
 use Rattle.state_laws.proofs.states.PlainTable.{Keyed, Ascends, one_per_key, entry_of_change, entries_of, within_file}
@@ -43,7 +45,7 @@ not_itself a less = let tied = tied_itself key_total a in cc
 
 -- ---- one more entry
 
--- a member is one of the entries, or the new one if they have none of its key
+-- a member is one of the entries, or the new entry if no entry has its key
 member_forth : (entry : Keyed) (entries : List Keyed) → AreAscending entries → (z : Keyed) → Contains (with_earlier entry entries) z
     → Contains entries z ⊎ ((entry ≡ z) × NoEntry entries entry.0)
 member_forth entry [] up z among = inr (Contains-single entry z among, λ other inside. nil-Contains (entry.0, other) inside)
@@ -98,7 +100,7 @@ member_still entry (first ∷ entries) z among =
     by Greater rest (inl same) = subst (Contains (first ∷ with_earlier entry entries)) same (cons-Contains-first first (with_earlier entry entries))
     by Greater rest (inr inside) = cons-Contains first (with_earlier entry entries) z (rest inside)
 
--- the new entry is a member if they have none of its key
+-- the new entry is a member if no entry has its key
 member_new : (entry : Keyed) (entries : List Keyed) → NoEntry entries entry.0 → Contains (with_earlier entry entries) entry
 member_new entry [] none = cons-Contains-first entry []
 member_new entry (first ∷ entries) none =
@@ -117,7 +119,7 @@ still_ascends : (entry : Keyed) (entries : List Keyed) → AreAscending entries 
 still_ascends entry [] up = (tt, tt)
 still_ascends entry (first ∷ entries) up = by (key_cmp entry.0 first.0) refl (still_ascends entry entries up.1)
   where
-    -- the new entry is below all
+    -- the new entry is below all the entries
     below_all : key_cmp entry.0 first.0 ≡ Less → (z : Keyed) → (first ≡ z) ⊎ Contains entries z → key_cmp entry.0 z.0 ≡ Less
     below_all less z (inl same) = subst (λ (later : Keyed). key_cmp entry.0 later.0 ≡ Less) same less
     below_all less z (inr inside) =
@@ -167,7 +169,7 @@ latest_is (first ∷ entries) up key entry = (forth (latest_is entries up.1 key)
     Latest : Type 0
     Latest = (other : Entry) → Contains (latest_entries entries) (key, other) ↔ IsGreatestAmong entries key other
 
-    -- if none of the last entries has the key, no entry has
+    -- if none of the last entries has the key, no entry has the key
     none_of : Latest → NoEntry (latest_entries entries) key → NoEntry entries key ⊎ GreatestEntry entries key → NoEntry entries key
     none_of later none (inl never) = never
     none_of later none (inr best) = absurd (none best.0 ((later best.0).1 (record { among = best.1; greatest = best.2 })))

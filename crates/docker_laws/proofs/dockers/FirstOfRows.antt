@@ -1,5 +1,5 @@
--- The first, in an order, of what holds in a table. It is found in a list that has each candidate,
--- by a test that only candidates pass.
+-- The first value, in an order, that holds in a table. A search finds it in a list that has each
+-- candidate, by a test that only candidates pass.
 use Rattle.std.proofs.Common.{◌≡◌, List, refl, sym, ◌∙◌, Some, None, Bool, true, Contains}
 use Rattle.std.specs.Prelude.{Option, find}
 use Rattle.std.specs.declared.cmp.Ordering.{Ordering}
@@ -21,7 +21,7 @@ module _ {A : Type 0} {cmp : A → A → Ordering} (total : IsTotalOrder cmp) (t
   best_is_first None none = λ x is. true_is_not (sym (passes x is) ∙ none x (among x is))
   best_is_first (Some x) best = (holds x best.0 best.1, λ other is. best.2 other (among other is) (passes other is))
 
-  -- the one that the search finds in the list is the first
+  -- the value that the search finds in the list is the first
   pub found_is_first : IsFirst cmp Is (find (is_least total test xs) xs)
   found_is_first = by (find (is_least total test xs) xs) refl
     where

@@ -29,7 +29,7 @@ live_entry state key body is = by (find (λ entry. is_eq (key_cmp entry.0 key)) 
         let here : pair ≡ (key, pair.1) = (λ i. (same i, pair.1)) in
         (pair.1, subst (Contains state.entries) here told.0, op_is pair.1.op (sym (live_at state key pair h) ∙ is))
 
--- so the live bodies of a valid state are good
+-- the live bodies of a valid state are good
 pub good_bodies : (state : State) → IsValid state → HasGoodBodies (live_table state)
 good_bodies state valid key body is =
     let found = live_entry state key body is in

@@ -65,7 +65,7 @@ of_uid_has live uid rows are = record {
   all = λ key lines same is. (are.members (schedule_key key) (schedule_body lines)).1 (key, lines, refl, refl, is, same);
 }
 
--- the associations found at a place have each of each group there
+-- the rows found at a place have each association of each group there
 pub linked_has : (live : Table) (place : List ℕ) (rows : List Row) (group : Group) → AreLinked live place rows → group.location ≡ place
     → HasAssociationsOf live group rows
 linked_has live place rows group are here = record {

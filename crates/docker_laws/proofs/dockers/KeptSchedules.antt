@@ -12,19 +12,19 @@ use Rattle.cif_laws.proofs.records.Columns.{good_fields, IsGoodIn}
 
 -- ---- a schedule that fits its key
 
--- the first line of such a schedule is a basic schedule
+-- the first line of a schedule that fits its key is a basic schedule
 pub first_kind : (key : ScheduleKey) (lines : List (List ℕ)) → IsScheduleOf key lines → HasKind basic_schedule (first_record lines)
 first_kind key lines of = subst (λ (ls : List (List ℕ)). HasKind basic_schedule (first_record ls)) (sym of.schedule.whole) of.schedule.kind
 
--- the fields of that line are good
+-- the first line of a schedule that fits its key has good fields
 pub first_good : (key : ScheduleKey) (lines : List (List ℕ)) → IsScheduleOf key lines → HasGoodFields (first_record lines)
 first_good key lines of = subst (λ (ls : List (List ℕ)). HasGoodFields (first_record ls)) (sym of.schedule.whole) of.schedule.fields
 
--- such a schedule isn't a deletion
+-- a schedule that fits its key isn't a deletion
 pub first_stays : (key : ScheduleKey) (lines : List (List ℕ)) → IsScheduleOf key lines → is_deletion (first_record lines) ≡ false
 first_stays key lines of = ap (λ (n : ℕ). n == 68) of.new
 
--- there is a first line
+-- a schedule that fits its key has a first line
 pub first_there : (key : ScheduleKey) (lines : List (List ℕ)) → IsScheduleOf key lines → 0 < length lines
 first_there key lines of = subst (λ (ls : List (List ℕ)). 0 < length ls) (sym of.schedule.whole) (omega arith)
 
@@ -34,7 +34,7 @@ first_there key lines of = subst (λ (ls : List (List ℕ)). 0 < length ls) (sym
 pub schedule_first : (line : List ℕ) → HasKind basic_schedule line → HasGoodFields line → is_date (columns 10 15 line) ≡ true
 schedule_first line is good = (good_fields basic_schedule line is good).1.0
 
--- the checked fields after that date
+-- the checked fields after the runs-from date
 schedule_later : Bool → List CheckedField
 schedule_later deletion = cond deletion [] (checked 16 21 is_end_date ∷ checked 22 28 is_days ∷ []) ++ checked 80 80 is_stp_indicator ∷ []
 

@@ -1,5 +1,5 @@
--- On each day from a horizon on, a table and the table lapsed under it choose the same: what runs
--- on such a day hasn't lapsed.
+-- On each day from a horizon on, a table and the table lapsed under the horizon choose the same
+-- schedules and associations. Whatever runs on such a day hasn't lapsed.
 use Rattle.std.proofs.Common.{ℕ, ◌≤◌, List, Bool, true, false, cond, arith}
 use Rattle.std.specs.Prelude.{◌↔◌, ◌&&◌, IsTrue, nat_le}
 use Rattle.std.proofs.lemmas.Bool.{leb-true}
@@ -14,13 +14,14 @@ use Rattle.docker_model.specs.docker.Choice.{runs_within, IsRunning, IsChosen, T
 use Rattle.cif_laws.proofs.lists.BoolsAndOptions.{both}
 use Rattle.state_laws.proofs.states.TableLapsed.{live_stays, was_live}
 
--- what runs on a day doesn't end before it
+-- a schedule or an association that runs on a day doesn't end before that day
 within_end : (first last days : List ℕ) (day : ℕ) → IsTrue (runs_within first last days day) → day ≤ end_number last
 within_end first last days day runs =
     let dates = (both (nat_le (date_number first) day && nat_le day (end_number last)) (runs_on_weekday days (weekday_of day)) runs).0 in
     leb-true day (end_number last) (both (nat_le (date_number first) day) (nat_le day (end_number last)) dates).1
 
--- an end that isn't before a day from the horizon on isn't below the horizon
+-- if an end isn't before a day, and the day isn't before the horizon, the end isn't below the
+-- horizon
 end_reached : (horizon day : ℕ) (last : List ℕ) → horizon ≤ no_end_number → horizon ≤ day → day ≤ end_number last → horizon ≤ readable_end last
 end_reached horizon day last bound from to = by (is_end_date last)
   where

@@ -46,8 +46,8 @@ partner_after indicator start day is = by (indicator == 78) (indicator == 80) is
 
 -- ---- from one table to another
 
--- what one table has on the day, the other has: each train with an event, the associations with it
--- as base, and its partners' identities
+-- the other table has each train with an event on the day, the associations with that train as
+-- base, and the identities of its partners
 pub record CarriesOver (one other : Table) (day : ℕ) : Type 0 where
   pub trains : (uid : List ℕ) (start : ℕ) (key : ScheduleKey) (lines : List (List ℕ)) → TrainRuns one uid start key lines → (event : Event)
       → event_day start lines event ≡ day → TrainRuns other uid start key lines
@@ -57,7 +57,7 @@ pub record CarriesOver (one other : Table) (day : ℕ) : Type 0 where
       × (IsPartnerIdentity one key.associated (partner_start indicator start) identity
       → IsPartnerIdentity other key.associated (partner_start indicator start) identity)
 
--- the line of an event in one table's docker is in the other's
+-- an event's line in the docker of one table is in the docker of the other
 pub event_line_over : (one other : Table) (place : List ℕ) (day : ℕ) → CarriesOver one other day → (line : DockerLine) → IsEventLine one place day line
     → IsEventLine other place day line
 event_line_over one other place day carries line is = record {
@@ -72,7 +72,7 @@ event_line_over one other place day carries line is = record {
   is = is.is;
 }
 
--- the line of an association in one table's docker is in the other's
+-- an association's line in the docker of one table is in the docker of the other
 pub association_line_over : (one other : Table) (place : List ℕ) (day : ℕ) → CarriesOver one other day → (line : DockerLine)
     → IsAssociationLine one place day line → IsAssociationLine other place day line
 association_line_over one other place day carries line is =

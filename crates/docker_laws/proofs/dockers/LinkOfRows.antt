@@ -87,7 +87,7 @@ module _ (live : Table) (rows : List Row) (group : Group) (has : HasAssociations
       first = λ other others is. first.1 (record { key = other; line = others }) is;
     }
 
-    -- the best of the rows is the chosen association
+    -- the best association of the rows is the chosen one
     pub best_is_link : (found : Option Link) → IsLinkSoFar group day rows found → IsLinkOn live group day found
     best_is_link found best =
         first_is_link found (best_is_first by_key (is_linked group day) (associations_in rows) Runs associated among_linked passes_linked found best)

@@ -1,6 +1,7 @@
 -- A table and the part of it that may count near a day have the same dockers on that day. The part
 -- leaves out the schedules that run on no start day near it.
-use Rattle.std.proofs.Common.{◌≡◌, ℕ, zero, suc, ◌+◌, ◌-◌, ◌≤◌, List, [], ◌∷◌, subst, inl, inr, ◌⊎◌, refl, ap, sym, ◌∙◌, Bool, true, false, cond, Some, None, Contains, arith}
+use Rattle.std.proofs.Common.{◌≡◌, ℕ, zero, suc, ◌+◌, ◌-◌, ◌≤◌, List, [], ◌∷◌, subst, inl, inr, ◌⊎◌, refl}
+use Rattle.std.proofs.Common.{ap, sym, ◌∙◌, Bool, true, false, cond, Some, None, Contains, arith}
 use Rattle.std.specs.Prelude.{Option, ◌↔◌, ◌==◌, nat_lt, IsTrue}
 use Rattle.std.proofs.lemmas.List.Elements.{Contains-append_right}
 use Rattle.docker_model.specs.records.Date.{last_day}
@@ -28,7 +29,7 @@ use Rattle.docker_laws.proofs.dockers.LapsedDocker.{text_with, partner_after, Ca
 abbrev pub IsStartNear : ℕ → ℕ → Type 0
 IsStartNear day start = (start ≤ day + 1) × (day ≤ start + 3)
 
--- such a day is one of the five start days near the day
+-- a start day near the day is one of the five that `near_starts` lists
 pub near_start : (day start : ℕ) → IsStartNear day start → Contains (near_starts day) start
 near_start day start near = by ((day + 1) - start) refl near.0 near.1
   where
@@ -48,7 +49,7 @@ near_start day start near = by ((day + 1) - start) refl near.0 near.1
     by (suc (suc (suc (suc n)))) h low high =
         Contains-append_right ((day + 1) ∷ day ∷ (day - 1) ∷ (day - 2) ∷ []) ((day - 3) ∷ []) start (first (day - 3) [] (omega arith))
 
--- a schedule that runs on such a day runs near the day
+-- a schedule that runs on a start day near the day runs near the day
 pub runs_near_by : (day start : ℕ) (line : List ℕ) → IsStartNear day start → IsTrue (schedule_runs line start) → runs_near day line ≡ true
 runs_near_by day start line near runs = any_forth (λ (s : ℕ). schedule_runs line s) (near_starts day) start (near_start day start near) runs
 

@@ -29,7 +29,7 @@ may_not day (put_with (association_body line)) h = absurd (let bad : true ≡ fa
 may_not day deleted h = absurd (let bad : true ≡ false = h in cc)
 may_not day lapsed h = absurd (let bad : true ≡ false = h in cc)
 
--- the live table of that state is the part of the live table that may count
+-- the live table of the state with only what may count is the near part of the live table
 pub near_part : (day : ℕ) (state : State) → AreAscending state.entries → IsNearPart day (live_table state) (live_table (near_state day state))
 near_part day state up key = by (find_in (near_entries day state.entries) key) (find_in state.entries key)
   where
@@ -72,7 +72,7 @@ near_state_list place day state lines valid =
     near_list_iff day (live_table state) (live_table (near_state day state)) (near_part day state valid.entries.1)
     (bodies_few (live_table state) (good_bodies state valid)) place lines
 
--- the state with only what may count has the same docker text
+-- the state with only what may count has the same docker text on the day
 pub near_state_text : (place : List ℕ) (day : ℕ) (state : State) (text : List ℕ) → IsValid state
     → IsDockerText (live_table state) place day text ↔ IsDockerText (live_table (near_state day state)) place day text
 near_state_text place day state text valid =
@@ -93,7 +93,7 @@ excerpt_on_list place day state lines valid =
     let walk = walk_list_iff place (near_state day state) day lines (near_valid day state valid) in
     (λ is. walk.0 (near.0 is), λ is. near.1 (walk.1 is))
 
--- the excerpt has the same docker text
+-- the excerpt has the same docker text at the place on the day
 pub excerpt_on_text : (place : List ℕ) (day : ℕ) (state : State) (text : List ℕ) → IsValid state
     → IsDockerText (live_table state) place day text ↔ IsDockerText (live_table (excerpt_on place day state)) place day text
 excerpt_on_text place day state text valid =

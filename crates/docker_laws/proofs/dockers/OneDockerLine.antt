@@ -89,7 +89,7 @@ same_event_line live place day a b one two e =
 abbrev pub IsOfLink : Occasion → Type 0
 IsOfLink occasion = (occasion ≡ joining) ⊎ (occasion ≡ dividing) ⊎ (occasion ≡ next_working)
 
--- the category of an association stands for such an occasion, never for an event
+-- the category of an association stands for a join, a division or a next working
 pub category_is_of_link : (category : List ℕ) (occasion : Occasion) → category_occasion category ≡ Some occasion → IsOfLink occasion
 category_is_of_link category occasion is = first (bytes_eq category (codes "JJ")) is
   where

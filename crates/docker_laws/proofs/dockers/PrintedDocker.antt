@@ -17,14 +17,15 @@ use Rattle.docker_model.specs.docker.DockerLine.{DockerLine}
 use Rattle.docker_model.specs.docker.DockerList.{IsDockerList}
 use Rattle.docker_model.specs.docker.DockerText.{IsDockerText}
 use Rattle.cif_laws.proofs.files.FileChanges.{body_of_file}
-use Rattle.state_laws.proofs.states.PlainTable.{entries_along, step, NoneThere, LastThere, last_there, after_files_is, entries_ascend, suffix_ascends, out_entries}
+use Rattle.state_laws.proofs.states.PlainTable.{entries_along, step, NoneThere, LastThere, last_there}
+use Rattle.state_laws.proofs.states.PlainTable.{after_files_is, entries_ascend, suffix_ascends, out_entries}
 use Rattle.state_laws.proofs.states.TableLapsed.{live_lapsed}
 use Rattle.docker_laws.proofs.dockers.FewMidnights.{bodies_few}
 use Rattle.docker_laws.proofs.dockers.GoodBodies.{good_bodies}
 use Rattle.docker_laws.proofs.dockers.LapsedDocker.{docker_list_iff, docker_text_iff}
 use Rattle.state_laws.proofs.states.PlainLive.{lapse_table_none, live_is_lapsed_plain}
 
--- a horizon that is a day is at most the end number of no end
+-- a horizon that is a day is at most the end number that stands for no end
 pub day_bound : (horizon : ℕ) → IsDay horizon → horizon ≤ no_end_number
 day_bound horizon day = omega arith
 

@@ -1,5 +1,5 @@
--- The docker lines that a schedule gives for one start day. They are in the docker, and each line
--- of an event in the docker is one of these.
+-- The docker lines that a schedule gives for one start day. The docker has these lines, and no
+-- other lines of events.
 use Rattle.std.proofs.Common.{◌≡◌, ℕ, true, rules, List, Contains, ◌<◌, ap, sym, ◌∙◌, subst, Bool, eqb-true, arith, [], cond, refl, Some, None, false}
 use Rattle.std.specs.Prelude.{◌==◌, filter, ◌&&◌, Option}
 use Rattle.std.specs.Str.{bytes_eq}
@@ -62,7 +62,7 @@ module _ (place : List ℕ) (day start : ℕ) (key : ScheduleKey) (lines : List 
         is = sym found.2;
       }
 
-  -- each line of an event at the place on the day is among them
+  -- each line of an event at the place on the day is among the event lines
   pub event_lines_forth : (line : DockerLine) → IsLineOfEvent place day start key lines line → Contains (event_lines place day start key lines) line
   unfolding test
   event_lines_forth line is =
@@ -72,7 +72,7 @@ module _ (place : List ℕ) (day start : ℕ) (key : ScheduleKey) (lines : List 
       subst (Contains (event_lines place day start key lines)) (sym is.is)
       (map-Contains (line_of_event key start lines) (filter test (events_of lines)) is.event (filter_forth test (events_of lines) is.event is.among passes))
 
-  -- no two of them tie: the events' numbers differ
+  -- no two event lines tie, as the events' numbers differ
   pub event_lines_apart : AreApart docker_line_cmp (event_lines place day start key lines)
   unfolding test
   event_lines_apart =
@@ -84,7 +84,7 @@ module _ (place : List ℕ) (day start : ℕ) (key : ScheduleKey) (lines : List 
       omega arith)
       (later_filter (λ (a b : Event). a.number < b.number) test (events_of lines) (numbers_ascend lines)))
 
--- the docker lines for one start day
+-- the docker lines that a schedule gives for one start day
 abbrev pub schedule_piece : (List ℕ → ℕ → Option Train) → List ℕ → ℕ → ScheduleKey → List (List ℕ) → ℕ → List DockerLine
 schedule_piece trains place day key lines start = cond (runs_by (trains key.uid start) key) (event_lines place day start key lines) []
 

@@ -18,14 +18,14 @@ pub few_falls_to : (live : Table) (key : ScheduleKey) (lines : List (List ℕ)) 
     → (number : ℕ) → falls_to lines number ≤ 2
 few_falls_to live key lines good is number = let front = falls_below lines number in let few = bodies_few live good key lines is in omega arith
 
--- so an event is at most two days after the start day
+-- an event is at most two days after the start day
 pub event_within : (start : ℕ) (lines : List (List ℕ)) (event : Event) → midnights lines ≤ 2 → (start ≤ event_day start lines event)
     × (event_day start lines event ≤ start + 2)
 event_within start lines event few = let front = falls_below lines event.number in (omega arith, omega arith)
 
 -- ---- the start days
 
--- the start days for a day are it and the two days before
+-- the start days for a day are that day and the two days before it
 pub start_days_iff : (day start : ℕ) → (Contains (start_days day) start → (start ≤ day) × (day ≤ start + 2)) × ((start ≤ day) × (day ≤ start + 2)
     → Contains (start_days day) start)
 start_days_iff day start = (forth, back)

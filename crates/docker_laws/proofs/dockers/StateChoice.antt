@@ -1,4 +1,5 @@
--- On each day from the horizon on, a state chooses the same before and after it lapses.
+-- On each day from the horizon on, a state chooses the same schedules and associations before and
+-- after it lapses.
 use Rattle.std.proofs.Common.{ℕ, ◌≤◌, List, subst, sym}
 use Rattle.std.specs.Prelude.{◌↔◌}
 use Rattle.docker_model.specs.records.Date.{IsDay}

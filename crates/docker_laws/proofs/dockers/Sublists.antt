@@ -2,10 +2,11 @@
 use Rattle.std.proofs.Common.{List, [], ◌∷◌, ◌++◌, ◌≡◌, ◌∙◌, refl, sym, subst, inl, inr, ◌⊎◌, Contains, Bool, true, false, cond, All}
 use Rattle.std.specs.Prelude.{filter}
 use Rattle.docker_laws.specs.Excerpt.{IsSublist}
-use Rattle.cif_laws.proofs.lists.Membership.{Contains-cons, cons-Contains, cons-Contains-first, nil-Contains, below_by_recursion, each_member, member_of, all_members}
+use Rattle.cif_laws.proofs.lists.Membership.{Contains-cons, cons-Contains, cons-Contains-first, nil-Contains}
+use Rattle.cif_laws.proofs.lists.Membership.{below_by_recursion, each_member, member_of, all_members}
 use Rattle.cif_laws.proofs.lists.Later.{AllLater}
 
--- a sublist is still one if the list gets one more element at its front
+-- a sublist of a list is a sublist of the list with one more element at its front
 pub sublist_behind : {A : Type 0} (xs ys : List A) (y : A) → IsSublist xs ys → IsSublist xs (y ∷ ys)
 sublist_behind [] ys y is = tt
 sublist_behind (x ∷ xs) ys y is = inr is
@@ -37,7 +38,7 @@ sublist_member (x ∷ xs) (y ∷ ys) z is among =
     by inner outer (inl first) (inr inside) = cons-Contains y ys z (inner first.1 inside)
     by inner outer (inr rest) where_ = cons-Contains y ys z (outer rest)
 
--- a property that each element of a list has, each element of a sublist has
+-- if each element of a list has a property, so has each element of a sublist
 pub sublist_all : {A : Type 0} (P : A → Type 0) (xs ys : List A) → IsSublist xs ys → All P ys → All P xs
 sublist_all P xs ys is all = all_members P xs (λ z among. member_of P ys z all (sublist_member xs ys z is among))
 

@@ -1,6 +1,7 @@
 -- A thin body fits its key if the whole body does. The thin lines of a schedule call at no place
 -- where the schedule doesn't.
-use Rattle.std.proofs.Common.{◌≡◌, ℕ, suc, ◌+◌, ◌≤◌, List, [], ◌∷◌, ◌++◌, length, subst, inl, inr, ◌⊎◌, refl, ap, sym, ◌∙◌, Bool, true, false, cond, Some, None, Contains, map, All, arith, append-nil}
+use Rattle.std.proofs.Common.{◌≡◌, ℕ, suc, ◌+◌, ◌≤◌, List, [], ◌∷◌, ◌++◌, length, subst, inl, inr, ◌⊎◌, refl, ap, sym}
+use Rattle.std.proofs.Common.{◌∙◌, Bool, true, false, cond, Some, None, Contains, map, All, arith, append-nil}
 use Rattle.std.specs.Prelude.{Option, filter, nat_lt, IsTrue, ◌||◌, ◌&&◌}
 use Rattle.std.specs.Str.{bytes_eq}
 use Rattle.std.specs.List.{AllByRecursion}
@@ -11,7 +12,8 @@ use Rattle.docker_model.specs.records.Clock.{scheduled_time}
 use Rattle.docker_model.specs.records.Field.{is_deletion, HasGoodFields, HasNewTransaction}
 use Rattle.docker_model.specs.file.Journey.{Occasion, arrival, departure, timed, times_by_kind, fall_count, midnights, CallsAt, calls_at}
 use Rattle.docker_model.specs.file.File.{IsSchedule, IsJourney, IsSoundJourney, AreExtraDetails, MayLackJourney, IsWithinJourney, first_record}
-use Rattle.docker_model.specs.file.Change.{Key, tiploc_key, association_key, schedule_key, ScheduleKey, Body, tiploc_body, association_body, schedule_body, schedule_named}
+use Rattle.docker_model.specs.file.Change.{Key, tiploc_key, association_key, schedule_key, ScheduleKey, Body}
+use Rattle.docker_model.specs.file.Change.{tiploc_body, association_body, schedule_body, schedule_named}
 use Rattle.docker_model.specs.state.State.{IsScheduleOf, IsBodyOf}
 use Rattle.docker_laws.specs.Thinning.{is_end, thin_lines, lines_for, body_for}
 use Rattle.cif_laws.proofs.lists.Membership.{Contains-single, Contains-cons, cons-Contains, cons-Contains-first, nil-Contains, member_of, all_members}
@@ -94,7 +96,7 @@ thin_is lines is =
 
 -- ---- two ends pass midnight at most once
 
--- the times of occasions that may have one
+-- the times in a list of occasions with times
 abbrev times_in : List (Occasion × ℕ) → List ℕ
 times_in timings = map (λ (time : Occasion × ℕ). time.1) timings
 
@@ -151,7 +153,7 @@ module _ (lines : List (List ℕ)) (is : IsSchedule lines) where
         subst (λ ls. Contains ls journey.last) (sym journey.whole)
         (Contains-append_right (journey.first ∷ journey.between) (journey.last ∷ []) journey.last (cons-Contains-first journey.last []))
 
-    -- a property of each line of the journey is a property of its ends
+    -- if each line of the journey has a property, so have its ends
     of_ends : (P : List ℕ → Type 0) → ((line : List ℕ) → Contains is.journey line → P line) → All P (journey.first ∷ journey.last ∷ [])
     of_ends P each = all_members P (journey.first ∷ journey.last ∷ [])
         (λ line among. by line (Contains-cons journey.first (journey.last ∷ []) line among))
@@ -298,7 +300,7 @@ thin_elsewhere place lines none = by (calls_at place (thin_lines lines)) refl
         absurd (let worse : false ≡ true = bad in cc)
     by false h = refl
 
--- the thin lines, with one more line
+-- one more line is added to the thin lines if it is an end
 thin_more : (basic : List ℕ) (others : List (List ℕ)) (line : List ℕ) (b : Bool) → is_end (kind_of line) ≡ b
     → thin_lines (basic ∷ others ++ line ∷ []) ≡ thin_lines (basic ∷ others) ++ cond b (line ∷ []) []
 thin_more basic others line b h =

@@ -1,5 +1,6 @@
--- The changes kept for a place and a day make the thinned table of what all changes make.
-use Rattle.std.proofs.Common.{arith, append-nil, append_assoc, ◌≡◌, ℕ, List, [], ◌∷◌, ◌++◌, subst, inl, inr, ◌⊎◌, refl, ap, sym, ◌∙◌, Bool, true, false, cond, Some, None, Contains, map}
+-- The changes kept for a place and a day make the thinned table of the table that all changes make.
+use Rattle.std.proofs.Common.{arith, append-nil, append_assoc, ◌≡◌, ℕ, List, [], ◌∷◌, ◌++◌, subst, inl, inr}
+use Rattle.std.proofs.Common.{◌⊎◌, refl, ap, sym, ◌∙◌, Bool, true, false, cond, Some, None, Contains, map}
 use Rattle.std.specs.Prelude.{Option, option_and_then, filter, fold, not}
 use Rattle.std.specs.declared.cmp.Ordering.TheVariants.{Greater}
 use Rattle.std.specs.Ordering.{is_eq, ordering_reverse}
@@ -16,7 +17,8 @@ use Rattle.docker_model.specs.docker.Choice.{runs_within}
 use Rattle.docker_model.specs.records.Field.{as_new}
 use Rattle.cif_laws.proofs.records.Columns.{new_columns}
 use Rattle.std.specs.List.{list_any}
-use Rattle.docker_laws.specs.Thinning.{IsThinning, thin_lines, lines_for, body_for, may_matter, thin_body, thinned, thin_act, thin_change, thin_changes, table_of, AreEnough, HasNoChangeOf, AreAtMost, without}
+use Rattle.docker_laws.specs.Thinning.{IsThinning, thin_lines, lines_for, body_for, may_matter, thin_body, thinned, thin_act}
+use Rattle.docker_laws.specs.Thinning.{thin_change, thin_changes, table_of, AreEnough, HasNoChangeOf, AreAtMost, without}
 use Rattle.std.proofs.lemmas.List.{map-append}
 use Rattle.docker_laws.specs.Excerpt.{IsSublist}
 use Rattle.docker_laws.proofs.dockers.Sublists.{sublist_itself, sublist_filter, sublist_onward, sublist_append, sublist_front}
@@ -34,7 +36,7 @@ left_by act = body_of (op_of act)
 
 -- ---- one change
 
--- a thin act leaves the thin body of what the act leaves
+-- a thin act leaves the thin form of the body that the act leaves
 thin_left : (place : List ℕ) (day : ℕ) (act : Act) → left_by (thin_act place day act) ≡ option_and_then (thin_body place day) (left_by act)
 thin_left place day delete = refl
 thin_left place day (put body) = by (may_count day (put_with body))
@@ -43,7 +45,7 @@ thin_left place day (put body) = by (may_count day (put_with body))
     by true = refl
     by false = refl
 
--- the table after a change: at its key, and at the others
+-- after a change, the table has the change's body at its key, and is as it was at other keys
 after_here : (table : Table) (change : Change) (key : Key) → is_of key change ≡ true → after_change table change key ≡ left_by change.act
 after_here table change key h = λ i. cond (h i) (left_by change.act) (table key)
 
@@ -73,7 +75,8 @@ module _ (place : List ℕ) (day : ℕ) where
           nothing (after_change table change) none ∙ sym (nothing table none)
       by false h = left_at place day (after_change table change) table key (after_there table change key h)
 
-  -- a change whose key may matter does to the thinned table what the thin change does
+  -- if the key of a change may matter, the thin change does to the thinned table what the change
+  -- does to the table
   step_kept : (table left : Table) (change : Change) (key : Key) → may_matter place change.key ≡ true → left key ≡ thinned place day table key
       → after_change left (thin_change place day change) key ≡ thinned place day (after_change table change) key
   step_kept table left change key matters same = by (is_of key change) refl
@@ -112,18 +115,19 @@ module _ (place : List ℕ) (day : ℕ) where
           (λ i. fold after_change left (map (thin_change place day) (cond (h i) (change ∷ matter changes) (matter changes))) key)
           ∙ rest (after_change table change) left (λ k. same k ∙ sym (step_elsewhere table change k h)) key
 
-  -- from a thinned table on, the kept changes make the thinned table
+  -- the kept changes, applied to a thinned table, make the thinned table of the table after all
+  -- changes
   pub thin_over : (table : Table) (changes : List Change) (key : Key)
       → fold after_change (thinned place day table) (thin_changes place day changes) key ≡ thinned place day (fold after_change table changes) key
   thin_over table changes key = kept_from changes table (thinned place day table) (λ k. refl) key
 
-  -- from the empty table on, too
+  -- from the empty table on, the kept changes make the thinned table of the table after all changes
   thin_enough : (changes : List Change) → AreEnough place day changes (thin_changes place day changes)
   thin_enough changes = kept_from changes empty_table empty_table (λ key. sym (none_or (may_matter place key)))
 
 -- ---- change by change
 
--- the table after one more change
+-- one more change is applied after the changes before it
 table_more : (table : Table) (changes : List Change) (change : Change)
     → fold after_change table (changes ++ change ∷ []) ≡ after_change (fold after_change table changes) change
 table_more table [] change = refl
@@ -154,7 +158,7 @@ without_here key (change ∷ changes) table = by (is_of key change) refl (withou
         ∙ rest (after_change table change)
         ∙ after_there table change key h
 
--- without them, other keys are as they are with them
+-- leaving out the changes of one key doesn't matter to any other key
 without_there : (key other : Key) → is_eq (key_cmp key other) ≡ false → (changes : List Change) (one two : Table) → one other ≡ two other
     → fold after_change one (without key changes) other ≡ fold after_change two changes other
 without_there key other apart [] one two same = same
@@ -185,7 +189,7 @@ module _ (place : List ℕ) (day : ℕ) where
     enough_elsewhere no_matter key =
         so_far key ∙ sym (step_elsewhere place day (table_of changes) change key no_matter) ∙ sym (all_more key)
 
-    -- a change whose key may matter may be kept, thin
+    -- if the key of a change may matter, the thin change may be kept
     enough_kept : may_matter place change.key ≡ true → AreEnough place day (changes ++ change ∷ []) (kept ++ thin_change place day change ∷ [])
     enough_kept matters key =
         (λ i. table_more empty_table kept (thin_change place day change) i key)
@@ -230,7 +234,7 @@ module _ (place : List ℕ) (day : ℕ) where
         by false h =
             without_there change.key key h kept empty_table empty_table refl ∙ so_far key ∙ sym (same_elsewhere key h) ∙ sym (all_more key)
 
-    -- if the change itself is kept, they may be removed too
+    -- if the thin change is kept, the earlier kept changes of its key may be removed
     enough_replaced : may_matter place change.key ≡ true
         → AreEnough place day (changes ++ change ∷ []) (without change.key kept ++ thin_change place day change ∷ [])
     enough_replaced matters key =
@@ -267,7 +271,7 @@ sublist_map {A} f (x ∷ xs) (y ∷ ys) is = by (sublist_map f xs ys) (sublist_m
     by both_step skip (inr later) = inr (skip later)
 
 module _ (place : List ℕ) (day : ℕ) where
-  -- all changes, each kept thin if its key may matter, may be kept
+  -- each change whose key may matter may be kept in its thin form
   pub thinning_of_all : (changes : List Change) → IsThinning place day changes (thin_changes place day changes)
   thinning_of_all changes = record {
     some = sublist_map (thin_change place day) (filter (λ (change : Change). may_matter place change.key) changes) changes
@@ -275,7 +279,7 @@ module _ (place : List ℕ) (day : ℕ) where
     enough = thin_enough place day changes;
   }
 
-  -- of no changes none is kept
+  -- without changes nothing is kept
   pub thinning_at_first : IsThinning place day [] []
   thinning_at_first = record { some = tt; enough = enough_at_first place day }
 
@@ -283,14 +287,15 @@ module _ (place : List ℕ) (day : ℕ) where
     abbrev before : List Change
     before = map (thin_change place day) changes
 
-    -- some of the changes are still some of them with one more
+    -- a sublist of the thin changes is still one after one more change
     still_some : (others : List Change) → IsSublist others kept → IsSublist others (map (thin_change place day) (changes ++ change ∷ []))
     still_some others inside =
         subst (IsSublist others) (sym (map-append (thin_change place day) changes (change ∷ [])))
         (sublist_onward others kept (before ++ thin_change place day change ∷ []) inside
         (sublist_onward kept before (before ++ thin_change place day change ∷ []) is.some (sublist_front before (thin_change place day change ∷ []))))
 
-    -- also if that one is kept
+    -- a sublist of the thin changes, followed by the new thin change, is a sublist of all thin
+    -- changes
     some_more : (others : List Change) → IsSublist others kept
         → IsSublist (others ++ thin_change place day change ∷ []) (map (thin_change place day) (changes ++ change ∷ []))
     some_more others inside =
@@ -305,7 +310,7 @@ module _ (place : List ℕ) (day : ℕ) where
       enough = enough_elsewhere place day changes kept change is.enough no_matter;
     }
 
-    -- a change whose key may matter may be kept, thin
+    -- if the key of a change may matter, the thin change may be kept
     pub thinning_kept : may_matter place change.key ≡ true → IsThinning place day (changes ++ change ∷ []) (kept ++ thin_change place day change ∷ [])
     thinning_kept matters = record {
       some = some_more kept (sublist_itself kept);
@@ -326,7 +331,7 @@ module _ (place : List ℕ) (day : ℕ) where
       enough = enough_removed place day changes kept change is.enough deletes;
     }
 
-    -- if the change itself is kept, they may be removed too
+    -- if the thin change is kept, the earlier kept changes of its key may be removed
     pub thinning_replaced : may_matter place change.key ≡ true
         → IsThinning place day (changes ++ change ∷ []) (without change.key kept ++ thin_change place day change ∷ [])
     thinning_replaced matters = record {
@@ -334,7 +339,7 @@ module _ (place : List ℕ) (day : ℕ) where
       enough = enough_replaced place day changes kept change is.enough matters;
     }
 
--- if more changes follow, each whose key may matter may be kept, thin
+-- if more changes follow, each one whose key may matter may be kept in its thin form
 pub thinning_more : (place : List ℕ) (day : ℕ) (all kept more : List Change) → IsThinning place day all kept
     → IsThinning place day (all ++ more) (kept ++ thin_changes place day more)
 thinning_more place day all kept [] is =
@@ -389,16 +394,16 @@ near_of_new day line = λ i. list_any
 
 -- ---- the greatest key of the kept changes
 
--- no change of a key above all these was kept
+-- no kept change has a key above the highest key
 pub none_above : (highest key : Key) (kept : List Change) → AreAtMost highest kept → IsBelow key_cmp highest key → HasNoChangeOf key kept
 none_above highest key kept low below change among same =
     low change among (subst (λ (k : Key). key_cmp k highest ≡ Greater) (sym same) (key_total.antisymm key highest ∙ ap ordering_reverse below))
 
--- without changes, none is of a key above this one
+-- if no change is kept, any key may count as the highest
 pub none_at_first : (highest : Key) → AreAtMost highest []
 none_at_first highest change among = absurd (nil-Contains change among)
 
--- one more change, of a key that isn't above
+-- a kept change whose key isn't above the highest key leaves that key the highest
 pub still_at_most : (highest : Key) (kept : List Change) (change : Change) → AreAtMost highest kept → IsAtMost key_cmp change.key highest
     → AreAtMost highest (kept ++ change ∷ [])
 still_at_most highest kept change low more other among = by (Contains-append_cases kept (change ∷ []) other among)
@@ -407,7 +412,7 @@ still_at_most highest kept change low more other among = by (Contains-append_cas
     by (inl before) = low other before
     by (inr last) = subst (λ (c : Change). IsAtMost key_cmp c.key highest) (Contains-single change other last) more
 
--- one more change, of a key above, which is now the greatest
+-- if a kept change has a key above the highest key, its key is now the highest
 pub raised_at_most : (highest : Key) (kept : List Change) (change : Change) → AreAtMost highest kept → IsBelow key_cmp highest change.key
     → AreAtMost change.key (kept ++ change ∷ [])
 raised_at_most highest kept change low below =

@@ -5,7 +5,8 @@ use Rattle.std.proofs.lemmas.Slice.Eq.{bytes_eq-Decides}
 use Rattle.docker_model.specs.records.Record.{columns, column}
 use Rattle.docker_model.specs.file.Journey.{midnights, CallsAt, calls_at}
 use Rattle.docker_model.specs.file.File.{first_record}
-use Rattle.docker_model.specs.file.Change.{Key, tiploc_key, schedule_key, association_key, ScheduleKey, AssociationKey, Body, tiploc_body, schedule_body, association_body}
+use Rattle.docker_model.specs.file.Change.{Key, tiploc_key, schedule_key, association_key, ScheduleKey}
+use Rattle.docker_model.specs.file.Change.{AssociationKey, Body, tiploc_body, schedule_body, association_body}
 use Rattle.docker_model.specs.state.Table.{Table}
 use Rattle.docker_model.specs.state.State.{HasGoodBodies, IsBodyOf}
 use Rattle.docker_model.specs.docker.Event.{Event, event_day}
@@ -31,7 +32,7 @@ use Rattle.docker_laws.proofs.dockers.ThinBody.{first_of_thin, thin_elsewhere, n
 
 -- ---- stand-ins
 
--- if lines are a stand-in for a schedule's, the schedule's are one for them
+-- if lines are a stand-in for a schedule's lines, the schedule's lines are a stand-in for them
 turned : (place : List ℕ) (day : ℕ) (one other : List (List ℕ)) → IsStandIn place day one other → IsStandIn place day other one
 turned place day one other is = record {
   runs = λ start near. sym (is.runs start near);
@@ -69,7 +70,7 @@ needed_stand_in place day lines = by (calls_at place lines) refl
 
 -- ---- two tables with the same docker for a place and a day
 
--- what the docker needs of one table, the other has: each schedule that runs near the day, and each
+-- the other table has what the docker needs: each schedule that runs near the day, and each
 -- association at the place
 record Covers (one other : Table) (place : List ℕ) (day : ℕ) : Type 0 where
   runs : (start : ℕ) → IsStartNear day start → (uid : List ℕ) (key : ScheduleKey) (lines : List (List ℕ)) → IsRunning one uid start key lines
@@ -110,7 +111,8 @@ module _ (one other : Table) (place : List ℕ) (day : ℕ) (forth : Covers one 
     first = λ another others runs. is.first another others (back.links group here start another others runs);
   }
 
-  -- a train with an event at the place on the day starts on it or on one of the two days before
+  -- a train with an event at the place on the day starts on that day or on one of the two days
+  -- before
   started_near : (start : ℕ) (uid : List ℕ) (key : ScheduleKey) (lines : List (List ℕ)) (event : Event) → CallsAt place lines
       → TrainRuns one uid start key lines → event_day start lines event ≡ day → (start ≤ day) × (day ≤ start + 2)
   started_near start uid key lines event calls runs today = started day start lines event (forth.few key lines runs.chosen.running.is_live calls) today
@@ -261,7 +263,7 @@ module _ (place : List ℕ) (day : ℕ) (live : Table) where
   schedule_left key lines is_live runs =
       ap (option_and_then (thin_body place day)) is_live ∙ (λ i. cond (runs i) (Some (schedule_body (lines_for place lines))) None)
 
-  -- a schedule in the thinned table has those lines of a live one that the place needs
+  -- a schedule in the thinned table has the lines of a live schedule that the place needs
   schedule_was : (key : ScheduleKey) (lines : List (List ℕ)) → thinned place day live (schedule_key key) ≡ Some (schedule_body lines)
       → (whole : List (List ℕ)) × (live (schedule_key key) ≡ Some (schedule_body whole)) × (lines_for place whole ≡ lines)
   schedule_was key lines is = by (then_some (thin_body place day) (live (schedule_key key)) (schedule_body lines) is)
@@ -281,7 +283,7 @@ module _ (place : List ℕ) (day : ℕ) (live : Table) where
           → (whole : List (List ℕ)) × (live (schedule_key key) ≡ Some (schedule_body whole)) × (lines_for place whole ≡ lines)
       by found = of_body found.0 found.1 found.2
 
-  -- the thinned table of a table with good bodies stands for it
+  -- the thinned table of a table with good bodies stands for that table
   pub thinned_stands : HasGoodBodies live → StandsFor place day live (thinned place day live)
   thinned_stands good = record {
     tiploc = here (tiploc_key place) ((bytes_eq-Decides place place).1 refl)

@@ -1,6 +1,7 @@
--- The state made of what is kept of a file is valid. It gives the docker of the place and the day
--- that the file's summary gives.
-use Rattle.std.proofs.Common.{◌≡◌, ℕ, ◌-◌, ◌^◌, ◌<◌, ◌≤◌, List, [], ◌∷◌, length, map, subst, inl, inr, ◌⊎◌, refl, ap, sym, ◌∙◌, Bool, true, false, cond, Some, None, Contains, All, arith}
+-- The state of a file's kept changes is valid. For the place and the day, it gives the same docker
+-- as the file's summary.
+use Rattle.std.proofs.Common.{◌≡◌, ℕ, ◌-◌, ◌^◌, ◌<◌, ◌≤◌, List, [], ◌∷◌, length, map, subst, inl, inr, ◌⊎◌}
+use Rattle.std.proofs.Common.{refl, ap, sym, ◌∙◌, Bool, true, false, cond, Some, None, Contains, All, arith}
 use Rattle.std.specs.Prelude.{Option, option_and_then, ◌↔◌, fold}
 use Rattle.std.specs.declared.cmp.Ordering.TheVariants.{Less, Greater}
 use Rattle.std.specs.Ordering.{ordering_then}
@@ -26,7 +27,8 @@ use Rattle.cif_laws.proofs.lists.Later.{AllLater, later_map, later_map_weaker}
 use Rattle.docker_laws.proofs.dockers.Sublists.{sublist_member, sublist_later}
 use Rattle.cif_laws.proofs.files.ChangeOrder.{Apart, changes_apart}
 use Rattle.cif_laws.proofs.files.FileChanges.{file_change}
-use Rattle.state_laws.proofs.states.PlainTable.{Keyed, Found, NotFound, find_in, one_per_key, live_at, live_none, Ascends, NoneThere, LastThere, last_there, step, entry_of_change, fold_entries, within_file}
+use Rattle.state_laws.proofs.states.PlainTable.{Keyed, Found, NotFound, find_in, one_per_key, live_at, live_none, Ascends, NoneThere}
+use Rattle.state_laws.proofs.states.PlainTable.{LastThere, last_there, step, entry_of_change, fold_entries, within_file}
 use Rattle.state_laws.proofs.states.PlainLive.{lapse_table_none}
 use Rattle.state_laws.proofs.states.LapsedPlainTable.{live_is_plain}
 use Rattle.state_laws.proofs.states.SummaryValid.{item_good, summary_is_valid}
@@ -47,8 +49,8 @@ module _ (file : List (List ℕ)) (kept : List Change) (state : State) (of : IsS
   at_least entry other (inr below) greater =
       let less : entry_cmp other entry ≡ Less = (λ i. ordering_then (below i) (op_cmp other.op entry.op)) in cc
 
-  -- its live table is the table that the changes make, if a later change of a key has a higher
-  -- number
+  -- the state's live table is the table that the changes make, if a later change of a key has a
+  -- higher number
   live_is_made : AllLater Apart kept → (key : Key) → live_table state key ≡ table_of kept key
   live_is_made apart key =
       by (last_there entries empty_table key (later_map_weaker (entry_of_change file) Apart Ascends (within_file file) kept apart)) (find_in state.entries key)
@@ -90,7 +92,7 @@ module _ (place : List ℕ) (day : ℕ) (file : List (List ℕ)) (kept : List Ch
       sublist_later Apart kept (map (thin_change place day) (changes file)) is.some
       (later_map Apart (thin_change place day) (changes file) (changes_apart 1 file))
 
-  -- a kept change is a change of the file, thin
+  -- a kept change is the thin form of a change of the file
   was_change : (change : Change) → Contains kept change → (whole : Change) × Contains (changes file) whole × (thin_change place day whole ≡ change)
   was_change change among =
       Contains-map (thin_change place day) (changes file) change (sublist_member kept (map (thin_change place day) (changes file)) change is.some among)
@@ -174,7 +176,7 @@ module _ (place : List ℕ) (day : ℕ) (file : List (List ℕ)) (is_file : IsFi
       let told = kept_good place day file is_file few kept is change among in
       record { key = told.0.0; stamp = record { in_ledger = in_ledger; low = told.1.0; high = told.1.1 }; op = told.0.1 }
 
-  -- the state of what is kept is valid
+  -- the state of the kept changes is valid
   pub thin_valid : IsValid state
   thin_valid = record {
     horizon = subst IsDay (sym of.horizon) (omega arith);
@@ -210,13 +212,13 @@ module _ (place : List ℕ) (day : ℕ) (file : List (List ℕ)) (is_file : IsFi
             (live_of_summary file whole summary key)
             ∙ sym (thin_live place day file kept is state of key)
 
-    -- the state of what is kept has the same docker list as the file's summary
+    -- the state of the kept changes has the same docker list as the file's summary
     pub thin_state_list : (lines : List DockerLine) → IsDockerList (live_table whole) place day lines ↔ IsDockerList (live_table state) place day lines
     thin_state_list lines =
         subst (λ (table : Table). IsDockerList (live_table whole) place day lines ↔ IsDockerList table place day lines) same_live
         (thin_list_iff place day (live_table whole) whole_good lines)
 
-    -- the state of what is kept has the same docker text as the file's summary
+    -- the state of the kept changes has the same docker text as the file's summary
     pub thin_state_text : (text : List ℕ) → IsDockerText (live_table whole) place day text ↔ IsDockerText (live_table state) place day text
     thin_state_text text =
         subst (λ (table : Table). IsDockerText (live_table whole) place day text ↔ IsDockerText table place day text) same_live

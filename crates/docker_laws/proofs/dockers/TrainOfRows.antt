@@ -65,7 +65,7 @@ module _ (live : Table) (rows : List Row) (uid : List ℕ) (has : HasSchedulesOf
       first = λ other others is. first.1 (record { key = other; lines = others }) is;
     }
 
-    -- the best of the rows is the chosen schedule
+    -- the best schedule of the rows is the chosen one
     pub best_is_chosen : (found : Option Train) → IsChosenSoFar uid day rows found → IsChosenOn live uid day found
     best_is_chosen found best =
         first_is_chosen found (best_is_first by_key (is_running uid day) (schedules_in rows) Runs running among_running passes_running found best)

@@ -69,7 +69,7 @@ unfolding body_or
 same_entry key other body others entry same put =
     (ap (λ (pair : Keyed). pair.0) same, ap (λ (pair : Keyed). body_or (body_of pair.1.op)) same ∙ ap body_or put)
 
--- the key and the body are one of the three live ones
+-- the key and the body belong to one of the three live entries
 abbrev OneOf : Key → Body → Type 0
 OneOf other others =
     Same (association_key link_key) (association_body link) other others
@@ -156,7 +156,7 @@ at_colwell = record { number = 2; place = 2; occasion = arrival; time = 2860 }
 abbrev the_line : DockerLine
 the_line = line_of_association next_working 80 base_key 23537 base_lines at_colwell (codes "C40002") (codes "4D42")
 
--- the worked association line
+-- the worked line is an association's line in the docker
 pub works_on : IsAssociationLine (live_table linked) (codes "COLWELL") 23537 the_line
 works_on = record {
   start = 23537;

@@ -1,5 +1,6 @@
 -- The docker list of the worked file at ASHFELD on 10 June 2024 is its one line.
-use Rattle.std.proofs.Common.{◌≡◌, ℕ, zero, suc, ◌+◌, List, [], ◌∷◌, length, refl, inl, inr, Some, None, lit<, ◌<◌, arith, ap, sym, ◌∙◌, subst, Contains, get_or, Bool, true, false, ◌⊎◌, ◌++◌}
+use Rattle.std.proofs.Common.{◌≡◌, ℕ, zero, suc, ◌+◌, List, [], ◌∷◌, length, refl, inl, inr, Some, None, lit<}
+use Rattle.std.proofs.Common.{◌<◌, arith, ap, sym, ◌∙◌, subst, Contains, get_or, Bool, true, false, ◌⊎◌, ◌++◌}
 use Rattle.std.specs.Prelude.{codes, Option, slice_index}
 use Rattle.std.specs.Ordering.{is_eq}
 use Rattle.std.specs.declared.cmp.Ordering.{Ordering}
@@ -108,7 +109,7 @@ two_events event among = by among.0 among.1 among.2
     by (suc zero) below is = inr is
     by (suc (suc k)) below is = absurd (omega arith)
 
--- an event there on that day is the departure, and its train starts on that day
+-- an event at ASHFELD on 10 June is the departure, and its train starts on that day
 starts_then : (start : ℕ) (event : Event) → Contains (events_of f2_schedule) event → columns 3 9 (event_line f2_schedule event) ≡ codes "ASHFELD"
     → event_day start f2_schedule event ≡ 23537 → (leaves_f2 ≡ event) × (start ≡ 23537)
 starts_then start event among here today = by (two_events event among)
@@ -151,7 +152,7 @@ f2_docker = record {
   );
 }
 
--- the docker text of the worked file
+-- the text of that list is the docker text of the worked file
 pub f2_docker_text : IsDockerText live (codes "ASHFELD") 23537 (docker_text live (codes "ASHFELD") 23537 (the_line ∷ []))
 f2_docker_text = (the_line ∷ [], f2_docker, refl)
 

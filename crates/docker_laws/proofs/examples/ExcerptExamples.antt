@@ -4,7 +4,8 @@ use Rattle.std.proofs.Common.{◌≡◌, ℕ, List, [], ◌∷◌, refl, inl, in
 use Rattle.std.specs.Prelude.{codes, slice_index}
 use Rattle.jiff_core.specs.Calendar.{days_from_civil, day_count, days_of_years, days_of_months}
 use Rattle.docker_model.specs.records.PrintedTime.{spaces}
-use Rattle.docker_model.specs.file.Change.{Key, tiploc_key, schedule_key, association_key, ScheduleKey, AssociationKey, Body, tiploc_body, schedule_body, association_body}
+use Rattle.docker_model.specs.file.Change.{Key, tiploc_key, schedule_key, association_key, ScheduleKey}
+use Rattle.docker_model.specs.file.Change.{AssociationKey, Body, tiploc_body, schedule_body, association_body}
 use Rattle.docker_model.specs.state.Op.{Entry, Op, deleted, lapsed, put_with, body_of}
 use Rattle.docker_model.specs.state.State.{State, AreAscending, live_table}
 use Rattle.docker_model.specs.docker.Choice.{TrainRuns, schedule_choice_cmp}
@@ -91,7 +92,7 @@ runs_by_overlay : ¬ TrainRuns (live_table overlaid) (codes "C40001") 23538 stop
 unfolding days_from_civil day_count days_of_years days_of_months
 runs_by_overlay runs = runs.chosen.first short_key short (record { uid_is = refl; is_live = refl; runs_then = refl }) refl
 
--- without the overlay it would
+-- without the overlay the train would run by the permanent schedule
 would_stop : TrainRuns (live_table alone) (codes "C40001") 23538 stops_key stops
 unfolding days_from_civil day_count days_of_years days_of_months
 would_stop = record {
@@ -155,7 +156,8 @@ parted = state_of (put_in (association_key link_key) (association_body link) ∷
 uids_differ : codes "C40001" ≡ codes "C40002" → ⊥
 uids_differ same = let last : ◌≡◌ {A = ℕ} 49 50 = ap (λ bytes. slice_index bytes 5) same in omega arith
 
-not_first : (other : ScheduleKey) (entry : Entry) → other.uid ≡ codes "C40002" → ¬ (put_in (association_key link_key) (association_body link) ≡ (schedule_key other, entry))
+not_first : (other : ScheduleKey) (entry : Entry) → other.uid ≡ codes "C40002"
+    → ¬ (put_in (association_key link_key) (association_body link) ≡ (schedule_key other, entry))
 not_first other entry uid same = let bad : association_key link_key ≡ schedule_key other = ap (λ (pair : Keyed). pair.0) same in cc
 
 not_second : (other : ScheduleKey) (entry : Entry) → other.uid ≡ codes "C40002"
@@ -167,7 +169,9 @@ not_second other entry uid same = uids_differ (ap (λ (pair : Keyed). (schedule_
 only_partner : (other : ScheduleKey) (others : List (List ℕ)) → other.uid ≡ codes "C40002"
     → live_table joined (schedule_key other) ≡ Some (schedule_body others) → partner_key ≡ other
 unfolding schedule_in
-only_partner other others uid h = first (Contains-cons {A = Keyed} (put_in (association_key link_key) (association_body link)) (stops_entry ∷ partner_entry ∷ []) (schedule_key other, found.0) found.1)
+only_partner other others uid h =
+    first (Contains-cons {A = Keyed} (put_in (association_key link_key) (association_body link)) (stops_entry ∷ partner_entry ∷ [])
+    (schedule_key other, found.0) found.1)
   where
     stops_entry : Keyed
     stops_entry = put_in (schedule_key stops_key) (schedule_body stops)
@@ -189,7 +193,8 @@ only_partner other others uid h = first (Contains-cons {A = Keyed} (put_in (asso
 
 no_partner : (other : ScheduleKey) (others : List (List ℕ)) → other.uid ≡ codes "C40002"
     → ¬ (live_table parted (schedule_key other) ≡ Some (schedule_body others))
-no_partner other others uid h = first (Contains-cons {A = Keyed} (put_in (association_key link_key) (association_body link)) (stops_entry ∷ []) (schedule_key other, found.0) found.1)
+no_partner other others uid h =
+    first (Contains-cons {A = Keyed} (put_in (association_key link_key) (association_body link)) (stops_entry ∷ []) (schedule_key other, found.0) found.1)
   where
     stops_entry : Keyed
     stops_entry = put_in (schedule_key stops_key) (schedule_body stops)
@@ -213,14 +218,15 @@ identity_there =
         chosen = record {
           running = record { uid_is = refl; is_live = refl; runs_then = refl };
           first = λ other others running.
-              subst (λ (k : ScheduleKey). IsAtMost schedule_choice_cmp partner_key k) (only_partner other others running.uid_is running.is_live) (λ greater. cc);
+              subst (λ (k : ScheduleKey). IsAtMost schedule_choice_cmp partner_key k)
+              (only_partner other others running.uid_is running.is_live) (λ greater. cc);
         };
         no_cancellation = λ cancelled. omega arith;
       },
       refl,
     )
 
--- without the partner it would not
+-- without the partner the docker would not have the partner's identity
 identity_lost : ¬ IsPartnerIdentity (live_table parted) (codes "C40002") (Some 23537) (codes "4D42")
 identity_lost (inl runs) = no_partner runs.0 runs.1 runs.2.chosen.running.uid_is runs.2.chosen.running.is_live
 identity_lost (inr none) = let first : ◌≡◌ {A = ℕ} 52 63 = ap (λ bytes. slice_index bytes 0) none.1 in omega arith
@@ -240,8 +246,8 @@ parted_is_no_excerpt is = by (is (schedule_key partner_key))
 partner_is_kept : (excerpt_for place joined).entries ≡ joined.entries
 partner_is_kept = refl
 
--- of a state with only the partner nothing is needed. So an excerpt is taken of a whole state:
--- joined with the association later, the excerpt of this one would lack the partner
+-- an excerpt of a state with only the partner has no entry. If it were joined with the association
+-- later, the partner would be missing. So an excerpt is taken of a whole state
 partner_alone_is_dropped : (excerpt_for place (state_of (put_in (schedule_key partner_key) (schedule_body partner) ∷ []))).entries ≡ []
 partner_alone_is_dropped = refl
 
@@ -294,7 +300,37 @@ walk_leaves : (excerpt_for place whole).entries
 walk_leaves = refl
 
 whole_ascends : AreAscending whole.entries
-whole_ascends = ((refl, (refl, (refl, (refl, (refl, (refl, (refl, (refl, (refl, (refl, (refl, tt))))))))))), ((refl, (refl, (refl, (refl, (refl, (refl, (refl, (refl, (refl, (refl, tt)))))))))), ((refl, (refl, (refl, (refl, (refl, (refl, (refl, (refl, (refl, tt))))))))), ((refl, (refl, (refl, (refl, (refl, (refl, (refl, (refl, tt)))))))), ((refl, (refl, (refl, (refl, (refl, (refl, (refl, tt))))))), ((refl, (refl, (refl, (refl, (refl, (refl, tt)))))), ((refl, (refl, (refl, (refl, (refl, tt))))), ((refl, (refl, (refl, (refl, tt)))), ((refl, (refl, (refl, tt))), ((refl, (refl, tt)), ((refl, tt), (tt, tt))))))))))))
+whole_ascends = (
+  (refl, (refl, (refl, (refl, (refl, (refl, (refl, (refl, (refl, (refl, (refl, tt))))))))))),
+  (
+    (refl, (refl, (refl, (refl, (refl, (refl, (refl, (refl, (refl, (refl, tt)))))))))),
+    (
+      (refl, (refl, (refl, (refl, (refl, (refl, (refl, (refl, (refl, tt))))))))),
+      (
+        (refl, (refl, (refl, (refl, (refl, (refl, (refl, (refl, tt)))))))),
+        (
+          (refl, (refl, (refl, (refl, (refl, (refl, (refl, tt))))))),
+          (
+            (refl, (refl, (refl, (refl, (refl, (refl, tt)))))),
+            (
+              (refl, (refl, (refl, (refl, (refl, tt))))),
+              (
+                (refl, (refl, (refl, (refl, tt)))),
+                (
+                  (refl, (refl, (refl, tt))),
+                  (
+                    (refl, (refl, tt)),
+                    ((refl, tt), (tt, tt)),
+                  ),
+                ),
+              ),
+            ),
+          ),
+        ),
+      ),
+    ),
+  ),
+)
 
 -- what the walk leaves is an excerpt
 walk_leaves_excerpt : IsExcerptState place whole (excerpt_for place whole)

@@ -1,6 +1,7 @@
 -- A worked run: what two offices and two messages know.
 use Rattle.std.proofs.Common.{◌≡◌, ℕ, List, [], ◌∷◌, map, refl}
-use Rattle.docker_model.specs.run.Run.{Reply, done, refused, no_office, RunEvent, take_file, send_state, deliver, reload, horizon_event, Known, KnownSets, known_sets}
+use Rattle.docker_model.specs.run.Run.{Reply, done, refused, no_office, RunEvent, take_file, send_state}
+use Rattle.docker_model.specs.run.Run.{deliver, reload, horizon_event, Known, KnownSets, known_sets}
 
 -- the worked events; a text of one empty line stands for the file
 abbrev events : List RunEvent

@@ -1,5 +1,6 @@
 -- What is kept of a list of changes, for COLWELL on a day. Four ways to keep too little.
-use Rattle.std.proofs.Common.{length, length-append, ◌≡◌, ℕ, ◌≤◌, List, [], ◌∷◌, refl, inl, inr, ◌⊎◌, Some, None, arith, lit<, ap, sym, ◌∙◌, subst, Bool, true, false, cond}
+use Rattle.std.proofs.Common.{length, length-append, ◌≡◌, ℕ, ◌≤◌, List, [], ◌∷◌, refl, inl, inr, ◌⊎◌}
+use Rattle.std.proofs.Common.{Some, None, arith, lit<, ap, sym, ◌∙◌, subst, Bool, true, false, cond}
 use Rattle.std.specs.Prelude.{codes, slice_index, ◌↔◌, ◌&&◌, nat_le}
 use Rattle.std.specs.declared.cmp.Ordering.TheVariants.{Greater}
 use Rattle.std.specs.Ordering.{is_eq}
@@ -8,7 +9,8 @@ use Rattle.jiff_core.specs.Calendar.{days_from_civil, day_count, days_of_years, 
 use Rattle.docker_model.specs.records.PrintedTime.{spaces}
 use Rattle.docker_model.specs.file.Journey.{arrival, CallsAt, calls_at, midnights}
 use Rattle.docker_model.specs.file.File.{IsSchedule, IsJourney, MayLackJourney, first_record}
-use Rattle.docker_model.specs.file.Change.{Key, tiploc_key, association_key, schedule_key, ScheduleKey, tiploc_body, association_body, schedule_body, Act, delete, put, Change}
+use Rattle.docker_model.specs.file.Change.{Key, tiploc_key, association_key, schedule_key, ScheduleKey, tiploc_body}
+use Rattle.docker_model.specs.file.Change.{association_body, schedule_body, Act, delete, put, Change}
 use Rattle.docker_model.specs.state.Op.{schedule_key_cmp}
 use Rattle.docker_model.specs.state.Order.{IsAtMost}
 use Rattle.docker_model.specs.state.Table.{Table, empty_table}
@@ -164,7 +166,7 @@ revision_deletes : thin_changes place 23543 revised ≡ put_schedule 2 stops_key
 unfolding days_from_civil day_count days_of_years days_of_months
 revision_deletes = refl
 
--- or the earlier put is removed, and no change is kept
+-- for 16 June the earlier put may also be removed, and then no change is kept
 revision_removes : IsThinning place 23543 revised []
 unfolding days_from_civil day_count days_of_years days_of_months
 revision_removes =
@@ -317,18 +319,18 @@ follows_on_key = key_of (codes "C40002") 23539 80
 abbrev partner_alone : List Change
 partner_alone = put_schedule 2 follows_on_key follows_on ∷ []
 
--- for 11 June it is kept: a train of that day may have it as its partner of the next day
+-- for 11 June the train is kept: a train of that day may have it as its partner of the next day
 partner_is_kept : thin_changes place 23538 partner_alone ≡ partner_alone
 unfolding days_from_civil day_count days_of_years days_of_months
 partner_is_kept = refl
 
--- for 15 June too: a train may start on 13 June, pass midnight twice, and have it as its partner of
--- the day before
+-- for 15 June the train is kept too: a train may start on 13 June, pass midnight twice, and have it
+-- as its partner of the day before
 partner_is_still_kept : thin_changes place 23542 partner_alone ≡ partner_alone
 unfolding days_from_civil day_count days_of_years days_of_months
 partner_is_still_kept = refl
 
--- for 10 and 16 June it isn't
+-- for 10 and 16 June the train isn't kept
 partner_is_far : (thin_changes place 23537 partner_alone ≡ change_of 2 (schedule_key follows_on_key) delete ∷ [])
     × (thin_changes place 23543 partner_alone ≡ change_of 2 (schedule_key follows_on_key) delete ∷ [])
 unfolding days_from_civil day_count days_of_years days_of_months
@@ -343,8 +345,8 @@ only_follows_on other others h = by (is_eq (schedule_key_cmp follows_on_key othe
     by true same is = same_schedule follows_on_key other same
     by false same is = none_some (schedule_body others) is
 
--- the docker of 11 June has its identity, if an association of that day's train has the date
--- indicator `N`
+-- the docker of 11 June has the partner's identity, if an association of that day's train has the
+-- date indicator `N`
 identity_there : IsPartnerIdentity (table_of partner_alone) (codes "C40002") (partner_start 78 23538) (codes "4D42")
 unfolding days_from_civil day_count days_of_years days_of_months
 identity_there =
@@ -362,7 +364,7 @@ identity_there =
       refl,
     )
 
--- without the partner it doesn't
+-- without the partner the docker doesn't have the identity
 dropped_partner_is_wrong : ¬ IsPartnerIdentity empty_table (codes "C40002") (partner_start 78 23538) (codes "4D42")
 dropped_partner_is_wrong (inl runs) = none_some (schedule_body runs.1) runs.2.chosen.running.is_live
 dropped_partner_is_wrong (inr none) = let first : ◌≡◌ {A = ℕ} 52 63 = ap (λ bytes. slice_index bytes 0) none.1 in omega arith

@@ -11,7 +11,8 @@ use Rattle.docker_model.specs.file.File.{IsFile, most_records}
 use Rattle.docker_model.specs.file.Text.{lines_of}
 use Rattle.docker_model.specs.file.FileFault.{IsFileText}
 use Rattle.docker_model.specs.state.StateText.{Format, dks_1, dks_2, IsHorizonOf}
-use Rattle.docker_model.specs.run.Run.{RunEvent, take_file, send_state, deliver, reload, horizon_event, Reply, done, refused, no_office, Known, KnownSets, nothing, united, office_known, message_known, after_done, after_reply, none_known, known_sets, IsReply, AreReplies}
+use Rattle.docker_model.specs.run.Run.{RunEvent, take_file, send_state, deliver, reload, horizon_event, Reply, done, refused, no_office, Known, KnownSets}
+use Rattle.docker_model.specs.run.Run.{nothing, united, office_known, message_known, after_done, after_reply, none_known, known_sets, IsReply, AreReplies}
 use Rattle.docker_model.specs.run.Knowledge.{AreFiles, IsGoodKnown, IsGoodEvent}
 use Rattle.state_laws.proofs.states.Lapse.{max_most}
 
@@ -33,7 +34,7 @@ no_files_good = (All-nil IsFile, All-nil (λ file. length file ≤ most_records)
 pub nothing_good : (format : Format) → IsGoodKnown format nothing
 nothing_good format = (no_files_good, none_good format)
 
--- if the knowledge of two is good, so is their united knowledge
+-- if two sets of knowledge are good, so is their union
 pub united_good : (format : Format) (first second : Known) → IsGoodKnown format first → IsGoodKnown format second → IsGoodKnown format (united first second)
 united_good format first second one two = (
   (All-append IsFile first.files second.files one.0.0 two.0.0, All-append (λ file. length file ≤ most_records) first.files second.files one.0.1 two.0.1),

@@ -4,7 +4,8 @@ use Rattle.std.specs.Prelude.{fold, filter}
 use Rattle.std.specs.List.{zip}
 use Rattle.std.proofs.lemmas.List.Sums.{fold-append}
 use Rattle.std.proofs.lemmas.List.{length-replicate}
-use Rattle.docker_model.specs.run.Run.{RunEvent, take_file, send_state, deliver, reload, horizon_event, Reply, done, refused, KnownSets, nothing, office_known, after_reply, none_known, known_sets, IsReply, AreReplies}
+use Rattle.docker_model.specs.run.Run.{RunEvent, take_file, send_state, deliver, reload, horizon_event, Reply, done, refused}
+use Rattle.docker_model.specs.run.Run.{KnownSets, nothing, office_known, after_reply, none_known, known_sets, IsReply, AreReplies}
 use Rattle.docker_model.specs.run.Knowledge.{is_sent, sent_count}
 
 zip_more : {A B : Type 0} (xs : List A) (ys : List B) (x : A) (y : B) → length xs ≡ length ys → zip (xs ++ x ∷ []) (ys ++ y ∷ []) ≡ zip xs ys ++ (x, y) ∷ []
@@ -13,7 +14,7 @@ zip_more [] (b ∷ ys) x y same = absurd (omega arith)
 zip_more (a ∷ xs) [] x y same = absurd (omega arith)
 zip_more (a ∷ xs) (b ∷ ys) x y same = ap (λ rest. (a, b) ∷ rest) (zip_more xs ys x y (omega arith))
 
--- one more event, with its reply
+-- one more event and its reply make the next known sets from the ones before
 pub sets_more : (offices : ℕ) (events : List RunEvent) (replies : List Reply) (event : RunEvent) (reply : Reply) → length events ≡ length replies
     → known_sets offices (events ++ event ∷ []) (replies ++ reply ∷ []) ≡ after_reply (known_sets offices events replies) (event, reply)
 sets_more offices events replies event reply same =
@@ -29,7 +30,7 @@ replies_long known [] (reply ∷ replies) are = absurd are
 replies_long known (event ∷ events) [] are = absurd are
 replies_long known (event ∷ events) (reply ∷ replies) are = ap suc (replies_long (after_reply known (event, reply)) events replies are.1)
 
--- one more reply, in a run that begins anywhere
+-- replies to events, and a reply to one more event, are replies in a run that begins anywhere
 pub replies_after : (known : KnownSets) (events : List RunEvent) (replies : List Reply) (event : RunEvent) (reply : Reply)
     → AreReplies known events replies → IsReply (fold after_reply known (zip events replies)) event reply → AreReplies known (events ++ event ∷ [])
     (replies ++ reply ∷ [])
@@ -39,7 +40,7 @@ replies_after known (other ∷ events) [] event reply are is = absurd are
 replies_after known (other ∷ events) (answer ∷ replies) event reply are is =
     (are.0, replies_after (after_reply known (other, answer)) events replies event reply are.1 is)
 
--- one more reply, in a run from its start
+-- replies to events, and a reply to one more event, are replies in a run from its start
 pub replies_more : (offices : ℕ) (events : List RunEvent) (replies : List Reply) (event : RunEvent) (reply : Reply)
     → AreReplies (none_known offices) events replies → IsReply (known_sets offices events replies) event reply → AreReplies (none_known offices)
     (events ++ event ∷ []) (replies ++ reply ∷ [])

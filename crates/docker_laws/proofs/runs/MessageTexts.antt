@@ -9,7 +9,8 @@ use Rattle.docker_model.specs.state.Op.{Op, deleted, lapsed, put_with, Entry, ke
 use Rattle.docker_model.specs.state.Lapse.{lapse, lapse_entry}
 use Rattle.docker_model.specs.state.State.{State}
 use Rattle.docker_model.specs.state.Summary.{IsGreatestEntryOf, entry_of}
-use Rattle.docker_model.specs.state.StateText.{Format, dks_1, dks_2, state_text, item_bytes, entry_bytes, file_stamp_bytes, key_bytes, stamp_bytes, op_bytes, head_text, ledger_text, IsHorizonOf, TellsOp, IsToldState}
+use Rattle.docker_model.specs.state.StateText.{Format, dks_1, dks_2, state_text, item_bytes, entry_bytes, file_stamp_bytes, key_bytes}
+use Rattle.docker_model.specs.state.StateText.{stamp_bytes, op_bytes, head_text, ledger_text, IsHorizonOf, TellsOp, IsToldState}
 use Rattle.docker_model.specs.state.StatePart.{IsCount}
 use Rattle.docker_model.specs.run.Run.{Known, IsStateOf}
 use Rattle.docker_model.specs.run.Knowledge.{IsGoodKnown}

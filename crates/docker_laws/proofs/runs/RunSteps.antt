@@ -9,7 +9,8 @@ use Rattle.docker_model.specs.state.State.{State, IsJoin, raise_horizon}
 use Rattle.docker_model.specs.state.Summary.{IsSummary}
 use Rattle.docker_model.specs.state.StateText.{Format, state_text, IsHorizonOf, IsToldState}
 use Rattle.docker_model.specs.state.StateFault.{IsStateText}
-use Rattle.docker_model.specs.run.Run.{RunEvent, take_file, send_state, deliver, reload, horizon_event, done, refused, Refusal, Known, KnownSets, IsOffice, IsMessage, IsStateOf, IsMessageOf, nothing, united, office_known, message_known, after_reply, none_known}
+use Rattle.docker_model.specs.run.Run.{RunEvent, take_file, send_state, deliver, reload, horizon_event, done, refused, Refusal, Known, KnownSets, IsOffice}
+use Rattle.docker_model.specs.run.Run.{IsMessage, IsStateOf, IsMessageOf, nothing, united, office_known, message_known, after_reply, none_known}
 use Rattle.docker_model.specs.run.Knowledge.{IsGoodKnown, Holds, office_state, message_text}
 use Rattle.state_laws.proofs.joins.JoinLaws.{join_commutes}
 use Rattle.docker_laws.proofs.runs.GoodKnowledge.{nothing_good, united_good, file_good, horizon_good}
@@ -75,7 +76,8 @@ module _ (format : Format) (known : KnownSets) (states : List State) (messages :
   pub after_refusal : (event : RunEvent) (why : Refusal) → Holds format (after_reply known (event, refused why)) states messages
   after_refusal event why = holds
 
-  -- an office gets other knowledge, and the state that fits it
+  -- the exchange still holds what is known if an office gets other knowledge and the state that
+  -- fits it
   with_office_holds : (office : ℕ) (now : Known) (state : State) → IsGoodKnown format now → IsStateOf now state
       → Holds format (record { offices = set known.offices office now; messages = known.messages }) (set states office state) messages
   with_office_holds office now state good is = record {
@@ -85,7 +87,7 @@ module _ (format : Format) (known : KnownSets) (states : List State) (messages :
     messages_are = holds.messages_are;
   }
 
-  -- an office's state is joined with another
+  -- the exchange still holds what is known after an office's state is joined with another state
   joined_in : (office : ℕ) (more : Known) (one joined : State) → IsOffice known office → IsGoodKnown format more → IsStateOf more one
       → IsJoin (office_state states office) one joined
       → Holds format (record { offices = set known.offices office (united more (office_known known office)); messages = known.messages })
@@ -97,7 +99,7 @@ module _ (format : Format) (known : KnownSets) (states : List State) (messages :
       (office_state states office) joined summary (office_is office there)
       (join_commutes (office_state states office) one joined join))
 
-  -- a file is taken
+  -- the exchange still holds what is known after a file is taken
   pub after_take : (office : ℕ) (text : List ℕ) (limit : ℕ) (one joined : State) → IsOffice known office → limit ≤ most_records
       → IsFileText limit text (lines_of text)
       → IsSummary (lines_of text ∷ []) 0 one → IsJoin (office_state states office) one joined
@@ -105,7 +107,7 @@ module _ (format : Format) (known : KnownSets) (states : List State) (messages :
   after_take office text limit one joined there low file summary join =
       joined_in office (record { files = lines_of text ∷ []; horizon = 0 }) one joined there (file_good format text limit low file) summary join
 
-  -- a state is sent
+  -- the exchange still holds what is known after a state is sent
   pub after_send : (office : ℕ) → IsOffice known office → Holds format (after_reply known (send_state office, done)) states
       (messages ++ state_text format (office_state states office) ∷ [])
   after_send office there = record {
@@ -117,7 +119,7 @@ module _ (format : Format) (known : KnownSets) (states : List State) (messages :
         (office_state states office, office_is office there, refl);
   }
 
-  -- a message is delivered
+  -- the exchange still holds what is known after a message is delivered
   pub after_delivery : (office message : ℕ) (limit : ℕ) (received joined : State) → IsOffice known office → IsMessage known message
       → length (message_text messages message) < 2 ^ 64
       → IsStateText format limit (message_text messages message) received → IsJoin (office_state states office) received joined
@@ -125,7 +127,7 @@ module _ (format : Format) (known : KnownSets) (states : List State) (messages :
   after_delivery office message limit received joined there sent short is join =
       joined_in office (message_known known message) received joined there (message_good message sent) (what_is_read message sent short limit received is) join
 
-  -- a message is reloaded
+  -- the exchange still holds what is known after a message is reloaded
   pub after_reload : (office message : ℕ) (limit : ℕ) (received : State) → IsOffice known office → IsMessage known message
       → length (message_text messages message) < 2 ^ 64
       → IsStateText format limit (message_text messages message) received
@@ -133,7 +135,7 @@ module _ (format : Format) (known : KnownSets) (states : List State) (messages :
   after_reload office message limit received there sent short is =
       with_office_holds office (message_known known message) received (message_good message sent) (what_is_read message sent short limit received is)
 
-  -- a horizon is set
+  -- the exchange still holds what is known after a horizon is set
   pub after_horizon : (office day : ℕ) → IsOffice known office → IsHorizonOf format day
       → Holds format (after_reply known (horizon_event office day, done)) (set states office (raise_horizon day (office_state states office))) messages
   after_horizon office day there good =

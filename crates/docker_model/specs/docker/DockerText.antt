@@ -31,8 +31,8 @@ line_text line =
     ++ spaces 1 ++ line.indicator ∷ spaces 1 ++ line.suffix ∷ spaces 1 ++ line.platform ++ spaces 1 ++ line.track
     ++ spaces 1 ++ line.path ++ spaces 1 ++ line.public_time ++ spaces 1 ++ detail_text line.detail
 
--- the TPS description of a TIPLOC, in its body. The body holds columns 10 to 72 of the record;
--- without one the description is spaces
+-- the TPS description of a TIPLOC, by its body. It is in columns 19 to 44 of the record, and the
+-- body has columns 10 to 72. Without a body it is spaces
 abbrev pub description_in : Option Body → List ℕ
 description_in (Some (tiploc_body bytes)) = columns 10 35 bytes
 description_in _ = spaces 26

@@ -26,7 +26,7 @@ events_of lines =
     (enumerate_from 1 (placed_times lines))
 
 -- how often a schedule passes midnight up to the event with this number. For number 0 it is 0, and
--- for one above the last it counts every time
+-- above the last number it counts every midnight
 abbrev pub falls_to : List (List ℕ) → ℕ → ℕ
 falls_to lines number = fall_count (take number (times_along lines))
 

@@ -36,7 +36,7 @@ pub data Body : Type 0 where
   association_body : (line : List ℕ) → Body
   schedule_body : (lines : List (List ℕ)) → Body
 
--- what a change does to its key
+-- what a change does to its key: it deletes the key, or puts it with a body
 pub data Act : Type 0 where
   delete : Act
   put : (body : Body) → Act

@@ -1,7 +1,8 @@
 -- What a CIF file is: a list of records.
 use Rattle.std.specs.Prelude.{ℕ, List, [], ◌∷◌, Bool, true, false, Option, Some, ◌⊎◌, ◌≡◌, ◌++◌, All, IsTrue, ◌≤◌}
 use Rattle.std.specs.List.{flat_map}
-use Rattle.docker_model.specs.records.Record.{Kind, extra_details, origin_location, intermediate_location, terminating_location, change_en_route, HasKind, column, basic_schedule, IsRecord, tiploc_insert, tiploc_amend, tiploc_delete, association, header, trailer}
+use Rattle.docker_model.specs.records.Record.{Kind, extra_details, origin_location, intermediate_location, terminating_location, change_en_route, HasKind}
+use Rattle.docker_model.specs.records.Record.{column, basic_schedule, IsRecord, tiploc_insert, tiploc_amend, tiploc_delete, association, header, trailer}
 use Rattle.docker_model.specs.records.Field.{is_deletion, HasGoodFields}
 use Rattle.docker_model.specs.file.Journey.{midnights}
 
@@ -34,7 +35,7 @@ pub record IsJourney (lines : List (List ℕ)) : Type 0 where
   pub calls : All IsWithinJourney between
   pub terminus : HasKind terminating_location last
 
--- no record, or one of extra details
+-- no record, or one record of extra details
 abbrev pub AreExtraDetails : List (List ℕ) → Type 0
 AreExtraDetails lines = (lines ≡ []) ⊎ ((line : List ℕ) × (lines ≡ line ∷ []) × HasKind extra_details line)
 

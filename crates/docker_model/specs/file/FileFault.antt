@@ -6,7 +6,7 @@ use Rattle.docker_model.specs.file.Journey.{midnights}
 use Rattle.docker_model.specs.file.File.{IsFile, BeginsFile}
 use Rattle.docker_model.specs.file.Text.{lines_of}
 
--- why a record is at fault. They also say why a line can't continue a schedule
+-- why a record is at fault, or why a line can't continue a schedule
 pub data FileCause : Type 0 where
   too_many : FileCause
   after_trailer : FileCause
@@ -30,7 +30,7 @@ cause_rank (bad_field at) = 6
 cause_rank third_midnight = 7
 cause_rank no_end = 8
 
--- a record of this kind is out of place: no file has one after these earlier records
+-- a record is out of place: no file has a record of its kind after these earlier ones
 abbrev pub IsOutOfPlace : List (List ℕ) → List ℕ → Type 0
 IsOutOfPlace earlier line = (next : List ℕ) → kind_of next ≡ kind_of line → ¬ BeginsFile (earlier ++ next ∷ [])
 

@@ -39,14 +39,14 @@ times_of line = times_by_kind (kind_of line) line
 abbrev pub times_along : List (List ℕ) → List ℕ
 times_along lines = map (λ time. time.1) (flat_map times_of lines)
 
--- how many falls there are: times that are below the one before. Equal times are no fall, so 5 3 3
--- 1 has two
+-- how many falls these times have. A fall is a time below the one before it. Equal times are no
+-- fall, so 5 3 3 1 has two
 abbrev pub fall_count : List ℕ → ℕ
 fall_count [] = 0
 fall_count (time ∷ []) = 0
 fall_count (time ∷ later ∷ times) = (if nat_lt later time then 1 else 0) + fall_count (later ∷ times)
 
--- how often the schedule passes midnight, which it does wherever a time is below the one before
+-- how often the schedule passes midnight: once for each fall of its times
 abbrev pub midnights : List (List ℕ) → ℕ
 midnights lines = fall_count (times_along lines)
 

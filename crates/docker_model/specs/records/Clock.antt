@@ -1,5 +1,5 @@
 -- Times of day. A scheduled time is in half minutes, a public time in minutes. Each field has the
--- width that its definition states; past the end of a shorter one, bytes read as 0.
+-- width that its definition states; past the end of a shorter field, bytes read as 0.
 use Rattle.std.specs.Prelude.{ℕ, ◌+◌, ◌*◌, Bool, ◌&&◌, ◌||◌, ◌==◌, nat_lt, if◌then◌else◌, List, take, slice_index, Option, Some, None, codes}
 use Rattle.std.specs.List.{list_all}
 use Rattle.std.specs.Char.{is_ascii_digit}
@@ -26,7 +26,7 @@ is_present_time field = is_clock field && ((slice_index field 4 == 72) || (slice
 abbrev pub is_scheduled_time : List ℕ → Bool
 is_scheduled_time field = is_blank field || is_present_time field
 
--- the half minutes of a scheduled time of five bytes that is present
+-- the half minutes of a scheduled time of five bytes that is present: `0715H` has 871
 abbrev pub half_minutes : List ℕ → ℕ
 half_minutes field = 2 * minute_of field + (if slice_index field 4 == 72 then 1 else 0)
 

@@ -1,6 +1,7 @@
--- Dates: a day is a number, 0 for 1 January 1960. The calendar is that in the crate `jiff`. Each
--- field has the width that its definition states; past the end of a shorter one, bytes read as 0.
-use Rattle.std.specs.Prelude.{ℕ, ◌+◌, ◌-◌, ◌*◌, List, slice_index, nat_le, if◌then◌else◌, Bool, ◌&&◌, pos, ◌+ℤ◌, unsigned_abs, ◌≤◌, codes, ◌||◌, ◌==◌, ◌%◌, count_by}
+-- Dates: a day is a number, 0 for 1 January 1960. The calendar is the one in the crate `jiff`. Each
+-- field has the width that its definition states; past the end of a shorter field, bytes read as 0.
+use Rattle.std.specs.Prelude.{ℕ, ◌+◌, ◌-◌, ◌*◌, List, slice_index, nat_le, if◌then◌else◌, Bool, ◌&&◌}
+use Rattle.std.specs.Prelude.{pos, ◌+ℤ◌, unsigned_abs, ◌≤◌, codes, ◌||◌, ◌==◌, ◌%◌, count_by}
 use Rattle.std.specs.List.{list_all, range_with_len}
 use Rattle.std.specs.Int.{is_in_range}
 use Rattle.std.specs.Char.{is_ascii_digit}
@@ -9,7 +10,7 @@ use Rattle.jiff.specs.Words.{days_in_month}
 use Rattle.jiff_core.specs.Calendar.{days_from_civil}
 
 -- the number that two digits of a field spell, from this place on, counted from 0. For a field that
--- has both. The digits of `2025` at place 2 spell 25
+-- has both digits. In `2025` the digits from place 2 on spell 25
 abbrev pub two_digits : List ℕ → ℕ → ℕ
 two_digits field i = 10 * (slice_index field i - 48) + (slice_index field (i + 1) - 48)
 
@@ -63,15 +64,16 @@ is_no_end field = bytes_eq field (codes "999999")
 abbrev pub is_end_date : List ℕ → Bool
 is_end_date field = is_no_end field || is_date field
 
--- the end number of an end date of six bytes
+-- the end number of an end date of six bytes: its day number, or 65535 for `999999`
 abbrev pub end_number : List ℕ → ℕ
 end_number field = if is_no_end field then no_end_number else date_number field
 
--- seven marks 0 or 1, Monday first: for a field of seven bytes
+-- days run: seven marks of 0 or 1, Monday first. For a field of seven bytes
 abbrev pub is_days : List ℕ → Bool
 is_days field = list_all (λ b. (b == 48) || (b == 49)) field
 
--- the mark of a weekday, 0 for Monday to 6, is 1: for marks of seven bytes
+-- the days run include this weekday, 0 for Monday to 6 for Sunday. For a field of seven bytes.
+-- `1111100` includes weekday 4, Friday, and not 5
 abbrev pub runs_on_weekday : List ℕ → ℕ → Bool
 runs_on_weekday field weekday = slice_index field weekday == 49
 

@@ -1,7 +1,10 @@
 -- The fields that are checked in each kind of record, in the order of their columns. The leftmost
 -- bad one is reported. Each field has the width that its definition states.
-use Rattle.std.specs.Prelude.{ℕ, Bool, List, ◌||◌, ◌==◌, slice_index, not, ◌≡◌, IsTrue, slice_set, if◌then◌else◌, [], ◌∷◌, ◌++◌, Option, Some, None, option_map, find}
-use Rattle.docker_model.specs.records.Record.{IsTextOfLength, column, Kind, header, tiploc_insert, tiploc_amend, tiploc_delete, association, basic_schedule, extra_details, origin_location, intermediate_location, terminating_location, change_en_route, trailer, kind_of, columns}
+use Rattle.std.specs.Prelude.{ℕ, Bool, List, ◌||◌, ◌==◌, slice_index, not, ◌≡◌, IsTrue, slice_set}
+use Rattle.std.specs.Prelude.{if◌then◌else◌, [], ◌∷◌, ◌++◌, Option, Some, None, option_map, find}
+use Rattle.docker_model.specs.records.Record.{IsTextOfLength, column, Kind, header, tiploc_insert, tiploc_amend, tiploc_delete}
+use Rattle.docker_model.specs.records.Record.{association, basic_schedule, extra_details, origin_location, intermediate_location}
+use Rattle.docker_model.specs.records.Record.{terminating_location, change_en_route, trailer, kind_of, columns}
 use Rattle.docker_model.specs.records.Date.{is_date, is_date_day_first, is_end_date, is_days}
 use Rattle.docker_model.specs.records.Clock.{is_blank, is_clock, is_present_time, is_scheduled_time, is_public_time}
 
@@ -47,7 +50,7 @@ IsStpLetter letter = IsTrue (is_stp_letter letter)
 abbrev pub is_stp_indicator : List ℕ → Bool
 is_stp_indicator field = is_stp_letter (slice_index field 0)
 
--- the transaction of a record, an association or a basic schedule, is D
+-- the record, an association or a basic schedule, is a deletion: its transaction is D
 abbrev pub is_deletion : List ℕ → Bool
 is_deletion line = column 3 line == 68
 

@@ -1,6 +1,7 @@
 -- Records of a CIF file, their kinds and their columns. Bytes are numbers, and columns count from
 -- 1.
-use Rattle.std.specs.Prelude.{ℕ, Bool, ◌&&◌, nat_le, ◌≡◌, List, length, ◌+◌, not, Option, option_map, position, ◌-◌, slice_range, slice_index, [], ◌∷◌, codes, find, Some, true, false}
+use Rattle.std.specs.Prelude.{ℕ, Bool, ◌&&◌, nat_le, ◌≡◌, List, length, ◌+◌, not, Option, option_map, position}
+use Rattle.std.specs.Prelude.{◌-◌, slice_range, slice_index, [], ◌∷◌, codes, find, Some, true, false}
 use Rattle.std.specs.List.{AllPass}
 use Rattle.std.specs.Str.{bytes_eq}
 

@@ -58,7 +58,7 @@ office_known known office = slice_index_or known.offices office nothing
 abbrev pub message_known : KnownSets → ℕ → Known
 message_known known message = slice_index_or known.messages message nothing
 
--- the sets of knowledge, once this office knows this
+-- what offices and messages know, once this office knows this
 abbrev pub with_office : KnownSets → ℕ → Known → KnownSets
 with_office known office now = record { offices = slice_set known.offices office now; messages = known.messages }
 

@@ -1,4 +1,4 @@
--- Ops: what an entry says of its key. Keys, bodies, ops and entries, each with its order.
+-- Keys, bodies, ops and entries, each with its order. An op is what an entry says of its key.
 use Rattle.std.specs.Prelude.{ℕ, if◌then◌else◌, List, Option, Some, None}
 use Rattle.std.specs.List.{concat}
 use Rattle.std.specs.declared.cmp.Ordering.{Ordering}
@@ -7,7 +7,8 @@ use Rattle.std.specs.Ordering.{ordering_then, nat_cmp}
 use Rattle.docker_model.specs.records.Record.{columns}
 use Rattle.docker_model.specs.records.Date.{is_end_date, end_number, no_end_number}
 use Rattle.docker_model.specs.file.File.{first_record}
-use Rattle.docker_model.specs.file.Change.{Key, tiploc_key, association_key, schedule_key, AssociationKey, ScheduleKey, Body, tiploc_body, association_body, schedule_body, Act, delete, put}
+use Rattle.docker_model.specs.file.Change.{Key, tiploc_key, association_key, schedule_key, AssociationKey, ScheduleKey}
+use Rattle.docker_model.specs.file.Change.{Body, tiploc_body, association_body, schedule_body, Act, delete, put}
 use Rattle.docker_model.specs.state.Order.{bytes_cmp}
 use Rattle.docker_model.specs.state.Stamp.{Stamp, stamp_cmp}
 
@@ -56,7 +57,7 @@ body_bytes (tiploc_body bytes) = bytes
 body_bytes (association_body line) = line
 body_bytes (schedule_body lines) = concat lines
 
--- the end number of an end date of six bytes, or no end if it isn't a date
+-- the end number of an end date of six bytes; the number for no end if the bytes aren't an end date
 abbrev pub readable_end : List ℕ → ℕ
 readable_end field = if is_end_date field then end_number field else no_end_number
 
@@ -84,7 +85,7 @@ abbrev pub op_of : Act → Op
 op_of delete = deleted
 op_of (put body) = put_with body
 
--- the body of a put
+-- the body of a put; other ops have none
 abbrev pub body_of : Op → Option Body
 body_of deleted = None
 body_of lapsed = None

@@ -5,7 +5,8 @@ use Rattle.docker_model.specs.records.Record.{IsTextOfLength, is_printable, asso
 use Rattle.docker_model.specs.records.Date.{IsDay}
 use Rattle.docker_model.specs.records.Field.{IsTiploc, IsStpLetter, HasGoodFields, HasNewTransaction}
 use Rattle.docker_model.specs.file.File.{IsSchedule, first_record}
-use Rattle.docker_model.specs.file.Change.{Key, AssociationKey, ScheduleKey, tiploc_key, association_key, schedule_key, association_named, schedule_named, Body, tiploc_body, association_body, schedule_body}
+use Rattle.docker_model.specs.file.Change.{Key, AssociationKey, ScheduleKey, tiploc_key, association_key, schedule_key}
+use Rattle.docker_model.specs.file.Change.{association_named, schedule_named, Body, tiploc_body, association_body, schedule_body}
 use Rattle.docker_model.specs.state.Order.{IsStrictlyAscending, IsAtMost}
 use Rattle.docker_model.specs.state.Stamp.{LedgerItem, FileStamp, ledger_item_cmp, IsFloor, IsKept, Stamp}
 use Rattle.docker_model.specs.state.Op.{Entry, Op, deleted, lapsed, put_with, key_cmp, body_of, entry_cmp}
@@ -55,7 +56,7 @@ pub record IsAssociationOf (key : AssociationKey) (line : List ℕ) : Type 0 whe
   pub new : HasNewTransaction line
   pub key_is : association_named line ≡ association_key key
 
--- the lines are a good schedule with this key, and at most 4,294,967,294
+-- the lines are a good schedule with this key. There are at most 4,294,967,294 of them
 pub record IsScheduleOf (key : ScheduleKey) (lines : List (List ℕ)) : Type 0 where
   pub schedule : IsSchedule lines
   pub few : length lines < 2 ^ 32 - 1
@@ -130,7 +131,7 @@ HasGoodBodies live = (key : Key) (body : Body) → live key ≡ Some body → Is
 abbrev pub lapse_state : ℕ → State → State
 lapse_state horizon state = record { horizon = horizon; ledger = state.ledger; entries = lapse_entries horizon state.entries }
 
--- the state after a horizon was set: the greater of the old one and this one holds
+-- the state after this horizon was set: the greater of the old horizon and this one holds
 abbrev pub raise_horizon : ℕ → State → State
 raise_horizon horizon state = lapse_state (max state.horizon horizon) state
 

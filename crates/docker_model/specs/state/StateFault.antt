@@ -8,7 +8,10 @@ use Rattle.docker_model.specs.state.Stamp.{LedgerItem}
 use Rattle.docker_model.specs.state.Op.{body_end}
 use Rattle.docker_model.specs.state.State.{IsGoodItem, State, IsGoodKey, IsAssociationOf, IsStampIn}
 use Rattle.docker_model.specs.state.StateText.{Format, key_in, stamp_in, IsOpByte, mark, item_in, state_text}
-use Rattle.docker_model.specs.state.StatePart.{RaisesFloor, IsAboveItems, IsAboveEntries, IsLineCount, before_tag, AreLinesUpTo, before_stamp, EntryPart, before_op, IsTag, before_line, before_key, before_body, HaveNotToLapse, Before, before_entry_count, before_horizon, at_end, in_entry, before_item, before_mark, before_ledger_count, AreGood, text_before, items_before, width}
+use Rattle.docker_model.specs.state.StatePart.{RaisesFloor, IsAboveItems, IsAboveEntries, IsLineCount, before_tag, AreLinesUpTo}
+use Rattle.docker_model.specs.state.StatePart.{before_stamp, EntryPart, before_op, IsTag, before_line, before_key, before_body}
+use Rattle.docker_model.specs.state.StatePart.{HaveNotToLapse, Before, before_entry_count, before_horizon, at_end, in_entry, before_item}
+use Rattle.docker_model.specs.state.StatePart.{before_mark, before_ledger_count, AreGood, text_before, items_before, width}
 
 -- why a part is bad. A bad horizon is possible only in DKS2
 pub data StateCause : Type 0 where

@@ -11,7 +11,8 @@ use Rattle.docker_model.specs.state.Order.{IsBelow}
 use Rattle.docker_model.specs.state.Stamp.{Stamp, LedgerItem, ledger_item_cmp, file_stamp_cmp, IsFull}
 use Rattle.docker_model.specs.state.Op.{key_tag, key_cmp, body_end}
 use Rattle.docker_model.specs.state.State.{State, IsGoodKey, IsStampIn, IsLedger}
-use Rattle.docker_model.specs.state.StateText.{Format, head_text, mark, ledger_text, entries_text, state_text, key_bytes, stamp_bytes, IsHorizonOf, IsToldState, TellsHorizon}
+use Rattle.docker_model.specs.state.StateText.{Format, head_text, mark, ledger_text, entries_text, state_text}
+use Rattle.docker_model.specs.state.StateText.{key_bytes, stamp_bytes, IsHorizonOf, IsToldState, TellsHorizon}
 
 -- how far an entry has been read, and what its parts so far say
 pub data EntryPart : Type 0 where

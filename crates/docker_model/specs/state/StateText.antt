@@ -107,7 +107,7 @@ schedule_key_in bytes = schedule_key (record {
   indicator = slice_index bytes 8;
 })
 
--- what the 7, 23 or 9 bytes of a key with this tag say, of tags 1 to 3
+-- the key that these 7, 23 or 9 bytes spell, for tag 1, 2 or 3
 abbrev pub key_in : ℕ → List ℕ → Key
 key_in tag bytes = if tag == 1 then tiploc_key bytes else (if tag == 2 then association_key_in bytes else schedule_key_in bytes)
 

@@ -14,7 +14,7 @@ pub(super) fn same_in<T: PartialEq + Debug + Drop>(rt: &impl Abort, name: &str, 
     assert_eq!(rt; got, wanted, "{name}");
 }
 
-/// Asserts that a value is printed so.
+/// Asserts that a value is printed as this text.
 pub(super) fn prints<T: Display + Drop>(rt: &impl Abort, alloc: Global, value: T, wanted: &str) {
     let text = format!(in alloc; "{value}").expect(rt, "the text");
     same(rt, text.as_str(), wanted);

@@ -1,4 +1,4 @@
-//! What is kept of files for the docker of a place on a day.
+//! The changes kept of files for the docker of a place on a day.
 
 use super::compare::same_in;
 use cif_file::{Act, Body, read_thin};

@@ -9,7 +9,7 @@ pub(super) fn same<T: PartialEq + Debug + Drop>(rt: &impl Abort, got: T, wanted:
     assert_eq!(rt; got, wanted);
 }
 
-/// Asserts that a value is printed so.
+/// Asserts that a value is printed as this text.
 pub(super) fn prints<T: Display + Drop>(rt: &impl Abort, alloc: Global, value: T, wanted: &str) {
     let text = format!(in alloc; "{value}").expect(rt, "the text");
     same(rt, text.as_str(), wanted);

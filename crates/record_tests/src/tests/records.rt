@@ -6,6 +6,12 @@ use cif_line::{
     kind, origin, terminus, tiploc,
 };
 use std::process::Abort;
+use test_records::{BS, CR_5E51, HD, LI_0000, LI_0010, LO, LT, TA, TI};
+
+// The line with this text.
+fn line(rt: &impl Abort, text: &[u8]) -> Line {
+    Line::new(text).expect(rt, "a line")
+}
 
 // A line of this text, padded with spaces, and the last byte.
 fn record(rt: &impl Abort, text: &[u8], last: u8) -> Line {
@@ -112,11 +118,7 @@ fn half_minutes_are(rt: &impl Abort, time: Option<Time>, wanted: Option<u16>) {
 
 #[test]
 fn a_header(rt: HostRuntime) {
-    let line = record(
-        &rt,
-        b"HDTPS.UDFROC1.PD2406090906242100DFROC1ADFROC1ZUA",
-        b' ',
-    );
+    let line = line(&rt, HD);
     let head = header_of(&rt, &line);
     same(&rt, head.day().number(), 23536);
     same(&rt, head.minute(), 1260);
@@ -127,7 +129,7 @@ fn a_header(rt: HostRuntime) {
 
 #[test]
 fn a_basic_schedule(rt: HostRuntime) {
-    let line = record(&rt, b"BSNC100012406102406141111100 POO1A10", b'P');
+    let line = line(&rt, BS);
     let schedule = basic_of(&rt, &line);
     same(&rt, schedule.transaction(), Transaction::New);
     same(&rt, schedule.uid().bytes(), b"C10001");
@@ -155,7 +157,7 @@ fn a_deletion_of_a_schedule(rt: HostRuntime) {
 
 #[test]
 fn an_origin(rt: HostRuntime) {
-    let line = record(&rt, b"LOASHFELD 0900 09001  SL", b' ');
+    let line = line(&rt, LO);
     let from = origin_of(&rt, &line);
     same(&rt, from.tiploc().bytes(), b"ASHFELD");
     same(&rt, from.suffix(), b' ');
@@ -178,7 +180,7 @@ fn origins_without_a_public_time(rt: HostRuntime) {
 
 #[test]
 fn a_terminus(rt: HostRuntime) {
-    let line = record(&rt, b"LTBRAYTON 0930 09322  FL", b' ');
+    let line = line(&rt, LT);
     let to = terminus_of(&rt, &line);
     same(&rt, to.tiploc().bytes(), b"BRAYTON");
     same(&rt, to.suffix(), b' ');
@@ -190,7 +192,7 @@ fn a_terminus(rt: HostRuntime) {
 
 #[test]
 fn a_timing_point(rt: HostRuntime) {
-    let line = record(&rt, b"TIASHFELD         ASHFIELD CENTRAL", b' ');
+    let line = line(&rt, TI);
     let point = tiploc_of(&rt, &line);
     same(&rt, point.code().bytes(), b"ASHFELD");
     same(&rt, point.description(), b"ASHFIELD CENTRAL          ");
@@ -204,11 +206,7 @@ fn a_timing_point(rt: HostRuntime) {
 
 #[test]
 fn a_timing_point_renamed(rt: HostRuntime) {
-    let line = record(
-        &rt,
-        b"TAASHFELD         ASHFIELD NEW                                          ASHFLDN",
-        b' ',
-    );
+    let line = line(&rt, TA);
     let point = tiploc_of(&rt, &line);
     same(&rt, point.code().bytes(), b"ASHFELD");
     same(&rt, point.new_code(), Tiploc::from_text("ASHFLDN"));
@@ -263,7 +261,7 @@ fn a_deletion_of_an_association(rt: HostRuntime) {
 
 #[test]
 fn a_call(rt: HostRuntime) {
-    let line = record(&rt, b"LICOLWELL 0000H0000H     000000012  SL FL", b' ');
+    let line = line(&rt, LI_0000);
     let at = call_of(&rt, &line);
     same(&rt, at.tiploc().bytes(), b"COLWELL");
     same(&rt, at.suffix(), b' ');
@@ -279,7 +277,7 @@ fn a_call(rt: HostRuntime) {
 
 #[test]
 fn calls_of_which_parts_are_blank(rt: HostRuntime) {
-    let line = record(&rt, b"LIDUNMERE           0010", b' ');
+    let line = line(&rt, LI_0010);
     let passed = call_of(&rt, &line);
     same(&rt, passed.arrival(), None);
     same(&rt, passed.departure(), None);
@@ -299,7 +297,7 @@ fn calls_of_which_parts_are_blank(rt: HostRuntime) {
 
 #[test]
 fn a_change_en_route(rt: HostRuntime) {
-    let line = record(&rt, b"CRCOLWELL OO5E51", b' ');
+    let line = line(&rt, CR_5E51);
     same(&rt, change_of(&rt, &line).identity(), b"5E51");
     let line = record(&rt, b"CR        ", b' ');
     same(&rt, change_of(&rt, &line).identity(), b"    ");

@@ -51,7 +51,7 @@ state_with horizon entries = record { horizon = horizon; ledger = f2_item ∷ []
 abbrev pub f2_state : State
 f2_state = state_with 0 ((schedule_key f2_key, record { stamp = record { file = f2_item.stamp; number = 2 }; op = put_with (schedule_body f2_schedule) }) ∷ [])
 
--- the state's entry, lapsed
+-- the entry of that state after it has lapsed
 abbrev pub lapsed_entry : Key × Entry
 lapsed_entry = (schedule_key f2_key, record { stamp = record { file = f2_item.stamp; number = 2 }; op = lapsed })
 
@@ -84,7 +84,7 @@ end_of_lapsed = refl
 abbrev text : List ℕ
 text = state_text dks_2 f2_state
 
--- with the mark of the other format
+-- a text with the mark of the other format
 other_mark : IsStateFault dks_2 1000 (codes "DKS1" ++ drop 4 text) (record { at = 0; cause = bad_mark })
 other_mark = inl (record {
   before = before_mark;
@@ -98,7 +98,7 @@ other_mark = inl (record {
   item_at = refl;
 })
 
--- with a horizon after the last day
+-- a text with a horizon after the last day
 high_horizon : IsStateFault dks_2 1000 (codes "DKS2" ++ 0x8e ∷ 0xad ∷ drop 6 text) (record { at = 4; cause = bad_horizon })
 high_horizon = inl (record {
   before = before_horizon;
@@ -115,7 +115,7 @@ high_horizon = inl (record {
     too_high : ¬ IsDay 36525
     too_high low = omega arith
 
--- cut after five bytes, within the horizon
+-- a text that is cut after five bytes, within the horizon
 cut_in_horizon : IsStateFault dks_2 1000 (take 5 text) (record { at = 4; cause = too_short })
 cut_in_horizon =
     inr (inr (inl (record { before = before_horizon; good = tt; rest = 0 ∷ []; whole = refl; ends = lit< tt; within = lit≤ tt; cause = refl; item_at = refl })))

@@ -37,7 +37,8 @@ later_day_in_bytes = refl
 low_byte_first : bytes_cmp (to_le_bytes w16 255) (to_le_bytes w16 256) ≡ Greater
 low_byte_first = refl
 
--- associations whose UIDs differ in length: by fields the first key is below, and by bytes above
+-- keys of associations whose UIDs differ in length: by fields the first is lower, by bytes the
+-- second
 abbrev association_of : List ℕ → List ℕ → Key
 association_of base associated =
     association_key (record { base = base; associated = associated; start = 0; location = codes "ASHFELD"; suffix = 32; indicator = 80 })

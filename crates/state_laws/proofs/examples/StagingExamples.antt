@@ -45,6 +45,6 @@ committed_so = record {
         subst (λ e. Contains (raise_horizon 23542 f2_state).entries (key, e)) is (lapsed_to 23542 f2_state.entries key before here)
     back key entry before (inr mine) is = absurd (nil-Contains (key, before) mine.0)
 
--- after the commit it has lapsed, and keeps its stamp
+-- after the commit the schedule has lapsed, and its entry keeps its stamp
 commit_raises : IsCommit own f2_state.ledger f2_state.entries (state_with 23542 (lapsed_entry ∷ []))
 commit_raises = subst (IsCommit own f2_state.ledger f2_state.entries) raised_state committed_so

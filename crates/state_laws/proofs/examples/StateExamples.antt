@@ -54,14 +54,14 @@ empty_text = refl
 length_of_text : length (state_text dks_1 f2_state) ≡ 309
 length_of_text = refl
 
--- mark, ledger count, item and entry count
+-- the text starts with the mark, the ledger count, the item and the entry count
 start_of_text : take 39 (state_text dks_1 f2_state)
     ≡ codes "DKS1" ++ (0 ∷ 0 ∷ 0 ∷ 0 ∷ 0 ∷ 0 ∷ 0 ∷ 1 ∷ [])
     ++ (0x5b ∷ 0xf0 ∷ 0x04 ∷ 0xec ∷ 0x44 ∷ 0x46 ∷ 0x52 ∷ 0x4f ∷ 0x43 ∷ 0x31 ∷ 0x41 ∷ 0x55 ∷ 0x44 ∷ 0x46 ∷ 0x52 ∷ 0x4f ∷ 0x43 ∷ 0x31 ∷ 0x5a ∷ [])
     ++ (0 ∷ 0 ∷ 0 ∷ 0 ∷ 0 ∷ 0 ∷ 0 ∷ 1 ∷ [])
 start_of_text = refl
 
--- tag, key, stamp, op and line count
+-- the entry starts with its tag, key, stamp, op and line count
 start_of_entry : slice_range (state_text dks_1 f2_state) 39 69
     ≡ (3 ∷ 0x43 ∷ 0x31 ∷ 0x30 ∷ 0x30 ∷ 0x30 ∷ 0x31 ∷ 0x5b ∷ 0xf1 ∷ 0x50 ∷ [])
     ++ (0x5b ∷ 0xf0 ∷ 0x04 ∷ 0xec ∷ 0x44 ∷ 0x46 ∷ 0x52 ∷ 0x4f ∷ 0x43 ∷ 0x31 ∷ 0x41 ∷ 0 ∷ 0 ∷ 0 ∷ 2 ∷ [])
@@ -71,7 +71,7 @@ start_of_entry = refl
 lines_in_text : drop 69 (state_text dks_1 f2_state) ≡ concat f2_schedule
 lines_in_text = refl
 
--- item, key and stamp, read back from these bytes
+-- the item, the key and the stamp are read back from these bytes
 item_again : item_in (slice_range (state_text dks_1 f2_state) 12 31) ≡ f2_item
 item_again = refl
 

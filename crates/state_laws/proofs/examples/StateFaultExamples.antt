@@ -21,7 +21,7 @@ use Rattle.cif_laws.proofs.orders.Orders.{ledger_item_total}
 abbrev text : List ℕ
 text = state_text dks_1 f2_state
 
--- cut after three bytes, within the mark
+-- a text that is cut after three bytes, within the mark
 cut_in_mark : IsStateFault dks_1 1000 (take 3 text) (record { at = 0; cause = too_short })
 cut_in_mark =
     inr (inr (inl (record {
@@ -35,7 +35,7 @@ cut_in_mark =
       item_at = refl;
     })))
 
--- with another mark
+-- a text with another mark
 other_mark : IsStateFault dks_1 1000 (codes "DKS2" ++ drop 4 text) (record { at = 0; cause = bad_mark })
 other_mark = inl (record {
   before = before_mark;
@@ -53,7 +53,7 @@ told_f2 : IsToldState dks_1 f2_state
 told_f2 =
     record { valid = f2_state_valid; horizon = refl; ops = All-from_recursion (λ (entry : Key × Entry). TellsOp dks_1 entry.1.op) f2_state.entries (tt, tt) }
 
--- with a byte after the state
+-- a text with a byte after the state
 one_byte_more : IsStateFault dks_1 1000 (text ++ 7 ∷ []) (record { at = 309; cause = has_tail })
 one_byte_more = inr (inr (inr (record {
   state = f2_state;
@@ -66,7 +66,7 @@ one_byte_more = inr (inr (inr (record {
   end_at = refl;
 })))
 
--- with the ledger item twice
+-- a text with the ledger item twice
 abbrev twice : List ℕ
 twice = ledger_text dks_1 0 2 (f2_item ∷ f2_item ∷ []) ++ drop 31 text
 
@@ -146,7 +146,7 @@ op_two = inl (record {
     no_op (inl e) = omega arith
     no_op (inr e) = omega arith
 
--- with a limit one byte short of the last line's end
+-- a text under a limit that is one byte short of the last line's end
 too_long_by_one : IsStateFault dks_1 308 text (record { at = 308; cause = too_long })
 too_long_by_one = inr (inl (record {
   before = in_entry 1 without_entry (before_line f2_key (record { file = f2_item.stamp; number = 2 }) 3 (f2_basic ∷ f2_origin ∷ []));

@@ -4,19 +4,23 @@ use Rattle.std.specs.Prelude.{Option, ◌↔◌, filter, ◌&&◌, ◌||◌}
 use Rattle.std.specs.Str.{bytes_eq}
 use Rattle.std.specs.List.{flat_map, list_any}
 use Rattle.std.proofs.lemmas.Slice.Eq.{bytes_eq-Decides}
-use Rattle.docker_model.specs.records.Record.{Kind, header, tiploc_insert, tiploc_amend, tiploc_delete, association, basic_schedule, extra_details, origin_location, intermediate_location, terminating_location, change_en_route, trailer, kind_of, columns, is_location}
+use Rattle.docker_model.specs.records.Record.{Kind, header, tiploc_insert, tiploc_amend, tiploc_delete, association}
+use Rattle.docker_model.specs.records.Record.{basic_schedule, extra_details, origin_location, intermediate_location}
+use Rattle.docker_model.specs.records.Record.{terminating_location, change_en_route, trailer, kind_of, columns, is_location}
 use Rattle.docker_model.specs.file.Journey.{CallsAt, calls_at}
-use Rattle.docker_model.specs.file.Change.{Key, tiploc_key, association_key, schedule_key, AssociationKey, ScheduleKey, Body, tiploc_body, association_body, schedule_body}
+use Rattle.docker_model.specs.file.Change.{Key, tiploc_key, association_key, schedule_key, AssociationKey}
+use Rattle.docker_model.specs.file.Change.{ScheduleKey, Body, tiploc_body, association_body, schedule_body}
 use Rattle.docker_model.specs.state.Order.{IsStrictlyAscending}
 use Rattle.docker_model.specs.state.Table.{Table}
 use Rattle.state_laws.specs.Row.{Row, AreRowsOf}
 use Rattle.state_laws.specs.Index.{CallingRow, LinkedRow, calling_cmp, linked_cmp, calls_of, links_of, IsCallingIndex, IsLinkedIndex}
-use Rattle.cif_laws.proofs.lists.Membership.{Contains-cons, cons-Contains, cons-Contains-first, nil-Contains, Contains-flat_map, flat_map-Contains, Contains-single, single-Contains, Contains-map, map-Contains}
+use Rattle.cif_laws.proofs.lists.Membership.{Contains-cons, cons-Contains, cons-Contains-first, nil-Contains, Contains-flat_map}
+use Rattle.cif_laws.proofs.lists.Membership.{flat_map-Contains, Contains-single, single-Contains, Contains-map, map-Contains}
 use Rattle.cif_laws.proofs.lists.BoolsAndOptions.{both, either}
 use Rattle.cif_laws.proofs.lists.FilteredMembers.{filter_back, filter_forth}
 use Rattle.cif_laws.proofs.records.Locations.{IsLocation}
 
--- if the test of any member passes, some member passes
+-- if `list_any` passes, some member passes the test
 pub any_back : {A : Type 0} (test : A → Bool) (xs : List A) → list_any test xs ≡ true → (x : A) × Contains xs x × (test x ≡ true)
 any_back test [] is = absurd (false_true is)
   where
@@ -29,7 +33,7 @@ any_back test (x ∷ xs) is = by (any_back test xs) (either (test x) (list_any t
     by rest (inl h) = (x, cons-Contains-first x xs, h)
     by rest (inr h) = let found = rest h in (found.0, cons-Contains x xs found.0 found.1, found.2)
 
--- if a member passes, so does the test of any member
+-- if a member passes the test, `list_any` passes
 pub any_forth : {A : Type 0} (test : A → Bool) (xs : List A) (x : A) → Contains xs x → test x ≡ true → list_any test xs ≡ true
 any_forth test [] x among h = absurd (nil-Contains x among)
 any_forth test (z ∷ xs) x among h = by (λ inside. any_forth test xs x inside h) (Contains-cons z xs x among)
@@ -69,7 +73,7 @@ location_forth line (inl h) = ap is_location h
 location_forth line (inr (inl h)) = ap is_location h
 location_forth line (inr (inr h)) = ap is_location h
 
--- the test passes if and only if the schedule calls at the place
+-- the test of calling passes if and only if the schedule calls at the place
 pub calls_test : (place : List ℕ) (lines : List (List ℕ)) → (calls_at place lines ≡ true) ↔ CallsAt place lines
 calls_test place lines = (
   λ is.
@@ -120,7 +124,7 @@ links_row_back (association_key key) (schedule_body lines) place link among = ab
 links_row_back (tiploc_key code) body place link among = absurd (nil-Contains (place, link) among)
 links_row_back (schedule_key key) body place link among = absurd (nil-Contains (place, link) among)
 
--- what all rows give, strictly ascending, is the index of calls
+-- the calls of all rows, strictly ascending, are the index of calls
 pub calling_from_rows : (live : Table) (rows : List Row) (index : List CallingRow) → AreRowsOf live rows → IsStrictlyAscending calling_cmp index
     → ((row : CallingRow) → Contains index row ↔ Contains (flat_map (λ (r : Row). calls_of r.0 r.1) rows) row) → IsCallingIndex live index
 calling_from_rows live rows index are up same = record {
@@ -137,7 +141,7 @@ calling_from_rows live rows index are up same = record {
   );
 }
 
--- what all rows give, strictly ascending, is the index of associations
+-- the links of all rows, strictly ascending, are the index of associations
 pub linked_from_rows : (live : Table) (rows : List Row) (index : List LinkedRow) → AreRowsOf live rows → IsStrictlyAscending linked_cmp index
     → ((row : LinkedRow) → Contains index row ↔ Contains (flat_map (λ (r : Row). links_of r.0 r.1) rows) row) → IsLinkedIndex live index
 linked_from_rows live rows index are up same = record {

@@ -1,5 +1,5 @@
--- The rows of an index at one place stand together. A segment of the index is these rows, if all
--- its rows are at the place and no row outside it is.
+-- The rows of an index at one place stand together. A segment of the index has exactly these rows,
+-- if all its rows are at the place and no row outside the segment is.
 use Rattle.std.proofs.Common.{◌≡◌, ℕ, List, [], ◌∷◌, ◌++◌, map, refl, ap, ◌∙◌, Bool, true, false, cond, Contains, append-nil}
 use Rattle.std.specs.Prelude.{filter}
 use Rattle.std.specs.Str.{bytes_eq}

@@ -20,7 +20,7 @@ use Rattle.state_laws.proofs.states.ReducedMembers.{reduced_along, reduced_uniqu
 
 -- ---- a join reduces the items and entries of both states
 
--- a join has what is kept of the items and entries of both states
+-- a join is reduced from the items and entries of both states
 pub join_reduced : (a b c : State) → IsJoin a b c → IsReduced (a.ledger ++ b.ledger) (a.entries ++ b.entries) c
 join_reduced a b c is = record {
   floor = is.floor;
@@ -31,7 +31,7 @@ join_reduced a b c is = record {
   of_keys = is.entries;
 }
 
--- the join is the state, under the greater horizon, of what is kept of both states
+-- a state reduced from both states' items and entries, under the greater horizon, is their join
 pub reduced_join : (a b c : State) → c.horizon ≡ max a.horizon b.horizon → IsReduced (a.ledger ++ b.ledger) (a.entries ++ b.entries) c → IsJoin a b c
 reduced_join a b c horizon is = record {
   horizon = horizon;

@@ -1,6 +1,7 @@
 -- The join of valid states is valid, and so is a valid state under a greater horizon. The floor of
 -- a valid state's ledger is the file stamp of its first full extract.
-use Rattle.std.proofs.Common.{List, Contains, subst, sym, Some, None, map, inl, inr, ◌⊎◌, ℕ, ◌<◌, ◌≤◌, ◌++◌, ap, ◌≡◌, [], ◌∷◌, refl, ◌∙◌, Bool, true, false, cond, eqb-true, All}
+use Rattle.std.proofs.Common.{List, Contains, subst, sym, Some, None, map, inl, inr, ◌⊎◌, ℕ, ◌<◌, ◌≤◌}
+use Rattle.std.proofs.Common.{◌++◌, ap, ◌≡◌, [], ◌∷◌, refl, ◌∙◌, Bool, true, false, cond, eqb-true, All}
 use Rattle.std.specs.Prelude.{Option, max, option_map, find, ◌==◌}
 use Rattle.std.proofs.lemmas.List.Elements.{All-contains, Contains-append_left, Contains-append_right, Contains-append_cases}
 use Rattle.docker_model.specs.records.Date.{IsDay, last_day}
@@ -11,7 +12,8 @@ use Rattle.docker_model.specs.state.Op.{body_end, Op, deleted, lapsed, put_with,
 use Rattle.docker_model.specs.state.Lapse.{lapse, lapse_entry, HasNotToLapse, lapse_entries}
 use Rattle.docker_model.specs.state.State.{IsOpOf, IsGoodEntry, State, IsJoin, IsValid, IsGoodItem, lapse_state, raise_horizon}
 use Rattle.cif_laws.proofs.orders.Orders.{file_stamp_total, exact_file_stamp}
-use Rattle.cif_laws.proofs.lists.Membership.{Contains-map, map-Contains, all_members, member_of, Contains-cons, cons-Contains, cons-Contains-first, nil-Contains}
+use Rattle.cif_laws.proofs.lists.Membership.{Contains-map, map-Contains, all_members, member_of, Contains-cons}
+use Rattle.cif_laws.proofs.lists.Membership.{cons-Contains, cons-Contains-first, nil-Contains}
 use Rattle.cif_laws.proofs.orders.AtMost.{at_most_itself, level}
 use Rattle.state_laws.proofs.states.OneJoin.{floor_unique}
 use Rattle.state_laws.proofs.states.Lapse.{below_or, put_lapses, put_stays, has_lapsed, max_most}
@@ -141,7 +143,8 @@ one_floor state = floor_unique state.ledger state.ledger (λ item. (λ x. x, λ 
 abbrev pub first_full : List LedgerItem → Option FileStamp
 first_full ledger = option_map (λ (item : LedgerItem). item.stamp) (find (λ (item : LedgerItem). item.indicator == 70) ledger)
 
--- this is the file stamp of some full extract among the items, or none of them is full
+-- the stamp is the file stamp of some full extract among the items. There is no stamp only if no
+-- item is full
 FirstFull : List LedgerItem → Option FileStamp → Type 0
 FirstFull ledger None = (item : LedgerItem) → Contains ledger item → ¬ IsFull item
 FirstFull ledger (Some stamp) = (item : LedgerItem) × Contains ledger item × IsFull item × (item.stamp ≡ stamp)

@@ -1,5 +1,5 @@
--- Setting a horizon. One that isn't greater changes nothing. It may be set after a join instead of
--- before. Without a horizon nothing lapses.
+-- Setting a horizon. A horizon that isn't greater changes nothing. A horizon may be set after a
+-- join instead of before it. Without a horizon nothing lapses.
 use Rattle.std.proofs.Common.{◌≡◌, ℕ, ◌≤◌, List, [], ◌∷◌, Contains, subst, ap, sym, ◌∙◌, arith}
 use Rattle.std.specs.Prelude.{Option, ◌↔◌, max}
 use Rattle.std.proofs.Math.Nat.{le-max_left, max-eq_left, max-zero, zero-max}
@@ -38,14 +38,14 @@ entry_of_valid_stays state key entry valid among =
 pub not_greater : (horizon : ℕ) (state : State) → IsValid state → horizon ≤ state.horizon → raise_horizon horizon state ≡ state
 not_greater horizon state valid low = ap (λ h. lapse_state h state) (max-eq_left low) ∙ lapsed_already state.horizon state valid.have_lapsed
 
--- if a valid state loses its horizon and the same one is set, the state is as it was
+-- if a valid state loses its horizon and the same horizon is set again, the state is as it was
 pub set_last : (state : State) → IsValid state → raise_horizon state.horizon (without_horizon state) ≡ state
 set_last state valid =
     ap (λ h. lapse_state h (without_horizon state)) (zero-max state.horizon) ∙ lapsed_already state.horizon (without_horizon state) valid.have_lapsed
 
 -- ---- lapsing again
 
--- a join, where the other state's horizon is set last
+-- joining a state without its horizon, and setting that horizon last, gives the join
 pub join_then_set : (a b c : State) → IsJoin a (without_horizon b) c → IsJoin a b (raise_horizon b.horizon c)
 join_then_set a b c is = record {
   horizon = horizons;
@@ -99,7 +99,7 @@ pub record IsPlainSummary (files : List (List (List ℕ))) (state : State) : Typ
 lapse_entry_none : (entry : Entry) → lapse_entry 0 entry ≡ entry
 lapse_entry_none entry = λ i. record { stamp = entry.stamp; op = lapse_none entry.op i }
 
--- this is the summary under the horizon 0
+-- a summary without a horizon is the summary under the horizon 0
 pub plain_summary : (files : List (List (List ℕ))) (state : State) → IsPlainSummary files state ↔ IsSummary files 0 state
 plain_summary files state = (
   λ is. record {

@@ -72,7 +72,7 @@ nothing_staged own floor = record {
 
 module _ (own : State) (floor : Option FileStamp) (offered staged : List (Key × Entry)) (key : Key) (entry : Entry)
     (stages : IsStaged own floor offered staged) where
-  -- an entry that is to be staged goes to the end
+  -- an entry that is to be staged is added at the end
   pub one_staged_more : ((other : Key × Entry) → Contains staged other → key_cmp other.0 key ≡ Less) → IsToStage own floor key entry
       → IsStaged own floor (offered ++ (key, entry) ∷ []) (staged ++ (key, entry) ∷ [])
   one_staged_more above to = record {
@@ -99,7 +99,7 @@ module _ (own : State) (floor : Option FileStamp) (offered staged : List (Key ×
       back k e to_stage (inl here) = Contains-append_left staged ((key, entry) ∷ []) (k, e) ((stages.members k e).1 (here, to_stage))
       back k e to_stage (inr here) = Contains-append_right staged ((key, entry) ∷ []) (k, e) here
 
-  -- an entry that isn't is left out
+  -- an entry that isn't to be staged is left out
   pub one_left_out : ¬ IsToStage own floor key entry → IsStaged own floor (offered ++ (key, entry) ∷ []) staged
   one_left_out out = record {
     ascending = stages.ascending;
@@ -117,8 +117,8 @@ module _ (own : State) (floor : Option FileStamp) (offered staged : List (Key ×
 
 -- ---- all entries
 
--- if all entries of a received state are staged and then committed, this leaves the join with that
--- state without its horizon
+-- staging and committing all entries of a received state makes the join with the received state
+-- without its horizon
 pub staging_joins_before : (own received : State) (floor : Option FileStamp) (staged : List (Key × Entry)) (after : State) → IsValid own → IsValid received
     → IsFloor (own.ledger ++ received.ledger) floor → IsStaged own floor received.entries staged → IsCommit own received.ledger staged after
     → IsJoin own (without_horizon received) after
@@ -127,7 +127,7 @@ staging_joins_before own received floor staged after valid valid_too is_floor st
     (λ item. (λ x. x, λ x. x)) floor commit.floor is_floor commit.is_floor in
     commit_is_join own received valid valid_too staged after commit (subst (λ f. IsStaged own f received.entries staged) floors stages)
 
--- if its horizon is then set, this leaves the join with that state
+-- setting the received state's horizon after the commit makes the join with the received state
 pub staging_joins : (own received : State) (floor : Option FileStamp) (staged : List (Key × Entry)) (after : State) → IsValid own → IsValid received
     → IsFloor (own.ledger ++ received.ledger) floor → IsStaged own floor received.entries staged → IsCommit own received.ledger staged after
     → IsJoin own received (raise_horizon received.horizon after)
@@ -144,7 +144,7 @@ commit_is_valid own received floor staged after valid valid_too is_floor stages 
     without : IsValid (without_horizon received)
     without = record { horizon = omega arith; ledger = valid_too.ledger; entries = valid_too.entries; have_lapsed = none_to_lapse received.entries }
 
--- of a state's own entries none is staged
+-- no entry of the state itself is staged
 pub own_stages_nothing : (own : State) (floor : Option FileStamp) → IsStaged own floor own.entries []
 own_stages_nothing own floor = record {
   ascending = tt;

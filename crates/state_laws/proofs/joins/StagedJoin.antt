@@ -1,4 +1,4 @@
--- If all entries of a received state are staged and committed, this leaves the join with that state
+-- Staging and committing all entries of a received state makes the join with the received state
 -- without its horizon.
 use Rattle.std.proofs.Common.{◌≡◌, ℕ, List, ◌++◌, ap, sym, ◌∙◌, subst, inl, inr, ◌⊎◌, Some, None, Contains}
 use Rattle.std.specs.Prelude.{Option}
@@ -21,7 +21,7 @@ use Rattle.cif_laws.proofs.orders.AtMost.{at_most_trans, at_most_itself, at_most
 use Rattle.state_laws.proofs.states.OneJoin.{floor_unique}
 use Rattle.state_laws.proofs.states.ExactEntries.{exact_entry}
 
--- of two entries the greater has at least the file stamp of the lower
+-- the file stamp of the greater of two entries isn't below the other's
 stamp_up : (low high : Entry) → IsAtMost entry_cmp low high → IsAtMost file_stamp_cmp low.stamp.file high.stamp.file
 stamp_up low high up greater = up (λ i. ordering_then (ordering_then (greater i) (nat_cmp low.stamp.number high.stamp.number)) (op_cmp low.op high.op))
 
@@ -69,7 +69,7 @@ module _ (own received : State) (valid : IsValid own) (valid_too : IsValid recei
       under offered to other (inl here) = at_most_below entry_cmp other entry (to.greater other here)
       under offered to other (inr here) = subst (λ e. IsAtMost entry_cmp other e) (one_received key other entry here offered) (at_most_itself entry_total other)
 
-  -- one of our entries is the greatest of its key, if it is kept and none of its key is staged
+  -- an entry of ours is the greatest of its key, if it is kept and no entry of the key is staged
   own_best : (key : Key) (entry : Entry) → Contains own.entries (key, entry) → IsKept commit.floor entry.stamp.file → HasNoEntryOf staged key → Best key entry
   unfolding Best
   own_best key entry among kept none = (
@@ -102,12 +102,12 @@ module _ (own received : State) (valid : IsValid own) (valid_too : IsValid recei
   forth key entry (inl here) = staged_best key entry here
   forth key entry (inr told) = own_best key entry told.0 told.1 told.2
 
-  -- the greatest entry of a key, if it is kept, is staged, or is ours and none of its key is staged
+  -- the greatest entry of a key is staged, or it is ours and no entry of the key is staged
   back : (key : Key) (entry : Entry) → Best key entry → IsPutIn own staged commit.floor key entry
   unfolding Best
   back key entry best = by (Contains-append_cases own.entries received.entries (key, entry) best.0.among)
     where
-      -- if one of our entries is the greatest of its key, none of its key is staged
+      -- if an entry of ours is the greatest of its key, no entry of the key is staged
       none_staged : Contains own.entries (key, entry) → HasNoEntryOf staged key
       none_staged here other inside =
           let told = (stages.members key other).0 inside in
@@ -136,7 +136,7 @@ module _ (own received : State) (valid : IsValid own) (valid_too : IsValid recei
       by (inl here) = inr (here, best.1, none_staged here)
       by (inr here) = as_received here (find_in own.entries key)
 
-  -- so a commit leaves the join with the received state without its horizon
+  -- a commit leaves the join with the received state without its horizon
   pub commit_is_join : IsJoin own (without_horizon received) after
   unfolding Best
   commit_is_join = record {
@@ -181,7 +181,7 @@ one_commit own items staged a b one two =
     moved : (key : Key) (entry : Entry) (f g : Option FileStamp) (m n : ℕ) → f ≡ g → m ≡ n → Told key entry f m → Told key entry g n
     moved key entry f g m n floors horizons told = subst (λ h. Told key entry g h) horizons (subst (λ floor. Told key entry floor m) floors told)
 
--- only one list is staged of the offered entries
+-- the offered entries determine the list of staged entries
 pub one_staged : (own : State) (floor : Option FileStamp) (offered a b : List (Key × Entry)) → IsStaged own floor offered a → IsStaged own floor offered b
     → a ≡ b
 one_staged own floor offered a b one two =

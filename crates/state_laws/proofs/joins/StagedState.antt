@@ -1,4 +1,5 @@
--- The received items and the staged entries are a valid state. The join with it is the commit.
+-- The received items and the staged entries make a valid state. The join with this state is the
+-- commit.
 use Rattle.std.proofs.Common.{◌≡◌, List, ◌++◌, ◌∙◌, ap, subst, arith, inl, inr, ◌⊎◌, Contains}
 use Rattle.std.specs.Prelude.{Option}
 use Rattle.std.specs.Ordering.{ordering_reverse}
@@ -17,7 +18,7 @@ use Rattle.cif_laws.proofs.orders.AtMost.{at_most_itself, at_most_below}
 use Rattle.state_laws.proofs.joins.RaisedHorizon.{none_to_lapse}
 use Rattle.state_laws.proofs.states.OneJoin.{floor_unique}
 
--- the items of a valid state, with what is staged of its entries, are a valid state
+-- the items of a valid state and its staged entries make a valid state
 pub staged_is_valid : (own received : State) (floor : Option FileStamp) (staged : List (Key × Entry)) → IsValid received
     → IsStaged own floor received.entries staged
     → IsValid (staged_state received.ledger staged)
@@ -88,7 +89,7 @@ module _ (own received : State) (floor : Option FileStamp) (staged : List (Key �
           subst (λ e. IsAtMost entry_cmp other e) (one_per_key own.entries up key other entry here told.0) (at_most_itself entry_total other)
       under other (inr there) = absurd (told.2 other there)
 
-  -- the join with what is staged is the commit
+  -- the join with the state of the received items and staged entries is the commit
   pub join_with_staged : IsCommit own received.ledger staged after
   unfolding Best
   join_with_staged = record {

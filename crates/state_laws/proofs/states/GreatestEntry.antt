@@ -11,15 +11,15 @@ use Rattle.state_laws.proofs.states.PlainTable.{Keyed}
 
 -- ---- the greatest entry of a key
 
--- none of these entries is of the key
+-- no entry of the list has the key
 abbrev pub NoEntry : List Keyed → Key → Type 0
 NoEntry entries key = (entry : Entry) → ¬ Contains entries (key, entry)
 
--- some entry of the key is the greatest among these
+-- the list has a greatest entry of the key
 abbrev pub GreatestEntry : List Keyed → Key → Type 0
 GreatestEntry entries key = (entry : Entry) × Contains entries (key, entry) × ((other : Entry) → Contains entries (key, other) → IsAtMost entry_cmp other entry)
 
--- the greatest entry, with one more first
+-- with one more entry of the key first, the list has a greatest entry of the key
 greater_of : (first : Keyed) (entries : List Keyed) (key : Key) → first.0 ≡ key → NoEntry entries key ⊎ GreatestEntry entries key
     → GreatestEntry (first ∷ entries) key
 greater_of first entries key same (inl none) =
@@ -69,7 +69,7 @@ still first entries key apart (inr best) =
     by other (inl e) = absurd (apart (ap (λ (pair : Keyed). pair.0) e))
     by other (inr inside) = best.2 other inside
 
--- a key has no entry among these, or a greatest one
+-- a list has no entry of a key, or a greatest one
 pub greatest_in : (entries : List Keyed) (key : Key) → NoEntry entries key ⊎ GreatestEntry entries key
 greatest_in [] key = inl (λ entry among. nil-Contains (key, entry) among)
 greatest_in (first ∷ entries) key = by (is_eq (key_cmp first.0 key)) refl (greatest_in entries key)

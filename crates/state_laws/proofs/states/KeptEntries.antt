@@ -23,7 +23,7 @@ kept_up (Some floor) low high most kept =
     at_most_trans file_stamp_total floor low.stamp.file high.stamp.file kept
     (λ greater. most (λ i. ordering_then (ordering_then (greater i) (nat_cmp low.stamp.number high.stamp.number)) (op_cmp low.op high.op)))
 
--- a lapsed op is at most the op
+-- lapsing never makes an op greater
 op_lapse_below : (horizon : ℕ) (op : Op) → IsAtMost op_cmp (lapse horizon op) op
 op_lapse_below horizon deleted = at_most_itself op_total deleted
 op_lapse_below horizon lapsed = at_most_itself op_total lapsed
@@ -33,7 +33,7 @@ op_lapse_below horizon (put_with body) = by (below_or horizon body)
     by (inl below) = subst (λ op. IsAtMost op_cmp op (put_with body)) (sym (put_lapses horizon body below)) (λ greater. cc)
     by (inr above) = subst (λ op. IsAtMost op_cmp op (put_with body)) (sym (put_stays horizon body above)) (at_most_itself op_total (put_with body))
 
--- a lapsed entry is at most the entry
+-- lapsing never makes an entry greater
 pub lapse_below : (horizon : ℕ) (entry : Entry) → IsAtMost entry_cmp (lapse_entry horizon entry) entry
 lapse_below horizon entry = by (stamp_cmp entry.stamp entry.stamp) (at_most_itself entry_total entry)
   where

@@ -1,5 +1,5 @@
 -- The lapse keeps the order of ops and entries. A second lapse under the same horizon changes
--- nothing. A lapse under two horizons is one under the greater.
+-- nothing. A lapse under two horizons is a lapse under the greater one.
 use Rattle.std.proofs.Common.{◌≡◌, ℕ, ◌<◌, ◌≤◌, subst, inl, inr, ◌⊎◌, refl, ap, sym, ◌∙◌, Bool, true, false, cond, arith}
 use Rattle.std.specs.Prelude.{max, nat_lt}
 use Rattle.std.specs.declared.cmp.Ordering.{Ordering}
@@ -68,7 +68,7 @@ max_most a b n first second = by (nat_lt a b) refl
     by true h = let below = ltb-true a b h in subst (λ m. m ≤ n) (sym (max-eq_right (omega arith))) second
     by false h = subst (λ m. m ≤ n) (sym (max-eq_left (ltb-false a b h))) first
 
--- a lapse under two horizons is one under the greater
+-- a lapse under two horizons is a lapse under the greater one
 pub lapse_twice : (second first : ℕ) (op : Op) → lapse second (lapse first op) ≡ lapse (max second first) op
 lapse_twice second first deleted = refl
 lapse_twice second first lapsed = refl

@@ -16,7 +16,7 @@ lapsed_from horizon entries key entry among =
     let same : found.0.0 ≡ key = ap (λ (pair : Key × Entry). pair.0) found.2 in
     (found.0.1, subst (λ k. Contains entries (k, found.0.1)) same found.1, ap (λ (pair : Key × Entry). pair.1) found.2)
 
--- an entry that is among these is, lapsed, among the lapsed ones
+-- if an entry is in a list, the lapsed entry is among the list's lapsed entries
 pub lapsed_to : (horizon : ℕ) (entries : List (Key × Entry)) (key : Key) (entry : Entry) → Contains entries (key, entry)
     → Contains (lapse_entries horizon entries) (key, lapse_entry horizon entry)
 lapsed_to horizon entries key entry among = map-Contains (lapse_keyed horizon) entries (key, entry) among

@@ -1,5 +1,5 @@
--- If the files of a set have distinct moments, its summary under a horizon has as live table the
--- plain table, lapsed under the horizon.
+-- If the files of a set have distinct moments, the live table of their summary under a horizon is
+-- the plain table, lapsed under the horizon.
 use Rattle.std.proofs.Common.{◌≡◌, ℕ, List, Contains, subst, inl, inr, ◌⊎◌, ap, sym, ◌∙◌, None}
 use Rattle.std.specs.Prelude.{fold, option_and_then}
 use Rattle.std.specs.declared.cmp.Ordering.TheVariants.{Less, Greater}
@@ -14,7 +14,8 @@ use Rattle.docker_model.specs.state.Lapse.{lapse_entry, unlapsed, lapse_table}
 use Rattle.docker_model.specs.state.State.{State, live_table}
 use Rattle.docker_model.specs.state.Summary.{IsSummary, IsGreatestEntryOf}
 use Rattle.cif_laws.proofs.orders.Orders.{entry_total}
-use Rattle.state_laws.proofs.states.PlainTable.{Keyed, Found, NotFound, find_in, one_per_key, entries_along, step, NoneThere, LastThere, last_there, after_files_is, entries_ascend, suffix_ascends, in_entries, out_entries}
+use Rattle.state_laws.proofs.states.PlainTable.{Keyed, Found, NotFound, find_in, one_per_key, entries_along, step, NoneThere, LastThere}
+use Rattle.state_laws.proofs.states.PlainTable.{last_there, after_files_is, entries_ascend, suffix_ascends, in_entries, out_entries}
 use Rattle.state_laws.proofs.states.TableLapsed.{body_in, body_lapses}
 
 module _ (files : List (List (List ℕ))) (horizon : ℕ) (state : State) (table : Table) (summary : IsSummary files horizon state)

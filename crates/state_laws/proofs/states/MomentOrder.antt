@@ -1,5 +1,5 @@
 -- A set of files with distinct moments can be put in the order of moments, so it has a plain table.
--- That is the live table of its summary.
+-- The plain table is the live table of its summary.
 use Rattle.std.proofs.Common.{◌≡◌, ℕ, List, [], ◌∷◌, Contains, subst, inl, inr, ◌⊎◌, refl, ap, sym, ◌∙◌}
 use Rattle.std.specs.List.{AllByRecursion}
 use Rattle.std.specs.declared.cmp.Ordering.{Ordering}
@@ -15,7 +15,7 @@ use Rattle.cif_laws.proofs.lists.Membership.{Contains-cons, cons-Contains, cons-
 abbrev File : Type 0
 File = List (List ℕ)
 
--- files in moment order, with this one at its place
+-- files in moment order, with one more file at its place
 abbrev put_in_place : Ordering → File → File → List File → List File → List File
 put_in_place Less file first rest below = file ∷ first ∷ rest
 put_in_place Equal file first rest below = first ∷ rest

@@ -24,7 +24,7 @@ pub live_is_lapsed_plain : (files : List (List (List ℕ))) (horizon : ℕ) (sta
     → IsPlainTable files table → live_table state ≡ lapse_table horizon table
 live_is_lapsed_plain files horizon state table summary plain = λ i key. live_is_plain files horizon state table summary plain key i
 
--- if the moments are distinct, there is a plain table, and without a horizon it is the live table
+-- if the moments are distinct, the live table of a summary without a horizon is the plain table
 pub live_table_is_plain : (files : List (List (List ℕ))) (state : State) → IsSummary files 0 state → HaveDistinctMoments files
     → IsPlainTable files (live_table state)
 live_table_is_plain files state summary distinct =

@@ -9,13 +9,15 @@ use Rattle.std.specs.Cmp.{tied_itself}
 use Rattle.std.proofs.lemmas.Bool.{lt-ltb, eqb-true, eq-eqb}
 use Rattle.docker_model.specs.file.Change.{Key, Change, changes}
 use Rattle.docker_model.specs.state.Order.{IsBelow, bytes_cmp, IsStrictlyAscending, IsAtMost}
-use Rattle.docker_model.specs.state.Stamp.{stamp_cmp, file_stamp_of, moment_of, moment_cmp, file_stamp_cmp, ledger_item_of, IsFull, FileStamp, LedgerItem, IsFloor, IsKept}
+use Rattle.docker_model.specs.state.Stamp.{stamp_cmp, file_stamp_of, moment_of, moment_cmp, file_stamp_cmp}
+use Rattle.docker_model.specs.state.Stamp.{ledger_item_of, IsFull, FileStamp, LedgerItem, IsFloor, IsKept}
 use Rattle.docker_model.specs.state.Op.{Entry, key_cmp, body_of}
 use Rattle.docker_model.specs.state.Table.{Table, after_change, after_file, after_files, is_full, from_last_full, IsInMomentOrder}
 use Rattle.docker_model.specs.state.State.{State, live_table}
 use Rattle.docker_model.specs.state.Summary.{entry_of, IsEntryOf}
 use Rattle.cif_laws.proofs.orders.Orders.{same_key, other_key, file_stamp_total, key_total}
-use Rattle.cif_laws.proofs.lists.Membership.{Contains-cons, cons-Contains-first, cons-Contains, below_by_recursion, nil-Contains, Contains-map, map-Contains, flat_map-Contains, Contains-flat_map}
+use Rattle.cif_laws.proofs.lists.Membership.{Contains-cons, cons-Contains-first, cons-Contains, below_by_recursion}
+use Rattle.cif_laws.proofs.lists.Membership.{nil-Contains, Contains-map, map-Contains, flat_map-Contains, Contains-flat_map}
 use Rattle.cif_laws.proofs.orders.Ascending.{irreflexive}
 use Rattle.cif_laws.proofs.lists.Later.{AllLater, later_append_all, later_map_weaker}
 use Rattle.cif_laws.proofs.lists.AllOf.{all_append, all_map, all_weaker}
@@ -316,7 +318,7 @@ not_dropped files ordered same (Some stamp) is file kept above =
 
 module _ (files ordered : List (List (List ℕ))) (order : IsInMomentOrder files ordered) (floor : Option FileStamp)
     (is_floor : IsFloor (map ledger_item_of files) floor) where
-  -- an entry of a kept file is among those from the last full extract on
+  -- an entry of a kept file is among the entries from the last full extract on
   pub in_entries : (key : Key) (entry : Entry) → IsEntryOf files floor key entry → Contains (entries_along (from_last_full ordered)) (key, entry)
   in_entries key entry made =
       let there = (order.same made.file).1 made.kept.among in
@@ -408,11 +410,11 @@ one_per_key (entry ∷ entries) up key first second in_first in_second =
     by rest (inr inside) (inl f) = absurd (not_both_here first second f inside)
     by rest (inr inside) (inr within) = rest inside within
 
--- the live table at a key whose entry is found
+-- at a key whose entry is found, the live table has the entry's body
 pub live_at : (state : State) (key : Key) (pair : Keyed) → find (λ entry. is_eq (key_cmp entry.0 key)) state.entries ≡ Some pair
     → live_table state key ≡ body_of pair.1.op
 live_at state key pair h = λ i. option_and_then (λ (entry : Entry). body_of entry.op) (option_and_then (λ (entry : Keyed). Some entry.1) (h i))
 
--- the live table at a key without an entry: nothing
+-- at a key without an entry, the live table has nothing
 pub live_none : (state : State) (key : Key) → find (λ entry. is_eq (key_cmp entry.0 key)) state.entries ≡ None → live_table state key ≡ None
 live_none state key h = λ i. option_and_then (λ (entry : Entry). body_of entry.op) (option_and_then (λ (entry : Keyed). Some entry.1) (h i))

@@ -1,5 +1,5 @@
--- What is kept of items and entries, lapsed under a horizon. It may be found in two steps, the
--- first under a horizon that isn't greater.
+-- Items and entries, reduced to what is kept of them and lapsed under a horizon. They may be
+-- reduced in two steps, the first under a horizon that isn't greater.
 use Rattle.std.proofs.Common.{◌≡◌, ℕ, ◌≤◌, List, ◌++◌, Contains, subst, inl, inr, ◌⊎◌, ap, sym, ◌∙◌, Some, None}
 use Rattle.std.specs.Prelude.{Option, ◌↔◌}
 use Rattle.std.proofs.Math.Nat.{max-eq_left}
@@ -17,7 +17,7 @@ use Rattle.state_laws.proofs.states.GreatestEntry.{NoEntry, GreatestEntry, great
 use Rattle.state_laws.proofs.states.Lapse.{lapse_entry_keeps_order, entry_twice, entry_stays}
 use Rattle.state_laws.proofs.states.KeptEntries.{kept_up, lapse_below, level_lapsed, lapses_or_not}
 
--- this is what is kept of the key's entries: the greatest, if it isn't below the floor, lapsed
+-- the entry is what is kept of the key's entries: the greatest, if it isn't below the floor, lapsed
 -- under the horizon
 abbrev pub KeptOf : List Keyed → Option FileStamp → ℕ → Key → Entry → Type 0
 KeptOf entries floor horizon key entry =
@@ -103,7 +103,7 @@ module _ (items more : List LedgerItem) (entries others : List Keyed) (once twic
     Whole : Type 0
     Whole = (best : Entry) × IsGreatestAmong (entries ++ others) key best
 
-    -- an entry of the second step is at most the greatest of all
+    -- an entry of the second step is at most the greatest of all entries
     under_best : (best : Entry) → IsGreatestAmong (entries ++ others) key best → (other : Entry) → Contains (once.entries ++ others) (key, other)
         → IsAtMost entry_cmp other best
     under_best best is other among = by (Contains-append_cases once.entries others (key, other) among)
@@ -116,8 +116,8 @@ module _ (items more : List LedgerItem) (entries others : List Keyed) (once twic
             (subst (λ e. IsAtMost entry_cmp e told.0) told.3 (lapse_below once.horizon told.0))
             (is.greatest told.0 (Contains-append_left entries others (key, told.0) told.1.among))
 
-    -- if the greatest of all is kept, the second step has it: lapsed from the first step, or among
-    -- the others
+    -- if the greatest of all entries is kept, the second step has it: lapsed in the first step, or
+    -- among the other entries
     stands : (best : Entry) → IsGreatestAmong (entries ++ others) key best → IsKept second.floor best.stamp.file
         → Contains once.entries (key, lapse_entry once.horizon best) ⊎ Contains others (key, best)
     stands best is kept = by (Contains-append_cases entries others (key, best) is.among)
@@ -137,7 +137,8 @@ module _ (items more : List LedgerItem) (entries others : List Keyed) (once twic
         → IsKept second.floor best.stamp.file → IsKept second.floor top.stamp.file → lapse_entry twice.horizon best ≡ lapse_entry twice.horizon top
     same_lapse best top is_best is_top kept_best kept_top = by (stands best is_best kept_best)
       where
-        -- the second step has the greatest of all as it was
+        -- if the second step has the greatest of all as it was, both are equal once they have
+        -- lapsed
         itself : Contains (once.entries ++ others) (key, best) → lapse_entry twice.horizon best ≡ lapse_entry twice.horizon top
         itself there =
             one_per_key twice.entries second.entries_ascend key (lapse_entry twice.horizon best) (lapse_entry twice.horizon top)
@@ -150,7 +151,7 @@ module _ (items more : List LedgerItem) (entries others : List Keyed) (once twic
             ))
             ((second.of_keys key (lapse_entry twice.horizon top)).1 (top, is_top, kept_top, λ i. lapse_entry twice.horizon top))
 
-        -- the second step has it lapsed, as all between the two have
+        -- if the second step has the greatest of all lapsed, both are equal once they have lapsed
         between : lapse once.horizon best.op ≡ lapsed → Contains once.entries (key, lapse_entry once.horizon best)
             → lapse_entry twice.horizon best ≡ lapse_entry twice.horizon top
         between has there =
@@ -216,7 +217,7 @@ module _ (items more : List LedgerItem) (entries others : List Keyed) (once twic
             with_top (lapse_entry once.horizon told.0) told.2 (Contains-append_left once.entries others (key, lapse_entry once.horizon told.0) there) top
         by (inr top) (inr there) = with_top told.0 told.2 (Contains-append_right once.entries others (key, told.0) there) top
 
-  -- what is kept in two steps is what is kept in one
+  -- a state reduced in two steps is the state reduced in one
   pub reduced_twice : IsReduced (items ++ more) (entries ++ others) twice
   reduced_twice = record {
     floor = second.floor;

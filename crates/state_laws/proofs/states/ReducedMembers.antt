@@ -1,5 +1,5 @@
--- What is kept depends only on which items and entries there are, not on their order. For one
--- horizon there is one such state.
+-- What is kept depends only on which items and entries there are, not on their order. Under one
+-- horizon, items and entries are reduced to only one state.
 use Rattle.std.proofs.Common.{List, Some, None, ◌≡◌, subst, sym}
 use Rattle.std.specs.Prelude.{Option}
 use Rattle.std.specs.Cmp.{on_total}
@@ -57,7 +57,7 @@ reduced_along items more entries others same same_entries state is = record {
   );
 }
 
--- for one horizon there is one state of what is kept
+-- under one horizon, items and entries are reduced to only one state
 pub reduced_unique : (items : List LedgerItem) (entries : List Keyed) (s t : State) → s.horizon ≡ t.horizon → IsReduced items entries s
     → IsReduced items entries t → s ≡ t
 reduced_unique items entries s t horizons is_s is_t =

@@ -1,6 +1,6 @@
 -- A set of files has at most one summary under each horizon. The join of two summaries is the
 -- summary of the union under the greater horizon. A summary on which a greater horizon is set is
--- the summary under it.
+-- the summary under that horizon.
 use Rattle.std.proofs.Common.{◌≡◌, ℕ, ◌≤◌, List, ◌++◌, map, Contains, subst, inl, inr, ◌⊎◌, ap, sym, ◌∙◌}
 use Rattle.std.specs.Prelude.{max}
 use Rattle.std.specs.List.{flat_map}
@@ -113,7 +113,7 @@ join_is_summary files others g h one two joined of_files of_others is =
     (entries_along (files ++ others))
     (items_of_union files others) (entries_of_union files others) joined second)
 
--- a summary, lapsed under a horizon not below its own, is the summary under that one
+-- a summary, lapsed under a horizon not below its own, is the summary under the new horizon
 pub lapsed_summary : (files : List File) (low high : ℕ) (state : State) → low ≤ high → IsSummary files low state → IsSummary files high (lapse_state high state)
 lapsed_summary files low high state rises is = record {
   horizon_is = λ i. high;

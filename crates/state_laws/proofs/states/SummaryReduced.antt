@@ -1,4 +1,4 @@
--- A summary has what is kept of its files' items and of the entries that their changes make.
+-- A summary is reduced from its files' items and from the entries that their changes make.
 use Rattle.std.proofs.Common.{◌≡◌, ℕ, List, map, Contains, subst, inl, inr, ◌⊎◌, ap, sym, ◌∙◌, Some, None}
 use Rattle.std.specs.Prelude.{Option}
 use Rattle.std.specs.Ordering.{ordering_reverse, ordering_then, nat_cmp}
@@ -19,7 +19,7 @@ use Rattle.state_laws.proofs.states.ReducedEntries.{IsReduced}
 abbrev pub File : Type 0
 File = List (List ℕ)
 
--- an entry below the floor is at most any kept one
+-- an entry below the floor is at most any kept entry
 pub below_kept : (floor : Option FileStamp) (low high : Entry) → IsKept floor high.stamp.file → IsKept floor low.stamp.file ⊎ IsAtMost entry_cmp low high
 below_kept None low high kept = inl tt
 below_kept (Some floor) low high kept = by (at_most_or file_stamp_total floor low.stamp.file)
@@ -49,7 +49,7 @@ module _ (files : List File) (floor : Option FileStamp) (key : Key) where
         subst (λ (e : Entry). IsKept floor e.stamp.file) made.entry_is made.kept.kept,
       )
 
-  -- a kept entry among all entries is of a kept file
+  -- a kept entry among all entries comes from a kept file
   pub entry_out : (entry : Entry) → Contains (entries_along files) (key, entry) → IsKept floor entry.stamp.file → IsEntryOf files floor key entry
   entry_out entry among kept =
       let found = Contains-flat_map entries_of files (key, entry) among in
@@ -64,7 +64,7 @@ module _ (files : List File) (floor : Option FileStamp) (key : Key) where
         entry_is = is;
       }
 
-  -- the greatest entry of the kept files is the greatest of all, and is kept
+  -- the greatest entry of the kept files is kept, and is the greatest of all entries
   pub greatest_forth : (entry : Entry) → IsGreatestEntryOf files floor key entry → IsGreatestAmong (entries_along files) key entry
       × IsKept floor entry.stamp.file
   greatest_forth entry best =
@@ -76,7 +76,7 @@ module _ (files : List File) (floor : Option FileStamp) (key : Key) where
       by other among (inl kept) = best.greatest other (entry_out other among kept)
       by other among (inr low) = low
 
-  -- if the greatest of all is kept, it is the greatest of the kept files
+  -- if the greatest of all entries is kept, it is the greatest of the kept files
   pub greatest_back : (entry : Entry) → IsGreatestAmong (entries_along files) key entry → IsKept floor entry.stamp.file
       → IsGreatestEntryOf files floor key entry
   greatest_back entry best kept = record {
@@ -84,7 +84,7 @@ module _ (files : List File) (floor : Option FileStamp) (key : Key) where
     greatest = λ other made. best.greatest other (entry_in other made).0;
   }
 
--- a summary has what is kept of its files' items and entries
+-- a summary is reduced from its files' items and entries
 pub summary_reduced : (files : List File) (horizon : ℕ) (state : State) → IsSummary files horizon state → IsReduced (map ledger_item_of files)
     (entries_along files) state
 summary_reduced files horizon state summary = record {
@@ -119,7 +119,7 @@ summary_reduced files horizon state summary = record {
   );
 }
 
--- the summary is the state, under its horizon, of what is kept of its files' items and entries
+-- a state reduced from files' items and entries is the files' summary under its horizon
 pub reduced_summary : (files : List File) (horizon : ℕ) (state : State) → state.horizon ≡ horizon → IsReduced (map ledger_item_of files)
     (entries_along files) state → IsSummary files horizon state
 reduced_summary files horizon state horizon_is is = record {

@@ -20,7 +20,7 @@ use Rattle.cif_laws.proofs.files.FileChanges.{file_change}
 
 -- ---- the ledger item of a file
 
--- the item is good
+-- the ledger item of a file is good
 pub item_good : (file : List (List ℕ)) → IsFile file → IsGoodItem (ledger_item_of file)
 item_good file is =
     subst (λ f. IsGoodItem (ledger_item_of f)) (sym is.whole)
@@ -35,7 +35,7 @@ item_good file is =
 
 -- ---- the summary
 
--- the summary is valid
+-- the summary of files within the limit is valid
 pub summary_is_valid : (files : List (List (List ℕ))) (horizon : ℕ) (state : State) → IsDay horizon → All IsFile files
     → All (λ file. length file ≤ most_records) files
     → IsSummary files horizon state → IsValid state

@@ -1,5 +1,6 @@
 -- A good part of a state's text leads to the next part.
-use Rattle.std.proofs.Common.{refl, arith, ◌≡◌, ℕ, ap, sym, subst, [], ◌++◌, ◌∙◌, append-nil, ◌<◌, ◌^◌, List, ◌∷◌, length, append_assoc, length-append, inl, inr, ◌≤◌}
+use Rattle.std.proofs.Common.{refl, arith, ◌≡◌, ℕ, ap, sym, subst, [], ◌++◌, ◌∙◌, append-nil, ◌<◌}
+use Rattle.std.proofs.Common.{◌^◌, List, ◌∷◌, length, append_assoc, length-append, inl, inr, ◌≤◌}
 use Rattle.std.specs.List.{flat_map, concat}
 use Rattle.std.specs.Int.{w16, to_be_bytes, from_be_bytes, w64, w32}
 use Rattle.std.proofs.lemmas.Grind.{flat_map-append}
@@ -9,8 +10,11 @@ use Rattle.docker_model.specs.file.Change.{Key, tiploc_key, association_key, sch
 use Rattle.docker_model.specs.state.Stamp.{LedgerItem, Stamp}
 use Rattle.docker_model.specs.state.Op.{key_tag, lapsed, deleted, put_with, body_end}
 use Rattle.docker_model.specs.state.State.{IsGoodItem, State, IsGoodKey, IsLedger, IsStampIn, IsAssociationOf}
-use Rattle.docker_model.specs.state.StateText.{dks_1, mark, dks_2, Format, head_text, item_bytes, ledger_text, entries_text, key_bytes, stamp_bytes, put_bytes, IsHorizonOf, IsOpByte, TellsOp}
-use Rattle.docker_model.specs.state.StatePart.{before_mark, before_ledger_count, before_horizon, AreGood, text_before, before_item, IsAboveItems, RaisesFloor, before_entry_count, before_tag, before_key, IsTag, in_entry, IsAboveEntries, key_width, before_stamp, before_op, key_text, before_body, IsLineCount, before_line, AreLinesUpTo, HaveNotToLapse}
+use Rattle.docker_model.specs.state.StateText.{dks_1, mark, dks_2, Format, head_text, item_bytes, ledger_text, entries_text}
+use Rattle.docker_model.specs.state.StateText.{key_bytes, stamp_bytes, put_bytes, IsHorizonOf, IsOpByte, TellsOp}
+use Rattle.docker_model.specs.state.StatePart.{before_mark, before_ledger_count, before_horizon, AreGood, text_before, before_item, IsAboveItems}
+use Rattle.docker_model.specs.state.StatePart.{RaisesFloor, before_entry_count, before_tag, before_key, IsTag, in_entry, IsAboveEntries, key_width}
+use Rattle.docker_model.specs.state.StatePart.{before_stamp, before_op, key_text, before_body, IsLineCount, before_line, AreLinesUpTo, HaveNotToLapse}
 use Rattle.docker_model.specs.state.StateFault.{StateCause, bad_item, bad_order, bad_floor, IsBadItem, bad_body, IsBadKey}
 use Rattle.state_laws.specs.TextStage.{after_items, after_entries, with_entry, after_lines}
 use Rattle.state_laws.proofs.texts.StateReadBack.{read_16, item_read, item_width, key_read, key_width_is, stamp_read, stamp_width}
@@ -42,7 +46,7 @@ pub head_leads : (format : Format) (horizon : ℕ) → IsHorizonOf format horizo
 head_leads dks_1 horizon none = subst (λ h. Leads dks_1 before_mark (before_ledger_count h)) (sym none) step_mark_1
 head_leads dks_2 horizon day = then_leads dks_2 before_mark before_horizon (before_ledger_count horizon) step_mark_2 (step_horizon horizon day)
 
--- the text up to the count of items
+-- the text up to the first item ends with the count of items
 pub count_of_ledger : (format : Format) (horizon count : ℕ) → text_before format (after_items horizon count []) ≡ text_before format
     (before_ledger_count horizon) ++ to_be_bytes w64 count
 count_of_ledger format horizon count =
@@ -55,7 +59,7 @@ step_ledger_count format horizon count fits =
     one_step format (before_ledger_count horizon) (after_items horizon count []) (to_be_bytes w64 count) refl (omega arith) (λ cause bad. bad)
     (ap (λ n. after_items horizon n []) (read_64 count fits)) (count_of_ledger format horizon count)
 
--- the text with one more good item
+-- the text after one more item ends with the item's bytes
 pub item_text : (format : Format) (horizon : ℕ) → (count : ℕ) (ledger : List LedgerItem) (item : LedgerItem) → length ledger < count
     → text_before format (after_items horizon count (ledger ++ item ∷ [])) ≡ text_before format (before_item horizon count ledger) ++ item_bytes item
 item_text format horizon count ledger item below =
@@ -74,7 +78,7 @@ no_bad_item ledger item bad_order good above floor bad = bad.1 above
 no_bad_item ledger item bad_floor good above floor bad = floor bad.2
 no_bad_item ledger item _ good above floor bad = bad
 
--- such an item leads to the next part
+-- an item that isn't bad leads to the next part
 pub step_item : (format : Format) (horizon : ℕ) → (count : ℕ) (ledger : List LedgerItem) (item : LedgerItem) → length ledger < count → IsGoodItem item
     → IsAboveItems ledger item → ¬ RaisesFloor ledger item
     → Leads format (before_item horizon count ledger) (after_items horizon count (ledger ++ item ∷ []))
@@ -97,7 +101,7 @@ step_entry_count format horizon count ledger fits =
     ∙ ap (λ xs. xs ++ to_be_bytes w64 count) (sym (append-nil (ledger_text format horizon (length ledger) ledger)))
     )
 
--- the text with one more part of an entry
+-- one more part of an entry follows the text so far
 pub part_more : (format : Format) → (count : ℕ) (state : State) (old part : List ℕ) → entries_text format count state ++ (old ++ part) ≡
     (entries_text format count state ++ old) ++ part
 part_more format count state old part = sym (append_assoc (entries_text format count state) old part)
@@ -121,7 +125,7 @@ key_some (tiploc_key code) = omega arith
 key_some (association_key key) = omega arith
 key_some (schedule_key key) = omega arith
 
--- such a key leads to its stamp
+-- a key that isn't bad leads to its stamp
 pub step_key : (format : Format) → (count : ℕ) (state : State) (key : Key) → IsGoodKey key → IsAboveEntries state key
     → Leads format (in_entry count state (before_key (key_tag key))) (in_entry count state (before_stamp key))
 step_key format count state key good above =
@@ -141,7 +145,7 @@ step_stamp format count state key stamp ledger is =
     (ap (λ s. in_entry count state (before_op key s)) (stamp_read state.ledger stamp ledger is))
     (part_more format count state (key_text key) (stamp_bytes stamp))
 
--- the op bytes of a format
+-- 0 and 1 are op bytes of each format, and 2 if the format has lapsed ops
 zero_told : (format : Format) → IsOpByte format 0
 zero_told dks_1 = inl refl
 zero_told dks_2 = inl refl
@@ -162,7 +166,7 @@ step_deleted format count state key stamp below =
     (λ cause bad. bad.1 (zero_told format)) refl
     (entry_done_text format count state key stamp deleted below ∙ part_more format count state (key_text key ++ stamp_bytes stamp) (0 ∷ []))
 
--- if the format has lapsed ops, one leads to the part after the entry
+-- if the format has lapsed ops, a lapsed op leads to the part after the entry
 pub step_lapsed : (format : Format) → (count : ℕ) (state : State) (key : Key) (stamp : Stamp) → TellsOp format lapsed → length state.entries < count
     → Leads format (in_entry count state (before_op key stamp)) (after_entries count (with_entry state key stamp lapsed))
 step_lapsed format count state key stamp told below =
@@ -178,7 +182,7 @@ step_put format count state key stamp =
     (λ cause bad. bad.1 (one_told format)) refl
     (part_more format count state (key_text key ++ stamp_bytes stamp) (1 ∷ []))
 
--- the text up to the end of a body
+-- the text after a put's entry ends with the body
 pub body_text : (format : Format) → (count : ℕ) (state : State) (key : Key) (stamp : Stamp) (body : Body) → length state.entries < count
     → text_before format (after_entries count (with_entry state key stamp (put_with body))) ≡
     (entries_text format count state ++ (key_text key ++ stamp_bytes stamp ++ 1 ∷ [])) ++ put_bytes body
@@ -207,7 +211,7 @@ step_association format count state key stamp line below is stays =
     (after_entries count (with_entry state (association_key key) stamp (put_with (association_body line)))) line is.is_record.0 (omega arith)
     (λ cause bad. bad.1 (is, stays)) refl (body_text format count state (association_key key) stamp (association_body line) below)
 
--- the text up to the number of lines
+-- the text up to a schedule's first line ends with the number of lines
 pub count_text : (format : Format) → (count : ℕ) (state : State) (key : ScheduleKey) (stamp : Stamp) (n : ℕ) → length state.entries < count
     → text_before format (after_lines count state key stamp n []) ≡ text_before format
     (in_entry count state (before_body (schedule_key key) stamp)) ++ to_be_bytes w32 n
@@ -232,7 +236,7 @@ concat-append : (xs ys : List (List ℕ)) → concat (xs ++ ys) ≡ concat xs ++
 concat-append [] ys = refl
 concat-append (x ∷ xs) ys = ap (λ zs. x ++ zs) (concat-append xs ys) ∙ sym (append_assoc x (concat xs) (concat ys))
 
--- the text up to a schedule's line
+-- the text after one more line of a schedule ends with this line
 pub line_text : (format : Format) → (count : ℕ) (state : State) (key : ScheduleKey) (stamp : Stamp) (n : ℕ) (lines : List (List ℕ)) (line : List ℕ)
     → length state.entries < count → length lines < n
     → text_before format (after_lines count state key stamp n (lines ++ line ∷ [])) ≡ text_before format

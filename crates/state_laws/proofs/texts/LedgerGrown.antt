@@ -122,7 +122,7 @@ one_item_more ledger item is good above floor = by (nat_decided item.indicator 7
           (kept_last ledger item is good above floor is.floor is.is_floor, tt));
     }
 
--- the empty ledger
+-- the empty list of items is a ledger
 pub no_items : IsLedger []
 no_items = record {
   each = All-from_recursion IsGoodItem [] tt;

@@ -1,11 +1,15 @@
--- A text has at most one fault. A state's text has none.
-use Rattle.std.proofs.Common.{◌≡◌, ℕ, ◌+◌, ◌≤◌, List, [], ◌∷◌, ◌++◌, length, refl, ap, sym, ◌∙◌, subst, inl, inr, arith, append_assoc, append-nil, length-append}
+-- A text has at most one fault. The text of a state has no fault.
+use Rattle.std.proofs.Common.{◌≡◌, ℕ, ◌+◌, ◌≤◌, List, [], ◌∷◌, ◌++◌, length, refl, ap, sym, ◌∙◌}
+use Rattle.std.proofs.Common.{subst, inl, inr, arith, append_assoc, append-nil, length-append}
 use Rattle.docker_model.specs.file.Change.{Key}
 use Rattle.docker_model.specs.state.Stamp.{LedgerItem}
 use Rattle.docker_model.specs.state.State.{State}
 use Rattle.docker_model.specs.state.StateText.{item_in, key_in, Format, state_text}
-use Rattle.docker_model.specs.state.StatePart.{EntryPart, before_tag, before_key, before_stamp, before_op, before_body, before_line, Before, before_mark, before_horizon, before_ledger_count, before_item, before_entry_count, in_entry, at_end, items_before, text_before, width}
-use Rattle.docker_model.specs.state.StateFault.{StateCause, bad_item, bad_order, bad_floor, bad_body, StateFault, IsBadItem, IsBadKey, IsBadEntryPart, IsBadPart, HasBadPart, IsLong, IsShort, HasTail, IsStateFault, IsStateText}
+use Rattle.docker_model.specs.state.StatePart.{EntryPart, before_tag, before_key, before_stamp, before_op, before_body}
+use Rattle.docker_model.specs.state.StatePart.{before_line, Before, before_mark, before_horizon, before_ledger_count, before_item}
+use Rattle.docker_model.specs.state.StatePart.{before_entry_count, in_entry, at_end, items_before, text_before, width}
+use Rattle.docker_model.specs.state.StateFault.{StateCause, bad_item, bad_order, bad_floor, bad_body, StateFault, IsBadItem, IsBadKey}
+use Rattle.docker_model.specs.state.StateFault.{IsBadEntryPart, IsBadPart, HasBadPart, IsLong, IsShort, HasTail, IsStateFault, IsStateText}
 use Rattle.cif_laws.proofs.lists.Fronts.{same_front}
 use Rattle.state_laws.proofs.texts.TextsApart.{same_end, IsStopped, one_stop, stop_of_bad, stop_of_long, stop_of_short, stop_at_end}
 

@@ -6,7 +6,8 @@ use Rattle.docker_model.specs.records.Record.{association, is_printable, column,
 use Rattle.docker_model.specs.records.Date.{last_day}
 use Rattle.docker_model.specs.records.Field.{is_stp_letter, IsTiploc}
 use Rattle.docker_model.specs.file.File.{first_record}
-use Rattle.docker_model.specs.file.Change.{Key, tiploc_key, association_key, schedule_key, AssociationKey, ScheduleKey, association_named, schedule_named, association_body, schedule_body}
+use Rattle.docker_model.specs.file.Change.{Key, tiploc_key, association_key, schedule_key, AssociationKey, ScheduleKey}
+use Rattle.docker_model.specs.file.Change.{association_named, schedule_named, association_body, schedule_body}
 use Rattle.docker_model.specs.state.Order.{IsBelow}
 use Rattle.docker_model.specs.state.Stamp.{FileStamp, Stamp, LedgerItem, file_stamp_cmp, ledger_item_cmp}
 use Rattle.docker_model.specs.state.Op.{key_cmp, body_end}
@@ -16,7 +17,8 @@ use Rattle.docker_model.specs.state.StatePart.{IsTag, IsLineCount, IsAboveItems,
 use Rattle.docker_model.specs.state.StateFault.{IsBodyPart}
 use Rattle.cif_laws.proofs.orders.Orders.{file_stamp_total, exact_file_stamp, key_total, exact_key}
 use Rattle.cif_laws.proofs.lists.Membership.{Contains-cons, cons-Contains, cons-Contains-first, nil-Contains}
-use Rattle.cif_laws.proofs.lists.Decisions.{Decided, both_decided, either_decided, not_decided, decided_along, bool_decided, nat_decided, le_decided, lt_decided, All_decided, less_decided, same_decided}
+use Rattle.cif_laws.proofs.lists.Decisions.{Decided, both_decided, either_decided, not_decided, decided_along, bool_decided}
+use Rattle.cif_laws.proofs.lists.Decisions.{nat_decided, le_decided, lt_decided, All_decided, less_decided, same_decided}
 use Rattle.cif_laws.proofs.schedules.ScheduleFronts.{record_decided, has_kind_decided, good_fields_decided, schedule_decided, begins_decided}
 
 text_of_length_decided : (n : ℕ) (bytes : List ℕ) → Decided (IsTextOfLength n bytes)

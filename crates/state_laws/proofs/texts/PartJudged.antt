@@ -1,5 +1,6 @@
 -- A part of a state's text is bad, or it leads to the next part.
-use Rattle.std.proofs.Common.{◌≡◌, ℕ, ◌-◌, ◌<◌, ◌≤◌, ◌^◌, List, [], ◌∷◌, ◌++◌, length, refl, ap, sym, ◌∙◌, subst, inl, inr, ◌⊎◌, arith, true, false, cond, nat_le, append-nil, length-append}
+use Rattle.std.proofs.Common.{◌≡◌, ℕ, ◌-◌, ◌<◌, ◌≤◌, ◌^◌, List, [], ◌∷◌, ◌++◌, length, refl, ap, sym, ◌∙◌, subst}
+use Rattle.std.proofs.Common.{inl, inr, ◌⊎◌, arith, true, false, cond, nat_le, append-nil, length-append}
 use Rattle.std.specs.Prelude.{slice_index}
 use Rattle.std.specs.Int.{w16, w32, w64, to_be_bytes, from_be_bytes}
 use Rattle.std.proofs.lemmas.Nat.{be_bytes_2}
@@ -12,15 +13,22 @@ use Rattle.docker_model.specs.state.Stamp.{Stamp, LedgerItem}
 use Rattle.docker_model.specs.state.Op.{Op, deleted, lapsed, put_with}
 use Rattle.docker_model.specs.state.Lapse.{HasNotToLapse}
 use Rattle.docker_model.specs.state.State.{IsGoodItem, IsGoodKey, IsStampIn, IsScheduleOf, State, IsOpOf}
-use Rattle.docker_model.specs.state.StateText.{stamp_bytes, item_in, key_in, stamp_in, Format, dks_1, dks_2, head_text, mark, entries_text, IsOpByte, TellsOp, IsToldState}
-use Rattle.docker_model.specs.state.StatePart.{EntryPart, before_tag, before_key, before_stamp, before_op, before_body, before_line, key_text, part_width, key_width, IsTag, IsLineCount, IsAboveItems, RaisesFloor, AreLinesOf, AreLinesUpTo, Before, before_mark, before_horizon, before_ledger_count, before_item, before_entry_count, in_entry, at_end, items_before, text_before, width, HaveNotToLapse, IsAboveEntries, IsKeyHere, IsStampHere, IsPartHere, AreGood}
-use Rattle.docker_model.specs.state.StateFault.{StateCause, bad_mark, bad_item, bad_order, bad_floor, bad_tag, bad_stamp, bad_body, bad_horizon, IsBadPart, IsBodyPart}
+use Rattle.docker_model.specs.state.StateText.{stamp_bytes, item_in, key_in, stamp_in, Format, dks_1, dks_2}
+use Rattle.docker_model.specs.state.StateText.{head_text, mark, entries_text, IsOpByte, TellsOp, IsToldState}
+use Rattle.docker_model.specs.state.StatePart.{EntryPart, before_tag, before_key, before_stamp, before_op, before_body, before_line, key_text, part_width}
+use Rattle.docker_model.specs.state.StatePart.{key_width, IsTag, IsLineCount, IsAboveItems, RaisesFloor, AreLinesOf, AreLinesUpTo, Before, before_mark}
+use Rattle.docker_model.specs.state.StatePart.{before_horizon, before_ledger_count, before_item, before_entry_count, in_entry, at_end, items_before}
+use Rattle.docker_model.specs.state.StatePart.{text_before, width, HaveNotToLapse, IsAboveEntries, IsKeyHere, IsStampHere, IsPartHere, AreGood}
+use Rattle.docker_model.specs.state.StateFault.{StateCause, bad_mark, bad_item, bad_order, bad_floor, bad_tag}
+use Rattle.docker_model.specs.state.StateFault.{bad_stamp, bad_body, bad_horizon, IsBadPart, IsBodyPart}
 use Rattle.state_laws.specs.TextStage.{after_entries, with_entry, after_lines, advance}
 use Rattle.state_laws.proofs.texts.TextsBefore.{after_entries_text, entry_done_text}
 use Rattle.state_laws.proofs.texts.GoodPartLeads.{count_of_ledger, item_text, body_text, count_text, line_text, part_more}
 use Rattle.cif_laws.proofs.lists.Decisions.{Decided, le_decided, same_decided}
-use Rattle.state_laws.proofs.texts.StateBytes.{AreBytes, small_at, four_bytes, eight_bytes, eight_fit, item_written, stamp_written, key_written, tag_of_key, single}
-use Rattle.state_laws.proofs.texts.PartDecisions.{good_item_decided, above_items_decided, raises_floor_decided, tag_decided, good_key_decided, stamp_in_decided, above_entries_decided, op_byte_decided, body_part_decided, lines_here_decided}
+use Rattle.state_laws.proofs.texts.StateBytes.{AreBytes, small_at, four_bytes, eight_bytes, eight_fit}
+use Rattle.state_laws.proofs.texts.StateBytes.{item_written, stamp_written, key_written, tag_of_key, single}
+use Rattle.state_laws.proofs.texts.PartDecisions.{good_item_decided, above_items_decided, raises_floor_decided, tag_decided, good_key_decided}
+use Rattle.state_laws.proofs.texts.PartDecisions.{stamp_in_decided, above_entries_decided, op_byte_decided, body_part_decided, lines_here_decided}
 use Rattle.state_laws.proofs.texts.LedgerGrown.{one_item_more, no_items}
 use Rattle.state_laws.proofs.texts.StateGrown.{good_after_items, good_after_entries, tells_deleted, tells_put, no_entries, one_entry_more}
 
@@ -190,7 +198,7 @@ judge_stamp format count state key bytes told here size small = by (stamp_in_dec
         )
     by (inr bad) = inl (bad_stamp, (refl, bad))
 
--- which op a byte stands for
+-- an op byte is 0, 1, or 2 if the format has lapsed ops
 op_of_byte : (format : Format) (byte : ℕ) → IsOpByte format byte → (byte ≡ 0) ⊎ (byte ≡ 1) ⊎ ((byte ≡ 2) × TellsOp format lapsed)
 op_of_byte dks_1 byte (inl e) = inl e
 op_of_byte dks_1 byte (inr e) = inr (inl e)

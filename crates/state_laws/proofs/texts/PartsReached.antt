@@ -1,6 +1,7 @@
--- Each point in a state's text, if what is before it is good, is reached from the start part by
--- part.
-use Rattle.std.proofs.Common.{List, ◌∷◌, ◌++◌, ◌≡◌, [], refl, ap, sym, ◌∙◌, subst, Contains, Some, None, ℕ, ◌<◌, ◌≤◌, length, arith, append_assoc, append-nil, length-append, inl, inr, ◌^◌, ◌⊎◌}
+-- If everything before a point in a state's text is good, reading reaches the point from the start,
+-- part by part.
+use Rattle.std.proofs.Common.{List, ◌∷◌, ◌++◌, ◌≡◌, [], refl, ap, sym, ◌∙◌, subst, Contains, Some, None, ℕ, ◌<◌}
+use Rattle.std.proofs.Common.{◌≤◌, length, arith, append_assoc, append-nil, length-append, inl, inr, ◌^◌, ◌⊎◌}
 use Rattle.std.specs.Prelude.{Option}
 use Rattle.std.specs.List.{AllByRecursion}
 use Rattle.std.specs.Ordering.{ordering_reverse, on}
@@ -10,20 +11,24 @@ use Rattle.std.proofs.lemmas.List.Elements.{recursion_from_All, All-from_recursi
 use Rattle.docker_model.specs.records.Record.{columns, IsRecord}
 use Rattle.docker_model.specs.records.Field.{HasNewTransaction}
 use Rattle.docker_model.specs.file.File.{IsSchedule, BeginsSchedule, first_record}
-use Rattle.docker_model.specs.file.Change.{schedule_key, ScheduleKey, schedule_named, Key, tiploc_key, association_key, Body, tiploc_body, association_body, schedule_body}
+use Rattle.docker_model.specs.file.Change.{schedule_key, ScheduleKey, schedule_named, Key, tiploc_key}
+use Rattle.docker_model.specs.file.Change.{association_key, Body, tiploc_body, association_body, schedule_body}
 use Rattle.docker_model.specs.state.Order.{IsBelow}
 use Rattle.docker_model.specs.state.Stamp.{LedgerItem, ledger_item_cmp, FileStamp, file_stamp_cmp, IsFloor, IsKept, Stamp}
 use Rattle.docker_model.specs.state.Op.{readable_end, key_tag, put_with, body_end, Entry, Op, deleted, lapsed, key_cmp}
 use Rattle.docker_model.specs.state.Lapse.{HasNotToLapse}
 use Rattle.docker_model.specs.state.State.{IsGoodItem, IsLedger, State, IsScheduleOf, IsBodyOf, IsGoodEntry, AreAscending}
 use Rattle.docker_model.specs.state.StateText.{Format, TellsOp, IsHorizonOf, IsToldState}
-use Rattle.docker_model.specs.state.StatePart.{IsAboveItems, RaisesFloor, AreLinesUpTo, HaveNotToLapse, IsTag, before_key, in_entry, before_stamp, IsKeyHere, before_op, IsStampHere, before_body, IsAboveEntries, before_mark, before_entry_count, EntryPart, before_tag, before_line, AreLinesOf, IsPartHere, Before, before_horizon, before_ledger_count, before_item, at_end, AreGood}
+use Rattle.docker_model.specs.state.StatePart.{IsAboveItems, RaisesFloor, AreLinesUpTo, HaveNotToLapse, IsTag, before_key, in_entry, before_stamp, IsKeyHere}
+use Rattle.docker_model.specs.state.StatePart.{before_op, IsStampHere, before_body, IsAboveEntries, before_mark, before_entry_count, EntryPart, before_tag}
+use Rattle.docker_model.specs.state.StatePart.{before_line, AreLinesOf, IsPartHere, Before, before_horizon, before_ledger_count, before_item, at_end, AreGood}
 use Rattle.state_laws.specs.TextStage.{after_items, after_lines, after_entries, with_entry}
 use Rattle.cif_laws.proofs.orders.Orders.{file_stamp_total, exact_file_stamp}
 use Rattle.cif_laws.proofs.lists.Membership.{cons-Contains-first}
 use Rattle.state_laws.proofs.texts.TextStages.{Leads, no_step, then_leads}
 use Rattle.state_laws.proofs.texts.TextsBefore.{more_items, more_lines, more_entries, all_lines, all_items, all_entries}
-use Rattle.state_laws.proofs.texts.GoodPartLeads.{step_item, step_line, step_tag, step_key, step_stamp, step_put, step_tiploc, step_association, step_count, step_deleted, step_lapsed, head_leads, step_ledger_count, step_entry_count, horizon_leads}
+use Rattle.state_laws.proofs.texts.GoodPartLeads.{step_item, step_line, step_tag, step_key, step_stamp, step_put, step_tiploc, step_association}
+use Rattle.state_laws.proofs.texts.GoodPartLeads.{step_count, step_deleted, step_lapsed, head_leads, step_ledger_count, step_entry_count, horizon_leads}
 use Rattle.cif_laws.proofs.lists.AllOf.{all_behind, all_front}
 use Rattle.cif_laws.proofs.orders.Ascending.{below_next}
 
@@ -232,7 +237,7 @@ entry_count_leads format horizon ledger is_horizon is fits =
     then_leads format _ _ _ (ledger_leads format horizon (length ledger) ledger is_horizon is fits (omega arith))
     (no_step format _ _ (all_items horizon ledger))
 
--- the entries of a state that the format can hold
+-- the format can hold each entry that is good, hasn't to lapse and has an op of the format
 told_entries : (format : Format) (horizon : ℕ) (ledger : List LedgerItem) (entries : List (Key × Entry)) → AllByRecursion (IsGoodEntry ledger) entries
     → AllByRecursion (λ (entry : Key × Entry). HasNotToLapse horizon entry.1.op) entries
     → AllByRecursion (λ (entry : Key × Entry). TellsOp format entry.1.op) entries

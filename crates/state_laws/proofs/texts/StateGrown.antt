@@ -1,4 +1,4 @@
--- A state that a format can hold, with one more good entry, is one too.
+-- If a format can hold a state, it can also hold it with one more good entry.
 use Rattle.std.proofs.Common.{ℕ, arith, List, [], ◌∷◌, ◌++◌, All, ◌≡◌, ◌<◌, ◌≤◌, ◌^◌, length, sym, subst, inl, inr, ◌⊎◌, true, false, cond, nat_le}
 use Rattle.std.specs.Ordering.{on}
 use Rattle.std.proofs.lemmas.List.Elements.{All-from_recursion, recursion_from_All}
@@ -50,7 +50,7 @@ no_entries format horizon ledger is_horizon is = record {
   ops = All-from_recursion (λ (entry : Key × Entry). TellsOp format entry.1.op) [] tt;
 }
 
--- a property of each entry and of one more is a property of all of them
+-- if some entries and one more have a property, all of them together have it
 one_more : (P : Key × Entry → Type 0) (entries : List (Key × Entry)) (entry : Key × Entry) → All P entries → P entry → All P (entries ++ entry ∷ [])
 one_more P entries entry all last =
     All-from_recursion P (entries ++ entry ∷ []) (all_append P entries (entry ∷ []) (recursion_from_All P entries all) (last, tt))
@@ -72,7 +72,7 @@ valid_more state key stamp op valid here of stays = record {
     entry : Entry
     entry = record { stamp = stamp; op = op }
 
--- a state that the format can hold, with one more good entry that the format has
+-- if a format can hold a state and one more good entry, it can hold the state with the entry
 pub one_entry_more : (format : Format) (state : State) (key : Key) (stamp : Stamp) (op : Op) → IsToldState format state → IsStampHere state key stamp
     → IsOpOf key op
     → HasNotToLapse state.horizon op → TellsOp format op → IsToldState format (with_entry state key stamp op)

@@ -1,5 +1,6 @@
 -- An item, a key and a stamp are read back from their bytes, which have the right width.
-use Rattle.std.proofs.Common.{◌≡◌, ℕ, suc, ◌+◌, ◌-◌, ◌<◌, ◌^◌, List, [], ◌∷◌, ◌++◌, length, take, drop, refl, ap, ◌∙◌, subst, arith, append_assoc, length-append, Contains}
+use Rattle.std.proofs.Common.{◌≡◌, ℕ, suc, ◌+◌, ◌-◌, ◌<◌, ◌^◌, List, [], ◌∷◌, ◌++◌, length, take, drop}
+use Rattle.std.proofs.Common.{refl, ap, ◌∙◌, subst, arith, append_assoc, length-append, Contains}
 use Rattle.std.specs.Prelude.{slice_index, slice_range}
 use Rattle.std.specs.Int.{w16, w32, to_be_bytes, from_be_bytes}
 use Rattle.std.proofs.lemmas.Nat.{from_be_bytes-to_be_bytes_2, from_be_bytes-to_be_bytes_4}
@@ -8,11 +9,12 @@ use Rattle.docker_model.specs.file.Change.{Key, tiploc_key, association_key, sch
 use Rattle.docker_model.specs.state.Stamp.{FileStamp, Stamp, LedgerItem}
 use Rattle.docker_model.specs.state.Op.{key_tag}
 use Rattle.docker_model.specs.state.State.{IsGoodItem, IsGoodKey, IsGoodAssociationKey, IsGoodScheduleKey, IsLedger, IsStampIn}
-use Rattle.docker_model.specs.state.StateText.{file_stamp_bytes, item_bytes, key_bytes, stamp_bytes, file_stamp_in, item_in, key_in, stamp_in, association_key_in, schedule_key_in}
+use Rattle.docker_model.specs.state.StateText.{file_stamp_bytes, item_bytes, key_bytes, stamp_bytes, file_stamp_in}
+use Rattle.docker_model.specs.state.StateText.{item_in, key_in, stamp_in, association_key_in, schedule_key_in}
 use Rattle.docker_model.specs.state.StatePart.{key_width}
 use Rattle.cif_laws.proofs.lists.Membership.{Contains-map}
 
--- what is left of two lists once the first is dropped
+-- dropping the first list and `k` more elements leaves the second list without its first `k`
 pub drop_past : (xs ys : List ℕ) (n k : ℕ) → length xs ≡ n → drop (n + k) (xs ++ ys) ≡ drop k ys
 drop_past [] ys n k size = ap (λ j. drop j ys) (omega arith)
 drop_past (x ∷ xs) ys n k size =

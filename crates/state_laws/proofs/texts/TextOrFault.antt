@@ -1,11 +1,14 @@
--- Every text is a state's within the limit, or has a fault: a walk over its parts.
-use Rattle.std.proofs.Common.{◌≡◌, ℕ, zero, suc, ◌+◌, ◌<◌, ◌≤◌, List, [], ◌∷◌, ◌++◌, length, take, drop, refl, ap, sym, ◌∙◌, subst, inl, inr, ◌⊎◌, arith, append_assoc, append-nil, length-append, All}
+-- A walk over a text's parts: every text is the text of a state within the limit, or has a fault.
+use Rattle.std.proofs.Common.{◌≡◌, ℕ, zero, suc, ◌+◌, ◌<◌, ◌≤◌, List, [], ◌∷◌, ◌++◌, length, take, drop, refl, ap}
+use Rattle.std.proofs.Common.{sym, ◌∙◌, subst, inl, inr, ◌⊎◌, arith, append_assoc, append-nil, length-append, All}
 use Rattle.std.proofs.lemmas.List.{take-append-drop, length-take-le}
 use Rattle.std.proofs.lemmas.List.Elements.{recursion_from_All}
 use Rattle.docker_model.specs.file.Change.{tiploc_key, association_key, schedule_key}
 use Rattle.docker_model.specs.state.State.{State}
 use Rattle.docker_model.specs.state.StateText.{Format, state_text}
-use Rattle.docker_model.specs.state.StatePart.{EntryPart, before_tag, before_key, before_stamp, before_op, before_body, before_line, part_width, key_width, IsTag, Before, before_mark, before_horizon, before_ledger_count, before_item, before_entry_count, in_entry, at_end, items_before, text_before, width, IsPartHere, AreGood}
+use Rattle.docker_model.specs.state.StatePart.{EntryPart, before_tag, before_key, before_stamp, before_op, before_body, before_line, part_width}
+use Rattle.docker_model.specs.state.StatePart.{key_width, IsTag, Before, before_mark, before_horizon, before_ledger_count, before_item}
+use Rattle.docker_model.specs.state.StatePart.{before_entry_count, in_entry, at_end, items_before, text_before, width, IsPartHere, AreGood}
 use Rattle.docker_model.specs.state.StateFault.{too_short, has_tail, too_long, StateFault, IsStateFault, IsStateText}
 use Rattle.state_laws.specs.TextStage.{advance}
 use Rattle.cif_laws.proofs.lists.AllOf.{all_front, all_behind}
@@ -200,7 +203,7 @@ walk format limit text zero before rest told few = one_step_on format limit text
 walk format limit text (suc steps) before rest told few =
     one_step_on format limit text before rest told (λ after more further less. walk format limit text steps after more further (omega arith))
 
--- a text of bytes is a state's within the limit, or has a fault
+-- a text of bytes is the text of a state within the limit, or it has a fault
 pub text_or_fault : (format : Format) → (limit : ℕ) (text : List ℕ) → All (λ b. b < 256) text → Answer format limit text
 text_or_fault format limit text small =
     walk format limit text (length text) before_mark text

@@ -1,4 +1,5 @@
--- Reading a text part by part. The parts so far determine what comes next, and so does the text.
+-- Reading a text part by part. The parts so far determine the text so far. Of two points in one text
+-- that differ, one is later.
 use Rattle.std.proofs.Common.{◌≡◌, ℕ, ◌<◌, List, ◌++◌, length, [], ◌∷◌, ap, ◌∙◌, sym, subst, append_assoc, append-nil, ◌⊎◌, refl, inl, inr}
 use Rattle.std.specs.Prelude.{⊤}
 use Rattle.std.specs.List.{concat}
@@ -46,7 +47,7 @@ one_step format before after part size some not_bad to text = record {
   to = to;
 }
 
--- if one point leads to another, and that to a third, the first leads to the third
+-- if a point leads to a second one, and the second to a third, the first leads to the third
 pub then_leads : (format : Format) → (before between after : Before) → Leads format before between → Leads format between after → Leads format before after
 then_leads format before between after first second = by before first.parts first.follow first.to
   where
@@ -56,7 +57,7 @@ then_leads format before between after first second = by before first.parts firs
         let rest = by (advance format from part) parts follow.1 to in
         record { parts = part ∷ rest.parts; follow = (follow.0, rest.follow); to = rest.to }
 
--- the text up to the point to which these parts lead
+-- the text up to the point after some parts is the text so far and these parts
 pub after_text : (format : Format) → (before : Before) (parts : List (List ℕ)) → Follow format before parts
     → text_before format (after_parts format before parts) ≡ text_before format before ++ concat parts
 after_text format before [] follow = sym (append-nil (text_before format before))
@@ -64,8 +65,8 @@ after_text format before (part ∷ parts) follow =
     after_text format (advance format before part) parts follow.1 ∙ ap (λ front. front ++ concat parts) follow.0.text
     ∙ append_assoc (text_before format before) part (concat parts)
 
--- the second point is later: the text up to it has, after the text up to the first, at least the
--- first's next part
+-- the second point is later: the text up to the second point has at least the next part after the
+-- text up to the first
 pub record IsLater (format : Format) (before after : Before) : Type 0 where
   pub part : List ℕ
   pub more : List ℕ
@@ -102,7 +103,7 @@ in_line_from format from (part ∷ parts) (other ∷ others) rest more f g same 
     (after_parts format (advance format from v) others)) told.0
     (λ follow. in_line_from format (advance format from part) parts others rest more f.1 follow told.1) g.1
 
--- two points up to which one text is the same are equal, or one is later than the other
+-- two points reached in one text are equal, or one is later than the other
 pub in_line : (format : Format) → (from first second : Before) (rest more : List ℕ) → Leads format from first → Leads format from second
     → text_before format first ++ rest ≡ text_before format second ++ more → AreInLine format first second
 in_line format from first second rest more one two same =

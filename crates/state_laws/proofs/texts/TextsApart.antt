@@ -9,7 +9,7 @@ use Rattle.cif_laws.proofs.lists.Fronts.{same_front}
 use Rattle.state_laws.proofs.texts.TextStages.{IsLater, AreInLine, in_line}
 use Rattle.state_laws.proofs.texts.PartsReached.{reach}
 
--- the state of a text that is read to its end; elsewhere another state
+-- the state at the end of a state's text; at any other point the default state
 pub state_or : State → Before → State
 state_or other (at_end state) = state
 state_or other _ = other
@@ -97,7 +97,7 @@ one_stop format limit text first second one two = by (both_in_line format text f
     by (inr (inl later)) = absurd (one.stops second two.rest later two.whole two.within)
     by (inr (inr later)) = absurd (two.stops first one.rest later one.whole one.within)
 
--- how many bytes a later point is further on
+-- the bytes between a point and a later one are the next part and whatever follows it
 pub later_size : (format : Format) → (before after : Before) (later : IsLater format before after)
     → length (text_before format before) + width before + length later.more ≡ length (text_before format after)
 later_size format before after later =

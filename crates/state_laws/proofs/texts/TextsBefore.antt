@@ -1,5 +1,6 @@
--- What comes after items, entries and lines, and the text up to there.
-use Rattle.std.proofs.Common.{◌≡◌, ℕ, ◌<◌, ◌≤◌, ◌^◌, List, [], ◌∷◌, ◌++◌, length, ap, sym, ◌∙◌, inl, inr, ◌⊎◌, arith, append_assoc, append-nil, length-append, true, false, nat_le, cond}
+-- The point after some items, entries or lines, and the text up to that point.
+use Rattle.std.proofs.Common.{◌≡◌, ℕ, ◌<◌, ◌≤◌, ◌^◌, List, [], ◌∷◌, ◌++◌, length, ap, sym, ◌∙◌, inl, inr, ◌⊎◌}
+use Rattle.std.proofs.Common.{arith, append_assoc, append-nil, length-append, true, false, nat_le, cond}
 use Rattle.std.specs.List.{concat, flat_map}
 use Rattle.std.specs.Int.{w32, w64, to_be_bytes, from_be_bytes}
 use Rattle.std.proofs.lemmas.Nat.{from_be_bytes-to_be_bytes_4, from_be_bytes-to_be_bytes_8}
@@ -56,7 +57,7 @@ all_lines count state key stamp lines =
     (after_entries count (with_entry state (schedule_key key) stamp (put_with (schedule_body lines))))
     (in_entry count state (before_line key stamp (length lines) lines))
 
--- the text up to the part after these items
+-- the text up to the point after some items is the ledger's text with these items
 pub after_items_text : (format : Format) (horizon : ℕ) → (count : ℕ) (ledger : List LedgerItem) → length ledger ≤ count
     → text_before format (after_items horizon count ledger) ≡ ledger_text format horizon count ledger
 after_items_text format horizon count ledger within = by (leb_tells count (length ledger))
@@ -72,7 +73,7 @@ after_items_text format horizon count ledger within = by (leb_tells count (lengt
         (λ i. text_before format (cond (told.0 i) (before_entry_count horizon ledger) (before_item horizon count ledger)))
         ∙ append-nil (ledger_text format horizon count ledger)
 
--- the text up to the part after these entries
+-- the text up to the point after some entries is the state's text with these entries
 pub after_entries_text : (format : Format) → (count : ℕ) (state : State) → length state.entries ≤ count
     → text_before format (after_entries count state) ≡ entries_text format count state
 after_entries_text format count state within = by (leb_tells count (length state.entries))
@@ -87,7 +88,7 @@ after_entries_text format count state within = by (leb_tells count (length state
         ∙ append-nil (entries_text format (length state.entries) state) ∙ ap (λ n. entries_text format n state) same
     by (inr told) = (λ i. text_before format (cond (told.0 i) (at_end state) (in_entry count state before_tag))) ∙ append-nil (entries_text format count state)
 
--- the text with one more entry
+-- one more entry adds its own text after the other entries
 pub with_entry_text : (format : Format) → (count : ℕ) (state : State) (key : Key) (stamp : Stamp) (op : Op)
     → entries_text format count (with_entry state key stamp op) ≡ entries_text format count state ++ entry_bytes (key, record { stamp = stamp; op = op })
 with_entry_text format count state key stamp op =
@@ -97,7 +98,7 @@ with_entry_text format count state key stamp op =
     ∙ ap (λ xs. flat_map entry_bytes state.entries ++ xs) (append-nil bytes))
     ∙ sym (append_assoc front (flat_map entry_bytes state.entries) bytes)
 
--- the text up to the part after an entry
+-- the text up to the point after an entry ends with the entry's text
 pub entry_done_text : (format : Format) → (count : ℕ) (state : State) (key : Key) (stamp : Stamp) (op : Op) → length state.entries < count
     → text_before format (after_entries count (with_entry state key stamp op)) ≡ entries_text format count state ++
     (key_text key ++ stamp_bytes stamp ++ op_bytes op)
@@ -105,7 +106,7 @@ entry_done_text format count state key stamp op below =
     let size = length-append state.entries ((key, record { stamp = stamp; op = op }) ∷ []) in
     after_entries_text format count (with_entry state key stamp op) (omega arith) ∙ with_entry_text format count state key stamp op
 
--- the text up to the part after these lines
+-- the text up to the point after some lines of a schedule ends with these lines
 pub after_lines_text : (format : Format) → (count : ℕ) (state : State) (key : ScheduleKey) (stamp : Stamp) (n : ℕ) (lines : List (List ℕ))
     → length state.entries < count → length lines ≤ n
     → text_before format (after_lines count state key stamp n lines) ≡ entries_text format count state ++ part_text (before_line key stamp n lines)

@@ -48,7 +48,7 @@ const PUT_AND_DELETED: &[&[u8]] = &[
     b"deleted",
 ];
 
-/// How that file's state is shown if the file is a full extract.
+/// How the state is shown if the file that puts and deletes a schedule is a full extract.
 const PUT_AND_DELETED_IN_FULL: &[&[u8]] = &[
     b"item 23536 1260 DFROC1A F DFROC1Z",
     b"floor 23536 1260 DFROC1A",
@@ -267,7 +267,8 @@ fn join_succeeds(rt: &impl Abort, alloc: Global, one: State, other: State) {
     same(rt, joined.entries().len(), 2);
 }
 
-/// Asserts that making the state of such a file succeeds at the first or the second try.
+/// Asserts that making the state of a file of these records succeeds at the first or the second
+/// try.
 fn of_file_succeeds(rt: &impl Abort, alloc: Global, records: &[&[u8]]) {
     let one = state(rt, alloc, records);
     let before = shown(rt, alloc, &one);

@@ -1,4 +1,4 @@
-//! What lapses under a horizon, and what stays.
+//! The entries that lapse under a horizon, and the entries that stay.
 
 use super::{joined, made_is, set, set_on};
 use docker_state::State;
@@ -23,7 +23,7 @@ const LIVE: &[&[u8]] = &[
     LT,
 ];
 
-/// How it is shown under the horizon a day later.
+/// How a schedule is shown under the horizon a day after its last day.
 const LAPSED: &[&[u8]] = &[
     b"horizon 23542",
     b"item 23536 1260 DFROC1A U DFROC1Z",
@@ -51,7 +51,8 @@ const REVISION: &[&[u8]] = &[HD_10B, BS_REVISED, LO_0905, LT_0935, ZZ];
 /// An older file, in which the schedule ends later.
 const OLDER: &[&[u8]] = &[HD_8A, BS_JULY, LO, LT, ZZ];
 
-/// How the join of both is shown under a horizon after the end of the revision.
+/// How the join of the revision and the older file is shown under a horizon after the end of the
+/// revision.
 const REVISION_LAPSED: &[&[u8]] = &[
     b"horizon 23542",
     b"item 23535 1260 DFROC1A U DFROC1Z",

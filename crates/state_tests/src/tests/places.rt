@@ -74,7 +74,7 @@ const FILE: &[&[u8]] = &[
     ZZ,
 ];
 
-/// What is found at Colwell in that file's state.
+/// What is found at Colwell in the state of the file with both schedules.
 const AT_COLWELL: &[&[u8]] = &[
     b"calls 1: C30001 23537",
     BS_C30001,
@@ -114,7 +114,7 @@ const LEFT_AT_COLWELL: &[&[u8]] = &[
     AA_DIVIDE,
 ];
 
-/// What is found at Ashfeld then.
+/// What is found at Ashfeld once C10001 is put and C30002 deleted.
 const AT_ASHFELD: &[&[u8]] = &[
     b"calls 1: C10001 23537",
     BS,

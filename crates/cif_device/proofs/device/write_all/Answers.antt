@@ -1,4 +1,4 @@
--- A write goes on after what is written.
+-- Each write continues after the bytes that were written.
 use Rattle.std.proofs.Common.{rules}
 use Rattle.cif_device.proofs.DeviceLemmas.{Takes-take, take-drop_all}
 use Rattle.cif_device.proofs.device.write_all.Goals as goal

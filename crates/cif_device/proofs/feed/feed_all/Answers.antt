@@ -2,7 +2,9 @@
 use Rattle.std.proofs.Common.{Ok, Err, ◌≡◌, ◌+◌, ◌<◌, ◌++◌, length, take, refl, ap, arith, ◌∙◌, subst}
 use Rattle.std.proofs.lemmas.List.{length-take-le}
 use Rattle.cif_device.specs.Device.{IsEnd}
-use Rattle.cif_device.proofs.FeedLemmas.{at_once, at_start, count_told, end_stays, ended_by, going_on, not_passed_by, still_going, still_not_passed, fed_where_failed, fits_still, next_turn, no_more, none_failed, nothing_more, nothing_read, one_more, memory_told, refusal_told, refused_behind, same_front}
+use Rattle.cif_device.proofs.FeedLemmas.{at_once, at_start, count_told, end_stays, ended_by, going_on, not_passed_by, still_going}
+use Rattle.cif_device.proofs.FeedLemmas.{still_not_passed, fed_where_failed, fits_still, next_turn, no_more, none_failed, nothing_more}
+use Rattle.cif_device.proofs.FeedLemmas.{nothing_read, one_more, memory_told, refusal_told, refused_behind, same_front}
 use Rattle.cif_device.specs.declared.feed.FeedFault.TheVariants as feed
 use Rattle.cif_device.proofs.feed.feed_all.Goals as goal
 
@@ -14,8 +16,11 @@ returns-in_default-clause-no_further g c = λ terms text taken.
     nothing_read g.T.Taker.takes terms text (g.S.Source.left c.args.source.now) c.args.taker.now taken
 
 pub returns-in_default-clause-failures : goal.returns-in_default-clause-failures
-returns-in_default-clause-failures g c =
-    (none_failed (Err feed.Memory) (g.S.Source.failures c.args.source.now) (g.S.Source.failures c.args.source.now) (g.S.Source.failures c.args.source.now) memory_told refl refl, λ other. refl)
+returns-in_default-clause-failures g c = (
+  none_failed (Err feed.Memory)
+      (g.S.Source.failures c.args.source.now) (g.S.Source.failures c.args.source.now) (g.S.Source.failures c.args.source.now) memory_told refl refl,
+  λ other. refl,
+)
 
 pub pieces-init : goal.pieces-init
 pieces-init g c = record {
@@ -46,7 +51,8 @@ returns-then-n-eq0-clause-ends g c =
     let end : IsEnd (g.S.Source.left c.pieces.source) = c.in-Ok-read.ensures.end c.if-n-eq0.true room in (
       λ terms text taken.
           nothing_more g.T.Taker.takes c.pieces.fed c.in-Ok-read.n terms text (g.S.Source.left c.args.source.now) (g.S.Source.left c.pieces.source)
-          (g.S.Source.left c.read.new.self) c.pieces.taker c.read.new.into (c.pieces.invariant.turn terms text taken) c.if-n-eq0.true c.in-Ok-read.ensures.moved,
+          (g.S.Source.left c.read.new.self) c.pieces.taker c.read.new.into (c.pieces.invariant.turn terms text taken)
+          c.if-n-eq0.true c.in-Ok-read.ensures.moved,
       end_stays (g.S.Source.left c.pieces.source) (g.S.Source.left c.read.new.self) (take c.in-Ok-read.n c.read.new.into) c.in-Ok-read.ensures.moved end,
     )
 
@@ -122,7 +128,8 @@ pieces-preserved g c =
       no_failure = c.in-Ok-read.ensures.no_failure ∙ c.pieces.invariant.no_failure;
       room = c.pieces.invariant.room;
       not_ended = λ was. going_on c.in-Ok-read.n (length c.read.new.into) (g.S.Source.ended c.pieces.source) (g.S.Source.ended c.read.new.self)
-          (g.S.Source.passed c.pieces.source) (g.S.Source.passed c.read.new.self) c.in-Ok-read.ensures.ending c.if-n-eq0.false (c.pieces.invariant.not_ended was);
+          (g.S.Source.passed c.pieces.source) (g.S.Source.passed c.read.new.self)
+          c.in-Ok-read.ensures.ending c.if-n-eq0.false (c.pieces.invariant.not_ended was);
       not_passed = λ was. not_passed_by c.in-Ok-read.n (length c.read.new.into) (g.S.Source.ended c.pieces.source) (g.S.Source.ended c.read.new.self)
           (g.S.Source.passed c.pieces.source) (g.S.Source.passed c.read.new.self) c.in-Ok-read.ensures.ending (c.pieces.invariant.not_ended was)
           ∙ c.pieces.invariant.not_passed was;
@@ -135,7 +142,8 @@ returns-in_default-read-clause-not_ended g c = λ was.
 
 pub returns-in_default-read-clause-not_passed : goal.returns-in_default-read-clause-not_passed
 returns-in_default-read-clause-not_passed g c = λ was.
-    still_not_passed (g.S.Source.ended c.pieces.source) (g.S.Source.ended c.read.new.self) (g.S.Source.passed c.pieces.source) (g.S.Source.passed c.read.new.self)
+    still_not_passed (g.S.Source.ended c.pieces.source) (g.S.Source.ended c.read.new.self)
+    (g.S.Source.passed c.pieces.source) (g.S.Source.passed c.read.new.self)
     c.in_default-read.ensures.still ∙ c.pieces.invariant.not_passed was
 
 pub returns-then-n-eq0-clause-ended : goal.returns-then-n-eq0-clause-ended

@@ -1,4 +1,4 @@
--- The cause is that the file has ended, or else the one that the record's place and fields give.
+-- The cause is that the file has ended, or else the cause that the record's place and fields give.
 use Rattle.std.proofs.Common.{◌∙◌, sym}
 use Rattle.std.proofs.lemmas.Bool.{false≢true}
 use Rattle.cif_file.proofs.AnswerLemmas.{if_err_by}

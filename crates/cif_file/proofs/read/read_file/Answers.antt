@@ -1,4 +1,4 @@
--- The file that was read, whose changes were kept.
+-- The result is the file that was read, with its changes.
 use Rattle.std.proofs.Common.{sym, subst}
 use Rattle.std.specs.Prelude.{⊤}
 use Rattle.cif_file.specs.SourceRead.{ReadsText}

@@ -1,4 +1,4 @@
--- The file that was read, of which the keeper kept what the place and the day need.
+-- The result is the file that was read, with what the place and the day need.
 use Rattle.std.proofs.Common.{sym, subst}
 use Rattle.std.specs.Prelude.{⊤}
 use Rattle.cif_file.specs.SourceRead.{ReadsThin}

@@ -41,7 +41,8 @@ returns-in_err-office-in-Day g c =
           took.no_further took.outcome);
       none = some_of_task _ c.args.job.now.task (day_task c.in-Day.place c.in-Day.day) at (λ none. cc);
       order = inl refl;
-      counted = file_failed_alone Excerpt (g.S.Source.failures c.args.first.now) (g.S.Source.failures c.take.new.source) (g.T.Source.failures c.args.second.now) _
+      counted = file_failed_alone Excerpt (g.S.Source.failures c.args.first.now) (g.S.Source.failures c.take.new.source)
+          (g.T.Source.failures c.args.second.now) _
           took.failures;
       written = tt;
     })

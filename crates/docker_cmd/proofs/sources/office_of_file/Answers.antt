@@ -27,7 +27,8 @@ returns-in_err-take-clause-reads g c = λ second.
     let same = err_from_is_err_and c.from_residual.result c.from_residual.ensures.1 in
     let took = c.in_err-take.ensures.takes in
     let first = g.S.Source.left c.args.source.now in
-    rw (same.1, same.2) (file_refused_alone (λ (_ : ⊤). TakesFile most_records first c.new-office.result c.take.new.self) first (g.S.Source.left c.take.new.source)
+    rw (same.1, same.2) (file_refused_alone (λ (_ : ⊤). TakesFile most_records first c.new-office.result c.take.new.self) first
+    (g.S.Source.left c.take.new.source)
     second _ took.no_further took.outcome)
 
 pub returns-in_err-take-clause-counted : goal.returns-in_err-take-clause-counted

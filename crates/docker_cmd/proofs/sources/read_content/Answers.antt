@@ -59,7 +59,11 @@ returns-in_ok-office_of_state-in-State g c =
     let second = g.T.Source.left c.args.second.now in
     record {
       reads = read_at c.args.sources code.State (g.S.Source.left c.args.first.now) (g.S.Source.left c.office_of_state.new.source) second second
-          (office_read c.in_ok-office_of_state-in-State.field-0) c.in-State.is (record { first_few = c.in_ok-office_of_state-in-State.ensures.few; second_few = refl; ends = (c.in_ok-office_of_state-in-State.ensures.outcome, tt) });
+          (office_read c.in_ok-office_of_state-in-State.field-0) c.in-State.is (record {
+            first_few = c.in_ok-office_of_state-in-State.ensures.few;
+            second_few = refl;
+            ends = (c.in_ok-office_of_state-in-State.ensures.outcome, tt);
+          });
       none = some_at _ c.args.sources code.State c.in-State.is (λ none. cc);
       order = inl refl;
       counted = (c.in_ok-office_of_state-in-State.ensures.failures, refl);
@@ -71,10 +75,12 @@ returns-in_err-office_of_state-in-State g c =
     let second = g.T.Source.left c.args.second.now in
     rw (same.1, same.2) (record {
       reads = refused_at c.args.sources code.State (g.S.Source.left c.args.first.now) (g.S.Source.left c.office_of_state.new.source) second second
-          _ c.in-State.is (state_refused_alone dks_2 (g.S.Source.left c.args.first.now) (g.S.Source.left c.office_of_state.new.source) second (g.S.Source.failures c.args.first.now) (g.S.Source.failures c.office_of_state.new.source) _ c.in_err-office_of_state-in-State.ensures);
+          _ c.in-State.is (state_refused_alone dks_2 (g.S.Source.left c.args.first.now) (g.S.Source.left c.office_of_state.new.source) second
+          (g.S.Source.failures c.args.first.now) (g.S.Source.failures c.office_of_state.new.source) _ c.in_err-office_of_state-in-State.ensures);
       none = some_at _ c.args.sources code.State c.in-State.is (λ none. cc);
       order = inl refl;
-      counted = state_failed_alone (g.S.Source.failures c.args.first.now) (g.S.Source.failures c.office_of_state.new.source) (g.T.Source.failures c.args.second.now) _ c.in_err-office_of_state-in-State.ensures.failures;
+      counted = state_failed_alone (g.S.Source.failures c.args.first.now) (g.S.Source.failures c.office_of_state.new.source)
+          (g.T.Source.failures c.args.second.now) _ c.in_err-office_of_state-in-State.ensures.failures;
     })
 
 pub returns-in_ok-office_of_older_state-in-OlderState : goal.returns-in_ok-office_of_older_state-in-OlderState
@@ -82,7 +88,11 @@ returns-in_ok-office_of_older_state-in-OlderState g c =
     let second = g.T.Source.left c.args.second.now in
     record {
       reads = read_at c.args.sources code.OlderState (g.S.Source.left c.args.first.now) (g.S.Source.left c.office_of_older_state.new.source) second second
-          (office_read c.in_ok-office_of_older_state-in-OlderState.field-0) c.in-OlderState.is (record { first_few = c.in_ok-office_of_older_state-in-OlderState.ensures.few; second_few = refl; ends = (c.in_ok-office_of_older_state-in-OlderState.ensures.outcome, tt) });
+          (office_read c.in_ok-office_of_older_state-in-OlderState.field-0) c.in-OlderState.is (record {
+            first_few = c.in_ok-office_of_older_state-in-OlderState.ensures.few;
+            second_few = refl;
+            ends = (c.in_ok-office_of_older_state-in-OlderState.ensures.outcome, tt);
+          });
       none = some_at _ c.args.sources code.OlderState c.in-OlderState.is (λ none. cc);
       order = inl refl;
       counted = (c.in_ok-office_of_older_state-in-OlderState.ensures.failures, refl);
@@ -90,35 +100,44 @@ returns-in_ok-office_of_older_state-in-OlderState g c =
 
 pub returns-in_err-office_of_older_state-in-OlderState : goal.returns-in_err-office_of_older_state-in-OlderState
 returns-in_err-office_of_older_state-in-OlderState g c =
-    let same = err_from_is_err_and c.from_residual-in_err-office_of_older_state-in-OlderState.result c.from_residual-in_err-office_of_older_state-in-OlderState.ensures.1 in
+    let same = err_from_is_err_and c.from_residual-in_err-office_of_older_state-in-OlderState.result
+    c.from_residual-in_err-office_of_older_state-in-OlderState.ensures.1 in
     let second = g.T.Source.left c.args.second.now in
     rw (same.1, same.2) (record {
       reads = refused_at c.args.sources code.OlderState (g.S.Source.left c.args.first.now) (g.S.Source.left c.office_of_older_state.new.source) second second
-          _ c.in-OlderState.is (state_refused_alone dks_1 (g.S.Source.left c.args.first.now) (g.S.Source.left c.office_of_older_state.new.source) second (g.S.Source.failures c.args.first.now) (g.S.Source.failures c.office_of_older_state.new.source) _ c.in_err-office_of_older_state-in-OlderState.ensures);
+          _ c.in-OlderState.is (state_refused_alone dks_1 (g.S.Source.left c.args.first.now) (g.S.Source.left c.office_of_older_state.new.source) second
+          (g.S.Source.failures c.args.first.now) (g.S.Source.failures c.office_of_older_state.new.source) _
+          c.in_err-office_of_older_state-in-OlderState.ensures);
       none = some_at _ c.args.sources code.OlderState c.in-OlderState.is (λ none. cc);
       order = inl refl;
-      counted = state_failed_alone (g.S.Source.failures c.args.first.now) (g.S.Source.failures c.office_of_older_state.new.source) (g.T.Source.failures c.args.second.now) _ c.in_err-office_of_older_state-in-OlderState.ensures.failures;
+      counted = state_failed_alone (g.S.Source.failures c.args.first.now) (g.S.Source.failures c.office_of_older_state.new.source)
+          (g.T.Source.failures c.args.second.now) _ c.in_err-office_of_older_state-in-OlderState.ensures.failures;
     })
 
 pub returns-in_ok-office_of_state_and_file-in-StateAndFile : goal.returns-in_ok-office_of_state_and_file-in-StateAndFile
 returns-in_ok-office_of_state_and_file-in-StateAndFile g c =
     record {
       reads = read_at c.args.sources code.StateAndFile (g.S.Source.left c.args.first.now) (g.S.Source.left c.office_of_state_and_file.new.first)
-          (g.T.Source.left c.args.second.now) (g.T.Source.left c.office_of_state_and_file.new.second) (office_read c.in_ok-office_of_state_and_file-in-StateAndFile.field-0) c.in-StateAndFile.is
+          (g.T.Source.left c.args.second.now) (g.T.Source.left c.office_of_state_and_file.new.second)
+          (office_read c.in_ok-office_of_state_and_file-in-StateAndFile.field-0) c.in-StateAndFile.is
           c.in_ok-office_of_state_and_file-in-StateAndFile.ensures.reads;
       none = some_at _ c.args.sources code.StateAndFile c.in-StateAndFile.is (λ none. cc);
-      order = read_second (subst (λ (s : Sources). HasSecondSource (sources_meant s)) (sym c.in-StateAndFile.is) (inl refl)) c.in_ok-office_of_state_and_file-in-StateAndFile.ensures.order;
+      order = read_second (subst (λ (s : Sources). HasSecondSource (sources_meant s)) (sym c.in-StateAndFile.is) (inl refl))
+          c.in_ok-office_of_state_and_file-in-StateAndFile.ensures.order;
       counted = c.in_ok-office_of_state_and_file-in-StateAndFile.ensures.counted;
     }
 
 pub returns-in_err-office_of_state_and_file-in-StateAndFile : goal.returns-in_err-office_of_state_and_file-in-StateAndFile
 returns-in_err-office_of_state_and_file-in-StateAndFile g c =
-    let same = err_from_is_err_and c.from_residual-in_err-office_of_state_and_file-in-StateAndFile.result c.from_residual-in_err-office_of_state_and_file-in-StateAndFile.ensures.1 in
+    let same = err_from_is_err_and c.from_residual-in_err-office_of_state_and_file-in-StateAndFile.result
+    c.from_residual-in_err-office_of_state_and_file-in-StateAndFile.ensures.1 in
     rw (same.1, same.2) (record {
       reads = refused_at c.args.sources code.StateAndFile (g.S.Source.left c.args.first.now) (g.S.Source.left c.office_of_state_and_file.new.first)
-          (g.T.Source.left c.args.second.now) (g.T.Source.left c.office_of_state_and_file.new.second) _ c.in-StateAndFile.is c.in_err-office_of_state_and_file-in-StateAndFile.ensures.reads;
+          (g.T.Source.left c.args.second.now) (g.T.Source.left c.office_of_state_and_file.new.second) _ c.in-StateAndFile.is
+          c.in_err-office_of_state_and_file-in-StateAndFile.ensures.reads;
       none = some_at _ c.args.sources code.StateAndFile c.in-StateAndFile.is (λ none. cc);
-      order = read_second (subst (λ (s : Sources). HasSecondSource (sources_meant s)) (sym c.in-StateAndFile.is) (inl refl)) c.in_err-office_of_state_and_file-in-StateAndFile.ensures.order;
+      order = read_second (subst (λ (s : Sources). HasSecondSource (sources_meant s)) (sym c.in-StateAndFile.is) (inl refl))
+          c.in_err-office_of_state_and_file-in-StateAndFile.ensures.order;
       counted = c.in_err-office_of_state_and_file-in-StateAndFile.ensures.counted;
     })
 
@@ -126,20 +145,25 @@ pub returns-in_ok-office_of_two_states-in-TwoStates : goal.returns-in_ok-office_
 returns-in_ok-office_of_two_states-in-TwoStates g c =
     record {
       reads = read_at c.args.sources code.TwoStates (g.S.Source.left c.args.first.now) (g.S.Source.left c.office_of_two_states.new.first)
-          (g.T.Source.left c.args.second.now) (g.T.Source.left c.office_of_two_states.new.second) (office_read c.in_ok-office_of_two_states-in-TwoStates.field-0) c.in-TwoStates.is
+          (g.T.Source.left c.args.second.now) (g.T.Source.left c.office_of_two_states.new.second)
+          (office_read c.in_ok-office_of_two_states-in-TwoStates.field-0) c.in-TwoStates.is
           c.in_ok-office_of_two_states-in-TwoStates.ensures.reads;
       none = some_at _ c.args.sources code.TwoStates c.in-TwoStates.is (λ none. cc);
-      order = read_second (subst (λ (s : Sources). HasSecondSource (sources_meant s)) (sym c.in-TwoStates.is) (inr refl)) c.in_ok-office_of_two_states-in-TwoStates.ensures.order;
+      order = read_second (subst (λ (s : Sources). HasSecondSource (sources_meant s)) (sym c.in-TwoStates.is) (inr refl))
+          c.in_ok-office_of_two_states-in-TwoStates.ensures.order;
       counted = c.in_ok-office_of_two_states-in-TwoStates.ensures.counted;
     }
 
 pub returns-in_err-office_of_two_states-in-TwoStates : goal.returns-in_err-office_of_two_states-in-TwoStates
 returns-in_err-office_of_two_states-in-TwoStates g c =
-    let same = err_from_is_err_and c.from_residual-in_err-office_of_two_states-in-TwoStates.result c.from_residual-in_err-office_of_two_states-in-TwoStates.ensures.1 in
+    let same = err_from_is_err_and c.from_residual-in_err-office_of_two_states-in-TwoStates.result
+    c.from_residual-in_err-office_of_two_states-in-TwoStates.ensures.1 in
     rw (same.1, same.2) (record {
       reads = refused_at c.args.sources code.TwoStates (g.S.Source.left c.args.first.now) (g.S.Source.left c.office_of_two_states.new.first)
-          (g.T.Source.left c.args.second.now) (g.T.Source.left c.office_of_two_states.new.second) _ c.in-TwoStates.is c.in_err-office_of_two_states-in-TwoStates.ensures.reads;
+          (g.T.Source.left c.args.second.now) (g.T.Source.left c.office_of_two_states.new.second) _ c.in-TwoStates.is
+          c.in_err-office_of_two_states-in-TwoStates.ensures.reads;
       none = some_at _ c.args.sources code.TwoStates c.in-TwoStates.is (λ none. cc);
-      order = read_second (subst (λ (s : Sources). HasSecondSource (sources_meant s)) (sym c.in-TwoStates.is) (inr refl)) c.in_err-office_of_two_states-in-TwoStates.ensures.order;
+      order = read_second (subst (λ (s : Sources). HasSecondSource (sources_meant s)) (sym c.in-TwoStates.is) (inr refl))
+          c.in_err-office_of_two_states-in-TwoStates.ensures.order;
       counted = c.in_err-office_of_two_states-in-TwoStates.ensures.counted;
     })

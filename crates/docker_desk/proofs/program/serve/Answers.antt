@@ -7,15 +7,15 @@ use Rattle.docker_desk.proofs.program.serve.Goals as goal
 
 pub returns-in-Ok : goal.returns-in-Ok
 returns-in-Ok g c =
-    served_as (texts c.args.words.now) g.D.Folder.names_bytes _ _ _ c.end_session.result c.in-Some.terms.name.now c.in-Some.terms.may_write
+    served_as (texts c.args.words.now) g.D.Folder.names_bytes _ _ _ c.end_session.result c.in-Some.named.name.now c.in-Some.named.may_write
     (moment c.in-Ok.session.desk (g.D.Folder.look_of c.in-Ok.session.seen) (g.D.Folder.history c.open_session.new.folder)
     (g.D.Folder.failures c.open_session.new.folder))
     (moment c.serve_lines-ending.new.session.desk (g.D.Folder.look_of c.serve_lines-ending.new.session.seen)
     (g.D.Folder.history c.serve_lines-ending.new.folder) (g.D.Folder.failures c.serve_lines-ending.new.folder))
-    c.serve_lines-ending.result (c.in-Some.terms.may_write && c.is_unsaved-unsaved.result) c.host.view_is
+    c.serve_lines-ending.result (c.in-Some.named.may_write && c.is_unsaved-unsaved.result) c.host.view_is
     c.in-Some.ensures.named
-    (begins (λ session. session.desk) c.in-Some.terms.name.now (g.D.Folder.history c.host.inside.folder) (g.D.Folder.history c.open_session.new.folder)
+    (begins (λ session. session.desk) c.in-Some.named.name.now (g.D.Folder.history c.host.inside.folder) (g.D.Folder.history c.open_session.new.folder)
     c.in-Ok.session (g.D.Folder.look_of c.in-Ok.session.seen) (g.D.Folder.failures c.open_session.new.folder) c.in-Ok.ensures.opens c.in-Ok.ensures.look)
     (still _ _ c.in-Ok.ensures.counted) c.serve_lines-ending.ensures.answers refl refl c.serve_lines-ending.ensures.counted
     c.serve_lines-ending.ensures.not_passed c.end_session.ensures
-    (ap (λ (unsaved : Bool). c.in-Some.terms.may_write && unsaved) c.is_unsaved-unsaved.ensures)
+    (ap (λ (unsaved : Bool). c.in-Some.named.may_write && unsaved) c.is_unsaved-unsaved.ensures)

@@ -1,4 +1,4 @@
--- The first place of the name has the text.
+-- The text is from the first place that has the name.
 use Rattle.std.proofs.Common.{sym, ap, ◌∙◌}
 use Rattle.std.specs.Str.{bytes_eq}
 use Rattle.docker_host.specs.History.{Text}

@@ -1,4 +1,5 @@
-use Rattle.docker_laws.proofs.dockers.ExcerptTurns.{kept_first, kept_alone, kept_here, kept_elsewhere, kept_joins, kept_begins, kept_last, kept_within, kept_good}
+use Rattle.docker_laws.proofs.dockers.ExcerptTurns.{kept_first, kept_alone, kept_here, kept_elsewhere, kept_joins}
+use Rattle.docker_laws.proofs.dockers.ExcerptTurns.{kept_begins, kept_last, kept_within, kept_good}
 use Rattle.docker_laws.proofs.excerpt.excerpt_in_a_loop.Goals as goal
 
 pub returns-clause-first : goal.returns-clause-first

@@ -1,4 +1,5 @@
-use Rattle.docker_laws.proofs.dockers.ThinChanges.{thinning_at_first, thinning_elsewhere, thinning_kept, thinning_dropped, thinning_removed, thinning_replaced, thinning_more, thinning_of_all}
+use Rattle.docker_laws.proofs.dockers.ThinChanges.{thinning_at_first, thinning_elsewhere, thinning_kept, thinning_dropped}
+use Rattle.docker_laws.proofs.dockers.ThinChanges.{thinning_removed, thinning_replaced, thinning_more, thinning_of_all}
 use Rattle.docker_laws.proofs.thinning.thinning_change_by_change.Goals as goal
 
 pub returns-clause-first : goal.returns-clause-first

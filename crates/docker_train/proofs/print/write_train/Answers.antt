@@ -13,7 +13,8 @@ returns-in_err-write_all-clause-part g c =
     on_any_err c.from_residual.result
     (part_of_first (g.K.Sink.taken c.args.sink.now) (g.K.Sink.taken c.write_all.new.sink) (g.K.Sink.taken c.write_all.new.sink)
     (g.K.Sink.taken c.write_all.new.sink) c.heading-heading.result (flat_map ended (lines_of train.found)) (ended last_line)
-    (ended (heading train.uid train.day train.found)) (flat_map ended (lines_of train.found)) (ended last_line) (heading_is train.uid c.uid.result train.day c.day.result train.found c.text_of_found.result c.heading-heading.result c.uid.ensures c.day.ensures
+    (ended (heading train.uid train.day train.found)) (flat_map ended (lines_of train.found)) (ended last_line)
+    (heading_is train.uid c.uid.result train.day c.day.result train.found c.text_of_found.result c.heading-heading.result c.uid.ensures c.day.ensures
     (c.text_of_found.ensures ∙ ap found_text c.found.ensures) c.heading-heading.ensures) refl refl
     c.in_err-write_all.ensures.part)
 
@@ -23,7 +24,8 @@ returns-in_err-write_lines-clause-part g c =
     on_any_err c.from_residual-in_err-write_lines.result
     (part_of_second (g.K.Sink.taken c.args.sink.now) (g.K.Sink.taken c.write_all.new.sink) (g.K.Sink.taken c.write_lines.new.sink)
     (g.K.Sink.taken c.write_lines.new.sink) c.heading-heading.result (flat_map ended c.lines.result.now) (ended last_line)
-    (ended (heading train.uid train.day train.found)) (flat_map ended (lines_of train.found)) (ended last_line) (heading_is train.uid c.uid.result train.day c.day.result train.found c.text_of_found.result c.heading-heading.result c.uid.ensures c.day.ensures
+    (ended (heading train.uid train.day train.found)) (flat_map ended (lines_of train.found)) (ended last_line)
+    (heading_is train.uid c.uid.result train.day c.day.result train.found c.text_of_found.result c.heading-heading.result c.uid.ensures c.day.ensures
     (c.text_of_found.ensures ∙ ap found_text c.found.ensures) c.heading-heading.ensures)
     (ap (flat_map ended) c.lines.ensures) refl c.in_ok-write_all.ensures.whole c.in_err-write_lines.ensures.part)
 
@@ -33,7 +35,8 @@ returns-clause-whole g c =
     on_ok_weaker c.write_all-2.result
     (all_taken (g.K.Sink.taken c.args.sink.now) (g.K.Sink.taken c.write_all.new.sink) (g.K.Sink.taken c.write_lines.new.sink)
     (g.K.Sink.taken c.write_all-2.new.sink) c.heading-heading.result (flat_map ended c.lines.result.now) c.last_line.result
-    (ended (heading train.uid train.day train.found)) (flat_map ended (lines_of train.found)) (ended last_line) (heading_is train.uid c.uid.result train.day c.day.result train.found c.text_of_found.result c.heading-heading.result c.uid.ensures c.day.ensures
+    (ended (heading train.uid train.day train.found)) (flat_map ended (lines_of train.found)) (ended last_line)
+    (heading_is train.uid c.uid.result train.day c.day.result train.found c.text_of_found.result c.heading-heading.result c.uid.ensures c.day.ensures
     (c.text_of_found.ensures ∙ ap found_text c.found.ensures) c.heading-heading.ensures)
     (ap (flat_map ended) c.lines.ensures) c.last_line.ensures c.in_ok-write_all.ensures.whole c.in_ok-write_lines.ensures.whole)
     c.write_all-2.ensures.whole
@@ -44,7 +47,8 @@ returns-clause-part g c =
     on_err_weaker c.write_all-2.result
     (part_of_third (g.K.Sink.taken c.args.sink.now) (g.K.Sink.taken c.write_all.new.sink) (g.K.Sink.taken c.write_lines.new.sink)
     (g.K.Sink.taken c.write_all-2.new.sink) c.heading-heading.result (flat_map ended c.lines.result.now) c.last_line.result
-    (ended (heading train.uid train.day train.found)) (flat_map ended (lines_of train.found)) (ended last_line) (heading_is train.uid c.uid.result train.day c.day.result train.found c.text_of_found.result c.heading-heading.result c.uid.ensures c.day.ensures
+    (ended (heading train.uid train.day train.found)) (flat_map ended (lines_of train.found)) (ended last_line)
+    (heading_is train.uid c.uid.result train.day c.day.result train.found c.text_of_found.result c.heading-heading.result c.uid.ensures c.day.ensures
     (c.text_of_found.ensures ∙ ap found_text c.found.ensures) c.heading-heading.ensures)
     (ap (flat_map ended) c.lines.ensures) c.last_line.ensures c.in_ok-write_all.ensures.whole c.in_ok-write_lines.ensures.whole)
     c.write_all-2.ensures.part

@@ -1,5 +1,5 @@
--- After lines of a schedule comes a line that continues it, or a record that begins a unit. For the
--- second the schedule has to be whole.
+-- After lines of a schedule comes a line that continues the schedule, or a record that begins a
+-- unit. A unit can begin only if the schedule is whole.
 use Rattle.std.proofs.lemmas.Result.{err_from_is_err_and}
 use Rattle.std.proofs.Common.{◌∙◌, ap, sym, subst, refl}
 use Rattle.std.proofs.lemmas.Bool.{false≢true}

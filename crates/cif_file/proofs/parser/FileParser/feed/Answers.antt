@@ -2,7 +2,8 @@
 use Rattle.std.proofs.Common.{◌++◌, sym, ap, subst, ◌∙◌}
 use Rattle.cif_file.specs.KeeperRead.{KeepsAll}
 use Rattle.cif_file.specs.ParserRead.{ParserState, IsReading}
-use Rattle.cif_file.proofs.ParserLemmas.{told_stays, reading_tells_none, read_at_fault, fault_at_read, reading_at_none, none_at_reading, had_failed, names_later}
+use Rattle.cif_file.proofs.ParserLemmas.{told_stays, reading_tells_none, read_at_fault, fault_at_read}
+use Rattle.cif_file.proofs.ParserLemmas.{reading_at_none, none_at_reading, had_failed, names_later}
 use Rattle.cif_file.proofs.parser.FileParser.feed.Goals as goal
 
 pub returns-in-Some-clause-read : goal.returns-in-Some-clause-read

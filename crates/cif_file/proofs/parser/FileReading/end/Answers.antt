@@ -6,7 +6,8 @@ use Rattle.cif_laws.specs.LinesTold.{told_lines}
 use Rattle.docker_model.specs.file.Text.{lines_of}
 use Rattle.cif_file.specs.ParserRead.{IsFaultNext}
 use Rattle.cif_file.proofs.AnswerLemmas.{if_err_by}
-use Rattle.cif_file.proofs.ParserLemmas.{counted_last, counted_ended, end_fault, file_at_end, no_end_at_end, empty_is, some_is_open, later_next, later_end, last_end, last_open}
+use Rattle.cif_file.proofs.ParserLemmas.{counted_last, counted_ended, end_fault, file_at_end, no_end_at_end}
+use Rattle.cif_file.proofs.ParserLemmas.{empty_is, some_is_open, later_next, later_end, last_end, last_open}
 use Rattle.cif_file.proofs.parser.FileReading.end.Goals as goal
 
 pub returns-then-is_empty-clause-ok : goal.returns-then-is_empty-clause-ok

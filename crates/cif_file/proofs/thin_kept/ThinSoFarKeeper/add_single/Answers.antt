@@ -10,7 +10,7 @@ returns-clause-kept g c =
     (λ added. λ lines made keeps. record {
       lines_are = keeps.lines_are;
       near_is = keeps.near_is;
-      told = c.with_single-self.ensures ∙ (λ i. keeps.told i ++ c.changes_of-changes.ensures.changes i);
+      so_far = c.with_single-self.ensures ∙ (λ i. keeps.so_far i ++ c.changes_of-changes.ensures.changes i);
       thinned =
           subst (λ more. HasThinned g.P.PlaceDay.place g.P.PlaceDay.day c.add_single.new.self (made ++ more)) c.changes_of-changes.ensures.changes
           (added g.P.PlaceDay.place g.P.PlaceDay.day made keeps.thinned);

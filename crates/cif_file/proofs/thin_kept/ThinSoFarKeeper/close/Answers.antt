@@ -8,8 +8,9 @@ returns-clause-kept g c = λ lines made read whole keeps. record {
   lines_are = c.clear.ensures.items;
   near_is = tt;
   thinned =
-      c.in_ok-add_opened.ensures g.P.PlaceDay.place g.P.PlaceDay.day lines (c.as_slice.ensures.value ∙ keeps.lines_are) read whole keeps.near_is made keeps.thinned;
-  told =
+      c.in_ok-add_opened.ensures g.P.PlaceDay.place g.P.PlaceDay.day lines (c.as_slice.ensures.value ∙ keeps.lines_are)
+      read whole keeps.near_is made keeps.thinned;
+  so_far =
       c.with_opened-self.ensures
-      ∙ (λ i. keeps.told i ++ change_renewed c.args.opened (keeps.lines_are i) ∷ []);
+      ∙ (λ i. keeps.so_far i ++ change_renewed c.args.opened (keeps.lines_are i) ∷ []);
 }

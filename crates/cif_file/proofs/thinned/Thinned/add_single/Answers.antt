@@ -1,4 +1,4 @@
--- One change, or two.
+-- A record makes one change or two, and each is added.
 use Rattle.std.proofs.Common.{subst}
 use Rattle.std.specs.Prelude.{IfSome}
 use Rattle.cif_change.specs.Meaning.{change_meant}
@@ -19,5 +19,6 @@ returns-in_ok-add-in-Some c =
     on_ok_one c.add-in-Some-2.result c.add-in-Some-2.ensures
     (λ added. λ place day.
     let never = subst (λ first. IfSome first (λ change. IsNeverThin (change_meant change))) c.in-Some.is c.requires.0 in
-    two_taken place day c.args.self.now c.add-in-Some-2.new.self c.args.changes.first (change_meant c.args.changes.last) c.in-Some.change c.add-in-Some.new.self c.in-Some.is
+    two_taken place day c.args.self.now c.add-in-Some-2.new.self c.args.changes.first (change_meant c.args.changes.last)
+    c.in-Some.change c.add-in-Some.new.self c.in-Some.is
     (c.in_ok-add-in-Some.ensures never place day) (added c.requires.1 place day))

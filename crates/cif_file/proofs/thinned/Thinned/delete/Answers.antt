@@ -1,4 +1,4 @@
--- No change of the key was kept; or the deletion is kept.
+-- If no change of the key was kept, the deletion is dropped. Otherwise it is kept.
 use Rattle.std.proofs.Common.{refl, sym, ◌∙◌}
 use Rattle.cif_file.proofs.FrontLemmas.{on_ok_one}
 use Rattle.cif_file.proofs.ThinLemmas.{deletion_dropped, deletion_kept}

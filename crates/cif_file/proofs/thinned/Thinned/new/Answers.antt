@@ -1,4 +1,4 @@
--- Of no changes none is kept.
+-- Without changes nothing is kept.
 use Rattle.std.proofs.Common.{refl}
 use Rattle.cif_file.proofs.ThinLemmas.{none_thinned}
 use Rattle.cif_file.proofs.thinned.Thinned.new.Goals as goal

@@ -1,8 +1,9 @@
-use Rattle.std.proofs.Common.{Some, ap, rules, tests}
+use Rattle.std.proofs.Common.{ap, sym, ◌∙◌}
 use Rattle.docker_desk.specs.Copying.{MatchView}
-use Rattle.docker_desk.proofs.WritingLemmas.{matched}
+use Rattle.docker_desk.proofs.MatchLemmas.{goes_on_as}
 use Rattle.docker_desk.proofs.matching.MatchingSink.write.Goals as goal
 
-pub returns-then-eq-clause-moved : goal.returns-then-eq-clause-moved
-returns-then-eq-clause-moved c =
-    ap Some (matched c.self.inside.text.now c.args.piece.now c.args.self.now.taken c.self.inside.at (search (rules, tests)) (ap (λ (it : MatchView). it.taken) c.self.view_is))
+pub returns-then-n-gt0-clause-moved : goal.returns-then-n-gt0-clause-moved
+returns-then-n-gt0-clause-moved g c =
+    goes_on_as c.self.inside.text.now c.args.piece.now c.args.self.now.taken c.self.inside.other c.self.inside.at c.matching_front-n.result
+    (sym c.is_some.ensures ∙ c.if-is_some.false) (ap (λ (it : MatchView). it.taken) c.self.view_is) c.matching_front-n.ensures.same

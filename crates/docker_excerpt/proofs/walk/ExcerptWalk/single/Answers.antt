@@ -26,14 +26,16 @@ returns-clause-ok c = λ ok.
       | in-Some+in_ok-push w ↦ subst (λ (s : ExcerptWalk).
           IsWalk s.place (c.args.given.now.entries ++ (key_meant c.args.key, entry_meant c.args.entry) ∷ [])
           (map row_meant c.push_reserved.new.self.items) (map row_meant s.run.items) s.needed s.names.items) (sym w.self-is)
-          (walk_by it.place _ _ _ _ run _ it.needed _ w.push.new.self.items (rows_more it.kept.items c.match-name_in.self.kept.items c.push_reserved.new.self.items c.args.key c.args.entry
+          (walk_by it.place _ _ _ _ run _ it.needed _ w.push.new.self.items
+          (rows_more it.kept.items c.match-name_in.self.kept.items c.push_reserved.new.self.items c.args.key c.args.entry
           (ap (λ (s : ExcerptWalk). s.kept.items) w.self-is ∙ c.in_ok-reserve.ensures.items) c.push_reserved.ensures.items) refl refl
           (names_with_some it.names.items w.push.new.self.items w.in-Some.name c.name_in.result _ w.in_ok-push.ensures.items w.in-Some.is c.name_in.ensures)
           here)
       | in_default w ↦ subst (λ (s : ExcerptWalk).
           IsWalk s.place (c.args.given.now.entries ++ (key_meant c.args.key, entry_meant c.args.entry) ∷ [])
           (map row_meant c.push_reserved.new.self.items) (map row_meant s.run.items) s.needed s.names.items) (sym w.self-is)
-          (walk_by it.place _ _ _ _ run _ it.needed _ it.names.items (rows_more it.kept.items c.match-name_in.self.kept.items c.push_reserved.new.self.items c.args.key c.args.entry
+          (walk_by it.place _ _ _ _ run _ it.needed _ it.names.items
+          (rows_more it.kept.items c.match-name_in.self.kept.items c.push_reserved.new.self.items c.args.key c.args.entry
           (ap (λ (s : ExcerptWalk). s.kept.items) w.self-is ∙ c.in_ok-reserve.ensures.items) c.push_reserved.ensures.items) refl refl
           (names_with_none it.names.items c.name_in.result _ w.in_default.is c.name_in.ensures) here)
     ]

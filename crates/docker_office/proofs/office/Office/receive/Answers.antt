@@ -11,7 +11,8 @@ returns-clause-reads g c =
     let read = c.in_ok-join_state.ensures.reads in
     record {
       few = read.few;
-      outcome = subst (λ (own : State). JoinsState dks_2 c.args.limit (g.S.Source.left c.args.source.now) own c.join_state.new.state) c.self.view_is read.outcome;
+      outcome =
+          subst (λ (own : State). JoinsState dks_2 c.args.limit (g.S.Source.left c.args.source.now) own c.join_state.new.state) c.self.view_is read.outcome;
       failures = read.failures;
     }
 

@@ -9,7 +9,8 @@ pub returns-in_err-file-clause-takes : goal.returns-in_err-file-clause-takes
 returns-in_err-file-clause-takes g c =
     let same = err_from_is_err_and c.from_residual.result c.from_residual.ensures.1 in
     let left = g.S.Source.left c.args.source.now in
-    rw (same.1, same.2) (untaken c.args.limit (λ (_ : ⊤). TakesFile c.args.limit left c.args.self.now c.args.self.now) left (g.S.Source.left c.read_file.new.source)
+    rw (same.1, same.2) (untaken c.args.limit (λ (_ : ⊤). TakesFile c.args.limit left c.args.self.now c.args.self.now) left
+    (g.S.Source.left c.read_file.new.source)
     (g.S.Source.failures c.args.source.now) (g.S.Source.failures c.read_file.new.source) _ c.in_err-file.ensures.no_further c.in_err-file.ensures.file
     c.in_err-file.ensures.memory c.in_err-file.ensures.failures)
 

@@ -1,15 +1,15 @@
 use Rattle.std.proofs.Common.{◌≡◌, sym, ap, ◌∙◌, refl, subst, true, false}
 use Rattle.docker_model.specs.state.State.{IsValid, IsJoin}
-use Rattle.state_text.specs.Told.{horizon_meant, under}
-use Rattle.state_text.specs.Receiving.{told_of}
-use Rattle.state_text.proofs.ToldLemmas.{join_behind, join_plain}
+use Rattle.state_text.specs.PartsSoFar.{horizon_meant, under}
+use Rattle.state_text.specs.Receiving.{given_of}
+use Rattle.state_text.proofs.PartsSoFarLemmas.{join_behind, join_plain}
 use Rattle.state_text.proofs.received.Received.join.Goals as goal
 use Rattle.state_text.proofs.received.Received.join.Goals.{then-is_ok+in-Some, then-is_ok+in_default, else-is_ok}
 
 pub returns-clause-ok : goal.returns-clause-ok
 returns-clause-ok g c = λ ok.
     let own = g.R.Receiver.own in
-    let parts = told_of c.self.inside.receiving in
+    let parts = given_of c.self.inside.receiving in
     let given = c.args.self in
     let told = under (horizon_meant c.args.horizon) given in
     let joined = c.finish-joined.ensures.ok ok (horizon_meant c.args.horizon)

@@ -1,6 +1,6 @@
 use Rattle.std.proofs.Common.{sym, ap, ◌∙◌}
-use Rattle.state_text.specs.Told.{horizon_meant, under}
-use Rattle.state_text.proofs.ToldLemmas.{under_none, set_behind}
+use Rattle.state_text.specs.PartsSoFar.{horizon_meant, under}
+use Rattle.state_text.proofs.PartsSoFarLemmas.{under_none, set_behind}
 use Rattle.state_text.proofs.whole.WholeMaker.finish.Goals as goal
 use Rattle.state_text.proofs.whole.WholeMaker.finish.Goals.{in-Some, in_default}
 

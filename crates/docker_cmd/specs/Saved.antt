@@ -1,0 +1,51 @@
+-- What is saved of a state that was read from a version of a STATE file, and kept while it gained
+-- more.
+use Rattle.std.specs.Prelude.{◌≡◌, ◌<◌, ℕ, List, [], ◌∷◌, length, slice_index_or, Some}
+use Rattle.docker_model.specs.file.File.{most_records}
+use Rattle.docker_model.specs.file.FileFault.{IsFileText}
+use Rattle.docker_model.specs.records.Date.{IsDay}
+use Rattle.docker_model.specs.state.State.{State, raise_horizon}
+use Rattle.docker_model.specs.state.StateText.{dks_2, state_text}
+use Rattle.docker_office.specs.Office.{TakesFile}
+use Rattle.docker_office.specs.SourceRead.{JoinsState, ReadsState}
+use Rattle.docker_cmd.specs.Prepared.{DeviceBytes, most_bytes}
+
+-- a source held the text of this file
+abbrev pub HoldsFile : DeviceBytes → List (List ℕ) → Type 0
+HoldsFile bytes file = (text : List ℕ) × (bytes ≡ Some text) × IsFileText most_records text file
+
+-- a source held this earlier version, if there is one of this number
+pub record HoldsVersion (earlier : List (List ℕ)) (bytes : DeviceBytes) (number : ℕ) : Type 0 where
+  pub there : number < length earlier
+  pub held : bytes ≡ Some (slice_index_or earlier number [])
+
+-- what a state gained: a file, an earlier version of any STATE file by its number, or a horizon
+pub data Gain : Type 0 where
+  file_gained : (file : List (List ℕ)) → Gain
+  version_gained : (number : ℕ) → Gain
+  horizon_gained : (day : ℕ) → Gain
+
+-- a state that gained this became that state: a source held the file or the version, and the state
+-- was joined with its state; or the horizon was set
+abbrev pub Gains : List (List ℕ) → Gain → State → State → Type 0
+Gains earlier (file_gained file) old new =
+    (held : DeviceBytes) × HoldsFile held file × TakesFile most_records held old new
+Gains earlier (version_gained number) old new =
+    (held : DeviceBytes) × HoldsVersion earlier held number × JoinsState dks_2 most_bytes held old new
+Gains earlier (horizon_gained day) old new = IsDay day × (new ≡ raise_horizon day old)
+
+-- a state gained these, one after the other
+abbrev pub AreGained : List (List ℕ) → List Gain → State → State → Type 0
+AreGained earlier [] old new = new ≡ old
+AreGained earlier (gain ∷ gains) old new =
+    (next : State) × Gains earlier gain old next × AreGained earlier gains next new
+
+-- a state was read from an earlier version and gained these, and this is its text then
+pub record IsSaved (earlier : List (List ℕ)) (own : ℕ) (gains : List Gain) (text : List ℕ) : Type 0 where
+  pub held : DeviceBytes
+  pub holds : HoldsVersion earlier held own
+  pub first : State
+  pub reads : ReadsState dks_2 most_bytes held first
+  pub last : State
+  pub gained : AreGained earlier gains first last
+  pub text_is : text ≡ state_text dks_2 last

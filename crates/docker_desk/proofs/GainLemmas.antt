@@ -1,0 +1,159 @@
+-- What a session gains, from step to step.
+use Rattle.std.proofs.Common.{◌≡◌, ℕ, List, [], ◌∷◌, ◌++◌, refl, sym, ◌∙◌, ap, subst, Some, None, Ok, Err}
+use Rattle.std.specs.Prelude.{Option, Result, ⊤}
+use Rattle.docker_model.specs.file.File.{most_records}
+use Rattle.docker_model.specs.state.State.{State}
+use Rattle.docker_model.specs.state.StateText.{dks_2, state_text}
+use Rattle.docker_model.specs.records.Date.{IsDay}
+use Rattle.docker_cmd.specs.Office.{TakesFile}
+use Rattle.docker_cmd.specs.OfficeFault.{OfficeFault}
+use Rattle.docker_cmd.specs.Prepared.{most_bytes}
+use Rattle.docker_cmd.specs.Saved.{AreGained, Gain, Gains, HoldsVersion, file_gained, horizon_gained, version_gained}
+use Rattle.docker_cmd.specs.SourceRead.{JoinsState}
+use Rattle.docker_host.specs.History.{Bytes, Event, Text, looked}
+use Rattle.docker_desk.specs.Desk.{EndsReceiving, EndsRenewing, EndsSaving, EndsTaking}
+use Rattle.docker_desk.specs.Doing.{AreSteps, DoesAsked, DoesRequest, Joins, Renews, Saves, answer_of}
+use Rattle.docker_desk.specs.Learning.{GainedBy, GainsAsked, GainsDone, GainsFile, GainsVersion, IsPlaced, renewing}
+use Rattle.docker_desk.specs.Moments.{Moment, Setting, Step}
+use Rattle.docker_desk.specs.Reading.{Reading, StopsInFile, StopsInState, events_of, opening_of}
+use Rattle.docker_desk.specs.Replies.{AnswerView, done_with, no_request, refused_for}
+use Rattle.docker_desk.specs.Requests.{RequestView, print_request, train_request, files_request, places_request, known_request, renew_request, take_request, merge_request, horizon_request, save_request}
+use Rattle.docker_desk.specs.Serving.{BeginsAt}
+use Rattle.docker_desk.specs.declared.compared.Compared.{Compared}
+use Rattle.docker_desk.proofs.HeardLemmas.{held_after_look, held_once}
+use Rattle.docker_desk.proofs.KnownLemmas.{day_asked, never_unasked, same_refused, same_saved}
+
+module _ (earlier : List (List ℕ)) where
+  -- nothing was gained, and the state is the same
+  gained_none : (gains : List Gain) (old new : State) → gains ≡ [] → new ≡ old → AreGained earlier gains old new
+  gained_none gains old new none same = subst (λ g. AreGained earlier g old new) (sym none) same
+
+  -- one was gained
+  gained_one : (gain : Gain) (gains : List Gain) (old new : State) → gains ≡ gain ∷ [] → Gains earlier gain old new → AreGained earlier gains old new
+  gained_one gain gains old new one gained = subst (λ g. AreGained earlier g old new) (sym one) (new, gained, refl)
+
+  -- some, and then some more
+  gained_both : (gains more : List Gain) (old now new : State) → AreGained earlier gains old now → AreGained earlier more now new
+      → AreGained earlier (gains ++ more) old new
+  gained_both [] more old now new first second = subst (λ s. AreGained earlier more s new) first second
+  gained_both (gain ∷ gains) more old now new first second = (first.0, first.1, gained_both gains more first.0 now new first.2 second)
+
+  module _ (setting : Setting) (before after : Moment) where
+    -- a file that was taken
+    gained_file : (file : Text) (text : List ℕ) (gains : List Gain) → Joins file StopsInFile EndsTaking before (done_with text) after
+        → GainsFile file before after gains → AreGained earlier gains before.desk.state after.desk.state
+    gained_file file text gains does gained = by does.result does.opens.read does.told does.opens.asked does.opens.ends
+      where
+        by : (result : Result ⊤ OfficeFault) (read : Option Reading) → done_with text ≡ answer_of result
+            → after.history ≡ before.history ++ opening_of file read
+            → EndsTaking before.desk.state after.desk.state result read → AreGained earlier gains before.desk.state after.desk.state
+        by (Ok done) (Some read) told asked ends =
+            gained_one (file_gained gained.file) gains before.desk.state after.desk.state gained.gains_are (
+              gained.read.held,
+              gained.holds,
+              subst (λ (bytes : Bytes). TakesFile most_records bytes before.desk.state after.desk.state)
+                  (held_once file before.history after.history read gained.read asked gained.asked) ends.takes,
+            )
+        by (Ok done) None told asked ends = absurd ends
+        by (Err fault) read told asked ends = let never : ⊥ = cc in absurd never
+
+    -- a state that was received
+    gained_state : (events : Reading → List Event) (gains : List Gain) (held : Bytes) (gained : GainsVersion events earlier before after gains)
+        → held ≡ gained.read.held → JoinsState dks_2 most_bytes held before.desk.state after.desk.state
+        → AreGained earlier gains before.desk.state after.desk.state
+    gained_state events gains held gained same joins =
+        gained_one (version_gained gained.number) gains before.desk.state after.desk.state gained.gains_are (
+          gained.read.held,
+          gained.holds,
+          subst (λ (bytes : Bytes). JoinsState dks_2 most_bytes bytes before.desk.state after.desk.state) same joins,
+        )
+
+    gained_merged : (other : Text) (text : List ℕ) (gains : List Gain) → Joins other StopsInState EndsReceiving before (done_with text) after
+        → GainsVersion (events_of other) earlier before after gains → AreGained earlier gains before.desk.state after.desk.state
+    gained_merged other text gains does gained = by does.result does.opens.read does.told does.opens.asked does.opens.ends
+      where
+        by : (result : Result ⊤ OfficeFault) (read : Option Reading) → done_with text ≡ answer_of result
+            → after.history ≡ before.history ++ opening_of other read
+            → EndsReceiving before.desk.state after.desk.state result read → AreGained earlier gains before.desk.state after.desk.state
+        by (Ok done) (Some read) told asked ends =
+            gained_state (events_of other) gains read.held gained (held_once other before.history after.history read gained.read asked gained.asked) ends
+        by (Ok done) None told asked ends = absurd ends
+        by (Err fault) read told asked ends = let never : ⊥ = cc in absurd never
+
+    gained_renewed : (text : List ℕ) (gains : List Gain) → Renews setting before (done_with text) after
+        → GainsVersion (renewing setting.name) earlier before after gains → AreGained earlier gains before.desk.state after.desk.state
+    gained_renewed text gains does gained = by does.result does.opens.read does.told does.opens.asked does.opens.ends
+      where
+        by : (result : Result Compared OfficeFault) (read : Option Reading) → done_with text ≡ answer_of result
+            → after.history ≡ before.history ++ looked setting.name ∷ opening_of setting.name read
+            → EndsRenewing before.desk after.desk result read → AreGained earlier gains before.desk.state after.desk.state
+        by (Ok found) (Some read) told asked ends =
+            gained_state (renewing setting.name) gains read.held gained
+            (held_after_look setting.name before.history after.history read gained.read asked gained.asked) ends.0.0
+        by (Ok found) None told asked ends = absurd ends.0.0
+        by (Err fault) read told asked ends = let never : ⊥ = cc in absurd never
+
+    -- by one request that was done
+    gained_done : (request : RequestView) (text : List ℕ) (gains : List Gain) → ((day : ℕ) → request ≡ horizon_request day → IsDay day)
+        → DoesRequest setting request before (done_with text) after → GainsDone setting earlier request before after gains
+        → AreGained earlier gains before.desk.state after.desk.state
+    gained_done (print_request place day) text gains days does gained = gained_none gains _ _ gained (ap (λ (m : Moment). m.desk.state) does.1)
+    gained_done (train_request uid day) text gains days does gained = gained_none gains _ _ gained (ap (λ (m : Moment). m.desk.state) does.1)
+    gained_done files_request text gains days does gained = gained_none gains _ _ gained (ap (λ (m : Moment). m.desk.state) does.1)
+    gained_done places_request text gains days does gained = gained_none gains _ _ gained (ap (λ (m : Moment). m.desk.state) does.1)
+    gained_done known_request text gains days does gained = gained_none gains _ _ gained (ap (λ (m : Moment). m.desk.state) does.1)
+    gained_done renew_request text gains days does gained = gained_renewed text gains does gained
+    gained_done (take_request file) text gains days does gained = gained_file file text gains does gained
+    gained_done (merge_request other) text gains days does gained = gained_merged other text gains does gained
+    gained_done (horizon_request day) text gains days does gained =
+        gained_one (horizon_gained day) gains before.desk.state after.desk.state gained (days day refl, ap (λ (m : Moment). m.desk.state) does.1)
+    gained_done save_request text gains days does gained =
+        gained_none gains _ _ gained (same_saved setting before after does.result does.desk)
+
+    -- by what was asked for
+    gained_asked : (request : Option RequestView) (answer : AnswerView) (gains : List Gain) → ((day : ℕ) → request ≡ Some (horizon_request day) → IsDay day)
+        → DoesAsked setting request before answer after → GainsAsked setting earlier request before answer after gains
+        → AreGained earlier gains before.desk.state after.desk.state
+    gained_asked None answer gains days does gained = gained_none gains _ _ gained (ap (λ (m : Moment). m.desk.state) does.1)
+    gained_asked (Some request) (done_with text) gains days does gained =
+        gained_done request text gains (λ day same. days day (ap Some same)) does gained
+    gained_asked (Some request) (refused_for fault) gains days does gained =
+        gained_none gains _ _ gained (same_refused setting before after request fault does)
+    gained_asked (Some request) no_request gains days does gained = absurd (never_unasked setting before after request does)
+
+  module _ (setting : Setting) where
+    -- by steps
+    gained_steps : (first last : Moment) (steps : List Step) (gains : List Gain) → AreSteps setting first steps last → GainedBy setting earlier steps gains
+        → AreGained earlier gains first.desk.state last.desk.state
+    gained_steps first last [] gains are gained = gained_none gains _ _ gained (ap (λ (m : Moment). m.desk.state) are)
+    gained_steps first last (step ∷ steps) gains are gained =
+        subst (λ g. AreGained earlier g first.desk.state last.desk.state) (sym gained.1.1.1.1)
+        (subst (λ (m : Moment). AreGained earlier (gained.0 ++ gained.1.0) m.desk.state last.desk.state) are.0
+        (gained_both gained.0 gained.1.0 step.before.desk.state step.after.desk.state last.desk.state
+        (gained_asked setting step.before step.after step.request step.answer gained.0
+        (λ day same. day_asked setting.may_write step.line step.request day are.1.0.asks same) are.1.0.does gained.1.1.0)
+        (gained_steps step.after last steps gained.1.0 are.1.1 gained.1.1.1.0)))
+
+    -- what is saved then
+    pub places_version : (first before after : Moment) (steps : List Step) (old : List Event) (own : ℕ) (gains : List Gain) (answer : List ℕ)
+        → (begins : BeginsAt setting.name old first) → HoldsVersion earlier begins.held own → AreSteps setting first steps before
+        → GainedBy setting earlier steps gains → Saves setting before (done_with answer) after → IsPlaced setting earlier own gains before after
+    places_version first before after steps old own gains answer begins holds are gained does = by does.result does.told does.stores
+      where
+        by : (result : Result ⊤ OfficeFault) → done_with answer ≡ answer_of result
+            → EndsSaving setting.names_bytes setting.name before.look (state_text dks_2 before.desk.state) before.history after.history result
+            → IsPlaced setting earlier own gains before after
+        by (Ok done) told stores = record {
+          text = state_text dks_2 before.desk.state;
+          saved = record {
+            held = begins.held;
+            holds = holds;
+            first = first.desk.state;
+            reads = begins.state;
+            last = before.desk.state;
+            gained = gained_steps first before steps gains are gained;
+            text_is = refl;
+          };
+          asked = stores;
+        }
+        by (Err fault) told stores = let never : ⊥ = cc in absurd never

@@ -1,0 +1,70 @@
+-- How a text is compared as it is written.
+use Rattle.std.proofs.Common.{◌≡◌, ◌<◌, ◌≤◌, ◌+◌, ◌-◌, ℕ, List, [], ◌∷◌, ◌++◌, length, take, drop, Option, None, Some, refl, sym, ◌∙◌, ap, subst, arith, append-nil, append_assoc, length-append}
+use Rattle.std.proofs.lemmas.List.{take-append-drop}
+use Rattle.std.proofs.lemmas.List.{length-drop}
+use Rattle.std.proofs.Math.Seq.{take-add, take-length}
+use Rattle.std.specs.Prelude.{Bool, true, false, ◌&&◌, Result, Ok, Err, OnOk, OnErr, IfErr, IfSome, IsTrue, ⊤}
+use Rattle.std.specs.Option.{is_some}
+use Rattle.std.specs.Result.{is_ok}
+use Rattle.cif_line.specs.Device.{CountsFailure, Takes, TakesPart}
+use Rattle.docker_cmd.specs.OfficeFault.{OfficeFault}
+use Rattle.docker_cmd.specs.OfficeFault.TheVariants as office
+use Rattle.docker_desk.specs.Copying.{IsNoFront, with_other}
+
+-- the text goes on with these bytes of the piece
+pub goes_on : (text piece taken : List ℕ) (at n : ℕ) → take n (drop at text) ≡ take n piece → take at text ≡ taken → take (at + n) text ≡ taken ++ take n piece
+goes_on text piece taken at n same front = take-add at n text ∙ (λ i. front i ++ same i)
+
+-- the same, of a sink that has taken no other byte
+pub goes_on_as : (text piece taken : List ℕ) (other : Option ℕ) (at n : ℕ) → is_some other ≡ false → with_other (take at text) other ≡ taken
+    → take n (take (length text - at) (drop at text)) ≡ take n piece → Some (with_other (take (at + n) text) other) ≡ Some (taken ++ take n piece)
+goes_on_as text piece taken None at n none front same = ap Some (goes_on text piece taken at n (ap (take n) (sym rest) ∙ same) front)
+  where
+    rest : take (length text - at) (drop at text) ≡ drop at text
+    rest = ap (λ (many : ℕ). take many (drop at text)) (sym (length-drop at text)) ∙ take-length (drop at text)
+goes_on_as text piece taken (Some byte) at n none front same = let never : ⊥ = cc in absurd never
+
+-- a sink that has taken another byte didn't take the text
+pub never_whole : (text own front taken : List ℕ) (other : Option ℕ) (test : Bool) → is_some other ≡ true → own ≡ text → with_other front other ≡ taken
+    → IfSome other (λ _. IsNoFront (with_other front other) own) → test ≡ false → (IsTrue test → taken ≡ text) × (taken ≡ text → IsTrue test)
+never_whole text own front taken None test some same is none fails = let never : ⊥ = cc in absurd never
+never_whole text own front taken (Some byte) test some same is none fails = (
+  λ passes. let never : ⊥ = cc in absurd never,
+  λ whole. absurd (none [] (same ∙ sym whole ∙ sym is ∙ sym (append-nil (front ++ byte ∷ [])))),
+)
+
+-- what was sent is the text, exactly if the sink took all of it and nothing else. It fails only after it took what isn't how the text begins
+pub sent_compares : (text sent before taken own : List ℕ) (bytes : Option (List ℕ)) (failures_before failures : ℕ) (done : Result ⊤ OfficeFault)
+    (ok whole : Bool) → before ≡ [] → failures_before ≡ 0 → bytes ≡ Some text → bytes ≡ Some own → OnOk done (Takes (Some before) sent (Some taken))
+    → OnErr done (TakesPart (Some before) sent (Some taken)) → CountsFailure (done ≡ Err office.Sink) failures_before failures
+    → IfErr done (λ fault. fault ≡ office.Sink) → ok ≡ is_ok done → (IsTrue whole → taken ≡ own) × (taken ≡ own → IsTrue whole)
+    → (0 < failures → IsNoFront taken own) → (IsTrue (ok && whole) → text ≡ sent) × (text ≡ sent → IsTrue (ok && whole))
+sent_compares text sent before taken own bytes failures_before failures (Ok done) ok whole none zero named named_too takes part counts only is_ok wholly parted =
+    subst (λ (o : Bool). (IsTrue (o && whole) → text ≡ sent) × (text ≡ sent → IsTrue (o && whole))) (sym is_ok)
+    (λ is. sym same ∙ sym (wholly.0 is) ∙ took, λ is. wholly.1 (took ∙ sym is ∙ sym same))
+  where
+    same : own ≡ text
+    same = cc
+
+    took : taken ≡ sent
+    took = let all : Some taken ≡ Some (before ++ sent) = takes in let one : taken ≡ before ++ sent = cc in one ∙ ap (λ (b : List ℕ). b ++ sent) none
+sent_compares text sent before taken own bytes failures_before failures (Err fault) ok whole none zero named named_too takes part counts only is_ok wholly parted =
+    subst (λ (o : Bool). (IsTrue (o && whole) → text ≡ sent) × (text ≡ sent → IsTrue (o && whole))) (sym is_ok)
+    (λ is. let never : ⊥ = cc in absurd never, λ is. absurd (other is))
+  where
+    same : own ≡ text
+    same = cc
+
+    failed : failures ≡ failures_before + 1
+    failed = counts.0.0 (ap Err only)
+
+    other : ¬ (text ≡ sent)
+    other is = by part
+      where
+        by : TakesPart (Some before) sent (Some taken) → ⊥
+        by (n, short, takes) =
+            parted (omega (arith, failed)) (drop n sent)
+            (same ∙ is ∙ sym (take-append-drop n sent) ∙ ap (λ (t : List ℕ). t ++ drop n sent) (sym front))
+          where
+            front : taken ≡ take n sent
+            front = let all : Some taken ≡ Some (before ++ take n sent) = takes in let one : taken ≡ before ++ take n sent = cc in one ∙ ap (λ (b : List ℕ). b ++ take n sent) none

@@ -1,0 +1,28 @@
+-- The words of a session.
+use Rattle.std.proofs.Common.{◌≡◌, ◌<◌, ◌≤◌, Bool, true, List, [], ◌∷◌, length, get_or, refl, sym, ◌∙◌, ap, subst, arith, Some, None, Bor}
+use Rattle.std.specs.Prelude.{Option, IfSome, codes}
+use Rattle.docker_cmd.specs.Words.{Text, texts}
+use Rattle.docker_desk.specs.Requests.{NamesFile}
+use Rattle.docker_desk.specs.Serving.{NamesSession}
+
+-- words of length 2 are a first and a second word
+two_words : (words : List (Bor Text)) (none : Bor Text) → 2 ≤ length words → length words < 3
+    → texts words ≡ (get_or words 0 none).now ∷ (get_or words 1 none).now ∷ []
+two_words [] none some few = absurd (omega arith)
+two_words (one ∷ []) none some few = absurd (omega arith)
+two_words (one ∷ two ∷ []) none some few = refl
+two_words (one ∷ two ∷ three ∷ more) none some few = absurd (omega arith)
+
+-- two words that begin with `--write` name a session that may write
+pub named_to_write : {T : Type 0} (name_in : T → Text) (writes : T → Bool) (words : List (Bor Text)) (none : Bor Text) (found : Option T) → 2 ≤ length words → length words < 3
+    → (get_or words 0 none).now ≡ codes "--write"
+    → IfSome found (λ it. (name_in it ≡ (get_or words 1 none).now) × (writes it ≡ true) × NamesFile (get_or words 1 none).now (get_or words 1 none).now)
+    → IfSome found (λ it. NamesSession (texts words) (name_in it) (writes it))
+named_to_write name_in writes words none None some few first is = tt
+named_to_write name_in writes words none (Some it) some few first is =
+    let second = (get_or words 1 none).now in
+    subst (λ n. NamesSession (texts words) n (writes it)) (sym is.0)
+    (subst (λ w. NamesSession (texts words) second w) (sym is.1) (record {
+      words_are = two_words words none some few ∙ ap (λ (word : Text). word ∷ second ∷ []) first;
+      named = is.2;
+    }))

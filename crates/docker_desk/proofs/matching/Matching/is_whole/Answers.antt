@@ -1,0 +1,11 @@
+use Rattle.std.proofs.Common.{ap, ◌∙◌}
+use Rattle.std.specs.Prelude.{not}
+use Rattle.docker_desk.specs.Copying.{MatchView}
+use Rattle.docker_desk.proofs.MatchLemmas.{never_whole}
+use Rattle.docker_desk.proofs.matching.Matching.is_whole.Goals as goal
+
+pub returns-else-is_none-clause-whole : goal.returns-else-is_none-clause-whole
+returns-else-is_none-clause-whole g c =
+    never_whole c.args.self.now.text c.self.inside.text.now _ c.args.self.now.taken c.self.inside.other c.is_none.result
+    (c.is_none.ensures ∙ ap not c.if-is_none.false) (ap (λ (it : MatchView). it.text) c.self.view_is) (ap (λ (it : MatchView). it.taken) c.self.view_is)
+    c.self.invariant.2 c.if-is_none.false

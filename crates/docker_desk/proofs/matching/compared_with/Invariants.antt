@@ -1,0 +1,6 @@
+-- The text of the brand is the copy.
+use Rattle.std.proofs.Common.{Some}
+use Rattle.docker_desk.proofs.matching.compared_with.Given as goal
+
+abbrev pub ghosts-is_text_of : goal.ghosts-is_text_of
+ghosts-is_text_of a = record { bytes = Some a.text.now }

@@ -1,0 +1,52 @@
+//! The words of a session.
+ghost use Rattle.std.specs.Prelude.{◌≡◌, ◌↔◌, IfSome, IsNone, IsTrue, codes};
+ghost use Rattle.docker_cmd.specs.Words.{texts};
+ghost use Rattle.docker_desk.specs.Requests.{NamesFile};
+ghost use Rattle.docker_desk.specs.Serving.{NameNoSession, NamesSession};
+
+use crate::requests::file_named;
+
+/// What the words of a session say.
+#[derive(Clone, Copy, Debug)]
+pub struct SessionWords<'a> {
+    /// The name of the state's file.
+    pub name: &'a str,
+    /// Whether the desk may take, merge, set a horizon and save.
+    pub may_write: bool,
+}
+
+/// What the words of a session say: the name of its state's file, after `--write` if the desk may
+/// write. None if they are other words.
+pub fn session_words_in<'a>(words: &[&'a str]) -> Option<SessionWords<'a>>
+    ensures named { IfSome result (λ it.
+        NamesSession (texts words.now) it.name.now it.may_write) }
+    ensures none { IsNone result → NameNoSession (texts words.now) }
+{
+    match words {
+        [name] => session_words_of(name, false),
+        [option, name] => {
+            if !is_write(option) {
+                return None;
+            }
+            session_words_of(name, true)
+        }
+        _ => None,
+    }
+}
+
+/// The words of a session with this name, if a state's file may have it.
+fn session_words_of(name: &str, may_write: bool) -> Option<SessionWords<'_>>
+    ensures named { IfSome result (λ it. (it.name.now ≡ name.now)
+        × (it.may_write ≡ may_write) × NamesFile name.now name.now) }
+    ensures none { IsNone result → ¬ NamesFile name.now name.now }
+{
+    let name = file_named(name)?;
+    Some(SessionWords { name, may_write })
+}
+
+/// Whether it is the word `--write`.
+fn is_write(word: &str) -> bool
+    ensures { IsTrue result ↔ (word.now ≡ codes "--write") }
+{
+    word == "--write"
+}

@@ -1,6 +1,0 @@
--- `auto` proves these too. Written out, they get a wrong body refused without a long search.
-use Rattle.std.proofs.Common.{rules}
-use Rattle.state_text.proofs.told.Told.new.Goals as goal
-
-pub returns : goal.returns
-returns g c = search rules

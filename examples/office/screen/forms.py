@@ -1,0 +1,70 @@
+"""A docker as CSV and as JSON. Where it is known what differs from the permanent timetable, both say it.
+
+In CSV a line that isn't here has its UID and start only, and what it was stands in columns of their own. So nobody takes it for a train that runs."""
+import csv
+import io
+import json
+
+import changes
+import dockers
+import lines
+import names
+import rows
+
+# What a line of CSV has besides the fields of the docker; and where it is known what differs, then the fields of what it was.
+MORE = ("start", "origin_name", "destination_name")
+WAS = tuple(name for name in lines.Line._fields if name not in ("uid", "stp"))
+
+
+def csv_of(docker, starts, named, differing):
+    """The lines of a docker, and in their places those that are gone."""
+    text = io.StringIO()
+    table = csv.writer(text, lineterminator="\n")
+    table.writerow([*lines.Line._fields, *MORE, *(("change", *(f"was_{name}" for name in WAS)) if differing else ())])
+    start_of = iter(starts)
+    for row in rows.rows_of(docker, differing):
+        start = row.change.start if row.is_gone else next(start_of)
+        table.writerow([*fields_of(row, start, named), *(changed_fields(row) if differing else ())])
+    return text.getvalue()
+
+
+def fields_of(row, start, named):
+    """The fields of a line. Of one that is gone only the UID and the start day of its train."""
+    line = row.line
+    if row.is_gone:
+        return [*(line.uid if name == "uid" else "" for name in line._fields), start, "", ""]
+    return [*line, start, named.known(line.origin), named.known(line.destination)]
+
+
+def changed_fields(row):
+    """How a line differs, and the fields of the first permanent line that it stands for."""
+    if row.change is None:
+        return [""] * (1 + len(WAS))
+    was = row.change.was[0] if row.change.was else None
+    return [row.change.kind, *(getattr(was, name) if was else "" for name in WAS)]
+
+
+def json_of(docker, starts, known, named, differing):
+    place = named.places.get(docker.tiploc)
+    heading = {
+        "tiploc": docker.tiploc, "date": docker.date, "description": docker.description, "is_known": bool(docker.description), "name": names.readable(docker.description),
+        "crs": place.crs if place else "", "stanox": place.stanox if place else "", "known_up_to": known.newest._asdict() if known.newest else None,
+        "covers": known.coverage._asdict() if known.coverage else None, "warnings": known.warnings(docker.date),
+        "missing": [{"reference": reference, "before": extract._asdict()} for reference, extract in dockers.missing(known.extracts)],
+    }
+    told = [described(line, start, named) for line, start in zip(docker.lines, starts)]
+    if differing:
+        heading["changes"] = {kind: len(differing.trains.get(kind, ())) for kind in changes.WORDS}
+        heading["not_here"] = [described(line, change.start, named) | {"change": change.kind, "words": change.worded("on this day")} for line, change in differing.gone]
+        told = [line | change_of(differing.of.get(number)) for number, line in enumerate(told)]
+    return json.dumps(heading | {"lines": told}, indent=1) + "\n"
+
+
+def described(line, start, named):
+    """A line with its names."""
+    return line._asdict() | {"start": start, "origin_name": named.known(line.origin), "destination_name": named.known(line.destination)}
+
+
+def change_of(change):
+    """How a line differs, and the permanent lines that it stands for."""
+    return {"change": change.kind if change else None, "was": [was._asdict() for was in change.was] if change else []}
