@@ -142,9 +142,9 @@ fn an_output_that_fails_within_an_answer(rt: HostRuntime) {
     let alloc = rt.alloc();
     stops_at(&rt, alloc, 1, "");
     stops_at(&rt, alloc, 3, "2 ");
-    stops_at(&rt, alloc, 8, "2 1 193");
-    stops_at(&rt, alloc, 9, "2 1 193\n");
-    stops_at(&rt, alloc, 14, "2 1 193\ndesk:");
+    stops_at(&rt, alloc, 8, "2 1 217");
+    stops_at(&rt, alloc, 9, "2 1 217\n");
+    stops_at(&rt, alloc, 14, "2 1 217\ndesk:");
     let (done, sink) = broken_at(&rt, alloc, 202);
     same(&rt, done, Ok(()));
     same(&rt, sink.device().bytes(), USAGE.as_bytes());

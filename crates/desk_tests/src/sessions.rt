@@ -32,7 +32,7 @@ fn goes_in_pieces(rt: &impl Abort, alloc: Global, row: &Row, step: usize)
     let mut host = Host {
         input: Bytes::new(input.as_bytes(), step),
         folder: shelf_of_morning(rt, alloc),
-        output: room(rt, alloc, 1000),
+        output: room(rt, alloc, 2000),
         faults: room(rt, alloc, 1000),
     };
     let ended = serve(alloc, words, &mut host);

@@ -17,7 +17,7 @@ use Rattle.docker_desk.specs.Learning.{GainedBy, GainsAsked, GainsDone, GainsFil
 use Rattle.docker_desk.specs.Moments.{Moment, Setting, Step}
 use Rattle.docker_desk.specs.Reading.{Reading, StopsInFile, StopsInState, events_of, opening_of}
 use Rattle.docker_desk.specs.Replies.{AnswerView, done_with, no_request, refused_for}
-use Rattle.docker_desk.specs.Requests.{RequestView, print_request, train_request, files_request, places_request, known_request, renew_request, take_request, merge_request, horizon_request, save_request}
+use Rattle.docker_desk.specs.Requests.{RequestView, print_request, permanent_request, train_request, files_request, places_request, known_request, renew_request, take_request, merge_request, horizon_request, save_request}
 use Rattle.docker_desk.specs.Serving.{BeginsAt}
 use Rattle.docker_desk.specs.declared.compared.Compared.{Compared}
 use Rattle.docker_desk.proofs.HeardLemmas.{held_after_look, held_once}
@@ -98,6 +98,7 @@ module _ (earlier : List (List ℕ)) where
         → DoesRequest setting request before (done_with text) after → GainsDone setting earlier request before after gains
         → AreGained earlier gains before.desk.state after.desk.state
     gained_done (print_request place day) text gains days does gained = gained_none gains _ _ gained (ap (λ (m : Moment). m.desk.state) does.1)
+    gained_done (permanent_request place day) text gains days does gained = gained_none gains _ _ gained (ap (λ (m : Moment). m.desk.state) does.1)
     gained_done (train_request uid day) text gains days does gained = gained_none gains _ _ gained (ap (λ (m : Moment). m.desk.state) does.1)
     gained_done files_request text gains days does gained = gained_none gains _ _ gained (ap (λ (m : Moment). m.desk.state) does.1)
     gained_done places_request text gains days does gained = gained_none gains _ _ gained (ap (λ (m : Moment). m.desk.state) does.1)

@@ -157,6 +157,7 @@ pub record GainsVersion (events : Reading → List Event) (earlier : List Text) 
 -- what a request that was done gained: a file, an earlier version of a state's file, or a horizon
 abbrev pub GainsDone : Setting → List Text → RequestView → Moment → Moment → List Gain → Type 0
 GainsDone setting earlier (print_request place day) before after gains = gains ≡ []
+GainsDone setting earlier (permanent_request place day) before after gains = gains ≡ []
 GainsDone setting earlier (train_request uid day) before after gains = gains ≡ []
 GainsDone setting earlier files_request before after gains = gains ≡ []
 GainsDone setting earlier places_request before after gains = gains ≡ []
