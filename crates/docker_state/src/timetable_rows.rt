@@ -7,9 +7,9 @@ ghost use Rattle.docker_laws.specs.CountedRows.{counted_rows};
 ghost use Rattle.docker_state.specs.Timetables.{counts};
 
 use crate::live::Live;
+use crate::place_rows::Numbered;
 use cif_file::{Body, Key};
 use cif_line::Stp;
-use state_index::Numbered;
 use std::marker::Model;
 
 /// Walks over the rows at a place that count, in key order. It gives each row's index, key and body.

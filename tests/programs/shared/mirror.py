@@ -160,7 +160,7 @@ class Mirror:
         answer, self.text = joined(self.text, self.stored)
         if answer == DONE:
             self.is_seen = True
-            self.is_unsaved |= self.may_write and self.text != self.stored
+            self.is_unsaved = self.may_write and self.text != self.stored
             self.learn(*self.stored_known)
         return answer
 
