@@ -11,7 +11,7 @@ use std::process::Abort;
 use test_records::{
     AA_DIVIDE, BODY_OF_TA, BODY_OF_TI, BS, BS_CANCELLED, BS_DELETED, BS_NIGHT, BS_NO_DAY,
     BS_OVERLAY, CR_5E51, HD, HD_10B, HD_X, LI_0000, LI_0005, LI_0010, LN, LO, LO_0915, LO_2355,
-    LO_2400, LT, LT_0020, TA, TA_SAME, TI, ZZ, text,
+    LO_2400, LT, LT_0020, TA, TA_SAME, TI, TI_BLANK, ZZ, text,
 };
 
 mod compare;
@@ -34,10 +34,6 @@ const LT_0001: &[u8] =
 /// A terminus at 00:06.
 const LT_0006: &[u8] =
     b"LTBRAYTON 0006     2  FL                                                        ";
-
-/// An insertion of Ashfeld without a description.
-const TI_BLANK: &[u8] =
-    b"TIASHFELD                                                                       ";
 
 /// The records of the file of one schedule.
 const F2: [&[u8]; 5] = [HD, BS, LO, LT, ZZ];

@@ -2,6 +2,7 @@
 
 use crate::endings::Ending;
 use crate::records::lines_of;
+use cif_file::FileFault;
 use std::alloc::Global;
 use std::fs;
 use std::io::Write;
@@ -80,6 +81,11 @@ impl<'a> Desk<'a> {
     /// Prints why the row can't be run.
     pub(crate) fn trouble(&self, what: &str) {
         let _ = println!(self.rt; "  trouble: {what}");
+    }
+
+    /// Prints why a file is refused, as `record N: CAUSE`.
+    pub(crate) fn print_fault(&self, fault: FileFault) {
+        let _ = println!(self.rt; "  {fault}");
     }
 
     /// Prints the record at which memory ran out.

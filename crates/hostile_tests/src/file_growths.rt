@@ -39,7 +39,7 @@ fn compare(desk: &Desk, file: CifFile, wanted: &str) {
 fn compare_fed(desk: &Desk, parser: FileParser, wanted: &str) {
     match parser.finish() {
         Ok(file) => compare(desk, file, wanted),
-        Err(_) => desk.trouble("a file is refused"),
+        Err(fault) => desk.print_fault(fault),
     }
 }
 
@@ -48,7 +48,7 @@ fn feed_again(desk: &Desk, text: &[u8], wanted: &str) {
     let mut parser = new_parser(desk);
     match feed_all(&mut parser, text) {
         Ok(()) => compare_fed(desk, parser, wanted),
-        Err(_) => desk.trouble("a file is refused"),
+        Err(fault) => desk.print_fault(fault),
     }
 }
 

@@ -7,7 +7,7 @@ use test_records::dockers::{
 use test_records::{
     AA_DIVIDE, BS, BS_C10002, BS_C10003, BS_C30001, BS_C30002, BS_REVISED, HD, HD_5A, HD_7B, HD_9C,
     HD_10B, HD_X, LI_1010, LI_1040, LO, LO_0905, LO_1000, LO_1000_PLAIN, LO_1100, LO_COLWELL_1045,
-    LT, LT_0935, LT_1030, LT_1100_PLAIN, LT_1130, LT_DUNMERE_1100, TA, TI, ZZ, text,
+    LT, LT_0935, LT_1030, LT_1100_PLAIN, LT_1130, LT_DUNMERE_1100, TA, TI, TI_BLANK, ZZ, text,
 };
 
 /// The file of C10001.
@@ -91,6 +91,7 @@ pub(crate) fn lines_of<'a>(name: &str) -> Option<Lines<'a>> {
         "header.cif" => Some(fed(&[HD])),
         "header-of-no-extract.cif" => Some(fed(&[HD_X])),
         "place-record.cif" => Some(fed(&[TI])),
+        "blank-place-record.cif" => Some(fed(&[TI_BLANK])),
         _ => open_lines_of(name),
     }
 }

@@ -32,4 +32,4 @@ pub use schedules::{
     BS_REVISED, BS_REVISED_SHORTER, BS_SHORTER, BS_SUNDAY, BS_WEDNESDAYS, BS_WEEK, BS_WEEKEND,
 };
 pub use texts::text;
-pub use tiplocs::{BODY_OF_TA, BODY_OF_TI, TA, TA_SAME, TI};
+pub use tiplocs::{BODY_OF_TA, BODY_OF_TI, TA, TA_SAME, TI, TI_BLANK};

@@ -4,6 +4,10 @@
 pub const TI: &[u8] =
     b"TIASHFELD         ASHFIELD CENTRAL                                              ";
 
+/// An insertion of Ashfeld without a description.
+pub const TI_BLANK: &[u8] =
+    b"TIASHFELD                                                                       ";
+
 /// The body that the insertion of Ashfeld gives its code.
 pub const BODY_OF_TI: [u8; 63] =
     *b"         ASHFIELD CENTRAL                                      ";
