@@ -1,5 +1,5 @@
 -- What the files that are known fix of dockers without the short-term plan.
-use Rattle.std.proofs.Common.{◌≡◌, ℕ, List, subst, sym}
+use Rattle.std.proofs.Common.{◌≡◌, ℕ, List, [], ◌++◌, Option, Some, subst, sym}
 use Rattle.docker_model.specs.docker.DockerText.{IsDockerText}
 use Rattle.docker_model.specs.docker.Permanent.{permanent_table}
 use Rattle.docker_model.specs.run.Run.{Known}
@@ -13,6 +13,12 @@ use Rattle.state_laws.proofs.states.OnePlainTable.{some_plain_table}
 use Rattle.docker_desk.specs.Desk.{IsDockerRefused, IsPermanentAnswer, TellsDocker}
 use Rattle.docker_desk.specs.Replies.{AnswerView, done_with, no_request, refused_for}
 use Rattle.docker_desk.specs.Learning.{IsKnown, KeepsAs}
+
+-- an empty page that gained a text has that text
+pub written_whole : (own text new : List ℕ) → own ≡ [] → ◌≡◌ {A = Option (List ℕ)} (Some new) (Some (own ++ text)) → new ≡ text
+written_whole own text new none whole =
+    let same : ◌≡◌ {A = Option (List ℕ)} (Some new) (Some text) =
+    subst (λ (front : List ℕ). ◌≡◌ {A = Option (List ℕ)} (Some new) (Some (front ++ text))) none whole in cc
 
 -- the answer has the docker, and its day isn't refused
 pub told_docker : (state : State) (place : List ℕ) (day : ℕ) (answer : AnswerView) → ¬ IsDayRefused state.horizon day

@@ -5,7 +5,7 @@ use Rattle.std.specs.Str.{bytes_eq}
 use Rattle.std.proofs.lemmas.Slice.Eq.{bytes_eq-Decides}
 use Rattle.docker_cmd.specs.Words.{NamesDay, OfTwo, Text}
 use Rattle.docker_cmd.specs.JobLine.{words_in}
-use Rattle.docker_desk.specs.Requests.{AsksFor, HasRest, IsRequestOf, RequestView, behind_word, first_word, is_writing, name_of, verb_named, verb_of, verbs, FitsRest, NamesTrain, print_request, permanent_request, train_request, files_request, places_request, known_request, renew_request, take_request, merge_request, horizon_request, save_request}
+use Rattle.docker_desk.specs.Requests.{ArePlaceAndDay, AsksFor, HasRest, IsRequestOf, RequestView, behind_word, first_word, is_writing, name_of, verb_named, verb_of, verbs, FitsRest, NamesTrain, print_request, permanent_request, train_request, files_request, places_request, known_request, renew_request, take_request, merge_request, horizon_request, save_request}
 use Rattle.docker_desk.specs.declared.requests.Verb.{Verb}
 use Rattle.docker_desk.specs.declared.requests.Verb.TheVariants as verb
 
@@ -24,6 +24,34 @@ no_train rest word date two none (take_request file) same has = cc
 no_train rest word date two none (merge_request other) same has = cc
 no_train rest word date two none (horizon_request day) same has = cc
 no_train rest word date two none save_request same has = cc
+
+-- if the rest of a line isn't a timing point and a day, no docker is asked for
+pub no_docker : (rest : List ℕ) → ((place : List ℕ) (day : ℕ) → ¬ OfTwo (ArePlaceAndDay place day) (words_in rest)) → FitsRest verb.Print rest None
+no_docker rest none (print_request place day) same has = none place day has
+no_docker rest none (permanent_request place day) same has = cc
+no_docker rest none (train_request uid day) same has = cc
+no_docker rest none files_request same has = cc
+no_docker rest none places_request same has = cc
+no_docker rest none known_request same has = cc
+no_docker rest none renew_request same has = cc
+no_docker rest none (take_request file) same has = cc
+no_docker rest none (merge_request other) same has = cc
+no_docker rest none (horizon_request day) same has = cc
+no_docker rest none save_request same has = cc
+
+-- if the rest of a line isn't a timing point and a day, no permanent docker is asked for
+pub no_permanent : (rest : List ℕ) → ((place : List ℕ) (day : ℕ) → ¬ OfTwo (ArePlaceAndDay place day) (words_in rest)) → FitsRest verb.Permanent rest None
+no_permanent rest none (print_request place day) same has = cc
+no_permanent rest none (permanent_request place day) same has = none place day has
+no_permanent rest none (train_request uid day) same has = cc
+no_permanent rest none files_request same has = cc
+no_permanent rest none places_request same has = cc
+no_permanent rest none known_request same has = cc
+no_permanent rest none renew_request same has = cc
+no_permanent rest none (take_request file) same has = cc
+no_permanent rest none (merge_request other) same has = cc
+no_permanent rest none (horizon_request day) same has = cc
+no_permanent rest none save_request same has = cc
 
 -- ---- names
 
