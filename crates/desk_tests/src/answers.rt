@@ -145,7 +145,7 @@ fn an_output_that_fails_within_an_answer(rt: HostRuntime) {
     stops_at(&rt, alloc, 8, "2 1 217");
     stops_at(&rt, alloc, 9, "2 1 217\n");
     stops_at(&rt, alloc, 14, "2 1 217\ndesk:");
-    let (done, sink) = broken_at(&rt, alloc, 202);
+    let (done, sink) = broken_at(&rt, alloc, 226);
     same(&rt, done, Ok(()));
     same(&rt, sink.device().bytes(), USAGE.as_bytes());
 }
