@@ -15,7 +15,7 @@ use Rattle.docker_cmd.specs.FaultLine.{IsCounted}
 use Rattle.docker_desk.specs.Replies.{AnswerView, bytes_told, no_request}
 use Rattle.docker_desk.specs.declared.ending.Ending.{Ending}
 use Rattle.docker_desk.specs.declared.ending.Ending.TheVariants.{Ended, InputFailed, InputEndless, OutputFailed}
-use Rattle.docker_desk.specs.Moments.{Moment, Setting, Step}
+use Rattle.docker_desk.specs.SessionViews.{SessionView, Setting, Step}
 use Rattle.docker_desk.specs.Doing.{AreSteps, DoesLine, IsStep}
 use Rattle.docker_desk.specs.Answering.{AnswersLines, AreFirstLines, BeginsWith, BreaksOff, CountsNext, EndsSession, HasLines, IsEndless, IsFollowed, ServesNext, TellsAnswer, answers_told, lines_of}
 
@@ -152,8 +152,8 @@ takes_more (Some taken) now new first second one two =
 -- ---- steps
 
 module _ (setting : Setting) where
-  -- if steps lead to a moment, and others on from there, all of them lead on
-  steps_more : (first now last : Moment) (steps more : List Step) → AreSteps setting first steps now → AreSteps setting now more last
+  -- if steps lead to a point, and others on from there, all of them lead on
+  steps_more : (first now last : SessionView) (steps more : List Step) → AreSteps setting first steps now → AreSteps setting now more last
       → AreSteps setting first (steps ++ more) last
   steps_more first now last [] more are then_more = subst (λ m. AreSteps setting m more last) are then_more
   steps_more first now last (step ∷ steps) more are then_more = (are.0, (are.1.0, steps_more step.after now last steps more are.1.1 then_more))
@@ -164,8 +164,8 @@ module _ (setting : Setting) where
   told_both : (steps more : List Step) → answers_told (steps ++ more) ≡ answers_told steps ++ answers_told more
   told_both steps more = flat_map-append (λ (step : Step). bytes_told step.answer) steps more
 
-  -- a session so far: some lines were answered, and led to this moment
-  pub record IsSoFar (count : ℕ) (first now : Moment) (input input_now output output_now : DeviceBytes) : Type 0 where
+  -- a session so far: some lines were answered, and led to this point
+  pub record IsSoFar (count : ℕ) (first now : SessionView) (input input_now output output_now : DeviceBytes) : Type 0 where
     pub steps : List Step
     pub many : length steps ≡ count
     pub are : AreSteps setting first steps now
@@ -173,12 +173,12 @@ module _ (setting : Setting) where
     pub told : Takes output (answers_told steps) output_now
 
   -- before the first line, the session has no step
-  so_far_none : (first : Moment) (input output : DeviceBytes) → IsSoFar 0 first first input input output output
+  so_far_none : (first : SessionView) (input output : DeviceBytes) → IsSoFar 0 first first input input output output
   so_far_none first input output =
       record { steps = []; many = refl; are = refl; read = reads_none input; told = takes_none output }
 
   -- before the first line nothing was read ahead
-  pub so_far_first : (first : Moment) (ahead : List ℕ) (left output : DeviceBytes) → ahead ≡ [] → IsSoFar 0 first first left (with_ahead ahead left) output output
+  pub so_far_first : (first : SessionView) (ahead : List ℕ) (left output : DeviceBytes) → ahead ≡ [] → IsSoFar 0 first first left (with_ahead ahead left) output output
   so_far_first first ahead left output none =
       subst (λ bytes. IsSoFar 0 first first left (with_ahead bytes left) output output) (sym none)
       (subst (λ input. IsSoFar 0 first first left input output output) (sym (none_ahead left)) (so_far_none first left output))
@@ -188,20 +188,20 @@ module _ (setting : Setting) where
       none_ahead (Some rest) = refl
 
   -- a line with its answer is a step
-  abbrev pub step_of : (line : LineView) (before : Moment) (answer : AnswerView) (after : Moment) → DoesLine setting line before answer after → Step
+  abbrev pub step_of : (line : LineView) (before : SessionView) (answer : AnswerView) (after : SessionView) → DoesLine setting line before answer after → Step
   step_of line before answer after does = record { line = line; request = does.request; before = before; answer = answer; after = after }
 
-  is_step : (line : LineView) (before : Moment) (answer : AnswerView) (after : Moment) → (does : DoesLine setting line before answer after)
+  is_step : (line : LineView) (before : SessionView) (answer : AnswerView) (after : SessionView) → (does : DoesLine setting line before answer after)
       → IsStep setting (step_of line before answer after does)
   is_step line before answer after does = record { asks = does.asks; does = does.does; counted = does.counted }
 
   -- a line that is answered is one step
-  pub one_step : (line : LineView) (before : Moment) (answer : AnswerView) (after : Moment) → (does : DoesLine setting line before answer after)
+  pub one_step : (line : LineView) (before : SessionView) (answer : AnswerView) (after : SessionView) → (does : DoesLine setting line before answer after)
       → AreSteps setting before (step_of line before answer after does ∷ []) after
   one_step line before answer after does = (refl, (is_step line before answer after does, refl))
 
   -- a session so far and one more answered line are a session so far
-  so_far_more : (count : ℕ) (first now next : Moment) (input input_now input_next output output_now output_next : DeviceBytes)
+  so_far_more : (count : ℕ) (first now next : SessionView) (input input_now input_next output output_now output_next : DeviceBytes)
       → IsSoFar count first now input input_now output output_now → ServesNext setting now next input_now input_next output_now output_next None
       → IsSoFar (count + 1) first next input input_next output output_next
   so_far_more count first now next input input_now input_next output output_now output_next so_far (line, answer, (followed, (does, (read, told)))) =
@@ -219,7 +219,7 @@ module _ (setting : Setting) where
       }
 
   -- if the session doesn't end at the next line, the session so far has that line too
-  pub so_far_on : (count : ℕ) (first now next : Moment) (input input_now input_next output output_now output_next : DeviceBytes) (result : Option Ending)
+  pub so_far_on : (count : ℕ) (first now next : SessionView) (input input_now input_next output output_now output_next : DeviceBytes) (result : Option Ending)
       → IsSoFar count first now input input_now output output_now → result ≡ None
       → ServesNext setting now next input_now input_next output_now output_next result
       → IsSoFar (count + 1) first next input input_next output output_next
@@ -228,7 +228,7 @@ module _ (setting : Setting) where
       (subst (ServesNext setting now next input_now input_next output_now output_next) none serves)
 
   -- a session that ends after further lines ends after all its lines
-  ends_more : (ending : Ending) (count : ℕ) (first now : Moment) (input input_now output output_now output_last : DeviceBytes) (more : List Step)
+  ends_more : (ending : Ending) (count : ℕ) (first now : SessionView) (input input_now output output_now output_last : DeviceBytes) (more : List Step)
       → (so_far : IsSoFar count first now input input_now output output_now) → EndsSession ending input_now more output_now output_last
       → EndsSession ending input (so_far.steps ++ more) output output_last
   ends_more ending count first now input input_now output output_now output_last more so_far = by ending
@@ -264,7 +264,7 @@ module _ (setting : Setting) where
       by OutputFailed ends = (begins ends.0, breaks ends.1)
 
   -- a session so far and the lines that end it are an ended session
-  pub ended_after : (ending : Ending) (count : ℕ) (first now last : Moment) (input input_now output output_now output_last : DeviceBytes)
+  pub ended_after : (ending : Ending) (count : ℕ) (first now last : SessionView) (input input_now output output_now output_last : DeviceBytes)
       → IsSoFar count first now input input_now output output_now → AnswersLines setting now last input_now output_now output_last ending
       → AnswersLines setting first last input output output_last ending
   ended_after ending count first now last input input_now output output_now output_last so_far answers = record {
@@ -274,7 +274,7 @@ module _ (setting : Setting) where
   }
 
   -- a session with 2 ^ 64 - 1 lines ends, because the input is endless
-  pub ended_endless : (count : ℕ) (first now : Moment) (input input_now output output_now : DeviceBytes) → count ≡ 2 ^ 64 - 1
+  pub ended_endless : (count : ℕ) (first now : SessionView) (input input_now output output_now : DeviceBytes) → count ≡ 2 ^ 64 - 1
       → IsSoFar count first now input input_now output output_now → AnswersLines setting first now input output output_now InputEndless
   ended_endless count first now input input_now output output_now full so_far = record {
     steps = so_far.steps;
@@ -293,7 +293,7 @@ module _ (setting : Setting) where
 
 -- ---- one line
 
-module _ (setting : Setting) (now next : Moment) (input input_now output output_now : DeviceBytes) where
+module _ (setting : Setting) (now next : SessionView) (input input_now output output_now : DeviceBytes) where
   -- at the end of the input the session ends without another line
   pub ends_before : next ≡ now → IsEnd input → input_now ≡ input → output_now ≡ output → ServesNext setting now next input input_now output output_now (Some Ended)
   ends_before same end kept silent = record { steps = []; are = same; ends = (by input end, subst (Takes output []) (sym silent) (takes_none output)) }
@@ -400,8 +400,8 @@ counted_few status before after counted = by (eqb_tells status 4)
     by (inr other) = let never = counted.1 other.1 in omega (arith, never)
 
 -- a bad line asks for nothing
-pub does_bad : (setting : Setting) (now : Moment) → DoesLine setting bad_line now no_request now
+pub does_bad : (setting : Setting) (now : SessionView) → DoesLine setting bad_line now no_request now
 does_bad setting now = record { request = None; asks = refl; does = (refl, refl); counted = counted_none 2 now.failures (λ four. omega arith) }
 
-pub does_cut : (setting : Setting) (now : Moment) → DoesLine setting cut_line now no_request now
+pub does_cut : (setting : Setting) (now : SessionView) → DoesLine setting cut_line now no_request now
 does_cut setting now = record { request = None; asks = refl; does = (refl, refl); counted = counted_none 2 now.failures (λ four. omega arith) }

@@ -20,7 +20,7 @@ use Rattle.docker_desk.specs.Lines.{AreLines, LineView, whole_line}
 use Rattle.docker_desk.specs.Requests.{AsksFor, IsRequestOf, RequestView, print_request, permanent_request, train_request, files_request, places_request, known_request, renew_request, take_request, merge_request, horizon_request, save_request}
 use Rattle.docker_desk.specs.Desk.{IsFilesAnswer}
 use Rattle.docker_desk.specs.Replies.{AnswerView, bytes_told, done_with, memory_told, no_request, refused_for}
-use Rattle.docker_desk.specs.Moments.{Moment, Setting, Step, setting}
+use Rattle.docker_desk.specs.SessionViews.{SessionView, Setting, Step, setting}
 use Rattle.docker_desk.specs.Doing.{AreSteps, AsksOf, DoesAsked}
 use Rattle.docker_desk.specs.Answering.{EndsSession, answers_told, lines_of}
 use Rattle.docker_desk.specs.Serving.{BeginsAt, Serves, ending_status, session_words}
@@ -128,11 +128,11 @@ holds_none text is few valid = record {
 
 module _ (text : List ℕ) (holds : HoldsState dks_2 most_bytes (Some text) no_state) (old : List Event) (output : Bytes)
     (before : old ≡ placed (codes "S") (Some text) ∷ []) where
-  -- one answered line leads from the beginning of the session to its last moment
-  one_step : (its : Setting) (first last : Moment) (step : Step) → BeginsAt its.name old first → its.name ≡ codes "S" → step.line ≡ whole_line asked_line
+  -- one answered line leads from the beginning of the session to its last point
+  one_step : (its : Setting) (first last : SessionView) (step : Step) → BeginsAt its.name old first → its.name ≡ codes "S" → step.line ≡ whole_line asked_line
       → AreSteps its first (step ∷ []) last → IsShelfHistory last.history → Takes (Some []) (bytes_told step.answer ++ []) output → IsAnswered output
   one_step its first last step begins named line are met takes =
-      answered output step.before.desk.state step.answer (ap (λ (m : Moment). m.desk.state) are.0 ∙ read) does.0 takes
+      answered output step.before.desk.state step.answer (ap (λ (m : SessionView). m.desk.state) are.0 ∙ read) does.0 takes
     where
       asks : AsksOf its.may_write (whole_line asked_line) step.request
       asks = subst (λ (l : LineView). AsksOf its.may_write l step.request) line are.1.0.asks
@@ -147,7 +147,7 @@ module _ (text : List ℕ) (holds : HoldsState dks_2 most_bytes (Some text) no_s
       same = are.1.1 ∙ does.1 ∙ are.0
 
       history : last.history ≡ placed (codes "S") (Some text) ∷ looked its.name ∷ opened its.name begins.held ∷ closed begins.left ∷ []
-      history = ap (λ (m : Moment). m.history) same ∙ begins.asked
+      history = ap (λ (m : SessionView). m.history) same ∙ begins.asked
           ∙ ap (λ (events : List Event). events ++ looked its.name ∷ opened its.name begins.held ∷ closed begins.left ∷ []) before
 
       held : begins.held ≡ Some text
@@ -158,7 +158,7 @@ module _ (text : List ℕ) (holds : HoldsState dks_2 most_bytes (Some text) no_s
           (subst (λ (h : Bytes). HoldsState dks_2 most_bytes h no_state) (sym held) holds)
 
   -- the session's steps are the one step of the line
-  all_steps : (its : Setting) (first last : Moment) (steps : List Step) → BeginsAt its.name old first → its.name ≡ codes "S"
+  all_steps : (its : Setting) (first last : SessionView) (steps : List Step) → BeginsAt its.name old first → its.name ≡ codes "S"
       → lines_of steps ≡ whole_line asked_line ∷ [] → AreSteps its first steps last → IsShelfHistory last.history
       → Takes (Some []) (answers_told steps) output → IsAnswered output
   all_steps its first last [] begins named lines are met takes = let never : ⊥ = cc in absurd never

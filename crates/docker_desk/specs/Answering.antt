@@ -7,7 +7,7 @@ use Rattle.docker_desk.specs.Lines.{AreLines, IsNextLine, LineView, ReadsNext, w
 use Rattle.docker_desk.specs.Replies.{AnswerView, bytes_told}
 use Rattle.docker_desk.specs.declared.ending.Ending.{Ending}
 use Rattle.docker_desk.specs.declared.ending.Ending.TheVariants.{Ended, InputFailed, InputEndless, OutputFailed}
-use Rattle.docker_desk.specs.Moments.{Moment, Setting, Step}
+use Rattle.docker_desk.specs.SessionViews.{SessionView, Setting, Step}
 use Rattle.docker_desk.specs.Doing.{AreSteps, DoesLine}
 
 -- the lines of steps
@@ -67,8 +67,8 @@ EndsSession InputEndless input steps output output_now =
 EndsSession OutputFailed input steps output output_now =
     BeginsWith input (lines_of steps) × BreaksOff steps output output_now
 
--- the lines of an input were answered on an output, and led from the moment before to the one after
-pub record AnswersLines (setting : Setting) (before after : Moment)
+-- the lines of an input were answered on an output, and led from the point before to the one after
+pub record AnswersLines (setting : Setting) (before after : SessionView)
     (input output output_now : DeviceBytes) (ending : Ending) : Type 0 where
   pub steps : List Step
   pub are : AreSteps setting before steps after
@@ -91,7 +91,7 @@ IsFollowed bad_line = ⊤
 IsFollowed cut_line = ⊥
 
 -- after one line: the session goes on, with that line answered, or it ends here
-abbrev pub ServesNext : Setting → Moment → Moment → DeviceBytes → DeviceBytes
+abbrev pub ServesNext : Setting → SessionView → SessionView → DeviceBytes → DeviceBytes
     → DeviceBytes → DeviceBytes → Option Ending → Type 0
 ServesNext setting before after input input_now output output_now None =
     (line : LineView) × (answer : AnswerView) × (IsFollowed line

@@ -106,7 +106,7 @@ pub(crate) fn picked_index(
     }
 }
 
-/// Takes the marks of rows that have lapsed out of the index, if there is one.
+/// Takes the postings of rows that have lapsed out of the index, if there is one.
 pub(crate) fn lapse_index(index: &mut Option<Index>, rows: &[(Key, Entry)])
     ensures { (before : List (model.Key × ops.Entry)) (horizon : ℕ)
         → map row_meant rows.now ≡ lapse_entries horizon before

@@ -342,7 +342,7 @@ impl State {
     {
         let rows = self.entries.as_slice();
         match &self.index {
-            Some(index) => { PlaceRows::of(Walk::Marked(index.calling(rows, tiploc).numbered())) }
+            Some(index) => { PlaceRows::of(Walk::Numbered(index.calling(rows, tiploc).numbered())) }
             None => PlaceRows::of(Walk::Sifted(SiftedRows::of(rows, tiploc, false))),
         }
     }
@@ -366,7 +366,7 @@ impl State {
     {
         let rows = self.entries.as_slice();
         match &self.index {
-            Some(index) => PlaceRows::of(Walk::Marked(index.linked(rows, tiploc).numbered())),
+            Some(index) => PlaceRows::of(Walk::Numbered(index.linked(rows, tiploc).numbered())),
             None => PlaceRows::of(Walk::Sifted(SiftedRows::of(rows, tiploc, true))),
         }
     }

@@ -5,7 +5,7 @@
 mod fill;
 mod index;
 mod laws;
-mod mark;
+mod posting;
 mod merge;
 mod moves;
 mod names;
@@ -20,7 +20,7 @@ mod walk;
 pub use cif_change::{Notes, Piece, PlaceNames};
 pub use index::Index;
 pub use laws::{indexes_of_rows, one_index_of_rows};
-pub use mark::Mark;
+pub use posting::Posting;
 pub use moves::Moves;
 pub use noted_rows::{note_row, notes_of_rows};
 pub use place_rows::{Numbered, PlaceRows};

@@ -14,7 +14,7 @@ ghost use Rattle.train_choice.specs.UpTo.{occurrences_to, up_to_last};
 use crate::days_run::schedule_runs_on;
 use crate::events::Events;
 use crate::ranked::Ranked;
-use crate::recent_runs::{RecentRuns, is_marked_recently, recent_runs_of};
+use crate::recent_runs::{RecentRuns, runs_on_recent_weekday, recent_runs_of};
 use crate::up_to::up_to_last;
 use cif_change::{Lines, ScheduleKey};
 use cif_line::{Day, Line, Stp, Tiploc};
@@ -110,12 +110,12 @@ impl<'a> ScheduleView<'a> {
     }
 
     /// Whether the schedule has begun by a day, and marks that weekday or one of the two before. If
-    /// not, it doesn't run on any of these days. This reads the key and three marks, which costs
+    /// not, it doesn't run on any of these days. This reads the key and three flags, which costs
     /// less than `recent_runs`.
     pub fn may_run_recently(&self, day: Day) -> bool
         ensures { result ≡ may_run_recently self.now.key self.now.lines day }
     {
-        !begins_behind(self.key, day) && is_marked_recently(self.first(), day)
+        !begins_behind(self.key, day) && runs_on_recent_weekday(self.first(), day)
     }
 
     /// The train identity in the basic schedule.
