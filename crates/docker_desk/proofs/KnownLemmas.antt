@@ -20,7 +20,7 @@ use Rattle.docker_cmd.specs.Words.{NamesDay, OfOne, Text}
 use Rattle.docker_host.specs.History.{Bytes, Event}
 use Rattle.docker_desk.specs.Lines.{LineView, whole_line, bad_line, cut_line}
 use Rattle.docker_cmd.specs.JobLine.{words_in}
-use Rattle.docker_desk.specs.Requests.{RequestView, behind_word, print_request, permanent_request, train_request, files_request, places_request, known_request, renew_request, take_request, merge_request, horizon_request, save_request}
+use Rattle.docker_desk.specs.Requests.{RequestView, after_word, print_request, permanent_request, train_request, files_request, places_request, known_request, renew_request, take_request, merge_request, horizon_request, save_request}
 use Rattle.docker_desk.specs.Desk.{DeskView, EndsReceiving, EndsRenewing, EndsTaking}
 use Rattle.docker_desk.specs.Reading.{Reading, events_of}
 use Rattle.docker_desk.specs.declared.compared.Compared.{Compared}
@@ -186,7 +186,7 @@ one_day (word ∷ second ∷ more) day of = absurd of
 pub day_asked : (may_write : Bool) (line : LineView) (request : Option RequestView) (day : ℕ) → AsksOf may_write line request → request ≡ Some (horizon_request day)
     → IsDay day
 day_asked may_write (whole_line line) request day asks same =
-    let asked = subst (λ r. AsksOf may_write (whole_line line) r) same asks in one_day (words_in (behind_word line)) day asked.1.rest
+    let asked = subst (λ r. AsksOf may_write (whole_line line) r) same asks in one_day (words_in (after_word line)) day asked.1.rest
 day_asked may_write bad_line request day asks same = let never : ⊥ = cc in absurd never
 day_asked may_write cut_line request day asks same = let never : ⊥ = cc in absurd never
 

@@ -12,12 +12,12 @@ use Rattle.docker_desk.specs.declared.lines.Asked.{Asked}
 use Rattle.docker_desk.specs.declared.lines.InputFault.{InputFault}
 use Rattle.docker_desk.specs.declared.lines.InputFault.TheVariants.{Endless}
 use Rattle.docker_cmd.specs.FaultLine.{IsCounted}
-use Rattle.docker_desk.specs.Replies.{AnswerView, bytes_told, no_request}
+use Rattle.docker_desk.specs.Replies.{AnswerView, answer_bytes, no_request}
 use Rattle.docker_desk.specs.declared.ending.Ending.{Ending}
 use Rattle.docker_desk.specs.declared.ending.Ending.TheVariants.{Ended, InputFailed, InputEndless, OutputFailed}
 use Rattle.docker_desk.specs.SessionViews.{SessionView, Setting, Step}
 use Rattle.docker_desk.specs.Doing.{AreSteps, DoesLine, IsStep}
-use Rattle.docker_desk.specs.Answering.{AnswersLines, AreFirstLines, BeginsWith, BreaksOff, CountsNext, EndsSession, HasLines, IsEndless, IsFollowed, ServesNext, TellsAnswer, answers_told, lines_of}
+use Rattle.docker_desk.specs.Answering.{AnswersLines, AreFirstLines, BeginsWith, BreaksOff, CountsNext, EndsSession, HasLines, IsEndless, IsFollowed, ServesNext, TellsAnswer, answers_text, lines_of}
 
 -- ---- the input
 
@@ -161,8 +161,8 @@ module _ (setting : Setting) where
   lines_both : (steps more : List Step) → lines_of (steps ++ more) ≡ lines_of steps ++ lines_of more
   lines_both steps more = map-append (λ (step : Step). step.line) steps more
 
-  told_both : (steps more : List Step) → answers_told (steps ++ more) ≡ answers_told steps ++ answers_told more
-  told_both steps more = flat_map-append (λ (step : Step). bytes_told step.answer) steps more
+  told_both : (steps more : List Step) → answers_text (steps ++ more) ≡ answers_text steps ++ answers_text more
+  told_both steps more = flat_map-append (λ (step : Step). answer_bytes step.answer) steps more
 
   -- a session so far: some lines were answered, and led to this point
   pub record IsSoFar (count : ℕ) (first now : SessionView) (input input_now output output_now : DeviceBytes) : Type 0 where
@@ -170,7 +170,7 @@ module _ (setting : Setting) where
     pub many : length steps ≡ count
     pub are : AreSteps setting first steps now
     pub read : ReadsFirst input (lines_of steps) input_now
-    pub told : Takes output (answers_told steps) output_now
+    pub told : Takes output (answers_text steps) output_now
 
   -- before the first line, the session has no step
   so_far_none : (first : SessionView) (input output : DeviceBytes) → IsSoFar 0 first first input input output output
@@ -214,8 +214,8 @@ module _ (setting : Setting) where
             (reads_more input input_now (lines_of so_far.steps) input_next line so_far.read read);
         told =
             subst (λ text. Takes output text output_next)
-            (sym (told_both so_far.steps (step ∷ []) ∙ ap (λ text. answers_told so_far.steps ++ text) (append-nil (bytes_told answer))))
-            (takes_more output output_now output_next (answers_told so_far.steps) (bytes_told answer) so_far.told told);
+            (sym (told_both so_far.steps (step ∷ []) ∙ ap (λ text. answers_text so_far.steps ++ text) (append-nil (answer_bytes answer))))
+            (takes_more output output_now output_next (answers_text so_far.steps) (answer_bytes answer) so_far.told told);
       }
 
   -- if the session doesn't end at the next line, the session so far has that line too
@@ -239,10 +239,10 @@ module _ (setting : Setting) where
       begins : BeginsWith input_now (lines_of more) → BeginsWith input (lines_of (so_far.steps ++ more))
       begins next = subst (BeginsWith input) lines (begins_more input input_now (lines_of so_far.steps) (lines_of more) so_far.read next)
 
-      gained : Takes output_now (answers_told more) output_last → Takes output (answers_told (so_far.steps ++ more)) output_last
+      gained : Takes output_now (answers_text more) output_last → Takes output (answers_text (so_far.steps ++ more)) output_last
       gained next =
           subst (λ text. Takes output text output_last) (sym (told_both so_far.steps more))
-          (takes_more output output_now output_last (answers_told so_far.steps) (answers_told more) so_far.told next)
+          (takes_more output output_now output_last (answers_text so_far.steps) (answers_text more) so_far.told next)
 
       breaks : BreaksOff more output_now output_last → BreaksOff (so_far.steps ++ more) output output_last
       breaks next = record {
@@ -252,7 +252,7 @@ module _ (setting : Setting) where
         between = next.between;
         told =
             subst (λ text. Takes output text next.between) (sym (told_both so_far.steps next.earlier))
-            (takes_more output output_now next.between (answers_told so_far.steps) (answers_told next.earlier) so_far.told next.told);
+            (takes_more output output_now next.between (answers_text so_far.steps) (answers_text next.earlier) so_far.told next.told);
         part = next.part;
       }
 
@@ -320,7 +320,7 @@ module _ (setting : Setting) (now next : SessionView) (input input_now output ou
 
   -- if an answer is written in part, the session ends at this line
   pub breaks_at : (line : LineView) (answer : AnswerView) → DoesLine setting line now answer next → ReadsNext input line input_now
-      → TakesPart output (bytes_told answer) output_now
+      → TakesPart output (answer_bytes answer) output_now
       → ServesNext setting now next input input_now output output_now (Some OutputFailed)
   breaks_at line answer does read part = record {
     steps = step_of setting line now answer next does ∷ [];
@@ -337,12 +337,12 @@ module _ (setting : Setting) (now next : SessionView) (input input_now output ou
 
   -- at a line whose line feed is missing the session ends, because that line is the last
   pub ends_at_cut : (answer : AnswerView) → DoesLine setting cut_line now answer next → ReadsNext input cut_line input_now
-      → Takes output (bytes_told answer) output_now
+      → Takes output (answer_bytes answer) output_now
       → ServesNext setting now next input input_now output output_now (Some Ended)
   ends_at_cut answer does read told = record {
     steps = step_of setting cut_line now answer next does ∷ [];
     are = one_step setting cut_line now answer next does;
-    ends = (has_one input read, subst (λ text. Takes output text output_now) (sym (append-nil (bytes_told answer))) told);
+    ends = (has_one input read, subst (λ text. Takes output text output_now) (sym (append-nil (answer_bytes answer))) told);
   }
     where
       has_one : (input : DeviceBytes) → ReadsNext input cut_line input_now → HasLines input (cut_line ∷ [])
@@ -352,7 +352,7 @@ module _ (setting : Setting) (now next : SessionView) (input input_now output ou
   -- after a line that isn't the last, the session goes on unless the output fails
   after_line : (line : LineView) (answer : AnswerView) (failures failures_now : ℕ) (result : Option Ending) → IsFollowed line → DoesLine setting line now answer next
       → ReadsNext input line input_now
-      → TellsAnswer (bytes_told answer) None output output_now failures failures_now result
+      → TellsAnswer (answer_bytes answer) None output output_now failures failures_now result
       → ServesNext setting now next input input_now output output_now result
   after_line line answer failures failures_now result followed does read (inl told) =
       subst (ServesNext setting now next input input_now output output_now) (sym told.0) (line, answer, (followed, (does, (read, told.1.0))))
@@ -362,20 +362,20 @@ module _ (setting : Setting) (now next : SessionView) (input input_now output ou
   -- after a whole line, whose bytes were passed on, the session goes on unless the output fails
   pub after_whole : (line passed : List ℕ) (answer : AnswerView) (failures failures_now : ℕ) (result : Option Ending) → passed ≡ line
       → DoesLine setting (whole_line passed) now answer next → ReadsNext input (whole_line line) input_now
-      → TellsAnswer (bytes_told answer) None output output_now failures failures_now result
+      → TellsAnswer (answer_bytes answer) None output output_now failures failures_now result
       → ServesNext setting now next input input_now output output_now result
   after_whole line passed answer failures failures_now result same does read tells =
       after_line (whole_line line) answer failures failures_now result tt (subst (λ l. DoesLine setting (whole_line l) now answer next) same does) read tells
 
   -- after a bad line the session goes on unless the output fails
   pub after_bad : (failures failures_now : ℕ) (result : Option Ending) → DoesLine setting bad_line now no_request next → ReadsNext input bad_line input_now
-      → TellsAnswer (bytes_told no_request) None output output_now failures failures_now result
+      → TellsAnswer (answer_bytes no_request) None output output_now failures failures_now result
       → ServesNext setting now next input input_now output output_now result
   after_bad failures failures_now result does read tells = after_line bad_line no_request failures failures_now result tt does read tells
 
   pub after_cut : (answer : AnswerView) (failures failures_now : ℕ) (result : Option Ending) → DoesLine setting cut_line now answer next
       → ReadsNext input cut_line input_now
-      → TellsAnswer (bytes_told answer) (Some Ended) output output_now failures failures_now result
+      → TellsAnswer (answer_bytes answer) (Some Ended) output output_now failures failures_now result
       → ServesNext setting now next input input_now output output_now result
   after_cut answer failures failures_now result does read (inl told) =
       subst (ServesNext setting now next input input_now output output_now) (sym told.0) (ends_at_cut answer does read told.1.0)

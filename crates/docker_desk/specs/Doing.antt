@@ -11,7 +11,7 @@ use Rattle.docker_desk.specs.Requests.{AsksFor, RequestView, print_request, perm
 use Rattle.docker_desk.specs.Desk.{DeskView, EndsReceiving, EndsRenewing, EndsSaving, EndsTaking, IsDockerAnswer, IsFilesAnswer, IsKnownAnswer, IsPermanentAnswer, IsPlacesAnswer, IsTrainAnswer, look_by, unsaved_by}
 use Rattle.docker_desk.specs.Reading.{LooksAndOpens, OpensOnce, Reading, StopsInFile, StopsInState}
 use Rattle.docker_desk.specs.declared.compared.Compared.{Compared}
-use Rattle.docker_desk.specs.Replies.{AnswerView, done_with, no_request, refused_for, status_told}
+use Rattle.docker_desk.specs.Replies.{AnswerView, done_with, no_request, refused_for, answer_status}
 use Rattle.docker_desk.specs.SessionViews.{SessionView, Setting, Step}
 
 -- the answer to a request that was done and has no text, or was refused
@@ -104,7 +104,7 @@ DoesAsked setting None before answer after = (answer ≡ no_request) × (after �
 pub record IsStep (setting : Setting) (step : Step) : Type 0 where
   pub asks : AsksOf setting.may_write step.line step.request
   pub does : DoesAsked setting step.request step.before step.answer step.after
-  pub counted : IsCounted (status_told step.answer) step.before.failures step.after.failures
+  pub counted : IsCounted (answer_status step.answer) step.before.failures step.after.failures
 
 -- a line gets this answer, and leads from one point to the other
 pub record DoesLine (setting : Setting) (line : LineView) (before : SessionView) (answer : AnswerView)
@@ -112,7 +112,7 @@ pub record DoesLine (setting : Setting) (line : LineView) (before : SessionView)
   pub request : Option RequestView
   pub asks : AsksOf setting.may_write line request
   pub does : DoesAsked setting request before answer after
-  pub counted : IsCounted (status_told answer) before.failures after.failures
+  pub counted : IsCounted (answer_status answer) before.failures after.failures
 
 -- steps, one after the other, lead from one point to the other
 abbrev pub AreSteps : Setting → SessionView → List Step → SessionView → Type 0

@@ -4,7 +4,7 @@ ghost use Rattle.docker_cmd.specs.FaultLine.{IsCounted};
 ghost use Rattle.docker_cmd.specs.JobLine.{IsLineText};
 ghost use Rattle.docker_desk.specs.Lines.{whole_line};
 ghost use Rattle.docker_desk.specs.Requests.{request_meant};
-ghost use Rattle.docker_desk.specs.Replies.{answer_meant, status_told};
+ghost use Rattle.docker_desk.specs.Replies.{answer_meant, answer_status};
 ghost use Rattle.docker_desk.specs.Doing.{DoesLine, DoesRequest, answer_of};
 ghost use Rattle.docker_desk.specs.SessionViews.{session_view, setting};
 
@@ -53,7 +53,7 @@ fn answer_request<D: Folder>(
         (answer_meant result)
         (session_view session.new.desk (D.look_of session.new.seen)
         (D.history folder.new) (D.failures folder.new)) }
-    ensures counted { IsCounted (status_told (answer_meant result))
+    ensures counted { IsCounted (answer_status (answer_meant result))
         (D.failures folder.old) (D.failures folder.new) }
 {
     match request {

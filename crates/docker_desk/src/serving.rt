@@ -1,7 +1,7 @@
 //! The lines of a session, one after the other.
 ghost use Rattle.std.specs.Prelude.{◌≡◌, false, ◌+◌, ◌-◌, ◌^◌, ◌<◌, ◌≤◌, Some, Option};
 ghost use Rattle.docker_desk.specs.Lines.{with_ahead};
-ghost use Rattle.docker_desk.specs.Replies.{answer_meant, bytes_told};
+ghost use Rattle.docker_desk.specs.Replies.{answer_meant, answer_bytes};
 ghost use Rattle.docker_desk.specs.Answering.{AnswersLines, CountsNext, CountsStreams, ServesNext, StopsAtEnd, TellsAnswer};
 ghost use Rattle.docker_desk.specs.SessionViews.{session_view, setting};
 
@@ -93,7 +93,7 @@ pub fn serve_next<S: Source, D: Folder, K: Sink>(
 /// Writes an answer. Returns `OutputFailed` if the write fails, and otherwise `next`.
 fn tell_answer<K: Sink>(answer: &Answer, next: Option<Ending>, output: &mut K) -> Option<Ending>
     requires { K.failures output.old < 2 ^ 64 - 1 }
-    ensures { TellsAnswer (bytes_told (answer_meant answer.now)) next
+    ensures { TellsAnswer (answer_bytes (answer_meant answer.now)) next
         (K.taken output.old) (K.taken output.new)
         (K.failures output.old) (K.failures output.new) result }
 {

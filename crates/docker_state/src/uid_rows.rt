@@ -69,14 +69,14 @@ fn rows_up_to(rows: &[(Key, Entry)], uid: &Uid) -> usize
     ensures { result
         ≡ position_or_len (λ row. not (is_le (to_uid (key_meant row.0) uid.now))) rows.now }
 {
-    match first_behind(rows, uid) {
+    match first_after(rows, uid) {
         Some(at) => at,
         None => rows.len(),
     }
 }
 
 /// The index of the first row after the UID's schedules.
-fn first_behind(rows: &[(Key, Entry)], uid: &Uid) -> Option<usize>
+fn first_after(rows: &[(Key, Entry)], uid: &Uid) -> Option<usize>
     ensures { result
         ≡ position (λ row. not (is_le (to_uid (key_meant row.0) uid.now))) rows.now }
 {
