@@ -5,8 +5,8 @@ use Rattle.docker_model.specs.file.Text.{lines_of}
 use Rattle.docker_model.specs.file.FaultSoFar.{IsFaultSoFar}
 use Rattle.docker_model.specs.file.FileFault as model
 use Rattle.cif_laws.proofs.files.ReportedFaults.{fault_in_the_end}
-use Rattle.cif_line.specs.Device.{Reads, IsEnd}
-use Rattle.cif_line.specs.Taken.{AfterEach, HasFed, HasRefused, LosesOnePieceMore}
+use Rattle.cif_device.specs.Device.{Reads, IsEnd}
+use Rattle.cif_device.specs.Taken.{AfterEach, HasFed, HasRefused, LosesOnePieceMore}
 use Rattle.cif_change.specs.declared.cause.FileCause.{FileCause}
 use Rattle.cif_change.specs.declared.cause.FileCause.TheVariants.{Length, Byte, Kind, Place, Field, Midnights, NoEnd, After, TooMany, Memory}
 use Rattle.cif_file.specs.declared.fault.FileFault.{FileFault}

@@ -5,7 +5,7 @@ use Rattle.docker_model.specs.file.FaultSoFar.{IsFaultSoFar, sure_lines}
 use Rattle.docker_model.specs.file.FileFault.{FileCause, IsFileFault}
 use Rattle.docker_model.specs.file.FileFault as model
 use Rattle.cif_laws.specs.CompleteLines.{complete_lines}
-use Rattle.cif_line.specs.Device.{Reads}
+use Rattle.cif_device.specs.Device.{Reads}
 use Rattle.cif_file.specs.declared.ended.Ended.{Ended}
 use Rattle.cif_file.specs.declared.fault.FileFault.{FileFault}
 use Rattle.cif_change.specs.Cause.{cause_meant}

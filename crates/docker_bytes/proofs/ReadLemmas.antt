@@ -2,8 +2,8 @@
 use Rattle.std.proofs.Common.{◌≡◌, ◌≢◌, ℕ, ◌<◌, List, [], ◌∷◌, ◌++◌, length, take, drop, refl, ap, sym, ◌∙◌, subst, inl, inr, ◌⊎◌, arith, append_assoc, append-nil, length-drop, Some, None, Err, Result}
 use Rattle.std.specs.Prelude.{Option, Ok, IfErr, IsOk, OnOk, ◌^◌}
 use Rattle.std.proofs.lemmas.List.{take-append-drop}
-use Rattle.cif_line.specs.Device.{Reads, IsEnd}
-use Rattle.cif_line.specs.Taken.{AfterEach, HasFed, HasRefused, LosesOnePieceMore}
+use Rattle.cif_device.specs.Device.{Reads, IsEnd}
+use Rattle.cif_device.specs.Taken.{AfterEach, HasFed, HasRefused, LosesOnePieceMore}
 use Rattle.docker_model.specs.state.State.{State}
 use Rattle.docker_model.specs.state.StateText.{Format}
 use Rattle.docker_model.specs.state.StateFault.{has_tail, IsStateText, HasTail}

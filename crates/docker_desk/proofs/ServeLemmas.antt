@@ -1,7 +1,7 @@
 -- How a session comes to its end.
 use Rattle.std.proofs.Common.{◌≡◌, ◌+◌, ℕ, Bool, List, ◌++◌, [], ◌∷◌, length, arith, inl, inr, Some, None, Ok, ap, subst, ◌∙◌, false}
 use Rattle.std.specs.Prelude.{Option, IfSome, ◌&&◌}
-use Rattle.cif_line.specs.Device.{Takes, TakesPart}
+use Rattle.cif_device.specs.Device.{Takes, TakesPart}
 use Rattle.docker_host.specs.History.{Event, Text, looked}
 use Rattle.docker_host.specs.Host.{HostView}
 use Rattle.docker_desk.specs.Answering.{AnswersLines, CountsStreams}

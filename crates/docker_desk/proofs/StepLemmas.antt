@@ -5,7 +5,7 @@ use Rattle.std.proofs.Math.Dec.{eqb}
 use Rattle.std.proofs.lemmas.Bool.Decides.{eqb_tells}
 use Rattle.std.proofs.lemmas.List.{length-map, map-append}
 use Rattle.std.proofs.lemmas.Grind.{flat_map-append}
-use Rattle.cif_line.specs.Device.{IsEnd, Reads, Takes, TakesPart}
+use Rattle.cif_device.specs.Device.{IsEnd, Reads, Takes, TakesPart}
 use Rattle.docker_cmd.specs.Prepared.{DeviceBytes}
 use Rattle.docker_desk.specs.Lines.{AreLines, EndsLine, IsNextLine, LineView, ReadsAsked, ReadsMany, ReadsNext, asked_meant, with_ahead, whole_line, bad_line, cut_line}
 use Rattle.docker_desk.specs.declared.lines.Asked.{Asked}

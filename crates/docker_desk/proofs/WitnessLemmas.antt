@@ -4,7 +4,7 @@ use Rattle.std.specs.Prelude.{Option, codes, decimal}
 use Rattle.std.proofs.lemmas.Fmt.{decimal_digit}
 use Rattle.std.proofs.lemmas.List.Sums.{AllPass-from_list_all}
 use Rattle.docker_model.specs.records.Record.{is_printable}
-use Rattle.cif_line.specs.Device.{Takes}
+use Rattle.cif_device.specs.Device.{Takes}
 use Rattle.docker_model.specs.state.State.{State, IsValid}
 use Rattle.docker_model.specs.state.StateText.{dks_2, state_text}
 use Rattle.docker_cmd.specs.Office.{HoldsState, no_state}

@@ -1,6 +1,6 @@
 -- A whole session: its words, how it begins, and how it ends.
 use Rattle.std.specs.Prelude.{◌≡◌, ℕ, ◌+◌, Bool, true, false, ◌&&◌, List, [], ◌∷◌, ◌++◌, codes, length, Option, Result, Ok, Err, ◌⊎◌}
-use Rattle.cif_line.specs.Device.{Takes, TakesPart}
+use Rattle.cif_device.specs.Device.{Takes, TakesPart}
 use Rattle.docker_model.specs.state.StateText.{dks_2}
 use Rattle.docker_cmd.specs.SourceRead.{ReadsState}
 use Rattle.docker_cmd.specs.FaultLine.{IsCounted, device_line, fault_line, status_of}

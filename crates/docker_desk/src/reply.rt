@@ -1,6 +1,6 @@
 //! The answers to requests.
 ghost use Rattle.std.specs.Prelude.{◌-◌, ◌^◌, ◌<◌, IsErr, OnOk, OnErr};
-ghost use Rattle.cif_line.specs.Device.{CountsFailure, Takes, TakesPart};
+ghost use Rattle.cif_device.specs.Device.{CountsFailure, Takes, TakesPart};
 ghost use Rattle.docker_desk.specs.Answers.{answer_text};
 ghost use Rattle.docker_cmd.specs.FaultLine.{fault_line, status_of};
 ghost use Rattle.docker_cmd.specs.declared.fault.Fault.TheVariants as why;

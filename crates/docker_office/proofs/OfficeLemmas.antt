@@ -16,8 +16,8 @@ use Rattle.cif_file.specs.declared.fault.FileFault.{FileFault}
 use Rattle.cif_file.specs.declared.fault.ReadFault as files
 use Rattle.cif_file.specs.declared.fault.ReadFault.TheVariants as file_faults
 use Rattle.docker_bytes.specs.Excerpts.{IsExcerptAt}
-use Rattle.cif_line.specs.Device.{CountsFailure, IsEnd}
-use Rattle.cif_line.specs.FeedEnds.{most_at_once}
+use Rattle.cif_device.specs.Device.{CountsFailure, IsEnd}
+use Rattle.cif_device.specs.FeedEnds.{most_at_once}
 use Rattle.docker_bytes.specs.ReadEnds.{BytesLeft, CountsOutcome, CountsWhy, IsOutcome, IsWhyUnread, StopsReading, Wanting}
 use Rattle.docker_bytes.specs.SourceRead.{Held, ReadsMade, ReadsState, RefusesState, JoinsState}
 use Rattle.docker_bytes.specs.declared.fault.StateFault.{StateFault}

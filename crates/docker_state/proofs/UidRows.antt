@@ -24,7 +24,7 @@ use Rattle.cif_laws.proofs.lists.Membership.{Contains-cons, nil-Contains, Contai
 use Rattle.cif_laws.proofs.orders.Ascending.{later_of}
 use Rattle.cif_laws.proofs.lists.Later.{pairs_from_later}
 use Rattle.cif_file.specs.Key.{Key}
-use Rattle.cif_file.specs.Meaning.{key_meant}
+use Rattle.cif_change.specs.Meaning.{key_meant}
 use Rattle.docker_join.specs.declared.entry.Entry.{Entry}
 use Rattle.docker_join.specs.Rows.{row_cmp, AreAscending}
 use Rattle.docker_state.specs.Live.{live_rows}

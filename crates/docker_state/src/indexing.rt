@@ -5,7 +5,7 @@ ghost use Rattle.docker_model.specs.state.Op as ops;
 ghost use Rattle.docker_model.specs.state.Lapse.{lapse_entries};
 ghost use Rattle.docker_model.specs.state.State.{AreAscending};
 ghost use Rattle.cif_file.specs.MadeChanges.{AreNotesOf};
-ghost use Rattle.cif_file.specs.Meaning.{key_meant};
+ghost use Rattle.cif_change.specs.Meaning.{key_meant};
 ghost use Rattle.docker_join.specs.Meaning.{op_meant};
 ghost use Rattle.state_index.specs.Noted.{Item, items_of};
 ghost use Rattle.state_index.specs.Rooms.{AreMadeBy};

@@ -1,7 +1,7 @@
 //! The live rows at a place, by an index or by a walk over all rows.
 ghost use Rattle.std.specs.Prelude.{◌≡◌};
 ghost use Rattle.std.specs.Iterator.{YieldsFirstBy, item_count};
-ghost use Rattle.cif_file.specs.Meaning.{key_meant, body_meant};
+ghost use Rattle.cif_change.specs.Meaning.{key_meant, body_meant};
 ghost use Rattle.docker_state.specs.Walked.{rows_walked};
 
 use crate::sifted::SiftedRows;
