@@ -1,84 +1,53 @@
-//! What the rows are made of, worked out by hand: the records of files, the texts of states, and
-//! dockers. Each character of a state's text stands for one byte, the one with its number.
+//! What the rows are made of, worked out by hand: files, the texts of states, and dockers.
 
 use std::alloc::Global;
 use std::process::Abort;
+use test_records::{BS, BS_OVERLAY_WEEKDAYS, BS_REVISED, HD, HD_10B, LO, LO_0905, LT, ZZ};
 
 /// Lines of a file, or parts of a state's text.
-pub(crate) type Parts = &'static [&'static str];
-
-/// The header of an update of 9 June 2024, 21:00.
-const HD: &str = "HDTPS.UDFROC1.PD2406090906242100DFROC1ADFROC1ZUA                                ";
-
-/// The header of an update a day later.
-const HD_LATER: &str =
-    "HDTPS.UDFROC1.PD2406091006242100DFROC1BDFROC1AUA                                ";
-
-/// A new permanent schedule of C10001, on weekdays from 10 to 14 June 2024.
-const BS: &str = "BSNC100012406102406141111100 POO1A10                                           P";
-
-/// An overlay of C10001's schedule, on the same days.
-const BS_OVERLAY: &str =
-    "BSNC100012406102406141111100 POO1A10                                           O";
-
-/// A revision of C10001's schedule.
-const BS_REVISED: &str =
-    "BSRC100012406102406141111100 POO1A10                                           P";
-
-/// An origin: Ashfeld, 09:00.
-const LO: &str = "LOASHFELD 0900 09001  SL                                                        ";
-
-/// An origin: Ashfeld, 09:05.
-const LO_LATER: &str =
-    "LOASHFELD 0905 09051  SL                                                        ";
-
-/// A terminus: Brayton, 09:30.
-const LT: &str = "LTBRAYTON 0930 09322  FL                                                        ";
-
-/// A trailer.
-const ZZ: &str = "ZZ                                                                              ";
+pub(crate) type Parts = &'static [&'static [u8]];
 
 /// A file of one train from Ashfeld to Brayton.
 pub(crate) const MORNING: Parts = &[HD, BS, LO, LT, ZZ];
 
 /// A file with the revision of the morning train a day later: the train leaves five minutes later.
-pub(crate) const REVISION: Parts = &[HD_LATER, BS_REVISED, LO_LATER, LT, ZZ];
+pub(crate) const REVISION: Parts = &[HD_10B, BS_REVISED, LO_0905, LT, ZZ];
 
 /// The file of the revision, without its trailer.
-pub(crate) const OPEN: Parts = &[HD_LATER, BS_REVISED, LO_LATER, LT];
+pub(crate) const OPEN: Parts = &[HD_10B, BS_REVISED, LO_0905, LT];
 
 /// The mark of a state's text, and no horizon.
-const MARK: &str = "DKS2\0\0";
+const MARK: &[u8] = b"DKS2\0\0";
 
 /// The mark, and the horizon of 15 June 2024.
-const MARK_15: &str = "DKS2\x5b\u{f6}";
+const MARK_15: &[u8] = b"DKS2\x5b\xf6";
 
 /// How many items or entries there are: zero, one, two or four.
-const NONE: &str = "\0\0\0\0\0\0\0\0";
+const NONE: &[u8] = b"\0\0\0\0\0\0\0\0";
 
-const ONE: &str = "\0\0\0\0\0\0\0\x01";
+const ONE: &[u8] = b"\0\0\0\0\0\0\0\x01";
 
-const TWO: &str = "\0\0\0\0\0\0\0\x02";
+const TWO: &[u8] = b"\0\0\0\0\0\0\0\x02";
 
-const FOUR: &str = "\0\0\0\0\0\0\0\x04";
+const FOUR: &[u8] = b"\0\0\0\0\0\0\0\x04";
 
 /// The ledger items of the two files.
-const ITEM: &str = "\x5b\u{f0}\x04\u{ec}DFROC1AUDFROC1Z";
+const ITEM: &[u8] = b"\x5b\xf0\x04\xecDFROC1AUDFROC1Z";
 
-const ITEM_LATER: &str = "\x5b\u{f1}\x04\u{ec}DFROC1BUDFROC1A";
+const ITEM_LATER: &[u8] = b"\x5b\xf1\x04\xecDFROC1BUDFROC1A";
 
 /// The entry of C10001 in each of the two files, up to its op.
-const ENTRY: &str = "\x03C10001\x5b\u{f1}P\x5b\u{f0}\x04\u{ec}DFROC1A\0\0\0\x02";
+const ENTRY: &[u8] = b"\x03C10001\x5b\xf1P\x5b\xf0\x04\xecDFROC1A\0\0\0\x02";
 
 /// The entry of its overlay in the first file, up to its op.
-const ENTRY_OVERLAY: &str = "\x03C10001\x5b\u{f1}O\x5b\u{f0}\x04\u{ec}DFROC1A\0\0\0\x05";
+const ENTRY_OVERLAY: &[u8] = b"\x03C10001\x5b\xf1O\x5b\xf0\x04\xecDFROC1A\0\0\0\x05";
 
-const ENTRY_LATER: &str = "\x03C10001\x5b\u{f1}P\x5b\u{f1}\x04\u{ec}DFROC1B\0\0\0\x02";
+const ENTRY_LATER: &[u8] = b"\x03C10001\x5b\xf1P\x5b\xf1\x04\xecDFROC1B\0\0\0\x02";
 
 /// The op of an entry that is put, and three lines of its body. The op of one that lapsed.
-const THREE_LINES: &str = "\x01\0\0\0\x03";
+const THREE_LINES: &[u8] = b"\x01\0\0\0\x03";
 
-const LAPSED: &str = "\x02";
+const LAPSED: &[u8] = b"\x02";
 
 /// The state that knows no file: 22 bytes.
 pub(crate) const EMPTY_STATE: Parts = &[MARK, NONE, NONE];
@@ -94,8 +63,8 @@ pub(crate) const OVERLAID_STATE: Parts = &[
     TWO,
     ENTRY_OVERLAY,
     THREE_LINES,
-    BS_OVERLAY,
-    LO_LATER,
+    BS_OVERLAY_WEEKDAYS,
+    LO_0905,
     LT,
     ENTRY,
     THREE_LINES,
@@ -114,7 +83,7 @@ pub(crate) const REVISION_STATE: Parts = &[
     ENTRY_LATER,
     THREE_LINES,
     BS,
-    LO_LATER,
+    LO_0905,
     LT,
 ];
 
@@ -128,7 +97,7 @@ pub(crate) const BOTH_STATE: Parts = &[
     ENTRY_LATER,
     THREE_LINES,
     BS,
-    LO_LATER,
+    LO_0905,
     LT,
 ];
 
@@ -136,22 +105,22 @@ pub(crate) const BOTH_STATE: Parts = &[
 pub(crate) const LAPSED_STATE: Parts = &[MARK_15, ONE, ITEM, ONE, ENTRY, LAPSED];
 
 /// The ledger item of a full extract of 9 June 2024, 21:00.
-const ITEM_FULL: &str = "\x5b\u{f0}\x04\u{ec}DFROC1AFDFROC1Z";
+const ITEM_FULL: &[u8] = b"\x5b\xf0\x04\xecDFROC1AFDFROC1Z";
 
 /// The entries of three timing points in that file, up to their ops.
-const ASHFELD: &str = "\x01ASHFELD\x5b\u{f0}\x04\u{ec}DFROC1A\0\0\0\x02";
+const ASHFELD: &[u8] = b"\x01ASHFELD\x5b\xf0\x04\xecDFROC1A\0\0\0\x02";
 
-const BRAYTON: &str = "\x01BRAYTON\x5b\u{f0}\x04\u{ec}DFROC1A\0\0\0\x03";
+const BRAYTON: &[u8] = b"\x01BRAYTON\x5b\xf0\x04\xecDFROC1A\0\0\0\x03";
 
-const CORHAM: &str = "\x01CORHAM \x5b\u{f0}\x04\u{ec}DFROC1A\0\0\0\x04";
+const CORHAM: &[u8] = b"\x01CORHAM \x5b\xf0\x04\xecDFROC1A\0\0\0\x04";
 
 /// The op of a timing point that is put, and columns 10 to 72 of its record: with CRS and STANOX,
 /// and without. The op of one that is deleted.
-const WITH_CODES: &str = "\x0100123400AASHFELD JUNCTION          877010000ASFASHFELD         ";
+const WITH_CODES: &[u8] = b"\x0100123400AASHFELD JUNCTION          877010000ASFASHFELD         ";
 
-const WITHOUT_CODES: &str = "\x01         CORHAM EXCHANGE                                       ";
+const WITHOUT_CODES: &[u8] = b"\x01         CORHAM EXCHANGE                                       ";
 
-const DELETED: &str = "\0";
+const DELETED: &[u8] = b"\0";
 
 /// The state that knows these timing points, of which Brayton is deleted, and the morning train.
 pub(crate) const PLACES_STATE: Parts = &[
@@ -172,50 +141,21 @@ pub(crate) const PLACES_STATE: Parts = &[
     LT,
 ];
 
-/// The docker of Ashfeld on 10 June for the morning train.
-pub(crate) const ASHFELD_0900: &str = "\
-DOCKER ASHFELD 2024-06-10                               
-0900  D 1A10 C10001 P   1   SL      0900 ASHFELD BRAYTON
-END                                                     
-";
-
-/// The docker of Ashfeld on 10 June for the revision.
-pub(crate) const ASHFELD_0905: &str = "\
-DOCKER ASHFELD 2024-06-10                               
-0905  D 1A10 C10001 P   1   SL      0905 ASHFELD BRAYTON
-END                                                     
-";
-
-/// The docker of a place and a day at which nothing happens.
-pub(crate) const ASHFELD_18_JUNE: &str = "\
-DOCKER ASHFELD 2024-06-18                               
-END                                                     
-";
-
 /// The lines of a file, with a line feed after each.
 pub(crate) fn file_text(rt: &impl Abort, alloc: Global, file: Parts) -> Vec<u8> {
     let mut text = Vec::new(alloc);
     for line in file {
-        text.extend_from_slice(line.as_bytes()).expect(rt, "room");
+        text.extend_from_slice(line).expect(rt, "room");
         text.push(b'\n').expect(rt, "room");
     }
     text
-}
-
-/// Adds a part to a text, one byte per character.
-fn add_part(rt: &impl Abort, text: &mut Vec<u8>, part: &str) {
-    for character in part.chars() {
-        if let Ok(byte) = u8::try_from(u32::from(character)) {
-            text.push(byte).expect(rt, "room");
-        }
-    }
 }
 
 /// The parts of a state's text, joined.
 pub(crate) fn state_text(rt: &impl Abort, alloc: Global, parts: Parts) -> Vec<u8> {
     let mut text = Vec::new(alloc);
     for part in parts {
-        add_part(rt, &mut text, part);
+        text.extend_from_slice(part).expect(rt, "room");
     }
     text
 }

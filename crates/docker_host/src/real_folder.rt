@@ -6,7 +6,7 @@ ghost use Rattle.docker_host.specs.History.{placed, unplaced, dropped};
 
 use crate::draft_file::{DraftFile, Placed};
 use crate::folder::{Drafted, Folder, OpenFault};
-use crate::history::{History, Position, Note};
+use crate::history::{History, Note, Position};
 use crate::open_file::OpenFile;
 use crate::version::Version;
 use cif_device::{Failed, Sink, Source};

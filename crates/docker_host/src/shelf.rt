@@ -6,7 +6,7 @@ ghost use Rattle.docker_host.specs.Shelf.{IsShelfHistory, text_under};
 ghost use Rattle.docker_host.specs.Places.{texts_of};
 
 use crate::folder::{Drafted, Folder, OpenFault};
-use crate::history::{History, Position, Note};
+use crate::history::{History, Note, Position};
 use crate::page::Page;
 use cif_device::{Failed, Kept, Memory, Sink, Source};
 use std::alloc::Global;

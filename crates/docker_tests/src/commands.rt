@@ -1,15 +1,15 @@
 //! Commands: their words, what their sources give, and what they write.
 
 use crate::compare::{same, same_in, same_of};
-use crate::dockers::ASHFELD_0900;
 use crate::files::*;
 use crate::offices::text_of;
-use crate::records::{HD, SHORT, ZZ};
 use crate::state_texts::*;
 use cif_line::{Bytes, Kept};
 use docker_cmd::{Fault, OfficeFault, emit, fault_text, job, job_line, prepare, status};
 use std::alloc::Global;
 use std::process::Abort;
+use test_records::printed::ASHFELD_0900;
+use test_records::{HD, ZZ, ZZ_SHORT};
 
 /// What the command with these words writes, if its sources give these two texts.
 pub(crate) fn written(
@@ -79,7 +79,7 @@ const OF_STATES: &[(&[&str], Parts, Parts, Parts)] = &[
         &["print", "S", "ASHFELD", "2024-06-10"],
         MORNING_STATE,
         &[],
-        &[ASHFELD_0900],
+        &[ASHFELD_0900.as_bytes()],
     ),
     (
         &["files", "S"],
@@ -171,7 +171,7 @@ fn is_refused(
 #[test]
 fn commands_that_are_refused(rt: HostRuntime) {
     let alloc = rt.alloc();
-    let short = text_of(&rt, alloc, &[HD, SHORT, ZZ]);
+    let short = text_of(&rt, alloc, &[HD, ZZ_SHORT, ZZ]);
     is_refused(
         &rt,
         alloc,

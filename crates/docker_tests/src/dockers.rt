@@ -4,24 +4,11 @@ use crate::files::*;
 use crate::offices::{office_of, prints, prints_of_file};
 use std::alloc::Global;
 use std::process::Abort;
+use test_records::printed::{ASHFELD_0900, ASHFELD_0905, NONE_AT_ASHFELD, NONE_ON_18_JUNE};
 
 /// The files that an office takes one after the other, a place, a day, and the docker that it
 /// prints.
 type Row = (&'static [File], &'static str, &'static str, &'static str);
-
-/// The morning train leaves Ashfeld.
-pub(crate) const ASHFELD_0900: &str = "\
-DOCKER ASHFELD 2024-06-10                               
-0900  D 1A10 C10001 P   1   SL      0900 ASHFELD BRAYTON
-END                                                     
-";
-
-/// The morning train leaves five minutes later.
-const ASHFELD_0905: &str = "\
-DOCKER ASHFELD 2024-06-10                               
-0905  D 1A10 C10001 P   1   SL      0905 ASHFELD BRAYTON
-END                                                     
-";
 
 /// The morning train leaves ten minutes earlier.
 const ASHFELD_0850: &str = "\
@@ -35,12 +22,6 @@ pub(crate) const TWO_TRAINS: &str = "\
 DOCKER ASHFELD 2024-06-10                               
 1000  D 1A20 C10002 P   1   SL      1000 ASHFELD BRAYTON
 1100  D 1A10 C10001 P   1   SL      1100 ASHFELD BRAYTON
-END                                                     
-";
-
-/// Nothing happens at Ashfeld.
-const NONE_AT_ASHFELD: &str = "\
-DOCKER ASHFELD 2024-06-10                               
 END                                                     
 ";
 
@@ -68,12 +49,6 @@ const COLWELL_UNKNOWN: &str = "\
 DOCKER COLWELL 2024-06-10                               
 2350  A 4D40 C40001 P   1                ASHFELD COLWELL
 2350  N 4D40 C40001 P   1                C40002  ????   
-END                                                     
-";
-
-/// Nothing happens at Ashfeld on 18 June.
-pub(crate) const NONE_ON_18_JUNE: &str = "\
-DOCKER ASHFELD 2024-06-18                               
 END                                                     
 ";
 

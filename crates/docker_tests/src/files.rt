@@ -1,9 +1,9 @@
 //! The files of the worked examples, each as its records.
 
-use crate::records::*;
+use test_records::*;
 
 /// The records of a file, in order.
-pub(crate) type File = &'static [&'static str];
+pub(crate) type File = &'static [&'static [u8]];
 
 /// A train that is put, and then revised so that it runs on Friday 14 June only. In a docker of 10
 /// June it then can't count.
@@ -202,7 +202,7 @@ pub(crate) const DELETED_AT_NO_TIME: File = &[HD, BS_DELETED, LO_2400, LT, ZZ];
 pub(crate) const EARLY: File = &[HD_EARLY, ZZ];
 
 /// A train on Wednesdays, without an end.
-pub(crate) const NO_END: File = &[HD, BS_NO_END, LO, LT, ZZ];
+pub(crate) const NO_END: File = &[HD, BS_WEDNESDAYS, LO, LT, ZZ];
 
 /// An amendment of a timing point that keeps its code.
 pub(crate) const AMENDED: File = &[HD, TA_SAME, ZZ];

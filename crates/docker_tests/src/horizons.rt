@@ -1,13 +1,13 @@
 //! Offices with a horizon.
 
 use crate::compare::same_in;
-use crate::dockers::NONE_ON_18_JUNE;
 use crate::files::*;
 use crate::offices::{day_of, has, has_text, office_of, prints, refuses_day, sent, take};
 use crate::state_texts::LAPSED_STATE;
 use docker_office::Office;
 use std::alloc::Global;
 use std::process::Abort;
+use test_records::printed::NONE_ON_18_JUNE;
 
 /// Sets a horizon.
 fn set(rt: &impl Abort, office: &mut Office, date: &str) {

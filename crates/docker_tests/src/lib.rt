@@ -31,8 +31,6 @@ mod printed_faults;
 #[cfg(test)]
 mod random_runs;
 #[cfg(test)]
-mod records;
-#[cfg(test)]
 mod refused_files;
 #[cfg(test)]
 mod refused_states;

@@ -195,7 +195,7 @@ const OTHERS: &[Other] = &[
             FIRST,
             FROM_ASHFELD,
             TO_BRAYTON,
-            "\0",
+            b"\0",
         ],
         1000,
         309,
@@ -205,7 +205,7 @@ const OTHERS: &[Other] = &[
 ];
 
 /// A mark, and then these parts.
-fn marked(rt: &impl Abort, alloc: Global, mark: &str, parts: Parts) -> Vec<u8> {
+fn marked(rt: &impl Abort, alloc: Global, mark: &[u8], parts: Parts) -> Vec<u8> {
     let mut text = text_of_parts(rt, alloc, &[mark]);
     let rest = text_of_parts(rt, alloc, parts);
     text.extend_from_slice(rest.as_slice()).expect(rt, "room");

@@ -4,7 +4,7 @@ ghost use Rattle.docker_office.specs.RunEnds.{HasGoodLimit};
 ghost use Rattle.docker_office.specs.RunMeaning.{event_meant, events_meant};
 
 use crate::compare::same;
-use crate::dockers::{ASHFELD_0900, NONE_ON_18_JUNE, TWO_TRAINS};
+use crate::dockers::TWO_TRAINS;
 use crate::files::*;
 use crate::offices::{day_of, has, prints, refuses_day, text_of};
 use crate::state_texts::*;
@@ -13,6 +13,7 @@ use cif_line::Day;
 use docker_office::{Event, Exchange, Office, OfficeFault, Reply, RunFault, run};
 use std::alloc::Global;
 use std::process::Abort;
+use test_records::printed::{ASHFELD_0900, NONE_ON_18_JUNE};
 
 /// The event `Take` with this text, under the greatest limit.
 fn take(office: usize, text: &[u8]) -> Event<'_>

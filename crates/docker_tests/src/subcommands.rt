@@ -4,6 +4,7 @@ use crate::commands::written;
 use crate::compare::same_of;
 use std::alloc::Global;
 use std::process::Abort;
+use test_records::printed::NONE_AT_ASHFELD;
 
 /// An update of 9 June 2024, 21:00, without changes.
 const FILE: &[u8] = b"\
@@ -23,12 +24,6 @@ const OLD: &[u8] = b"DKS1\0\0\0\0\0\0\0\x01\x5b\xf0\x04\xecDFROC1AUDFROC1Z\0\0\0
 /// The state of the update of 9 June under the horizon of 15 June 2024, day 23542.
 const RAISED: &[u8] =
     b"DKS2\x5b\xf6\0\0\0\0\0\0\0\x01\x5b\xf0\x04\xecDFROC1AUDFROC1Z\0\0\0\0\0\0\0\0";
-
-/// A docker without lines.
-const DOCKER: &[u8] = b"\
-DOCKER ASHFELD 2024-06-10                               
-END                                                     
-";
 
 /// Asserts what the command with these words writes, if its sources give these two texts.
 fn writes(
@@ -50,11 +45,11 @@ fn each_subcommand(rt: HostRuntime) {
     let counts = b"accepted: 2 records, 0 changes\n";
     writes(&rt, alloc, &["check", "F"], FILE, b"", counts);
     let words = ["day", "F", "ASHFELD", "2024-06-10"];
-    writes(&rt, alloc, &words, FILE, b"", DOCKER);
+    writes(&rt, alloc, &words, FILE, b"", NONE_AT_ASHFELD.as_bytes());
     writes(&rt, alloc, &["take", "S", "F"], EMPTY, FILE, STATE);
     writes(&rt, alloc, &["merge", "S", "O"], EMPTY, RAISED, RAISED);
     let words = ["print", "S", "ASHFELD", "2024-06-10"];
-    writes(&rt, alloc, &words, STATE, b"", DOCKER);
+    writes(&rt, alloc, &words, STATE, b"", NONE_AT_ASHFELD.as_bytes());
     let files = b"2024-06-09 2100 DFROC1A U DFROC1Z\n";
     writes(&rt, alloc, &["files", "S"], STATE, b"", files);
     writes(

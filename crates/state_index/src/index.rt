@@ -16,10 +16,10 @@ ghost use Rattle.state_index.specs.Joined.{AreMoves};
 ghost use Rattle.state_index.specs.Noted.{AreNoted, items_of};
 
 use crate::fill::ascending;
-use crate::posting::Posting;
 use crate::merge::{Moved, merged, ranks_of, union_of};
 use crate::moves::Moves;
 use crate::place_rows::{PlaceRows, postings_at};
+use crate::posting::Posting;
 use crate::puts::{keep_put, puts_of};
 use crate::room::Room;
 use crate::walk::PostingWalk;

@@ -12,8 +12,8 @@ ghost use Rattle.state_index.specs.Spots.{spots_in};
 ghost use Rattle.state_index.specs.PostingOrder.{posting_cmp};
 ghost use Rattle.state_index.specs.PlaceRows.{rows_at_spots, rows_at_postings, live_at_posting, IsPieceAt, IsPieceOf, is_put_at_posting};
 
-use crate::posting::Posting;
 use crate::names::rank_of;
+use crate::posting::Posting;
 use cif_change::{Body, Key};
 use docker_join::{Entry, Op};
 use std::marker::Model;
@@ -158,7 +158,11 @@ fn is_up_to(posting: &Posting, rank: usize) -> bool
 
 /// The postings at a place, among ascending postings, found by a binary search. There are none if the
 /// place isn't named.
-pub(crate) fn postings_at<'a>(places: &[[u8; 7]], postings: &'a [Posting], place: &[u8; 7]) -> &'a [Posting]
+pub(crate) fn postings_at<'a>(
+    places: &[[u8; 7]],
+    postings: &'a [Posting],
+    place: &[u8; 7],
+) -> &'a [Posting]
     requires named { IsStrictlyAscending bytes_cmp places.now }
     requires up { IsStrictlyAscending posting_cmp postings.now }
     ensures piece { IsPieceAt place.now (spots_in places.now postings.entry.now)

@@ -4,8 +4,8 @@ ghost use Rattle.docker_join.specs.Meaning.{op_meant, row_meant};
 ghost use Rattle.state_index.specs.Turns.{is_put};
 ghost use Rattle.state_index.specs.PlaceRows.{is_put_at_posting, put_among, puts_in};
 
-use crate::posting::Posting;
 use crate::place_rows::is_put_at;
+use crate::posting::Posting;
 use cif_change::Key;
 use docker_join::{Entry, Op};
 use std::alloc::Global;

@@ -101,7 +101,9 @@ pub(crate) fn runs_on_recent_weekday(line: &Line, day: Day) -> bool
     ensures { result ≡ (marked_back (columns 22 28 line.now) day 0
         || marked_back (columns 22 28 line.now) day 1 || marked_back (columns 22 28 line.now) day 2) }
 {
-    runs_on_weekday_back(line, day, 0) | runs_on_weekday_back(line, day, 1) | runs_on_weekday_back(line, day, 2)
+    runs_on_weekday_back(line, day, 0)
+        | runs_on_weekday_back(line, day, 1)
+        | runs_on_weekday_back(line, day, 2)
 }
 
 /// Whether a basic schedule marks the weekday of the day `back` days before.

@@ -14,7 +14,7 @@ ghost use Rattle.train_choice.specs.UpTo.{occurrences_to, up_to_last};
 use crate::days_run::schedule_runs_on;
 use crate::events::Events;
 use crate::ranked::Ranked;
-use crate::recent_runs::{RecentRuns, runs_on_recent_weekday, recent_runs_of};
+use crate::recent_runs::{RecentRuns, recent_runs_of, runs_on_recent_weekday};
 use crate::up_to::up_to_last;
 use cif_change::{Lines, ScheduleKey};
 use cif_line::{Day, Line, Stp, Tiploc};

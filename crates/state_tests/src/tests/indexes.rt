@@ -5,7 +5,7 @@ use super::compare::same;
 use cif_file::{AssocKey, Body, Key, Lines, ScheduleKey};
 use cif_line::{Day, Line, Stp, Tiploc, Uid};
 use docker_join::{Entry, FileStamp, Merge, Op, Stamp, Table};
-use state_index::{Index, Posting, Moves, Room, notes_of_rows};
+use state_index::{Index, Moves, Posting, Room, notes_of_rows};
 use std::alloc::Global;
 use std::process::Abort;
 use test_records::AA_NO_END;
@@ -144,7 +144,10 @@ fn joined(rt: &impl Abort, alloc: Global, floor: &Option<FileStamp>) -> Index {
 
 /// Asserts that a posting is of this place and this row.
 fn posting_is(rt: &impl Abort, index: &Index, posting: &Posting, code: &str, at: u32) {
-    let place = index.places.get(posting.place as usize).expect(rt, "a place");
+    let place = index
+        .places
+        .get(posting.place as usize)
+        .expect(rt, "a place");
     same(rt, place, tiploc(rt, code).bytes());
     same(rt, posting.at, at);
 }
