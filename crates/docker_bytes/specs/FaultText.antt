@@ -1,8 +1,9 @@
--- The texts of faults.
+-- The text of a fault of a state's text.
 use Rattle.std.specs.Prelude.{ℕ, List, ◌++◌, codes, decimal}
 use Rattle.docker_bytes.specs.declared.fault.StateFault.{StateFault}
 pub use Rattle.state_text.specs.CauseText.{cause_text}
 
--- the text of a fault: its offset and its cause
+-- the text of a fault: its offset and its cause. For example, `offset 12: ` and then the cause's
+-- text
 abbrev pub fault_text : StateFault → List ℕ
 fault_text fault = codes "offset " ++ decimal fault.at ++ codes ": " ++ cause_text fault.cause
