@@ -25,12 +25,12 @@ format_of reading = format_meant reading.format
 abbrev pub before_of : {K : Type 0} → StateReading K → Before
 before_of reading = stage_meant reading.stage reading.parts reading.lines
 
--- all bytes that were read: those of the complete parts, and those of the next part
+-- all bytes that were read: the complete parts, and what was read of the next part
 abbrev pub text_of : {K : Type 0} → StateReading K → List ℕ
 text_of reading = text_before (format_of reading) (before_of reading) ++ reading.partial.items
 
--- Says that a reading is sound: the parts that were read are good, the bytes of the next part are
--- fewer than the part has, and all bytes are within the limit
+-- Says that a reading is sound. The parts that were read are good, the next part isn't complete,
+-- and all bytes are within the limit
 pub record IsReading {K : Type 0} (reading : StateReading K) : Type 0 where
   pub ready : IsReady (format_of reading) reading.stage reading.parts reading.lines
   pub short : length reading.partial.items ≤ width (before_of reading) - 1

@@ -33,8 +33,8 @@ docker_of_walk live place day rows walk none made lines good are walks empty add
     sorted_gathering live (train_in rows) (link_in rows) (trains_tell live rows are) (links_tell live rows are) place day walk walks good lines
     (subst (λ out. IsPermutation out lines) made_is same) sorted
 
--- a walk over the associations at a place, and one over the schedules that call there, together add
--- the lines of a walk that leaves out no row of the place
+-- a walk over the associations at a place, and then one over the schedules that call there, add all
+-- docker lines of the place
 pub both_gathered : (live : Table) (place : List ℕ) (day : ℕ) (linked calling : List Row) (before between after : List DockerLine)
     → AreLinked live place linked → AreCalling live place calling
     → Adds live (λ trains links. gathered trains links place day linked) before between → Adds live

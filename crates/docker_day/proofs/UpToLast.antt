@@ -17,8 +17,8 @@ module _ (place : List ℕ) (day start : ℕ) (key : ScheduleKey) (detail : Deta
   abbrev line_of : Occurrence → List DockerLine
   line_of event = cond (is_here place event && is_today day start event) (line_at_event key start detail event ∷ []) []
 
-  -- two lists of events, one after the other, give the docker lines of the first and then those of
-  -- the second
+  -- two lists of events, one after the other, give the docker lines of the first, and then the
+  -- docker lines of the second
   there_parts : (events behind : List Occurrence) → there (events ++ behind) ≡ there events ++ there behind
   there_parts [] behind = refl
   there_parts (event ∷ events) behind =

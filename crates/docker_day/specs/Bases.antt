@@ -23,7 +23,7 @@ first_call (Some train) place suffix = find (is_call place suffix) (occurrences 
 abbrev pub meant_if : Option Occurrence → Option events.Occurrence
 meant_if event = option_map occurrence_meant event
 
--- Says that the kept calls, if there are any, are those of their UID's train on the start day
+-- Says that the kept calls, if there are any, are the calls of their UID's train on the start day
 abbrev pub AreKnownCalls : Table → List ℕ → ℕ → Option BaseCalls → Type 0
 AreKnownCalls live place day None = ⊤
 AreKnownCalls live place day (Some known) =

@@ -78,8 +78,7 @@ fn docker_of<'a>(
     }
 }
 
-/// Adds the docker lines of the associations at a place, and those of the schedules that call
-/// there.
+/// Adds the docker lines of the associations at a place and of the schedules that call there.
 fn add_all<'a>(
     alloc: Global,
     lines: &mut Vec<DockerLine<'a>>,

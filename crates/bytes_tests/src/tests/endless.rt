@@ -74,8 +74,8 @@ pub(super) fn refused_each_way(
     refused_by(rt, alloc, &mut own, before, text, limit, fault, 4096);
 }
 
-/// Asserts that a text that begins with `front` and then repeats `again` without end is refused,
-/// both when it is read `step` bytes at a time and when it is received.
+/// Asserts that a text that begins with `front` and then repeats `again` without end is refused. It
+/// is read `step` bytes at a time, and then received.
 fn refused_endless_by(
     rt: &impl Abort,
     alloc: Global,
