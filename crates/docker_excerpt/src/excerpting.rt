@@ -23,9 +23,9 @@ use std::marker::Model;
 /// Makes the excerpt of a state for a place and a day. It is given the state's parts in order, as
 /// `Parts` is. It keeps only the entries from which the docker is made: the place's TIPLOC, the
 /// associations there, and all schedules of some UIDs. These are the UIDs of the trains that call
-/// there, and of the associated trains that live associations there name. It skips each schedule
-/// that doesn't run on any start day from three days before the day to the day after: such a
-/// schedule is neither kept nor searched for calls.
+/// there, and of the associated trains that live associations there name. A schedule that doesn't
+/// run on any start day from three days before the day to the day after is skipped. It is neither
+/// kept nor searched for calls.
 #[derive(Drop)]
 pub struct Excerpting {
     ledger: Ledger,

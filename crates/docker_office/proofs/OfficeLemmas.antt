@@ -149,7 +149,7 @@ one_read format limit left read sent reads holds =
     let same : holds.text ≡ reads.text = subst (λ bytes. Held bytes reads.text) holds.told reads.held in
     one_text format read sent reads.is.valid holds.is.valid (sym reads.is.is ∙ sym same ∙ holds.is.is)
 
--- the join of the summaries of two sets of files is the summary of both sets
+-- if two states are summaries, their join is the summary of all their files
 pub joins_summaries : (limit : ℕ) (left : Option (List ℕ)) (old new : State) → JoinsState dks_2 limit left old new
     → (files others : List (List (List ℕ))) (g h : ℕ) (sent : State) → IsSummary files g old → IsSummary others h sent → HoldsState dks_2 limit left sent
     → IsSummary (files ++ others) (max g h) new

@@ -52,8 +52,9 @@ pub record HoldsState (format : Format) (limit : ℕ) (left : Option (List ℕ))
   pub told : left ≡ Some text
   pub is : IsStateText format limit text sent
 
--- Says what a join makes of summaries. If `old` is the summary of some files, and the source held
--- the text of the summary of others, `new` is the summary of all of them, under the greater horizon
+-- Says what a join makes of summaries. Suppose that `old` is the summary of some files, and that
+-- the source held the text of a summary of others. Then `new` is the summary of all these files,
+-- under the greater horizon
 abbrev pub JoinsSummaries : ℕ → Option (List ℕ) → State → State → Type 0
 JoinsSummaries limit left old new =
     (files others : List (List (List ℕ))) (g h : ℕ) (sent : State) → IsSummary files g old → IsSummary others h sent → HoldsState dks_2 limit left sent

@@ -1,4 +1,4 @@
-//! Calls that allocate memory: those that read files, and the one that makes a file's state.
+//! Calls that allocate memory: they read files, or make the state of a file.
 
 use crate::desk::Desk;
 use crate::endings::{Ending, ending_of};

@@ -1,4 +1,4 @@
-//! Calls that allocate memory: those of jobs.
+//! Calls about jobs that allocate memory.
 
 use crate::desk::Desk;
 use crate::endings::ending_of;

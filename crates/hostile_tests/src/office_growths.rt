@@ -1,4 +1,4 @@
-//! Calls that allocate memory: those of offices.
+//! Calls of offices that allocate memory.
 
 use crate::asking::{ask, call_of};
 use crate::desk::Desk;

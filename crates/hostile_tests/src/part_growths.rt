@@ -1,5 +1,4 @@
-//! Calls that allocate memory: those that build a state from its parts, or let a state receive
-//! parts.
+//! Calls that allocate memory: they build a state from its parts, or let a state receive parts.
 
 ghost use Rattle.std.specs.Prelude.{◌++◌};
 ghost use Rattle.docker_model.specs.state.Stamp.{IsFloor};

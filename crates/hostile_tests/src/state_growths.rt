@@ -1,5 +1,5 @@
-//! Calls that allocate memory: the join of states, the readers of their texts, dockers, and a sink
-//! in memory.
+//! Calls about states that allocate memory: they join states, read their texts, make dockers, or
+//! make a sink in memory.
 
 use crate::desk::Desk;
 use crate::endings::{Ending, ending_of};

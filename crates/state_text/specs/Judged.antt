@@ -66,8 +66,8 @@ pub record IsOfKey (horizon : ℕ) (key : model.ScheduleKey) (line : List ℕ) :
   pub key_is : schedule_named line ≡ schedule_key key
   pub stays : horizon ≤ readable_end (columns 16 21 line)
 
--- Says that the line may begin a schedule with this key: it is a basic schedule with good fields
--- and the transaction `N`, names the key, and doesn't end before the horizon
+-- Says that the line may begin a schedule with this key. It is a basic schedule with good fields
+-- and the transaction `N`, it names the key, and it doesn't end before the horizon
 pub record IsFirstOf (horizon : ℕ) (key : model.ScheduleKey) (line : List ℕ) : Type 0 where
   pub kind : HasKind basic_schedule line
   pub fields : HasGoodFields line

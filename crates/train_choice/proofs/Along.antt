@@ -179,7 +179,7 @@ best_alone train day runs =
     running = λ i. (bytes_eq-Decides train.key.uid train.key.uid).1 refl i && runs i
 
 -- if a walk over a UID's rows begins with a schedule of that UID as the best, it finds the chosen
--- one: unless that is a cancellation, it is the day's train
+-- one. Unless the chosen one is a cancellation, it is the day's train
 train_from_it : (live : Table) (rows : List Row) (train : Train) (day : ℕ) (walk : List Row) (found : Option Train) → AreRowsOf live rows
     → IsLiveTrain live train → schedule_runs (first_record train.lines) day ≡ true → HasSchedulesOf live train.key.uid walk
     → found ≡ chosen_along train.key.uid day (Some train) walk → unless_cancelled found ≡ train_in rows train.key.uid day
