@@ -1,4 +1,4 @@
--- What the text that a source held means for the result of reading it.
+-- What the result of reading a source says about the text that the source held.
 use Rattle.std.specs.Prelude.{◌≡◌, ℕ, ◌≤◌, ◌⊎◌, List, [], ◌++◌, length, Option, Some, None, ⊤}
 use Rattle.cif_line.specs.Device.{Reads}
 use Rattle.docker_model.specs.state.State.{State, IsJoin}

@@ -19,7 +19,7 @@ abbrev pub first_call : Option Train → List ℕ → ℕ → Option events.Occu
 first_call None place suffix = None
 first_call (Some train) place suffix = find (is_call place suffix) (occurrences train.lines)
 
--- the event of the definitions that the code's event means, if there is one
+-- an event of the code, if there is one, converted to the definitions' type
 abbrev pub meant_if : Option Occurrence → Option events.Occurrence
 meant_if event = option_map occurrence_meant event
 

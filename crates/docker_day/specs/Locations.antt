@@ -15,7 +15,7 @@ pub record Shown : Type 0 where
   pub arrival : List ℕ
   pub departure : List ℕ
 
--- the printed columns of the definitions that the code's value means
+-- the printed columns as the code has them, converted to the definitions' type
 abbrev pub location_meant : Location → Shown
 location_meant location = record {
   platform = location.platform.now;

@@ -55,7 +55,7 @@ row_under_way place (Link link) day = true
 row_under_way place Other day = true
 
 -- whether the row may have lines on the day. A schedule may if it has begun by the day, and its
--- days run include that weekday or one of the two before. Any other row may
+-- days-run field marks that weekday or one of the two before. Any other row may
 abbrev pub row_may_run : RowView → ℕ → Bool
 row_may_run (Train train) day = may_run_recently train.key train.lines day
 row_may_run (Link link) day = true

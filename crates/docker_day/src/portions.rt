@@ -87,7 +87,7 @@ fn open_next<'a>(portion: &mut Portion<'a>, rows: &mut TimetableRows<'a>, day: D
 }
 
 /// Whether a row may have lines on a day. A schedule has none unless it has begun by that day, and
-/// its days run include that weekday or one of the two before.
+/// its days-run field marks that weekday or one of the two before.
 fn may_row_run(view: &RowView<'_>, day: Day) -> bool
     ensures { result ≡ row_may_run view.now day }
 {

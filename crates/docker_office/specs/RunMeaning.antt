@@ -1,4 +1,4 @@
--- What events, replies and messages of the code mean in the definitions.
+-- Converts events, replies and messages from the code's types to the types of the definitions.
 use Rattle.std.specs.Prelude.{ℕ, ◌<◌, ◌≤◌, List, map, Option, Some, None, Result, Ok, Err, ⊤}
 use Rattle.cif_file.specs.Cause.{cause_meant}
 use Rattle.cif_line.specs.Device.{Store}
@@ -14,7 +14,7 @@ use Rattle.docker_office.specs.declared.reply.Reply.TheVariants.{Done, Refused}
 use Rattle.docker_office.specs.declared.reply.RunFault.{RunFault}
 use Rattle.docker_office.specs.declared.reply.RunFault.TheVariants.{NoOffice, NoMessage, Office}
 
--- the event of the definitions that the code's event means
+-- an event of the code, converted to the definitions' type
 abbrev pub event_meant : Event → model.RunEvent
 event_meant (event.Take office text limit) = take_file office text.now limit
 event_meant (event.Send office) = send_state office
@@ -22,21 +22,23 @@ event_meant (event.Deliver office message) = deliver office message
 event_meant (event.Reload office message) = reload office message
 event_meant (event.Horizon office day) = horizon_event office day
 
--- the events of the definitions that the code's events mean
+-- events of the code, converted to the definitions' type
 abbrev pub events_meant : List Event → List model.RunEvent
 events_meant = map event_meant
 
--- the refusal of a file for its fault at this record. `None` as the cause stands for out of memory
+-- the refusal of a file for its fault at this record, in the definitions' type. `None` as the cause
+-- stands for out of memory
 abbrev pub refusal_of_file : ℕ → Option files.FileCause → model.Refusal
 refusal_of_file number None = no_memory
 refusal_of_file number (Some cause) = bad_file (record { number = number; cause = cause })
 
--- the refusal that an office's fault means in a run: a file's fault, or out of memory
+-- the fault of an office in a run, converted to the definitions' type: a file's fault, or out of
+-- memory
 abbrev pub refusal_meant : OfficeFault → model.Refusal
 refusal_meant (fault.File why) = refusal_of_file why.number (cause_meant why.cause)
 refusal_meant _ = no_memory
 
--- the reply of the definitions that the code's reply means
+-- a reply of the code, converted to the definitions' type
 abbrev pub reply_meant : Reply → model.Reply
 reply_meant Done = done
 reply_meant (Refused NoOffice) = refused no_office

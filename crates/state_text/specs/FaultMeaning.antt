@@ -1,4 +1,5 @@
--- What causes of faults mean in the definitions.
+-- Converts causes of faults from the code's type to the type of the definitions. Says also what a
+-- fault means for the part at which it occurs.
 use Rattle.std.specs.Prelude.{◌≢◌, ℕ, List, Option, Some, None, slice_index, ⊤}
 use Rattle.docker_model.specs.file.Change.{tiploc_key, association_key, schedule_key}
 use Rattle.docker_model.specs.state.StateText.{Format}
@@ -8,8 +9,8 @@ use Rattle.docker_model.specs.state.StateFault as model
 use Rattle.state_text.specs.declared.cause.StateCause.{StateCause}
 use Rattle.state_text.specs.declared.cause.StateCause.TheVariants as cause
 
--- the cause of the definitions that the code's cause means. `None` for out of memory, which is
--- never a fault of a text
+-- a cause of the code, converted to the definitions' type. `None` for out of memory, which is never
+-- a fault of a text
 abbrev pub cause_meant : StateCause → Option model.StateCause
 cause_meant cause.Mark = Some bad_mark
 cause_meant cause.Item = Some bad_item

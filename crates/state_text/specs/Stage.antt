@@ -1,6 +1,6 @@
--- What stages of the code mean in the definitions. A stage says which part comes next. Together
--- with the parts that were read and the lines of a schedule that isn't complete, it says what comes
--- before that part.
+-- Converts stages from the code's type to the type of the definitions. A stage says which part
+-- comes next. Together with the parts that were read and the lines of a schedule that isn't
+-- complete, it says what comes before that part.
 use Rattle.std.specs.Prelude.{◌≡◌, ℕ, ◌+◌, ◌≤◌, Bool, true, false, List, [], length, ⊤}
 use Rattle.docker_model.specs.file.Change.{schedule_key}
 use Rattle.docker_model.specs.file.Change as model
@@ -25,11 +25,11 @@ tag_meant tag.Tiploc = 1
 tag_meant tag.Assoc = 2
 tag_meant tag.Schedule = 3
 
--- the schedule's key of the definitions that the code's key means
+-- a schedule's key of the code, converted to the definitions' type
 abbrev pub schedule_meant : ScheduleKey → model.ScheduleKey
 schedule_meant key = record { uid = key.uid; runs_from = key.runs_from; indicator = stp_letter key.stp }
 
--- the association's key of the definitions that the code's key means
+-- an association's key of the code, converted to the definitions' type
 abbrev pub assoc_meant : AssocKey → model.AssociationKey
 assoc_meant key = record {
   base = key.base;

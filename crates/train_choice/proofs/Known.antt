@@ -66,8 +66,8 @@ regrouped true true false d = refl
 regrouped true false c d = refl
 regrouped false b c d = refl
 
--- two groups are equal, the group of a key and another, if and only if an association with that key
--- belongs to the other
+-- the group of an association compares as equal to another group if and only if the association
+-- belongs to that group
 at_group : (key : AssociationKey) (group : Group) → is_eq (group_cmp (group_of key) group) ≡ is_of_group group key
 at_group key group =
     sym (tied_then (bytes_cmp key.base group.base) (ordering_then (bytes_cmp key.associated group.associated) rest))

@@ -36,7 +36,7 @@ pub association_last : (line : List ℕ) → HasKind association line → HasGoo
 unfolding association_later
 association_last line is good stays = (association_behind line is good stays).0
 
--- the days run of an association are seven digits that are 0 or 1
+-- the days-run field of an association is seven digits that are 0 or 1
 pub association_days : (line : List ℕ) → HasKind association line → HasGoodFields line → is_deletion line ≡ false → is_days (columns 28 34 line) ≡ true
 unfolding association_later
 association_days line is good stays = (association_behind line is good stays).1.0

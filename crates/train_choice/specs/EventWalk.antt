@@ -7,7 +7,7 @@ use Rattle.train_choice.specs.Occurrences.{Progress, occurrences_at, occurrences
 use Rattle.train_choice.specs.declared.walk.Occurrence.{Occurrence}
 use Rattle.train_choice.specs.declared.walk.EventWalk.{EventWalk}
 
--- the event of the definitions that the code's value means
+-- an event of the code, converted to the definitions' type
 abbrev pub occurrence_meant : Occurrence → model.Occurrence
 occurrence_meant event = record {
   number = event.number;
@@ -18,7 +18,7 @@ occurrence_meant event = record {
   identity = event.identity.now;
 }
 
--- what the walk carries from line to line, as the definitions have it
+-- what the walk carries from line to line, converted to the definitions' type
 abbrev pub progress_of : EventWalk → Progress
 progress_of walk = record { number = walk.number; falls = walk.falls; last = walk.last; identity = walk.identity.now }
 

@@ -1,14 +1,14 @@
--- What keys of the code mean in the definitions.
+-- Converts keys from the code's types to the types of the definitions.
 use Rattle.docker_model.specs.file.Change as model
 use Rattle.cif_line.specs.Letter.{stp_letter}
 use Rattle.cif_change.specs.declared.key.ScheduleKey.{ScheduleKey}
 use Rattle.cif_change.specs.declared.key.AssocKey.{AssocKey}
 
--- the schedule's key of the definitions that the code's key means
+-- a schedule's key of the code, converted to the definitions' type
 abbrev pub schedule_key_meant : ScheduleKey → model.ScheduleKey
 schedule_key_meant key = record { uid = key.uid; runs_from = key.runs_from; indicator = stp_letter key.stp }
 
--- the association's key of the definitions that the code's key means
+-- an association's key of the code, converted to the definitions' type
 abbrev pub association_key_meant : AssocKey → model.AssociationKey
 association_key_meant key = record {
   base = key.base;

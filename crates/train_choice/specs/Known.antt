@@ -55,8 +55,8 @@ abbrev pub AreDayLinks : Table → List ℕ → ℕ → GroupLinks → Type 0
 AreDayLinks live place day best =
     (group : Group) → group.location ≡ place → (rows : List Row) → AreRowsOf live rows → get group_cmp best group ≡ link_in rows group day
 
--- Says how one more association changes the kept ones: its group keeps the better of it and the one
--- kept before, and no other group changes
+-- Says how one more association changes the kept ones. If it runs on the day, its group keeps the
+-- better of it and the one kept before. No other group changes
 abbrev pub HasOneMore : ℕ → GroupLinks → Link → GroupLinks → Type 0
 HasOneMore day before link after =
     (group : Group) → get group_cmp after group

@@ -44,7 +44,7 @@ pub record Progress : Type 0 where
 abbrev pub before_all : List ℕ → Progress
 before_all basic = record { number = 1; falls = 0; last = None; identity = columns 33 36 basic }
 
--- the event for one time of a line
+-- the event for one time of a line, if the walk carries `p` before that time
 abbrev pub occurrence_at : Progress → List ℕ → Occasion × ℕ → Occurrence
 occurrence_at p line time = record {
   number = p.number;
@@ -64,7 +64,7 @@ past_time p time = record {
   identity = p.identity;
 }
 
--- the events for some times of a line
+-- the events for some times of a line, if the walk carries `p` before these times
 abbrev pub occurrences_at : Progress → List ℕ → List (Occasion × ℕ) → List Occurrence
 occurrences_at p line [] = []
 occurrences_at p line (time ∷ times) = occurrence_at p line time ∷ occurrences_at (past_time p time) line times
@@ -87,7 +87,7 @@ turned p line = record {
   identity = identity_behind line p.identity;
 }
 
--- the events of some lines, for a walk that carries this before them
+-- the events of some lines, if the walk carries `p` before these lines
 abbrev pub occurrences_from : Progress → List (List ℕ) → List Occurrence
 occurrences_from p [] = []
 occurrences_from p (line ∷ lines) =

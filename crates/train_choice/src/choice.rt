@@ -49,7 +49,7 @@ pub fn train_on<'a>(timetable: &Timetable<'a>, uid: &Uid, day: Day) -> Option<Sc
     unless_cancelled(chosen_in(timetable, uid, day))
 }
 
-/// The schedule, unless it is a cancellation.
+/// Returns the schedule that was found, unless it is a cancellation.
 fn unless_cancelled(found: Option<ScheduleView<'_>>) -> Option<ScheduleView<'_>>
     ensures { result ≡ unless_cancelled found.entry }
 {

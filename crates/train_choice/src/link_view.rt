@@ -72,7 +72,7 @@ impl<'a> LinkView<'a> {
         association_runs(self.line(), start)
     }
 
-    /// A view of the association's record.
+    /// A typed view of the association's record.
     pub fn record(&self) -> Assoc<'a>
         ensures { result ≡ self.now.line }
     {

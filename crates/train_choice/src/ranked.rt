@@ -1,4 +1,4 @@
-//! The order of choice, for schedules of a UID and for associations of a group.
+//! The order in which the schedules of a UID, or the associations of a group, are chosen.
 ghost use Rattle.std.specs.Prelude.{◌≡◌, ℕ};
 ghost use Rattle.std.specs.Ordering.{is_lt};
 ghost use Rattle.std.specs.Option.{option_copied};

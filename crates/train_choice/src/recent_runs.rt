@@ -49,8 +49,8 @@ pub fn day_back(day: Day, back: u16) -> Option<Day>
 }
 
 /// Whether a schedule that begins on `first` runs on a day, on the day before and two days before.
-/// The days run and the last date are read from its basic schedule, and the last date only if it
-/// can matter.
+/// The days-run field and the last date are read from its basic schedule, and the last date only if
+/// it can matter.
 #[tactic(auto, using(crate::proofs::RunFields::schedule_fields))]
 pub(crate) fn recent_runs_of(line: &Line, first: Day, day: Day) -> RecentRuns
     requires kind { HasKind basic_schedule line.now }
@@ -81,7 +81,7 @@ pub(crate) fn recent_runs_of(line: &Line, first: Day, day: Day) -> RecentRuns
 }
 
 /// Whether the day `back` days before exists, isn't before the first date, and falls on a weekday
-/// of the days run.
+/// that the days-run field marks.
 fn begun_back(days: &Days, first: Day, day: Day, back: u16) -> bool
     ensures { result ≡ begun_back days.now first day back }
 {
@@ -98,8 +98,8 @@ fn lasts_back(last: u16, day: Day, back: u16) -> bool
     day.number().saturating_sub(back) <= last
 }
 
-/// Whether the days run of a basic schedule include the weekday of the day, of the day before or of
-/// two days before.
+/// Whether the days-run field of a basic schedule marks the weekday of the day, of the day before
+/// or of two days before.
 pub(crate) fn is_marked_recently(line: &Line, day: Day) -> bool
     ensures { result ≡ (marked_back (columns 22 28 line.now) day 0
         || marked_back (columns 22 28 line.now) day 1 || marked_back (columns 22 28 line.now) day 2) }
@@ -107,7 +107,7 @@ pub(crate) fn is_marked_recently(line: &Line, day: Day) -> bool
     is_marked_back(line, day, 0) | is_marked_back(line, day, 1) | is_marked_back(line, day, 2)
 }
 
-/// Whether the days run of a basic schedule include the weekday of the day `back` days before.
+/// Whether the days-run field of a basic schedule marks the weekday of the day `back` days before.
 fn is_marked_back(line: &Line, day: Day, back: u16) -> bool
     ensures { result ≡ marked_back (columns 22 28 line.now) day back }
 {

@@ -110,8 +110,8 @@ impl<'a> ScheduleView<'a> {
     }
 
     /// Whether the schedule may run on a day or on one of the two days before. It may if it has
-    /// begun by the day, and if its days run include one of the three weekdays. This reads only the
-    /// key and three digits, which costs less than `recent_runs`.
+    /// begun by the day, and if its days-run field marks one of the three weekdays. This reads only
+    /// the key and three digits, which costs less than `recent_runs`.
     pub fn may_run_recently(&self, day: Day) -> bool
         ensures { result ≡ may_run_recently self.now.key self.now.lines day }
     {

@@ -19,7 +19,7 @@ pub(crate) struct EventTimes {
 }
 
 impl EventTimes {
-    /// No time.
+    /// The times of a line that has none.
     pub(crate) fn none() -> EventTimes
         ensures { times_meant result ≡ [] }
     {
