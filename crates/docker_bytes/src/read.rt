@@ -25,7 +25,7 @@ pub enum ReadFault {
     Source,
     /// What the source holds isn't the text of a state. The cause is never `Memory`.
     State(StateFault),
-    /// Out of memory: the allocator refused a growth. No part that was judged before is bad.
+    /// Out of memory: the allocator refused a request. No part that was judged before is bad.
     Memory,
 }
 

@@ -38,15 +38,15 @@ row_passed day key body row before after false is good viewed told never = λ pl
     (sym (told ∙ ap (λ (r : RowView). row_may_run r day) viewed)) i
     ++ gathered (train_in rows) (link_in rows) place day after)
 
--- what is left of the rows that are left of a walk is left of the walk too
+-- if `rest` is left of `all`, and `fewer` is left of `rest`, then `fewer` is left of `all`
 pub left_again : (all rest fewer : List Row) → AreLeft all rest → AreLeft rest fewer → AreLeft all fewer
 left_again all rest fewer first second = record {
   good = λ good. second.good (first.good good);
   live = λ live are. second.live live (first.live live are);
 }
 
--- if some rows may be passed over, and then some of the rows that are left, both may be passed over
--- together
+-- if the rows between `all` and `rest` may be passed over, and those between `rest` and `fewer`,
+-- then all rows between `all` and `fewer` may be
 pub passed_again : (day : ℕ) (all rest fewer : List Row) → AreLeft all rest → ArePassedOver day all rest → ArePassedOver day rest fewer
     → ArePassedOver day all fewer
 passed_again day all rest fewer left first second = λ place live are_live rows are.

@@ -11,8 +11,8 @@ use Rattle.train_choice.specs.Known.{PlaceDay}
 use Rattle.docker_day.specs.RowViews.{views_in, views_of}
 use Rattle.docker_day.specs.declared.row_view.RowView.{RowView}
 
--- Says that `after`, the rows that are left, keeps two facts about `before`. If the rows before are
--- good, so are those after, and if they are live, so are those after
+-- Says that the rows `after` are as good as the rows `before`. If all of `before` have good bodies,
+-- so have all of `after`. If all of `before` are live, so are all of `after`
 pub record AreLeft (before after : List Row) : Type 0 where
   pub good : AreGoodRows before → AreGoodRows after
   pub live : (live : Table) → AreLive live before → AreLive live after

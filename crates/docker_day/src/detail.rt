@@ -5,7 +5,7 @@ ghost use Rattle.docker_day.specs.Details.{detail_meant};
 
 use cif_line::Uid;
 
-/// What the last columns of a docker line have.
+/// The content of a docker line's last columns.
 #[derive(Clone, Copy, Debug)]
 pub enum Detail {
     /// For an event: where the train starts and where it ends.

@@ -15,8 +15,8 @@ use crate::visits::Visits;
 use cif_line::{Day, Memory, Tiploc};
 use train_choice::LinkView;
 
-/// Adds the docker lines of a row, for each start day from which a train may be at the place on the
-/// day. `row` is the row's index. Returns `Memory` if there is no room for them.
+/// Adds the docker lines of a row, for each start day whose trains may be at the place on the day.
+/// `row` is the row's index. Returns `Memory` if there is no room for them.
 pub(crate) fn add_row<'a>(
     lines: &mut Vec<DockerLine<'a>>,
     visits: &mut Visits<'a>,

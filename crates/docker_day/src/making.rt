@@ -23,10 +23,10 @@ use docker_state::{State, Timetable};
 use std::alloc::Global;
 use train_choice::{associations_at, schedules_at};
 
-/// Makes the docker of a timing point and a day: the events and associations there on that day, of
-/// trains that run. `Lapsed` if and only if the state has a horizon and the day is earlier than
-/// three days after it, because entries that have lapsed could be missing. `Memory` if there is no
-/// room for the lines, or for what is looked up for them.
+/// Makes the docker of a timing point and a day. It has the events there on that day, of trains
+/// that run, and the associations there. `Lapsed` if and only if the state has a horizon and the
+/// day is earlier than three days after it, because entries that have lapsed could be missing.
+/// `Memory` if there is no room for the lines, or for what is looked up for them.
 pub fn docker<'a>(
     alloc: Global,
     state: &'a State,

@@ -1,4 +1,4 @@
-//! Start days, of associated trains and of the trains that may be at a place on a day.
+//! Start days: of associated trains, and of trains that may be at a place on a day.
 ghost use Rattle.std.specs.Prelude.{◌≡◌, ◌+◌, ◌≤◌};
 ghost use Rattle.docker_model.specs.docker.Association.{partner_start};
 ghost use Rattle.train_choice.specs.EventWalk.{occurrence_meant};

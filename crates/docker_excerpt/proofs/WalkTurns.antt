@@ -19,7 +19,7 @@ use Rattle.docker_excerpt.specs.Walked.{AreNames, IsWalk}
 abbrev Keyed : Type 0
 Keyed = Key × Entry
 
--- no entries name no associated train
+-- without entries, no associated train is named
 pub no_names : AreNames [] []
 no_names uid = (λ among. among, λ among. among)
 
@@ -124,7 +124,7 @@ module _ (place : List ℕ) (state : State) (kept run : List Keyed) (needed : Bo
           ∙ names_stay place state.entries key entry
           ∙ ap (λ (so_far : ExcerptSoFar). names_in so_far.kept) is.has_kept.so_far
 
-  -- a walk with sorted names has passed the same entries
+  -- sorting the names doesn't change what the walk has passed and kept
   pub walk_sorted : (after : List (List ℕ)) → IsPermutation names after → IsSorted bytes_cmp after → IsWalk place state.entries kept run needed after
   walk_sorted after moved sorted = record {
     has_kept = is.has_kept;

@@ -18,7 +18,8 @@ is_there known state end =
     let low = end.there in
     omega arith
 
--- what holds for an office of a run's result, with what it knows, holds for what `EndsWith` says
+-- what holds for an office's knowledge and state in the result of a run holds for the `known` and
+-- `state` of `EndsWith`
 at_end : (P : Known → State → Type 0) (known : Known) (state : State) → (end : EndsWith known state)
     → P (known_at_end end.offices end.events end.exchange end.office) (office_state end.exchange.states end.office) → P known state
 at_end P known state end is = subst (P known) end.has (subst (λ k. P k (office_state end.exchange.states end.office)) end.knows is)

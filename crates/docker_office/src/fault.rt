@@ -24,7 +24,7 @@ pub enum OfficeFault {
     /// The sink failed.
     #[error("the sink failed")]
     Sink,
-    /// Out of memory: the allocator refused a growth.
+    /// Out of memory: the allocator refused a request.
     #[error("want of memory")]
     Memory,
 }

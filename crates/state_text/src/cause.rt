@@ -31,7 +31,7 @@ pub enum StateCause {
     Tail,
     /// The state's text is longer than the limit allows.
     Long,
-    /// Out of memory: the allocator refused a growth.
+    /// Out of memory: the allocator refused a request.
     Memory,
     /// The horizon isn't a day number: it is above 36524.
     Horizon,

@@ -1,4 +1,4 @@
--- The type that was chosen names the caller's place and day.
+-- The type argument that is chosen names the caller's place and day.
 use Rattle.docker_bytes.proofs.excerpt.read_excerpt.Given as goal
 
 abbrev pub ghosts-excerpt_at : goal.ghosts-excerpt_at
