@@ -11,8 +11,8 @@ use Rattle.docker_bytes.specs.StateReading.{IsWhole}
 abbrev pub BytesLeft : Type 0
 BytesLeft = Option (List ℕ)
 
--- a statement that memory ran out while a text was read. It is about the format, the most bytes of
--- a piece, the limit on the text, and the bytes that the source had before and has now
+-- a statement that memory ran out while a text was read. Its parameters are the format, the most
+-- bytes of a piece, the limit on the text, and the bytes that the source had before and has now
 abbrev pub Wanting : Type 1
 Wanting = (format : Format) (most limit : ℕ) (left left_now : BytesLeft) → Type 0
 

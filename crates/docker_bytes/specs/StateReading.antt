@@ -65,8 +65,8 @@ pub record IsWanting (format : Format) (limit : ℕ) (text piece : List ℕ) (at
   pub ends_in_piece : length text < length (text_before format before) + width before
   pub item_at : at ≡ length (items_before format before)
 
--- Says what a fault means that is returned for a piece after a text: a part is bad, or the state
--- needs a byte at the limit. `None` stands for a fault because memory ran out
+-- Says what a fault returned for a piece after a text means: a part is bad, or the state needs a
+-- byte at the limit. If the cause is `None`, memory ran out
 abbrev pub IsToldSoFar : Format → ℕ → List ℕ → List ℕ → ℕ → Option model.StateCause → Type 0
 IsToldSoFar format limit text piece at None = IsWanting format limit text piece at
 IsToldSoFar format limit text piece at (Some cause) =
@@ -84,9 +84,8 @@ IsWhole format limit text = (state : State) × IsStateText format limit text sta
 abbrev pub IsOpen : Format → ℕ → List ℕ → Type 0
 IsOpen format limit text = (fault : model.StateFault) × IsShort format limit text fault
 
--- Says what a fault means that is returned at the end of a text: the text ends before the state
--- does. `None` stands for a fault because memory ran out at the end of a complete text. Its offset
--- is that end
+-- Says what a fault returned at the end of a text means: the text ends before the state does. If
+-- the cause is `None`, memory ran out at the end of a complete text, and that end is the offset
 abbrev pub IsToldAtEnd : Format → ℕ → List ℕ → ℕ → Option model.StateCause → Type 0
 IsToldAtEnd format limit text at None = IsWhole format limit text × (at ≡ length text)
 IsToldAtEnd format limit text at (Some cause) = IsShort format limit text (record { at = at; cause = cause })

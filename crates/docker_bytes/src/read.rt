@@ -90,7 +90,7 @@ pub(crate) fn read_format<S: Source, K: Maker>(
 }
 
 /// Feeds all bytes of a source to a parser that has read nothing, in pieces of at most 65,536
-/// bytes. Returns a fault if a byte follows the state.
+/// bytes. A byte that follows the state is a fault.
 pub(crate) fn read_pieces<S: Source, K: Keeper>(
     alloc: Global,
     source: &mut S,
@@ -130,7 +130,7 @@ impl<K: Keeper> Taker for Parser<K> {
     ghost bounded = { taken_is_bounded };
 }
 
-/// Feeds bytes to a parser. Returns a fault if a byte follows the state.
+/// Feeds bytes to a parser. A byte that follows the state is a fault.
 fn feed<K: Keeper>(parser: &mut Parser<K>, piece: &[u8]) -> Result<(), ReadFault>
     ensures read { (format : formats.Format) (limit : ℕ) (text : List ℕ) →
         HasRead parser.old format limit text → IsOk result →

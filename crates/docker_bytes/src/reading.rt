@@ -264,7 +264,7 @@ impl<K: Keeper> StateReading<K> {
 
 impl<K: Maker> StateReading<K> {
     /// Returns what the keeper makes of the state whose text was read. If the text ends before the
-    /// state does, it returns that fault.
+    /// state does, it returns a fault with the cause `Short`.
     pub(crate) fn finish(self) -> Result<K::Made, StateFault>
         requires { IsReading self }
         ensures ok { IfOk result (IsMadeOf K.makes (format_of self) self.limit (text_of self)) }
@@ -300,7 +300,8 @@ impl<K: Maker> StateReading<K> {
 
 impl<R: Receiver> StateReading<Received<R>> {
     /// Returns the receiving state, joined with the state whose text was read. If the text ends
-    /// before the state does, it returns that fault. On any fault the receiving state is unchanged.
+    /// before the state does, it returns a fault with the cause `Short`. On any fault the receiving
+    /// state is unchanged.
     pub(crate) fn join(self) -> (State, Result<(), StateFault>)
         requires { IsReading self }
         ensures ok { IsOk result.1

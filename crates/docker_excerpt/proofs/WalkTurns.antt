@@ -58,7 +58,8 @@ names_more names kept key entry are uid =
 
 module _ (place : List ℕ) (state : State) (kept run : List Keyed) (needed : Bool) (names : List (List ℕ))
     (is : IsWalk place state.entries kept run needed names) where
-  -- when a TIPLOC or an association follows, the run is empty, because all schedules come after it
+  -- when a TIPLOC or an association follows, the run is empty, because schedules come after all
+  -- TIPLOCs and associations
   alone : (key : Key) → IsAboveEntries state key → ((uid : List ℕ) → has_uid uid key ≡ false) → run ≡ []
   alone = kept_alone place state kept run needed is.has_kept
 

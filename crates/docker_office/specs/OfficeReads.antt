@@ -14,7 +14,8 @@ use Rattle.docker_office.specs.declared.fault.OfficeFault.TheVariants.{File, Sta
 
 -- ---- a state
 
--- the fault of reading a state that an office's fault means. `None` if it doesn't mean one
+-- the fault of reading a state from which an office's fault comes. `None` if an office's fault
+-- doesn't come from reading a state
 abbrev pub why_unread : OfficeFault → Option ReadFault
 why_unread (State fault) = Some (states.State fault)
 why_unread Source = Some states.Source

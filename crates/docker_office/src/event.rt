@@ -37,7 +37,7 @@ pub enum Event<'a> {
     Horizon {
         /// The office.
         office: usize,
-        /// The first day whose dockers are kept.
+        /// The horizon: whatever ended before this day lapses.
         day: Day,
     },
 }

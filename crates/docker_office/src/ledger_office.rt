@@ -31,9 +31,9 @@ impl Model for LedgerOffice {
 }
 
 impl LedgerOffice {
-    /// Reads a state from a source, whose text has at most `limit` bytes, and keeps the ledger.
-    /// Like `Office::reload`, it fails with `State`, `Source` or `Memory`: all parts of the text
-    /// are judged, although no entry is kept.
+    /// Reads a state from a source, and keeps its ledger. A text with more than `limit` bytes is
+    /// refused. It refuses, by `State`, `Source` or `Memory`, what `Office::reload` refuses: all
+    /// parts of the text are judged, although no entry is kept.
     pub fn read<S: Source>(
         alloc: Global,
         source: &mut S,

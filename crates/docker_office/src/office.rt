@@ -75,10 +75,10 @@ impl Office {
         &self.state
     }
 
-    /// Takes the file that a source holds, of at most `limit` records: joins the office's state
-    /// with the file's. Reads the source in pieces of at most 65,536 bytes, to its end or to the
-    /// piece that shows the first fault. It refuses with `File`, `Source` or `Memory`, and then
-    /// leaves the office unchanged.
+    /// Takes the file whose text a source holds: joins the office's state with the file's. A file
+    /// with more than `limit` records is refused. The source is read in pieces of at most 65,536
+    /// bytes, to its end or to the piece that shows the first fault. A refusal, by `File`, `Source`
+    /// or `Memory`, leaves the office unchanged.
     pub fn take<S: Source>(&mut self, source: &mut S, limit: u32) -> Result<(), OfficeFault>
         requires failures { S.failures source.old < 2 ^ 64 - 1 }
         requires limit { limit ≤ MOST_RECORDS }
@@ -117,8 +117,9 @@ impl Office {
         }
     }
 
-    /// Joins the office's state with the state that a source holds, whose text has at most `limit`
-    /// bytes. It refuses with `State`, `Source` or `Memory`, and then leaves the office unchanged.
+    /// Joins the office's state with the state whose text a source holds. A text with more than
+    /// `limit` bytes is refused. A refusal, by `State`, `Source` or `Memory`, leaves the office
+    /// unchanged.
     pub fn receive<S: Source>(&mut self, source: &mut S, limit: u64) -> Result<(), OfficeFault>
         requires { S.failures source.old < 2 ^ 64 - 1 }
         ensures reads { EndsReadingState S.left S.failures dks_2 limit
@@ -132,9 +133,9 @@ impl Office {
         Ok(())
     }
 
-    /// Replaces the office's state by the state that a source holds, whose text has at most `limit`
-    /// bytes. The office forgets every file that isn't in that state. It refuses with `State`,
-    /// `Source` or `Memory`, and then leaves the office unchanged.
+    /// Replaces the office's state by the state whose text a source holds. The office forgets every
+    /// file that isn't in that state. A text with more than `limit` bytes is refused. A refusal, by
+    /// `State`, `Source` or `Memory`, leaves the office unchanged.
     pub fn reload<S: Source>(&mut self, source: &mut S, limit: u64) -> Result<(), OfficeFault>
         requires { S.failures source.old < 2 ^ 64 - 1 }
         ensures reads { EndsReadingState S.left S.failures dks_2 limit
@@ -148,10 +149,10 @@ impl Office {
         Ok(())
     }
 
-    /// Replaces the office's state by the state that a source holds, whose text has the mark `DKS1`
-    /// and at most `limit` bytes. Such a text has no horizon, so the new state has none. A text
-    /// with the mark `DKS2` is refused with a fault at offset 0. It refuses with `State`, `Source`
-    /// or `Memory`, and then leaves the office unchanged.
+    /// Replaces the office's state by the state whose text a source holds. The text has the mark
+    /// `DKS1`, and so no horizon: the new state has none. A text with the mark `DKS2` is refused
+    /// with a fault at offset 0, and so is a text with more than `limit` bytes. A refusal, by
+    /// `State`, `Source` or `Memory`, leaves the office unchanged.
     pub fn migrate<S: Source>(&mut self, source: &mut S, limit: u64) -> Result<(), OfficeFault>
         requires { S.failures source.old < 2 ^ 64 - 1 }
         ensures reads { EndsReadingState S.left S.failures dks_1 limit
@@ -163,9 +164,9 @@ impl Office {
         Ok(())
     }
 
-    /// Sets the horizon: each body that ended before this day lapses. Setting a day that isn't
-    /// after the present horizon changes nothing. It never fails. It may use one byte of memory per
-    /// row while it works, and takes longer if there is no memory for them.
+    /// Sets the horizon: each entry whose body ends before this day lapses. Setting a day that
+    /// isn't after the present horizon changes nothing. It never fails. It may use one byte of
+    /// memory per row while it works, and takes longer if there is no memory for them.
     pub fn set_horizon(&mut self, day: Day)
         ensures raised { self.new ≡ raise_horizon day self.old }
         ensures summary { (files : List (List (List ℕ))) (horizon : ℕ)

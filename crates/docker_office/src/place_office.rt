@@ -36,8 +36,8 @@ impl Model for PlaceOffice {
 }
 
 impl PlaceOffice {
-    /// Reads a state from a source, whose text has at most `limit` bytes, and keeps an excerpt for
-    /// a timing point and a day. It refuses with `State`, `Source` or `Memory` what
+    /// Reads a state from a source, and keeps an excerpt of it for a timing point and a day. A text
+    /// with more than `limit` bytes is refused. It refuses, by `State`, `Source` or `Memory`, what
     /// `Office::reload` refuses: every part of the text is judged, whether it is kept or not.
     pub fn read<S: Source>(
         alloc: Global,
@@ -59,9 +59,9 @@ impl PlaceOffice {
         Ok(PlaceOffice { alloc, excerpt })
     }
 
-    /// Reads a file from a source, of at most `limit` records, and keeps what its docker of a
-    /// timing point and a day needs. It refuses with `File`, `Source` or `Memory` what
-    /// `Office::take` refuses: every record is judged, whether anything of it is kept or not.
+    /// Reads a file from a source, and keeps what its docker of a timing point and a day needs. A
+    /// file with more than `limit` records is refused. It refuses, by `File`, `Source` or `Memory`,
+    /// what `Office::take` refuses: every record is judged, whether anything of it is kept or not.
     pub fn take<S: Source>(
         alloc: Global,
         place: Tiploc,

@@ -72,8 +72,8 @@ impl Holdings {
         }
     }
 
-    /// What an event needs and doesn't exist: its office, or otherwise its message. `None` if both
-    /// exist.
+    /// Returns why an event can't be done: its office doesn't exist, or otherwise its message
+    /// doesn't. `None` if both exist.
     fn missing(&self, office: usize, message: usize) -> Option<RunFault>
         ensures some { IfSome result (IsMissing (length self.now.offices.items)
             (length self.now.messages.items) office message) }

@@ -207,6 +207,6 @@ tally_all rows i tally end is = subst (λ (all : List (Kept × Held)). IsTallyOf
     all : take i rows ≡ rows
     all = sym (append-nil (take i rows)) ∙ ap (λ (rest : List (Kept × Held)). take i rows ++ rest) (sym (drop_of_length-le rows end)) ∙ take-append-drop i rows
 
--- before the first row, the tally of nothing is right
+-- before the first row, the tally that has only zeros and no last day is right
 pub no_rows : (rows : List (Kept × Held)) → IsTallyOf (live_up_to 0 rows) (record { schedules = 0; associations = 0; places = 0; last = None })
 no_rows rows = record { schedules = refl; associations = refl; places = refl; last = refl }
