@@ -1,5 +1,5 @@
 -- Which schedule is chosen for a UID on a day, which extract it came from, and the text that is
--- printed for it. Days are numbered from 0 to 36524.
+-- printed for it. Days are numbered from 1960-01-01, which is 0, to 2059-12-31, which is 36524.
 use Rattle.std.specs.Prelude.{◌≡◌, ℕ, ◌-◌, if◌then◌else◌, List, [], ◌∷◌, ◌++◌, length, codes, decimal, Option, Some, None}
 use Rattle.std.specs.List.{flat_map}
 use Rattle.docker_model.specs.records.PrintedTime.{spaces, day_text, minute_text}

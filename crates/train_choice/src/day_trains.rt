@@ -55,9 +55,9 @@ impl<'a> DayTrains<'a> {
     }
 
     /// Whether a train runs by this schedule: whether the schedule is the one chosen for its UID on
-    /// the start day. The schedule has to run on the day. `row` is a hint: the row at which the
-    /// search for the UID's schedules begins. A wrong hint makes the search longer, and doesn't
-    /// change the result.
+    /// the start day, and isn't a cancellation. The schedule has to run on the day. `row` is a
+    /// hint: the row at which the search for the UID's schedules begins. A wrong hint makes the
+    /// search longer, and doesn't change the result.
     pub fn runs_by(&mut self, row: usize, train: &ScheduleView<'a>) -> bool
         requires live { IsLiveTrain (live_in self.old.timetable) train.now }
         requires runs { schedule_runs (first_record train.now.lines) self.old.day ≡ true }
