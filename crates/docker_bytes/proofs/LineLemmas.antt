@@ -1,4 +1,4 @@
--- Reading a line of a schedule that isn't its last, after which the stage is the same.
+-- Reading a line that isn't its schedule's last: the stage stays the same.
 use Rattle.std.proofs.Common.{◌≡◌, ℕ, ◌+◌, ◌*◌, ◌/◌, ◌<◌, ◌≤◌, List, [], ◌∷◌, ◌++◌, length, ap, sym, ◌∙◌, subst, arith, length-append, refl, false, Some, None}
 use Rattle.std.specs.Prelude.{Option, min}
 use Rattle.std.proofs.Math.Nat.{min-le_left, min-le_right, div-mul-le_self}
@@ -21,7 +21,7 @@ use Rattle.state_text.specs.Lines.{AreLinesUpToIn, IsUpToRefusal}
 use Rattle.state_text.specs.Stage.{schedule_meant, stage_meant, begins_item, LeadsTo}
 use Rattle.docker_bytes.specs.StateReading.{IsLineOf}
 
--- after a line of a schedule that isn't its last, the next part is a line of the same schedule
+-- after a line that isn't its schedule's last, the next part is a line of the same schedule
 more_to_come : (format : Format) (count : ℕ) (state : State) (key : ScheduleKey) (stamp : Stamp) (n : ℕ) (lines : List (List ℕ)) (line : List ℕ)
     (taken : List (List ℕ)) → taken ≡ lines ++ line ∷ [] → length taken < n
     → in_entry count state (before_line key stamp n taken) ≡ advance format (in_entry count state (before_line key stamp n lines)) line
@@ -34,7 +34,7 @@ pub line_width : (key : code.ScheduleKey) (n : ℕ) (at : Stage) → IsLineOf ke
     → width (stage_meant at state lines) ≡ 80
 line_width key n at of state lines = subst (λ (p : Stage). width (stage_meant p state lines) ≡ 80) (sym of.is) refl
 
--- a line of a schedule that isn't its last leads to the same stage, within the same item
+-- a line that isn't its schedule's last leads to the same stage, within the same item
 pub line_leads : (format : Format) (at : Stage) (entries : ℕ) (key : code.ScheduleKey) (stamp : stamps.Stamp) (n : ℕ) → at ≡ stage.Line entries key stamp n
     → (state : State) (lines taken : List (List ℕ)) (line : List ℕ) → AreGood format (stage_meant at state lines) → taken ≡ lines ++ line ∷ []
     → length lines + 1 < n

@@ -311,8 +311,8 @@ ends_whole {A = A} format limit initial next parser failed failed_now IsMade IsR
     by (Err fault.Memory) is =
         record { few = read.few; outcome = inr (inr (is.0, record { text = all.text; held = all.held; is = is.1 })); failures = read.failures }
 
--- if reading ends with a value for which something holds, it ends with a value for which anything
--- that follows from it holds
+-- if reading ends with a value for which `IsMade` holds, and `IsRead` follows from `IsMade`, it
+-- ends with a value for which `IsRead` holds
 pub ends_with : {S A E : Type 0} (wants : Wanting) (why : E → Option ReadFault) (left : S → Option (List ℕ)) (failures : S → ℕ) (format : Format) (limit : ℕ)
     (IsMade IsRead : A → Type 0) (source source_now : S) (result : Result A E) → ((made : A) → IsMade made → IsRead made)
     → EndsReadingBy wants why left failures format limit IsMade source source_now result

@@ -56,7 +56,7 @@ whole_text reading is none = record {
     empty : length reading.partial.items ≡ 0
     empty = let short = is.short in omega arith
 
--- if there is no next part, the end of the text is the offset that a fault at the end has
+-- if there is no next part, a fault because memory ran out has the end of the text as its offset
 pub wanting_at_end : {K : Type 0} (reading : StateReading K) → IsReading reading → width (before_of reading) ≡ 0
     → IsToldAtEnd (format_of reading) reading.limit (text_of reading) reading.item_at None
 wanting_at_end reading is none =

@@ -119,8 +119,8 @@ pub record IsLineOf (key : ScheduleKey) (count : ℕ) (at : Stage) : Type 0 wher
   pub stamp : Stamp
   pub is : at ≡ Line entries key stamp count
 
--- Says that the next part is a line of such a schedule but not its last, and that none of the
--- line's bytes was read
+-- Says that the next part is one of these lines but not the last, and that none of its bytes was
+-- read
 pub record IsInnerLine {K : Type 0} (key : ScheduleKey) (count : ℕ) (reading : StateReading K) : Type 0 where
   pub stage : IsLineOf key count reading.stage
   pub more : length reading.lines + 1 < count

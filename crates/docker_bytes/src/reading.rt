@@ -91,7 +91,7 @@ impl<K: Keeper> StateReading<K> {
         }
     }
 
-    /// Takes a complete line of a schedule that isn't its last, so the stage doesn't change.
+    /// Takes a complete line that isn't its schedule's last, so the stage doesn't change.
     #[inline(always)]
     fn take_line(&mut self, key: &ScheduleKey, count: u32, bytes: &[u8]) -> Result<(), StateFault>
         requires reading { IsReading self.old }
@@ -161,8 +161,8 @@ impl<K: Keeper> StateReading<K> {
         Ok(rest)
     }
 
-    /// Takes a complete part that lies whole in a piece. The stage doesn't change after a line of a
-    /// schedule that isn't its last.
+    /// Takes a complete part that lies whole in a piece. The stage doesn't change after a line that
+    /// isn't its schedule's last.
     fn judge(&mut self, bytes: &[u8]) -> Result<(), StateFault>
         requires reading { IsReading self.old }
         requires fresh { self.old.partial.items ≡ [] }

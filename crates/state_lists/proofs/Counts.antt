@@ -29,7 +29,7 @@ use Rattle.state_lists.specs.Places.{calls_at, count_at}
 rows_total : IsTotalOrder (on (λ (row : Row). row.0) key_cmp)
 rows_total = on_total (λ (row : Row). row.0) key_total
 
--- the rows of a table, in order, are unique
+-- a table has only one list of all its rows in order
 pub one_rows : (live : Table) (rows others : List Row) → AreRowsOf live rows → AreRowsOf live others → rows ≡ others
 one_rows live rows others one two =
     same_list rows_total rows others one.ascending two.ascending

@@ -12,8 +12,9 @@ pub record BeginUpTo (count : ℕ) (lines : List (List ℕ)) : Type 0 where
   pub begin : BeginsSchedule lines
   pub complete : length lines ≡ count → IsSchedule lines
 
--- Says why a line is refused that comes after these lines. `bad_body`: with the line they can't be
--- the first of a schedule's `count` lines. `None`: they can, but memory ran out for the line
+-- Says why a line that comes after these lines is refused. For `bad_body`, the lines and this one
+-- aren't the first of any schedule of `count` lines. For `None`, they are, but memory ran out for
+-- the line
 abbrev pub IsLineRefusal : ℕ → List (List ℕ) → List ℕ → Option StateCause → Type 0
 IsLineRefusal count lines line None = BeginUpTo count (lines ++ line ∷ [])
 IsLineRefusal count lines line (Some bad_body) = ¬ BeginUpTo count (lines ++ line ∷ [])
@@ -28,9 +29,9 @@ AreLinesIn state key lines = AreLinesOf key lines × HaveNotToLapse state lines
 abbrev pub AreLinesUpToIn : State → model.ScheduleKey → ℕ → List (List ℕ) → Type 0
 AreLinesUpToIn state key n lines = AreLinesUpTo key n lines × HaveNotToLapse state lines
 
--- Says why a line is refused as one of the `n` lines of a schedule with this key. `bad_body`: with
--- the line these can't be the schedule's first lines. `None`: they can, but memory ran out for the
--- line
+-- Says why a line is refused as one of the `n` lines of a schedule with this key. For `bad_body`,
+-- the lines and this one aren't the first of such a schedule. For `None`, they are, but memory ran
+-- out for the line
 abbrev pub IsUpToRefusal : State → model.ScheduleKey → ℕ → List (List ℕ) → List ℕ → Option StateCause → Type 0
 IsUpToRefusal state key n lines line None = AreLinesUpToIn state key n (lines ++ line ∷ [])
 IsUpToRefusal state key n lines line (Some bad_body) = ¬ AreLinesUpToIn state key n (lines ++ line ∷ [])

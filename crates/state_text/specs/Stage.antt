@@ -75,7 +75,7 @@ IsFresh (stage.Item count) state = state.entries ≡ []
 IsFresh stage.EntryCount state = state.entries ≡ []
 IsFresh _ state = ⊤
 
--- Says that the next part isn't a line after which the schedule has more lines
+-- Says that the next part isn't a line, or is its schedule's last line
 abbrev pub IsLast : Stage → List (List ℕ) → Type 0
 IsLast (stage.Line count key stamp n) lines = n ≤ length lines + 1
 IsLast _ lines = ⊤
