@@ -155,7 +155,7 @@ fn write_again(desk: &Desk, prepared: &Prepared<'_>, wanted: &str) {
     }
 }
 
-/// The job that these words name. If there is none, it prints so.
+/// The job that these words name. Prints a line if there is none.
 fn job_of(desk: &Desk, words: &[&str]) -> Option<Job> {
     match job(desk.alloc(), words) {
         Ok(named) => Some(named),

@@ -190,7 +190,7 @@ impl Book {
         }
     }
 
-    /// Enters what an event changes that was done.
+    /// Enters the effect of an event that was done.
     fn meet(&mut self, step: Step) -> Result<(), AllocError> {
         match step {
             Step::Take(office, file) => self.learn(office, file),

@@ -13,7 +13,7 @@ pub(crate) struct Spans {
 }
 
 impl Spans {
-    /// Before the first number.
+    /// The spans before the first number is added.
     pub(crate) fn new() -> Spans {
         Spans {
             from: 0,

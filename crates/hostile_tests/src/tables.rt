@@ -29,7 +29,8 @@ pub(crate) struct Asked<'a> {
 }
 
 impl<'a> Asked<'a> {
-    /// The answer for this result of the call, and the state that the office has then.
+    /// The answer for this result of the call. It depends also on the state that the office has
+    /// then.
     pub(crate) fn judge(
         &self,
         desk: &Desk,

@@ -23,7 +23,7 @@ pub(crate) fn source_of<'a>(text: &'a [u8]) -> Bytes<'a> {
     Bytes::new(text, STEP)
 }
 
-/// The file with this text. If there is none, it prints so.
+/// The file with this text. Prints a line if there is none.
 pub(crate) fn file_of(desk: &Desk, text: &[u8]) -> Option<CifFile> {
     match read_pieces(desk.alloc(), &[text], MOST_RECORDS) {
         Ok(file) => Some(file),
@@ -34,7 +34,7 @@ pub(crate) fn file_of(desk: &Desk, text: &[u8]) -> Option<CifFile> {
     }
 }
 
-/// The state with this text. If there is none, it prints so.
+/// The state with this text. Prints a line if there is none, and returns an empty state.
 pub(crate) fn state_of(desk: &Desk, text: &[u8]) -> State {
     match read_state(desk.alloc(), &mut source_of(text), MOST_BYTES) {
         Ok(state) => state,
@@ -45,7 +45,7 @@ pub(crate) fn state_of(desk: &Desk, text: &[u8]) -> State {
     }
 }
 
-/// An office whose state has this text. If there is none, it prints so.
+/// An office whose state has this text. Prints a line if there is no such state.
 pub(crate) fn office_of(desk: &Desk, text: &[u8]) -> Office {
     let mut office = Office::new(desk.alloc());
     if office.reload(&mut source_of(text), MOST_BYTES).is_err() {
@@ -54,7 +54,7 @@ pub(crate) fn office_of(desk: &Desk, text: &[u8]) -> Office {
     office
 }
 
-/// A sink that has room for any text written here. If memory runs out, it prints so.
+/// A sink that has room for any text written here. Prints a line if memory runs out.
 pub(crate) fn sink(desk: &Desk) -> Option<Kept>
     ensures { IfSome result (λ kept. kept.failures ≡ 0) }
 {
@@ -81,7 +81,7 @@ pub(crate) fn compare_state(desk: &Desk, state: &State, name: &str) {
     desk.report(has_text(desk, state, text.as_slice()), name);
 }
 
-/// The timing point and the day that two words name. If they don't name both, it prints so.
+/// The timing point and the day that two words name. Prints a line if they don't name both.
 pub(crate) fn occasion_of(desk: &Desk, place: &str, day: &str) -> Option<(Tiploc, Day)> {
     match (Tiploc::from_text(place), Day::from_iso(day)) {
         (Some(place), Some(day)) => Some((place, day)),

@@ -29,13 +29,13 @@ fn refused_entry(rt: &impl Abort, alloc: Global, parts: &[&[u8]], cause: StateCa
     refused(rt, alloc, &[text.as_slice()], 1000, at(41, cause));
 }
 
-/// Asserts that an entry is accepted that deletes this key, by the record with this number.
+/// Asserts that an entry is accepted: the deletion of this key, by the record with this number.
 fn accepted_deletion(rt: &impl Abort, alloc: Global, key: &[u8], number: &[u8]) {
     accepted(rt, alloc, &[key, FILE, number, DELETED], 67);
 }
 
-/// Asserts that an entry that deletes this key, by the record with this number, is refused for this
-/// cause.
+/// Asserts that an entry is refused for this cause: the deletion of this key, by the record with
+/// this number.
 fn refused_deletion(rt: &impl Abort, alloc: Global, key: &[u8], number: &[u8], cause: StateCause) {
     refused_entry(rt, alloc, &[key, FILE, number, DELETED], cause);
 }

@@ -84,7 +84,7 @@ pub(super) const AFTER: &[u8] = b"\x5b\xf6";
 /// The last day of the calendar, 2059-12-31.
 pub(super) const GREATEST: &[u8] = b"\x8e\xac";
 
-/// The number after the last day's, which is no day's.
+/// The number after the greatest day number.
 pub(super) const TOO_LATE: &[u8] = b"\x8e\xad";
 
 /// Two counts of 0.
