@@ -10,11 +10,11 @@ pub record ParserState (K : Type 0) : Type 0 where
   pub reading : StateReading K
   pub fault : Option StateFault
 
--- Says that the reading is sound, unless a fault was returned
+-- says that the reading is sound, unless a fault was returned
 abbrev pub IsSound : {K : Type 0} → StateReading K → Option StateFault → Type 0
 IsSound reading fault = fault ≡ None → IsReading reading
 
--- Says that the parser has used exactly these bytes and returned no fault, and that it has this
+-- says that the parser has used exactly these bytes and returned no fault, and that it has this
 -- format and this limit
 pub record HasRead {K : Type 0} (parser : ParserState K) (format : Format) (limit : ℕ) (text : List ℕ) : Type 0 where
   pub no_fault : parser.fault ≡ None
@@ -23,10 +23,10 @@ pub record HasRead {K : Type 0} (parser : ParserState K) (format : Format) (limi
   pub limit_is : parser.reading.limit ≡ limit
   pub text_is : text_of parser.reading ≡ text
 
--- Says that the parser has returned this fault
+-- says that the parser has returned this fault
 abbrev pub HasFailed : {K : Type 0} → ParserState K → StateFault → Type 0
 HasFailed parser fault = parser.fault ≡ Some fault
 
--- Says that the parser has read nothing, and returned no fault
+-- says that the parser has read nothing, and returned no fault
 abbrev pub IsUnread : {K : Type 0} → ParserState K → Type 0
 IsUnread parser = HasRead parser (format_of parser.reading) parser.reading.limit []

@@ -16,7 +16,7 @@ BytesLeft = Option (List ℕ)
 abbrev pub Wanting : Type 1
 Wanting = (format : Format) (most limit : ℕ) (left left_now : BytesLeft) → Type 0
 
--- Says why no state was read: the source failed, its text has this fault, or memory ran out. `None`
+-- says why no state was read: the source failed, its text has this fault, or memory ran out. `None`
 -- stands for a fault of another kind, which can't occur
 abbrev pub IsWhyUnread : Wanting → Format → ℕ → BytesLeft → BytesLeft → Option ReadFault → Type 0
 IsWhyUnread wants format limit left left_now None = ⊥
@@ -24,7 +24,7 @@ IsWhyUnread wants format limit left left_now (Some Source) = ⊤
 IsWhyUnread wants format limit left left_now (Some (State fault)) = RefusesState format limit left fault
 IsWhyUnread wants format limit left left_now (Some Memory) = wants format most_at_once limit left left_now
 
--- Says how the number of the source's failures has changed. It has grown by one if the source's
+-- says how the number of the source's failures has changed. It has grown by one if the source's
 -- failure is why no state was read, and otherwise not at all
 abbrev pub CountsWhy : Option ReadFault → ℕ → ℕ → Type 0
 CountsWhy None failures failures_now = ⊥
@@ -32,25 +32,25 @@ CountsWhy (Some Source) failures failures_now = failures_now ≡ failures + 1
 CountsWhy (Some (State fault)) failures failures_now = failures_now ≡ failures
 CountsWhy (Some Memory) failures failures_now = failures_now ≡ failures
 
--- Says what the result of reading means: a value for which `IsMade` holds, or a fault that says why
+-- says what the result of reading means: a value for which `IsMade` holds, or a fault that says why
 -- there is none. `why` finds the read fault in the result's fault
 abbrev pub IsOutcome : {A E : Type 0} → Wanting → (E → Option ReadFault) → Format → ℕ → (A → Type 0) → BytesLeft → BytesLeft → Result A E → Type 0
 IsOutcome wants why format limit IsMade left left_now (Ok made) = IsMade made
 IsOutcome wants why format limit IsMade left left_now (Err fault) = IsWhyUnread wants format limit left left_now (why fault)
 
--- Says how the number of the source's failures has changed, for this result
+-- says how the number of the source's failures has changed, for this result
 abbrev pub CountsOutcome : {A E : Type 0} → (E → Option ReadFault) → ℕ → ℕ → Result A E → Type 0
 CountsOutcome why failures failures_now (Ok made) = failures_now ≡ failures
 CountsOutcome why failures failures_now (Err fault) = CountsWhy (why fault) failures failures_now
 
--- Says that reading stopped at the piece that decides the result. `Outcome` says what the result
+-- says that reading stopped at the piece that decides the result. `Outcome` says what the result
 -- means for the text, and `Counted` how often the source has failed
 pub record StopsReading (format : Format) (limit : ℕ) (left left_now : BytesLeft) (Outcome Counted : Type 0) : Type 0 where
   pub few : ReadsOnePieceMore format most_at_once limit left left_now
   pub outcome : Outcome
   pub failures : Counted
 
--- Says how the reading of a text in this format, of at most `limit` bytes, has ended. `why` finds
+-- says how the reading of a text in this format, of at most `limit` bytes, has ended. `why` finds
 -- the read fault in the result's fault. `left` gives the bytes that a source still has, and
 -- `failures` how often it has failed
 abbrev pub EndsReadingBy : {S A E : Type 0} → Wanting → (E → Option ReadFault) → (S → BytesLeft) → (S → ℕ) → Format → ℕ → (A → Type 0) → S → S
@@ -63,12 +63,12 @@ EndsReadingBy wants why left failures format limit IsMade source source_now resu
 abbrev pub as_it_is : ReadFault → Option ReadFault
 as_it_is fault = Some fault
 
--- Says how reading has ended, like `EndsReadingBy`, if the result's fault is a read fault itself
+-- says how reading has ended, like `EndsReadingBy`, if the result's fault is a read fault itself
 abbrev pub EndsReading : {S A : Type 0} → (S → BytesLeft) → (S → ℕ) → Format → ℕ → (A → Type 0) → S → S → Result A ReadFault → Type 0
 EndsReading left failures format limit IsMade source source_now result =
     EndsReadingBy WantsMemory as_it_is left failures format limit IsMade source source_now result
 
--- Says what the result at the end of a text means: a value for which `IsMade` holds, a fault of the
+-- says what the result at the end of a text means: a value for which `IsMade` holds, a fault of the
 -- text, or out of memory after a whole text
 abbrev pub EndsText : {A : Type 0} → Format → ℕ → List ℕ → (A → Type 0) → Result A ReadFault → Type 0
 EndsText format limit text IsMade (Ok made) = IsMade made

@@ -10,41 +10,41 @@ use Rattle.state_text.specs.FaultMeaning.{cause_meant}
 use Rattle.docker_bytes.specs.StateReading.{IsMadeOf, IsWhole, IsOpen, IsWanting}
 use Rattle.docker_bytes.specs.ParserRead.{ParserState, HasRead}
 
--- Says that a source held this text. For a source that can't name its bytes it says nothing
+-- says that a source held this text. For a source that can't name its bytes it says nothing
 abbrev pub Held : Option (List ℕ) → List ℕ → Type 0
 Held None text = ⊤
 Held (Some left) text = left ≡ text
 
--- Says that the source held the text of this state, in this format and within the limit
+-- says that the source held the text of this state, in this format and within the limit
 pub record ReadsState (format : Format) (limit : ℕ) (left : Option (List ℕ)) (state : State) : Type 0 where
   pub text : List ℕ
   pub held : Held left text
   pub is : IsStateText format limit text state
 
--- Says that `made` is what a keeper makes of the state whose text the source held, in this format
+-- says that `made` is what a keeper makes of the state whose text the source held, in this format
 -- and within the limit
 pub record ReadsMade {Made : Type 0} (makes : Made → State → Type 0) (format : Format) (limit : ℕ) (left : Option (List ℕ)) (made : Made) : Type 0 where
   pub text : List ℕ
   pub held : Held left text
   pub of : IsMadeOf makes format limit text made
 
--- Says that the text has a fault at this offset, for this cause. `None` stands for out of memory,
+-- says that the text has a fault at this offset, for this cause. `None` stands for out of memory,
 -- which is never a fault of a text
 abbrev pub IsCauseOf : Format → ℕ → List ℕ → ℕ → Option model.StateCause → Type 0
 IsCauseOf format limit text at None = ⊥
 IsCauseOf format limit text at (Some cause) = IsStateFault format limit text (record { at = at; cause = cause })
 
--- Says that the text has this fault, which is given as the code has it
+-- says that the text has this fault, which is given as the code has it
 abbrev pub IsFaultOf : Format → ℕ → List ℕ → StateFault → Type 0
 IsFaultOf format limit text fault = IsCauseOf format limit text fault.at (cause_meant fault.cause)
 
--- Says that the source held a text with this fault
+-- says that the source held a text with this fault
 pub record RefusesState (format : Format) (limit : ℕ) (left : Option (List ℕ)) (fault : StateFault) : Type 0 where
   pub text : List ℕ
   pub held : Held left text
   pub is : IsFaultOf format limit text fault
 
--- Says that two texts were read from a source: one without a fault, complete or not, and after it
+-- says that two texts were read from a source: one without a fault, complete or not, and after it
 -- one piece of at most `most` bytes
 pub record ReadsOnePieceMore (format : Format) (most limit : ℕ) (old new : Option (List ℕ)) : Type 0 where
   pub text : List ℕ
@@ -53,7 +53,7 @@ pub record ReadsOnePieceMore (format : Format) (most limit : ℕ) (old new : Opt
   pub few : length piece ≤ most
   pub sound : IsOpen format limit text ⊎ IsWhole format limit text
 
--- Says that memory ran out for a part that ends in the last piece read, which has at most `most`
+-- says that memory ran out for a part that ends in the last piece read, which has at most `most`
 -- bytes
 pub record WantsPart (format : Format) (most limit : ℕ) (old new : Option (List ℕ)) : Type 0 where
   pub text : List ℕ
@@ -63,23 +63,23 @@ pub record WantsPart (format : Format) (most limit : ℕ) (old new : Option (Lis
   pub at : ℕ
   pub wanting : IsWanting format limit text piece at
 
--- Says that memory ran out before a byte was read, or for a part. No part up to it is bad
+-- says that memory ran out before a byte was read, or for a part. No part up to it is bad
 abbrev pub WantsSoFar : Format → ℕ → ℕ → Option (List ℕ) → Option (List ℕ) → Type 0
 WantsSoFar format most limit old new = Reads old [] new ⊎ WantsPart format most limit old new
 
--- Says that a parser has read all that a source held
+-- says that a parser has read all that a source held
 pub record ReadsAll {K : Type 0} (format : Format) (limit : ℕ) (left : Option (List ℕ)) (parser : ParserState K) : Type 0 where
   pub text : List ℕ
   pub held : Held left text
   pub read : HasRead parser format limit text
 
--- Says that `after` is the join of the state `own` with the state whose text the source held
+-- says that `after` is the join of the state `own` with the state whose text the source held
 pub record JoinsState (format : Format) (limit : ℕ) (left : Option (List ℕ)) (own after : State) : Type 0 where
   pub received : State
   pub read : ReadsState format limit left received
   pub join : IsJoin own received after
 
--- Says that memory ran out before a byte was read, for a part, or at the end of a state's text. No
+-- says that memory ran out before a byte was read, for a part, or at the end of a state's text. No
 -- part up to there is bad
 abbrev pub WantsMemory : Format → ℕ → ℕ → Option (List ℕ) → Option (List ℕ) → Type 0
 WantsMemory format most limit old new = Reads old [] new ⊎ WantsPart format most limit old new ⊎ ((state : State) × ReadsState format limit old state)

@@ -29,7 +29,7 @@ before_of reading = stage_meant reading.stage reading.parts reading.lines
 abbrev pub text_of : {K : Type 0} → StateReading K → List ℕ
 text_of reading = text_before (format_of reading) (before_of reading) ++ reading.partial.items
 
--- Says that a reading is sound. The parts that were read are good, the next part isn't complete,
+-- says that a reading is sound. The parts that were read are good, the next part isn't complete,
 -- and all bytes are within the limit
 pub record IsReading {K : Type 0} (reading : StateReading K) : Type 0 where
   pub ready : IsReady (format_of reading) reading.stage reading.parts reading.lines
@@ -38,7 +38,7 @@ pub record IsReading {K : Type 0} (reading : StateReading K) : Type 0 where
   pub item_is : reading.item_at ≡ length (items_before (format_of reading) (before_of reading))
   pub within : reading.reached + length reading.partial.items ≤ reading.limit
 
--- Says that the reading `new` has read these bytes after what `old` had read, in the same format
+-- says that the reading `new` has read these bytes after what `old` had read, in the same format
 -- and under the same limit
 pub record ReadsOn {K : Type 0} (old new : StateReading K) (bytes : List ℕ) : Type 0 where
   pub reading : IsReading new
@@ -46,12 +46,12 @@ pub record ReadsOn {K : Type 0} (old new : StateReading K) (bytes : List ℕ) : 
   pub limit : new.limit ≡ old.limit
   pub format : format_of new ≡ format_of old
 
--- Says that the next part is bad, or that memory ran out for it. The fault's offset is where the
+-- says that the next part is bad, or that memory ran out for it. The fault's offset is where the
 -- part's item began
 abbrev pub IsPartRefused : {K : Type 0} → StateReading K → List ℕ → StateFault → Type 0
 IsPartRefused reading bytes fault = (fault.at ≡ reading.item_at) × IsBadHere (format_of reading) (before_of reading) bytes (cause_meant fault.cause)
 
--- Says that memory ran out for a part whose last byte is in `piece`, after `text`. No part up to it
+-- says that memory ran out for a part whose last byte is in `piece`, after `text`. No part up to it
 -- is bad, and `at` is where the part's item begins
 pub record IsWanting (format : Format) (limit : ℕ) (text piece : List ℕ) (at : ℕ) : Type 0 where
   pub before : Before
@@ -65,68 +65,68 @@ pub record IsWanting (format : Format) (limit : ℕ) (text piece : List ℕ) (at
   pub ends_in_piece : length text < length (text_before format before) + width before
   pub item_at : at ≡ length (items_before format before)
 
--- Says what a fault returned for a piece after a text means: a part is bad, or the state needs a
+-- says what a fault returned for a piece after a text means: a part is bad, or the state needs a
 -- byte at the limit. If the cause is `None`, memory ran out
 abbrev pub IsToldSoFar : Format → ℕ → List ℕ → List ℕ → ℕ → Option model.StateCause → Type 0
 IsToldSoFar format limit text piece at None = IsWanting format limit text piece at
 IsToldSoFar format limit text piece at (Some cause) =
     HasBadPart format limit (text ++ piece) (record { at = at; cause = cause }) ⊎ IsLong format limit (text ++ piece) (record { at = at; cause = cause })
 
--- Says the same as `IsToldSoFar`, of a fault as the code has it
+-- says the same as `IsToldSoFar`, of a fault as the code has it
 abbrev pub IsFaultTold : Format → ℕ → List ℕ → List ℕ → StateFault → Type 0
 IsFaultTold format limit text piece fault = IsToldSoFar format limit text piece fault.at (cause_meant fault.cause)
 
--- Says that the text is a valid state's text, within the limit
+-- says that the text is a valid state's text, within the limit
 abbrev pub IsWhole : Format → ℕ → List ℕ → Type 0
 IsWhole format limit text = (state : State) × IsStateText format limit text state
 
--- Says that the text ends before the state does, and has no other fault
+-- says that the text ends before the state does, and has no other fault
 abbrev pub IsOpen : Format → ℕ → List ℕ → Type 0
 IsOpen format limit text = (fault : model.StateFault) × IsShort format limit text fault
 
--- Says what a fault returned at the end of a text means: the text ends before the state does. If
+-- says what a fault returned at the end of a text means: the text ends before the state does. If
 -- the cause is `None`, memory ran out at the end of a complete text, and that end is the offset
 abbrev pub IsToldAtEnd : Format → ℕ → List ℕ → ℕ → Option model.StateCause → Type 0
 IsToldAtEnd format limit text at None = IsWhole format limit text × (at ≡ length text)
 IsToldAtEnd format limit text at (Some cause) = IsShort format limit text (record { at = at; cause = cause })
 
--- Says the same as `IsToldAtEnd`, of a fault as the code has it
+-- says the same as `IsToldAtEnd`, of a fault as the code has it
 abbrev pub IsUnended : Format → ℕ → List ℕ → StateFault → Type 0
 IsUnended format limit text fault = IsToldAtEnd format limit text fault.at (cause_meant fault.cause)
 
--- Says what a step means when `n` bytes of a piece were used after a text. `Done` means that the
+-- says what a step means when `n` bytes of a piece were used after a text. `Done` means that the
 -- text with these bytes is a whole state's. `More` means that all bytes were used, and that the
 -- state needs more
 abbrev pub IsStep : Format → ℕ → List ℕ → List ℕ → ℕ × Step → Type 0
 IsStep format limit text piece (n, Done) = IsWhole format limit (text ++ take n piece)
 IsStep format limit text piece (n, More) = (n ≡ length piece) × IsOpen format limit (text ++ piece)
 
--- Says that `made` is what a keeper makes of the state with this text
+-- says that `made` is what a keeper makes of the state with this text
 pub record IsMadeOf {Made : Type 0} (makes : Made → State → Type 0) (format : Format) (limit : ℕ) (text : List ℕ) (made : Made) : Type 0 where
   pub state : State
   pub is : IsStateText format limit text state
   pub made_of : makes made state
 
--- Says that `after` is the join of the state `own` with the state that has this text
+-- says that `after` is the join of the state `own` with the state that has this text
 pub record JoinsText (format : Format) (limit : ℕ) (text : List ℕ) (own after : State) : Type 0 where
   pub received : State
   pub is : IsStateText format limit text received
   pub join : IsJoin own received after
 
--- Says that the next part is one of the `count` lines of a schedule with this key
+-- says that the next part is one of the `count` lines of a schedule with this key
 pub record IsLineOf (key : ScheduleKey) (count : ℕ) (at : Stage) : Type 0 where
   pub entries : ℕ
   pub stamp : Stamp
   pub is : at ≡ Line entries key stamp count
 
--- Says that the next part is one of these lines but not the last, and that none of its bytes was
+-- says that the next part is one of these lines but not the last, and that none of its bytes was
 -- read
 pub record IsInnerLine {K : Type 0} (key : ScheduleKey) (count : ℕ) (reading : StateReading K) : Type 0 where
   pub stage : IsLineOf key count reading.stage
   pub more : length reading.lines + 1 < count
   pub fresh : reading.partial.items ≡ []
 
--- Says that one more line of the same schedule was read, and that the next part is a line again
+-- says that one more line of the same schedule was read, and that the next part is a line again
 pub record HasOneLineMore {K : Type 0} (old new : StateReading K) : Type 0 where
   pub stage : new.stage ≡ old.stage
   pub partial : new.partial.items ≡ old.partial.items

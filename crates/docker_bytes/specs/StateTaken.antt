@@ -16,7 +16,7 @@ pub record StateTerms : Type 0 where
   pub format : Format
   pub limit : ℕ
 
--- Says that the parser has read this text and returned no fault, and that its limit fits in 64 bits
+-- says that the parser has read this text and returned no fault, and that its limit fits in 64 bits
 pub record TakesState {K : Type 0} (parser : ParserState K) (terms : StateTerms) (text : List ℕ) : Type 0 where
   pub read : HasRead parser terms.format terms.limit text
   pub small : terms.limit < 2 ^ 64
@@ -33,7 +33,7 @@ taken_is_bounded parser terms text has =
     let small = has.small in
     omega (arith, same, sum, reached, within, limit, small)
 
--- Says what a parser's fault for a piece after a text means. A fault of the text is the fault of
+-- says what a parser's fault for a piece after a text means. A fault of the text is the fault of
 -- every text that begins with that text and that piece. Out of memory means that memory ran out for
 -- a part that ends in the piece
 pub record RefusesPart {K : Type 0} (parser : ParserState K) (terms : StateTerms) (text piece : List ℕ) (told : ReadFault) : Type 0 where

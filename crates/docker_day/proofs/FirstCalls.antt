@@ -25,7 +25,7 @@ use Rattle.docker_day.specs.declared.base_calls.BaseCalls.{BaseCalls}
 use Rattle.docker_day.specs.Bases.{first_call, meant_if, AreKnownCalls, kept_or, HasCall, HasEvent}
 use Rattle.docker_day.specs.Lines.{is_here, listed, link_line_at, link_line_by, link_line_with}
 
--- Says that this is the first event of the UID's call with this suffix at the place
+-- says that this is the first event of the UID's call with this suffix at the place
 abbrev pub IsFirstCall : Table → List ℕ → ℕ → List ℕ → ℕ → Option Occurrence → Type 0
 IsFirstCall live place day uid suffix event =
     (rows : List Row) → AreRowsOf live rows → meant_if event ≡ first_call (train_in rows uid day) place suffix
@@ -120,14 +120,14 @@ module _ (trains : List ℕ → ℕ → Option Train) (day start : ℕ) (link : 
   no_line_there None is = refl
   no_line_there (Some train) is = ap (link_line_by trains day start link occasion train.key) is
 
--- Says that the line, if there is one, is the association's line at this event, whatever key the
+-- says that the line, if there is one, is the association's line at this event, whatever key the
 -- base train's schedule has
 abbrev pub IsAtEvent : Link → Occasion → events.Occurrence → Visit → Option DockerLine → Type 0
 IsAtEvent link occasion event visit line =
     (rows : List Row) → AreRowsOf (live_in visit.timetable) rows → (base : ScheduleKey) → base.uid ≡ link.key.base
     → listed line ≡ link_line_at (train_in rows) visit.day visit.start link occasion base event
 
--- Says that the line, if there is one, is the association's line with the base train that is found
+-- says that the line, if there is one, is the association's line with the base train that is found
 -- for its UID
 abbrev pub IsWithBase : Link → Occasion → Visit → Option DockerLine → Type 0
 IsWithBase link occasion visit line =

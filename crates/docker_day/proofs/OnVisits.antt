@@ -46,7 +46,7 @@ module _ (there : PlaceDay) (view : RowView) where
       → AddsBack 0 before after
   adds_today today before after is adds = adds_back 0 (Some today) before after (ap Some is ∙ sym today_is_back) adds
 
-  -- Says that all docker lines of the row were added
+  -- says that all docker lines of the row were added
   abbrev AddsRow : List DockerLine → List DockerLine → Type 0
   AddsRow before after = Adds (live_in there.timetable) (λ trains links. view_lines trains links there.place there.day view) before after
 

@@ -118,7 +118,7 @@ live_at there again portion i row same are below is =
     live_item (live_in again.timetable) portion i row (subst (λ (p : PlaceDay). AreLiveViews (live_in p.timetable) (views_in portion)) (sym same) are) below is
 
 module _ (there : PlaceDay) (portion : List (ℕ × RowView)) where
-  -- Says that the docker lines of the portion's first `n` rows were added
+  -- says that the docker lines of the portion's first `n` rows were added
   abbrev pub AddsFirst : ℕ → List DockerLine → List DockerLine → Type 0
   AddsFirst n before after =
       Adds (live_in there.timetable) (λ trains links. lines_of trains links there.place there.day (views_in (take n portion))) before after

@@ -7,7 +7,7 @@ use Rattle.docker_model.specs.docker.DockerLine.{public_by_kind}
 use Rattle.docker_model.specs.records.PrintedTime.{spaces}
 use Rattle.docker_day.specs.Locations.{location_by_kind, public_at}
 
--- Says that no occasion but an arrival or a departure has a public time
+-- says that no occasion but an arrival or a departure has a public time
 record HasNoOther (kind : Option Kind) (line : List ℕ) : Type 0 where
   passing : public_by_kind kind pass line ≡ spaces 4
   join : public_by_kind kind joining line ≡ spaces 4

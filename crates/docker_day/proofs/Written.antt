@@ -95,7 +95,7 @@ module _ (first second third last : Option (List ℕ)) (a b c front middle back 
 
 -- ---- line by line
 
--- Says that writing the remaining lines completes the text. If the sink takes them from now on, it
+-- says that writing the remaining lines completes the text. If the sink takes them from now on, it
 -- has taken all lines since the start. If it takes a proper prefix of them, it has taken a proper
 -- prefix of all lines
 pub record Leads {A : Type 0} (bytes : A → List ℕ) (lines rest : List A) (first now : Option (List ℕ)) : Type 0 where

@@ -23,7 +23,7 @@ first_call (Some train) place suffix = find (is_call place suffix) (occurrences 
 abbrev pub meant_if : Option Occurrence → Option events.Occurrence
 meant_if event = option_map occurrence_meant event
 
--- Says that the kept calls, if there are any, are the calls of their UID's train on the start day
+-- says that the kept calls, if there are any, are the calls of their UID's train on the start day
 abbrev pub AreKnownCalls : Table → List ℕ → ℕ → Option BaseCalls → Type 0
 AreKnownCalls live place day None = ⊤
 AreKnownCalls live place day (Some known) =
@@ -34,13 +34,13 @@ abbrev pub kept_or : Option events.Occurrence → Option events.Occurrence → O
 kept_or None later = later
 kept_or (Some event) later = Some event
 
--- Says how one more event of a call changes the kept events. The event is kept if its suffix,
+-- says how one more event of a call changes the kept events. The event is kept if its suffix,
 -- `own`, had none. The events of other suffixes don't change
 abbrev pub HasCall : ℕ → BTreeMap ℕ events.Occurrence → events.Occurrence → BTreeMap ℕ events.Occurrence → Type 0
 HasCall own before event after =
     (suffix : ℕ) → get nat_cmp after suffix ≡ (if own == suffix then kept_or (get nat_cmp before suffix) (Some event) else get nat_cmp before suffix)
 
--- Says how one more event changes the kept events, which have the first event of each suffix. A
+-- says how one more event changes the kept events, which have the first event of each suffix. A
 -- suffix that has an event keeps it. One that has none now has this event, if the event's call is
 -- at the place and has that suffix
 abbrev pub HasEvent : List ℕ → BTreeMap ℕ events.Occurrence → events.Occurrence → BTreeMap ℕ events.Occurrence → Type 0

@@ -89,7 +89,7 @@ is_under_way place lines day = (runs_back lines day 1 || runs_back lines day 2) 
 abbrev pub is_call : List ℕ → ℕ → Occurrence → Bool
 is_call place suffix event = is_at place suffix event.line
 
--- Says that these lines were added. `more` makes them from two functions: one finds the train of a
+-- says that these lines were added. `more` makes them from two functions: one finds the train of a
 -- UID and a start day, the other the association chosen in a group
 abbrev pub Adds : Table → ((List ℕ → ℕ → Option Train) → (Group → ℕ → Option Link) → List DockerLine) → List DockerLine → List DockerLine → Type 0
 Adds live more before after = (rows : List Row) → AreRowsOf live rows → after ≡ before ++ more (train_in rows) (link_in rows)

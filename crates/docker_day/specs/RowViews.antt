@@ -29,13 +29,13 @@ views_of rows = map (λ (row : Row). view_of row.0 row.1) rows
 abbrev pub views_in : List (ℕ × RowView) → List RowView
 views_in rows = map (λ (row : ℕ × RowView). row.1) rows
 
--- Says that the schedule or association of the view is in the live table
+-- says that the schedule or association of the view is in the live table
 abbrev pub IsLiveView : Table → RowView → Type 0
 IsLiveView live (Train train) = IsLiveTrain live train
 IsLiveView live (Link link) = IsLiveLink live link
 IsLiveView live Other = ⊤
 
--- Says that each schedule or association of the views is in the live table
+-- says that each schedule or association of the views is in the live table
 abbrev pub AreLiveViews : Table → List RowView → Type 0
 AreLiveViews live [] = ⊤
 AreLiveViews live (row ∷ rows) = IsLiveView live row × AreLiveViews live rows

@@ -15,7 +15,7 @@ pub record Visit : Type 0 where
   pub day : ℕ
   pub start : ℕ
 
--- Says that the parts of a visit fit together: each has the visit's timetable, place and start day.
+-- says that the parts of a visit fit together: each has the visit's timetable, place and start day.
 -- The start day isn't after the day
 pub record IsOnePlace (timetable : Timetable) (place : List ℕ) (day start : ℕ) (trains : StartDay) (links bases : PlaceDay) : Type 0 where
   pub past : start ≤ day
@@ -31,23 +31,23 @@ visit_back there back =
     then Some (record { timetable = there.timetable; place = there.place; day = there.day; start = there.day - back })
     else None
 
--- Says that these are the three visits: for the trains that start on the day, one day before and
+-- says that these are the three visits: for the trains that start on the day, one day before and
 -- two days before
 pub record AreVisits (there : PlaceDay) (today : Visit) (day_before two_before : Option Visit) : Type 0 where
   pub today_is : today ≡ record { timetable = there.timetable; place = there.place; day = there.day; start = there.day }
   pub day_before_is : day_before ≡ visit_back there 1
   pub two_before_is : two_before ≡ visit_back there 2
 
--- Says that the row is live in the visit's timetable, or that there is no visit
+-- says that the row is live in the visit's timetable, or that there is no visit
 abbrev pub IsLiveAt : Option Visit → RowView → Type 0
 IsLiveAt None row = ⊤
 IsLiveAt (Some visit) row = IsLiveView (live_in visit.timetable) row
 
--- Says that the docker lines of a row for a visit were added
+-- says that the docker lines of a row for a visit were added
 abbrev pub AddsAt : Visit → RowView → List DockerLine → List DockerLine → Type 0
 AddsAt visit row before after = Adds (live_in visit.timetable) (λ trains links. row_piece trains links visit.place visit.day row visit.start) before after
 
--- Says that the docker lines of a row for a visit were added, or that there is no visit and nothing
+-- says that the docker lines of a row for a visit were added, or that there is no visit and nothing
 -- was added
 abbrev pub AddsIf : Option Visit → RowView → List DockerLine → List DockerLine → Type 0
 AddsIf None row before after = after ≡ before

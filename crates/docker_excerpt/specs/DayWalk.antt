@@ -6,7 +6,7 @@ use Rattle.docker_laws.specs.NearDay.{near_entries}
 use Rattle.docker_excerpt.specs.declared.day_walk.DayWalk.{DayWalk}
 use Rattle.docker_excerpt.specs.ExcerptWalk.{HasWalked}
 
--- Says that the walk has passed these entries: it has skipped those that can't count on its day,
+-- says that the walk has passed these entries: it has skipped those that can't count on its day,
 -- and has kept an excerpt of the others
 pub record HasPassed (walk : DayWalk) (entries : List (Key × Entry)) : Type 0 where
   pub near_is : walk.near.entries ≡ near_entries walk.day entries

@@ -6,6 +6,6 @@ use Rattle.state_text.specs.Meaning.{row_meant}
 use Rattle.docker_excerpt.specs.declared.walk.ExcerptWalk.{ExcerptWalk}
 use Rattle.docker_excerpt.specs.Walked.{IsWalk}
 
--- Says that the walk has passed these entries
+-- says that the walk has passed these entries
 abbrev pub HasWalked : ExcerptWalk → List (Key × Entry) → Type 0
 HasWalked walk entries = IsWalk walk.place entries (map row_meant walk.kept.items) (map row_meant walk.run.items) walk.needed walk.names.items

@@ -9,7 +9,7 @@ use Rattle.cif_change.specs.Meaning.{key_meant}
 use Rattle.state_text.specs.Parts.{last_key}
 use Rattle.docker_excerpt.specs.Values.{with_entries}
 
--- Says that `parts` is the ledger of a state with these entries. `parts` has no entry itself.
+-- says that `parts` is the ledger of a state with these entries. `parts` has no entry itself.
 -- Together they are a valid state without a horizon, `last` is the last entry's key, and `count`
 -- the number of entries
 pub record IsLedgerOf (parts : State) (last : Option Key) (count : ℕ) (entries : List (model.Key × Entry)) : Type 0 where

@@ -39,12 +39,12 @@ state_of_read file = record {
   entries = latest_entries (map (λ (change : Change). (change.key, entry_of (file.header_line ∷ []) change)) file.changes_made);
 }
 
--- Says that `part` makes the same docker as a state. A docker of the part for this place and day is
+-- says that `part` makes the same docker as a state. A docker of the part for this place and day is
 -- a docker of the state
 abbrev pub StandsAt : List ℕ → ℕ → State → State → Type 0
 StandsAt place day state part = (docker : Docker) → IsDockerOf (live_table part) place day docker → IsDockerOf (live_table state) place day docker
 
--- Says that `part` is an excerpt for the place of a valid state, without the entries that can't
+-- says that `part` is an excerpt for the place of a valid state, without the entries that can't
 -- count on the day
 pub record IsExcerptOf (place : List ℕ) (day : ℕ) (state part : State) : Type 0 where
   pub valid : IsValid state

@@ -7,12 +7,12 @@ use Rattle.docker_model.specs.state.Order.{bytes_cmp}
 use Rattle.docker_model.specs.state.State.{State}
 use Rattle.docker_laws.specs.ExcerptWalk.{names_in, HasKept}
 
--- Says that these names are the associated trains that live associations among the entries name.
+-- says that these names are the associated trains that live associations among the entries name.
 -- Their order doesn't matter, and a name may occur more than once
 abbrev pub AreNames : List (List ℕ) → List (Key × Entry) → Type 0
 AreNames names entries = (uid : List ℕ) → Contains names uid ↔ Contains (names_in entries) uid
 
--- Says what a walk has kept after these entries. `run` has the schedules of the present UID, and
+-- says what a walk has kept after these entries. `run` has the schedules of the present UID, and
 -- `needed` says whether they will be kept. `names` are the associated trains, which are sorted when
 -- a run has begun
 pub record IsWalk (place : List ℕ) (entries kept run : List (Key × Entry)) (needed : Bool) (names : List (List ℕ)) : Type 0 where

@@ -33,7 +33,7 @@ one_state first second one two left right same =
     (same_state dks_2 left.offices right.offices left.events right.events left.exchange right.exchange left.leaves.run right.leaves.run left.office
     right.office (is_there first one left) (is_there second two right))) same
 
--- Says that these two states print the same docker, for each place and each day that neither of
+-- says that these two states print the same docker, for each place and each day that neither of
 -- them refuses
 abbrev PrintOne : State → State → Type 0
 PrintOne one two =

@@ -113,7 +113,7 @@ module _ (known : KnownSets) (held : Holdings) (holds : AreOf known held) where
 
   -- ---- the states and messages after an event
 
-  -- Says that only the state of this office has changed, and no message
+  -- says that only the state of this office has changed, and no message
   pub record IsReplaced (office : ℕ) (now : State) (after : Holdings) : Type 0 where
     pub offices : after.offices.items ≡ set held.offices.items office now
     pub messages : after.messages.items ≡ held.messages.items

@@ -17,7 +17,7 @@ use Rattle.docker_office.specs.declared.event.Event.{Event}
 use Rattle.docker_office.specs.RunSteps.{AreOf, MeetsEvent}
 use Rattle.docker_office.specs.RunEnds.{LeavesRun}
 
--- Says that these events had these replies, and that the offices and messages hold the states of
+-- says that these events had these replies, and that the offices and messages hold the states of
 -- what is known after them
 pub record HasRun (offices : ℕ) (events : List RunEvent) (replies : List Reply) (held : Holdings) : Type 0 where
   pub told : All IsRunReply replies

@@ -27,7 +27,7 @@ abbrev pub told_of_docker : dockers.DockerFault → OfficeFault
 told_of_docker docker_faults.Lapsed = Lapsed
 told_of_docker docker_faults.Memory = Memory
 
--- Says that a call that reads a file can return this fault
+-- says that a call that reads a file can return this fault
 abbrev pub IsOfFile : OfficeFault → Type 0
 IsOfFile (File fault) = ⊤
 IsOfFile Source = ⊤
@@ -36,7 +36,7 @@ IsOfFile (State fault) = ⊥
 IsOfFile Lapsed = ⊥
 IsOfFile Sink = ⊥
 
--- Says that a call that reads a state can return this fault
+-- says that a call that reads a state can return this fault
 abbrev pub IsOfState : OfficeFault → Type 0
 IsOfState (State fault) = ⊤
 IsOfState Source = ⊤
@@ -45,7 +45,7 @@ IsOfState (File fault) = ⊥
 IsOfState Lapsed = ⊥
 IsOfState Sink = ⊥
 
--- Says that a call that prints a docker can return this fault
+-- says that a call that prints a docker can return this fault
 abbrev pub IsOfDocker : OfficeFault → Type 0
 IsOfDocker Lapsed = ⊤
 IsOfDocker Sink = ⊤

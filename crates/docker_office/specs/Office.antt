@@ -14,14 +14,14 @@ use Rattle.cif_file.specs.SourceRead.{Held, WantsMemory}
 abbrev pub no_state : State
 no_state = record { horizon = 0; ledger = []; entries = [] }
 
--- Says that the source held the text of a file, of at most `limit` records
+-- says that the source held the text of a file, of at most `limit` records
 pub record HoldsFile (limit : ℕ) (left : Option (List ℕ)) : Type 0 where
   pub text : List ℕ
   pub held : Held left text
   pub file : List (List ℕ)
   pub is_text : IsFileText limit text file
 
--- Says that the source held the text of a file, of at most `limit` records, and that `new` is the
+-- says that the source held the text of a file, of at most `limit` records, and that `new` is the
 -- join of `old` with the file's summary
 pub record TakesFile (limit : ℕ) (left : Option (List ℕ)) (old new : State) : Type 0 where
   pub text : List ℕ
@@ -32,11 +32,11 @@ pub record TakesFile (limit : ℕ) (left : Option (List ℕ)) (old new : State) 
   pub of_file : IsSummary (file ∷ []) 0 own
   pub joined : IsJoin old own new
 
--- Says that memory ran out while a file was read, or for the state of a file that was read whole
+-- says that memory ran out while a file was read, or for the state of a file that was read whole
 abbrev pub WantsForFile : ℕ → Option (List ℕ) → Option (List ℕ) → Type 0
 WantsForFile limit old new = WantsMemory most_at_once limit old new ⊎ HoldsFile limit old
 
--- Says that `new` is the summary of these files and of the file whose text the source held, under
+-- says that `new` is the summary of these files and of the file whose text the source held, under
 -- the horizon
 pub record KnowsFileToo (limit : ℕ) (left : Option (List ℕ)) (files : List (List (List ℕ))) (horizon : ℕ) (new : State) : Type 0 where
   pub text : List ℕ
@@ -45,14 +45,14 @@ pub record KnowsFileToo (limit : ℕ) (left : Option (List ℕ)) (files : List (
   pub is_text : IsFileText limit text file
   pub summary : IsSummary (file ∷ files) horizon new
 
--- Says that the source can name its bytes, and that they are the text of this state, in this format
+-- says that the source can name its bytes, and that they are the text of this state, in this format
 -- and within the limit
 pub record HoldsState (format : Format) (limit : ℕ) (left : Option (List ℕ)) (sent : State) : Type 0 where
   pub text : List ℕ
   pub told : left ≡ Some text
   pub is : IsStateText format limit text sent
 
--- Says what a join makes of summaries. Suppose that `old` is the summary of some files, and that
+-- says what a join makes of summaries. Suppose that `old` is the summary of some files, and that
 -- the source held the text of a summary of others. Then `new` is the summary of all these files,
 -- under the greater horizon
 abbrev pub JoinsSummaries : ℕ → Option (List ℕ) → State → State → Type 0
@@ -60,13 +60,13 @@ JoinsSummaries limit left old new =
     (files others : List (List (List ℕ))) (g h : ℕ) (sent : State) → IsSummary files g old → IsSummary others h sent → HoldsState dks_2 limit left sent
     → IsSummary (files ++ others) (max g h) new
 
--- Says that the sink gained the text of the state's docker for a place and a day
+-- says that the sink gained the text of the state's docker for a place and a day
 pub record PrintsDocker (state : State) (place : List ℕ) (day : ℕ) (old new : Option (List ℕ)) : Type 0 where
   pub text : List ℕ
   pub is : IsDockerText (live_table state) place day text
   pub gained : Takes old text new
 
--- Says that the sink gained a proper prefix of the text of the state's docker for a place and a day
+-- says that the sink gained a proper prefix of the text of the state's docker for a place and a day
 pub record PrintsPart (state : State) (place : List ℕ) (day : ℕ) (old new : Option (List ℕ)) : Type 0 where
   pub text : List ℕ
   pub is : IsDockerText (live_table state) place day text

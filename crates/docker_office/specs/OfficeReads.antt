@@ -24,14 +24,14 @@ why_unread (File fault) = None
 why_unread Lapsed = None
 why_unread Sink = None
 
--- Says how the reading of a state's text by an office has ended
+-- says how the reading of a state's text by an office has ended
 abbrev pub EndsReadingState : {S A : Type 0} → (S → BytesLeft) → (S → ℕ) → Format → ℕ → (A → Type 0) → S → S → Result A OfficeFault → Type 0
 EndsReadingState left failures format limit IsMade source source_now result =
     EndsReadingBy WantsMemory why_unread left failures format limit IsMade source source_now result
 
 -- ---- a file
 
--- Says what the result of taking a file means. A value is one for which `IsMade` holds, and the
+-- says what the result of taking a file means. A value is one for which `IsMade` holds, and the
 -- source was read to its end. A fault is the file's, or it says that memory ran out or that the
 -- source failed
 abbrev pub IsTakingOutcome : {A : Type 0} → ℕ → (A → Type 0) → BytesLeft → BytesLeft → Result A OfficeFault → Type 0
@@ -43,7 +43,7 @@ IsTakingOutcome limit IsMade left left_now (Err (State fault)) = ⊥
 IsTakingOutcome limit IsMade left left_now (Err Lapsed) = ⊥
 IsTakingOutcome limit IsMade left left_now (Err Sink) = ⊥
 
--- Says how the number of the source's failures has changed. It has grown by one if the fault is
+-- says how the number of the source's failures has changed. It has grown by one if the fault is
 -- that the source failed, and otherwise not at all
 abbrev pub CountsTaking : {A : Type 0} → ℕ → ℕ → Result A OfficeFault → Type 0
 CountsTaking failures failures_now (Ok made) = failures_now ≡ failures
@@ -54,14 +54,14 @@ CountsTaking failures failures_now (Err (State fault)) = ⊥
 CountsTaking failures failures_now (Err Lapsed) = ⊥
 CountsTaking failures failures_now (Err Sink) = ⊥
 
--- Says that reading stopped at the piece that decides the result. `Outcome` says what the result
+-- says that reading stopped at the piece that decides the result. `Outcome` says what the result
 -- means for the file, and `Counted` how often the source has failed
 pub record StopsTaking (limit : ℕ) (left left_now : BytesLeft) (Outcome Counted : Type 0) : Type 0 where
   pub no_further : ReadsNoFurther most_at_once limit left left_now
   pub outcome : Outcome
   pub failures : Counted
 
--- Says how the taking of a file with at most `limit` records has ended
+-- says how the taking of a file with at most `limit` records has ended
 abbrev pub EndsTakingFile : {S A : Type 0} → (S → BytesLeft) → (S → ℕ) → ℕ → (A → Type 0) → S → S → Result A OfficeFault → Type 0
 EndsTakingFile left failures limit IsMade source source_now result =
     StopsTaking limit (left source) (left source_now) (IsTakingOutcome limit IsMade (left source) (left source_now) result)

@@ -8,7 +8,7 @@ use Rattle.docker_model.specs.state.StateText.{dks_2}
 use Rattle.docker_model.specs.run.Run.{RunEvent, take_file, send_state, deliver, reload, horizon_event, Reply, done, Known, Exchange, IsRun, IsReply, IsStateOf, IsMessageOf, office_known, message_known, known_sets}
 use Rattle.docker_model.specs.run.Knowledge.{IsGoodEvent, office_state, message_text, sets_of}
 
--- Says that the limit of a take is at most 4,294,967,294 records
+-- says that the limit of a take is at most 4,294,967,294 records
 abbrev pub HasGoodLimit : RunEvent → Type 0
 HasGoodLimit (take_file office text limit) = limit ≤ 4_294_967_294
 HasGoodLimit (send_state office) = ⊤
@@ -16,7 +16,7 @@ HasGoodLimit (deliver office message) = ⊤
 HasGoodLimit (reload office message) = ⊤
 HasGoodLimit (horizon_event office day) = ⊤
 
--- Says that this is the result of a run of these events at `offices` offices. Messages are in the
+-- says that this is the result of a run of these events at `offices` offices. Messages are in the
 -- format `DKS2`, and the limits and horizons of the events are good
 pub record LeavesRun (offices : ℕ) (events : List RunEvent) (exchange : Exchange) : Type 0 where
   pub run : IsRun dks_2 offices events exchange
@@ -38,21 +38,21 @@ event_at events place = slice_index_or events place (send_state 0)
 abbrev pub reply_at : List Reply → ℕ → Reply
 reply_at replies place = slice_index_or replies place done
 
--- Says that the reply at this index is one that its event may have, after the earlier events with
+-- says that the reply at this index is one that its event may have, after the earlier events with
 -- their replies
 abbrev pub IsReplyAt : ℕ → List RunEvent → List Reply → ℕ → Type 0
 IsReplyAt offices events replies place =
     IsReply (known_sets offices (take place events) (take place replies)) (event_at events place) (reply_at replies place)
 
--- Says that the state of this office is the summary of what the office knows
+-- says that the state of this office is the summary of what the office knows
 abbrev pub HasSummary : ℕ → List RunEvent → Exchange → ℕ → Type 0
 HasSummary offices events exchange office = IsStateOf (known_at_end offices events exchange office) (office_state exchange.states office)
 
--- Says that this message is the text of the summary of what its office knew when it was sent
+-- says that this message is the text of the summary of what its office knew when it was sent
 abbrev pub TellsSummary : ℕ → List RunEvent → Exchange → ℕ → Type 0
 TellsSummary offices events exchange message = IsMessageOf dks_2 (sent_with offices events exchange message) (message_text exchange.messages message)
 
--- Says that an office knows this and has this state at the end of some run
+-- says that an office knows this and has this state at the end of some run
 pub record EndsWith (known : Known) (state : State) : Type 0 where
   pub offices : ℕ
   pub events : List RunEvent
@@ -63,7 +63,7 @@ pub record EndsWith (known : Known) (state : State) : Type 0 where
   pub knows : known_at_end offices events exchange office ≡ known
   pub has : office_state exchange.states office ≡ state
 
--- Says that the state's docker is the table's docker, for each place and each day that the state
+-- says that the state's docker is the table's docker, for each place and each day that the state
 -- doesn't refuse
 abbrev pub PrintsAs : State → Table → Type 0
 PrintsAs state table =

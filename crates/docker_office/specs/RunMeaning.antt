@@ -45,12 +45,12 @@ reply_meant (Refused NoOffice) = refused no_office
 reply_meant (Refused NoMessage) = refused no_message
 reply_meant (Refused (Office why)) = refused (refusal_meant why)
 
--- Says that the cause is one that a file's text can have. Out of memory isn't
+-- says that the cause is one that a file's text can have. Out of memory isn't
 abbrev pub IsTextCause : Option files.FileCause → Type 0
 IsTextCause None = ⊥
 IsTextCause (Some cause) = ⊤
 
--- Says that an office's fault can occur in a run: it is a file's fault, whose cause isn't out of
+-- says that an office's fault can occur in a run: it is a file's fault, whose cause isn't out of
 -- memory, or it is out of memory
 abbrev pub IsRunRefusal : OfficeFault → Type 0
 IsRunRefusal (fault.File why) = IsTextCause (cause_meant why.cause)
@@ -60,7 +60,7 @@ IsRunRefusal fault.Lapsed = ⊥
 IsRunRefusal fault.Source = ⊥
 IsRunRefusal fault.Sink = ⊥
 
--- Says that a reply can occur in a run
+-- says that a reply can occur in a run
 abbrev pub IsRunReply : Reply → Type 0
 IsRunReply Done = ⊤
 IsRunReply (Refused NoOffice) = ⊤
@@ -72,7 +72,7 @@ abbrev pub reply_for : Result Unit OfficeFault → Reply
 reply_for (Ok unit) = Done
 reply_for (Err why) = Refused (Office why)
 
--- Says what doesn't exist among this many offices and messages: the office, or otherwise the
+-- says what doesn't exist among this many offices and messages: the office, or otherwise the
 -- message
 abbrev pub IsMissing : (offices messages office message : ℕ) → RunFault → Type 0
 IsMissing offices messages office message NoOffice = offices ≤ office

@@ -6,11 +6,11 @@ use Rattle.docker_office.specs.declared.reply.Reply.{Reply}
 use Rattle.docker_office.specs.declared.steps.Holdings.{Holdings}
 use Rattle.docker_office.specs.RunMeaning.{IsRunReply, reply_meant, texts_of}
 
--- Says that the offices and the messages hold exactly the states of what is known
+-- says that the offices and the messages hold exactly the states of what is known
 abbrev pub AreOf : KnownSets → Holdings → Type 0
 AreOf known held = Holds dks_2 known held.offices.items (texts_of held.messages.items)
 
--- Says that an event may have this reply, and that after it the offices and messages hold the
+-- says that an event may have this reply, and that after it the offices and messages hold the
 -- states of what is then known
 pub record MeetsEvent (known : KnownSets) (event : RunEvent) (reply : Reply) (held : Holdings) : Type 0 where
   pub told : IsRunReply reply

@@ -11,7 +11,7 @@ pub record Answer : Type 0 where
   pub day : ℕ
   pub found : Option Stamped
 
--- Says that this is what is found in the state for the UID and the day
+-- says that this is what is found in the state for the UID and the day
 pub record IsAnswerOf (state : State) (uid : List ℕ) (day : ℕ) (answer : Answer) : Type 0 where
   pub uid_is : answer.uid ≡ uid
   pub day_is : answer.day ≡ day
@@ -21,13 +21,13 @@ pub record IsAnswerOf (state : State) (uid : List ℕ) (day : ℕ) (answer : Ans
 abbrev pub text_of : Answer → List ℕ
 text_of answer = train_text answer.uid answer.day answer.found
 
--- Says that the sink gained the train text for the state, the UID and the day
+-- says that the sink gained the train text for the state, the UID and the day
 pub record PrintsTrain (state : State) (uid : List ℕ) (day : ℕ) (old new : Option (List ℕ)) : Type 0 where
   pub text : List ℕ
   pub is : IsTrainText state uid day text
   pub gained : Takes old text new
 
--- Says that the sink gained a proper prefix of the train text for the state, the UID and the day
+-- says that the sink gained a proper prefix of the train text for the state, the UID and the day
 pub record PrintsPart (state : State) (uid : List ℕ) (day : ℕ) (old new : Option (List ℕ)) : Type 0 where
   pub text : List ℕ
   pub is : IsTrainText state uid day text

@@ -14,7 +14,7 @@ change_of found = record {
   act = put (schedule_body found.schedule.lines);
 }
 
--- Says that the schedule came from one of these files. That file has the stamp's date, time and
+-- says that the schedule came from one of these files. That file has the stamp's date, time and
 -- reference, and makes the change that put the schedule
 pub record CameFrom (files : List (List (List ℕ))) (found : Stamped) : Type 0 where
   pub file : List (List ℕ)
@@ -22,7 +22,7 @@ pub record CameFrom (files : List (List (List ℕ))) (found : Stamped) : Type 0 
   pub stamped : file_stamp_of file ≡ found.stamp.file
   pub changed : Contains (changes file) (change_of found)
 
--- Says that the schedule is found for the UID on the day, that it isn't a cancellation, and that
+-- says that the schedule is found for the UID on the day, that it isn't a cancellation, and that
 -- the day isn't before the horizon
 pub record IsFoundToRun (state : State) (uid : List ℕ) (day : ℕ) (schedule : Train) : Type 0 where
   pub answered : state.horizon ≤ day

@@ -17,12 +17,12 @@ pub record Stamped : Type 0 where
   pub schedule : Train
   pub stamp : Stamp
 
--- Says that the state's entry at the schedule's key has this stamp, and puts the schedule's lines
+-- says that the state's entry at the schedule's key has this stamp, and puts the schedule's lines
 abbrev pub IsStampOf : State → Train → Stamp → Type 0
 IsStampOf state schedule stamp =
     entry_at state (schedule_key schedule.key) ≡ Some (record { stamp = stamp; op = put_with (schedule_body schedule.lines) })
 
--- Says that this is found: the schedule chosen for the UID on the day, with its stamp, or `None` if
+-- says that this is found: the schedule chosen for the UID on the day, with its stamp, or `None` if
 -- no schedule runs
 abbrev pub IsFoundFor : State → List ℕ → ℕ → Option Stamped → Type 0
 IsFoundFor state uid day None = IsChosenOn (live_table state) uid day None
@@ -73,6 +73,6 @@ last_line = codes "END" ++ spaces 77
 abbrev pub train_text : List ℕ → ℕ → Option Stamped → List ℕ
 train_text uid day found = ended (heading uid day found) ++ flat_map ended (lines_of found) ++ ended last_line
 
--- Says that this is the train text for a state, a UID and a day
+-- says that this is the train text for a state, a UID and a day
 abbrev pub IsTrainText : State → List ℕ → ℕ → List ℕ → Type 0
 IsTrainText state uid day text = (found : Option Stamped) × IsFoundFor state uid day found × (text ≡ train_text uid day found)

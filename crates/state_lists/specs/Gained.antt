@@ -2,13 +2,13 @@
 use Rattle.std.specs.Prelude.{ℕ, List, Option}
 use Rattle.cif_line.specs.Device.{Takes, TakesPart}
 
--- Says that the sink gained a text for which `Is` holds
+-- says that the sink gained a text for which `Is` holds
 pub record Gains (Is : List ℕ → Type 0) (old new : Option (List ℕ)) : Type 0 where
   pub text : List ℕ
   pub is : Is text
   pub gained : Takes old text new
 
--- Says that the sink gained a proper prefix of a text for which `Is` holds
+-- says that the sink gained a proper prefix of a text for which `Is` holds
 pub record GainsPart (Is : List ℕ → Type 0) (old new : Option (List ℕ)) : Type 0 where
   pub text : List ℕ
   pub is : Is text

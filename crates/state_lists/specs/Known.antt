@@ -31,7 +31,7 @@ end_of _ _ = None
 abbrev pub ends_of : List Row → List ℕ
 ends_of rows = filter_map (λ (row : Row). end_of row.0 row.1) rows
 
--- Says that this is the greatest of the numbers, or that there are no numbers
+-- says that this is the greatest of the numbers, or that there are no numbers
 abbrev pub IsGreatest : List ℕ → Option ℕ → Type 0
 IsGreatest numbers None = numbers ≡ []
 IsGreatest numbers (Some greatest) = Contains numbers greatest × ((number : ℕ) → Contains numbers number → number ≤ greatest)
@@ -71,7 +71,7 @@ known_text horizon full last rows =
     horizon_line horizon ++ full_line full ++ last_line last ++ count_line (codes "SCHEDULES   ") (count_of 3 rows)
     ++ count_line (codes "ASSOCIATIONS") (count_of 2 rows) ++ count_line (codes "PLACES      ") (count_of 1 rows)
 
--- Says that this is the text of what the state knows
+-- says that this is the text of what the state knows
 pub record IsKnownText (state : State) (text : List ℕ) : Type 0 where
   pub full : Option FileStamp
   pub is_full : IsFloor state.ledger full

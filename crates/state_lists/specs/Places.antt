@@ -41,7 +41,7 @@ place_line _ _ _ = []
 abbrev pub places_text : List Row → List ℕ
 places_text rows = flat_map (λ (row : Row). place_line rows row.0 row.1) rows
 
--- Says that this is the list of the timing points of a live table, in the order of their codes
+-- says that this is the list of the timing points of a live table, in the order of their codes
 pub record IsPlacesText (live : Table) (text : List ℕ) : Type 0 where
   pub rows : List Row
   pub are : AreRowsOf live rows

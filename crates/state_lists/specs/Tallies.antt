@@ -5,14 +5,14 @@ use Rattle.state_laws.specs.Row.{Row}
 use Rattle.state_lists.specs.Known.{IsGreatest, count_line, count_of, ends_of, full_line, horizon_line, last_line}
 use Rattle.state_lists.specs.declared.tally.Tally.{Tally}
 
--- Says that the tally is right for these live rows
+-- says that the tally is right for these live rows
 pub record IsTallyOf (rows : List Row) (tally : Tally) : Type 0 where
   pub schedules : tally.schedules ≡ count_of 3 rows
   pub associations : tally.associations ≡ count_of 2 rows
   pub places : tally.places ≡ count_of 1 rows
   pub last : IsGreatest (ends_of rows) tally.last
 
--- Says that each count of the tally is small enough to grow by one
+-- says that each count of the tally is small enough to grow by one
 pub record AreFew (tally : Tally) : Type 0 where
   pub schedules : tally.schedules < 2 ^ 63
   pub associations : tally.associations < 2 ^ 63

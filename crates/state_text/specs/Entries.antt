@@ -33,10 +33,10 @@ op_lines deleted = []
 op_lines lapsed = []
 op_lines (put_with body) = lines_in body
 
--- Says that the count of the entry's lines fits in four bytes
+-- says that the count of the entry's lines fits in four bytes
 abbrev pub HasFewLines : Key × Entry → Type 0
 HasFewLines entry = length (op_lines entry.1.op) < 2 ^ 32
 
--- Says that the entry's key is good, its op fits the key, and its stamp has 15 bytes
+-- says that the entry's key is good, its op fits the key, and its stamp has 15 bytes
 abbrev pub IsOfWidth : Key × Entry → Type 0
 IsOfWidth entry = IsGoodKey entry.0 × IsOpOf entry.0 entry.1.op × (length (stamp_bytes entry.1.stamp) ≡ 15)

@@ -25,7 +25,7 @@ cause_meant cause.Long = Some too_long
 cause_meant cause.Memory = None
 cause_meant cause.Horizon = Some bad_horizon
 
--- Says that this part of an entry needs memory: a line of a schedule, or the part with which the
+-- says that this part of an entry needs memory: a line of a schedule, or the part with which the
 -- entry ends. An op ends its entry unless it is 1, which is a put
 abbrev pub PartTakesMemory : EntryPart → List ℕ → Type 0
 PartTakesMemory before_tag bytes = ⊥
@@ -37,18 +37,18 @@ PartTakesMemory (before_body (association_key key) stamp) bytes = ⊤
 PartTakesMemory (before_body (schedule_key key) stamp) bytes = ⊥
 PartTakesMemory (before_line key stamp count lines) bytes = ⊤
 
--- Says that this part needs memory: a ledger item, or a part of an entry that needs it
+-- says that this part needs memory: a ledger item, or a part of an entry that needs it
 abbrev pub TakesMemory : Before → List ℕ → Type 0
 TakesMemory (before_item horizon count ledger) bytes = ⊤
 TakesMemory (in_entry count state part) bytes = PartTakesMemory part bytes
 TakesMemory _ bytes = ⊥
 
--- Says that memory ran out for this part, which needs memory and isn't bad
+-- says that memory ran out for this part, which needs memory and isn't bad
 pub record IsWantingHere (format : Format) (before : Before) (bytes : List ℕ) : Type 0 where
   pub takes : TakesMemory before bytes
   pub not_bad : (cause : model.StateCause) → ¬ IsBadPart format before bytes cause
 
--- Says that the part is bad for this cause. `None` stands for out of memory: memory ran out for the
+-- says that the part is bad for this cause. `None` stands for out of memory: memory ran out for the
 -- part
 abbrev pub IsBadHere : Format → Before → List ℕ → Option model.StateCause → Type 0
 IsBadHere format before bytes None = IsWantingHere format before bytes

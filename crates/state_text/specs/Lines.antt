@@ -6,13 +6,13 @@ use Rattle.docker_model.specs.state.State.{State}
 use Rattle.docker_model.specs.state.StateFault.{StateCause, bad_body}
 use Rattle.docker_model.specs.state.StatePart.{AreLinesOf, AreLinesUpTo, HaveNotToLapse}
 
--- Says that some schedule begins with these lines. If there are `count` of them, they are a whole
+-- says that some schedule begins with these lines. If there are `count` of them, they are a whole
 -- schedule
 pub record BeginUpTo (count : ℕ) (lines : List (List ℕ)) : Type 0 where
   pub begin : BeginsSchedule lines
   pub complete : length lines ≡ count → IsSchedule lines
 
--- Says why a line that comes after these lines is refused. For `bad_body`, the lines and this one
+-- says why a line that comes after these lines is refused. For `bad_body`, the lines and this one
 -- aren't the first of any schedule of `count` lines. For `None`, they are, but memory ran out for
 -- the line
 abbrev pub IsLineRefusal : ℕ → List (List ℕ) → List ℕ → Option StateCause → Type 0
@@ -20,7 +20,7 @@ IsLineRefusal count lines line None = BeginUpTo count (lines ++ line ∷ [])
 IsLineRefusal count lines line (Some bad_body) = ¬ BeginUpTo count (lines ++ line ∷ [])
 IsLineRefusal count lines line _ = ⊥
 
--- Says that these are the first lines of a schedule with this key, and that the schedule doesn't
+-- says that these are the first lines of a schedule with this key, and that the schedule doesn't
 -- lapse in the state
 abbrev pub AreLinesIn : State → model.ScheduleKey → List (List ℕ) → Type 0
 AreLinesIn state key lines = AreLinesOf key lines × HaveNotToLapse state lines
@@ -29,7 +29,7 @@ AreLinesIn state key lines = AreLinesOf key lines × HaveNotToLapse state lines
 abbrev pub AreLinesUpToIn : State → model.ScheduleKey → ℕ → List (List ℕ) → Type 0
 AreLinesUpToIn state key n lines = AreLinesUpTo key n lines × HaveNotToLapse state lines
 
--- Says why a line is refused as one of the `n` lines of a schedule with this key. For `bad_body`,
+-- says why a line is refused as one of the `n` lines of a schedule with this key. For `bad_body`,
 -- the lines and this one aren't the first of such a schedule. For `None`, they are, but memory ran
 -- out for the line
 abbrev pub IsUpToRefusal : State → model.ScheduleKey → ℕ → List (List ℕ) → List ℕ → Option StateCause → Type 0

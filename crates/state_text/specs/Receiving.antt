@@ -27,13 +27,13 @@ items_of items (Some staging) = staging.items
 abbrev pub given_of : {R : Type 0} → Receiving R → State
 given_of it = given_state (items_of it.items.items it.staging) it.given.entries
 
--- Says that the staging is right: of the given entries, it has exactly those that this state has to
+-- says that the staging is right: of the given entries, it has exactly those that this state has to
 -- take over, under the floor of both ledgers
 pub record IsStagedOf (own : State) (staging : Staging) (entries : List (model.Key × ops.Entry)) : Type 0 where
   pub floor : IsFloor (own.ledger ++ staging.items) staging.floor
   pub staged : IsStaged own staging.floor entries staging.staged
 
--- Says that the receiving state is `own` and is valid, and that what it has received agrees with
+-- says that the receiving state is `own` and is valid, and that what it has received agrees with
 -- what was given
 pub record IsReceiving {R : Type 0} (own : State) (it : Receiving R) : Type 0 where
   pub own_is : it.own ≡ own

@@ -66,7 +66,7 @@ abbrev pub begins_item : Before → Bool
 begins_item (in_entry count state part) = begins_part part
 begins_item _ = true
 
--- Says that at this stage the later parts of the state are still empty
+-- says that at this stage the later parts of the state are still empty
 abbrev pub IsFresh : Stage → State → Type 0
 IsFresh stage.Mark state = (state.ledger ≡ []) × (state.entries ≡ []) × (state.horizon ≡ 0)
 IsFresh stage.Horizon state = (state.ledger ≡ []) × (state.entries ≡ [])
@@ -75,17 +75,17 @@ IsFresh (stage.Item count) state = state.entries ≡ []
 IsFresh stage.EntryCount state = state.entries ≡ []
 IsFresh _ state = ⊤
 
--- Says that the next part isn't a line, or is its schedule's last line
+-- says that the next part isn't a line, or is its schedule's last line
 abbrev pub IsLast : Stage → List (List ℕ) → Type 0
 IsLast (stage.Line count key stamp n) lines = n ≤ length lines + 1
 IsLast _ lines = ⊤
 
--- Says that the parts before this stage are good, and that the later ones are still empty
+-- says that the parts before this stage are good, and that the later ones are still empty
 pub record IsReady (format : Format) (stage : Stage) (state : State) (lines : List (List ℕ)) : Type 0 where
   pub good : AreGood format (stage_meant stage state lines)
   pub fresh : IsFresh stage state
 
--- Says that these bytes are a part that isn't bad, and that it leads to this stage
+-- says that these bytes are a part that isn't bad, and that it leads to this stage
 pub record LeadsTo (format : Format) (before : Before) (bytes : List ℕ) (stage : Stage) (state : State) (lines : List (List ℕ)) : Type 0 where
   pub is : stage_meant stage state lines ≡ advance format before bytes
   pub not_bad : (cause : StateCause) → ¬ IsBadPart format before bytes cause

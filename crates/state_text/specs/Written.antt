@@ -11,19 +11,19 @@ use Rattle.cif_line.specs.Device.{Takes, TakesPart}
 abbrev pub body_text : State → List ℕ
 body_text state = flat_map item_bytes state.ledger ++ to_be_bytes w64 (length state.entries) ++ flat_map entry_bytes state.entries
 
--- Says that a piece was appended to the bytes that the buffer held. Of all these bytes the sink has
+-- says that a piece was appended to the bytes that the buffer held. Of all these bytes the sink has
 -- taken the first ones, and the buffer holds the others
 abbrev pub Gathers : Option (List ℕ) → List ℕ → List ℕ → Option (List ℕ) → List ℕ → Type 0
 Gathers old held piece new holds = (front : List ℕ) × (front ++ holds ≡ held ++ piece) × Takes old front new
 
--- Says what the result of writing a piece through a buffer means. On success, the piece was
+-- says what the result of writing a piece through a buffer means. On success, the piece was
 -- appended as `Gathers` says. On failure, the sink has failed once, and has taken a proper prefix
 -- of the buffer's bytes and the piece
 abbrev pub Gives : {S A E : Type 0} → (S → Option (List ℕ)) → (S → ℕ) → S → List ℕ → List ℕ → Result A E → S → List ℕ → Type 0
 Gives taken failures old held piece (Ok done) new holds = Gathers (taken old) held piece (taken new) holds × (failures new ≡ failures old)
 Gives taken failures old held piece (Err failed) new holds = TakesPart (taken old) (held ++ piece) (taken new) × (failures new ≡ failures old + 1)
 
--- Says what the result of writing bytes to a sink means. On success, the sink has taken all of
+-- says what the result of writing bytes to a sink means. On success, the sink has taken all of
 -- them. On failure, it has failed once, and has taken a proper prefix of them
 abbrev pub Flushes : {S A E : Type 0} → (S → Option (List ℕ)) → (S → ℕ) → S → List ℕ → Result A E → S → Type 0
 Flushes taken failures old bytes (Ok done) new = Takes (taken old) bytes (taken new) × (failures new ≡ failures old)

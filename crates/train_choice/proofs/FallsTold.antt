@@ -9,11 +9,11 @@ use Rattle.docker_laws.proofs.dockers.ScheduleLines.{number_itself}
 use Rattle.train_choice.specs.Occurrences.{Occurrence, occurrence_of, occurrences}
 use Rattle.train_choice.specs.Falls.{falls_among}
 
--- Says that there is an event with this number
+-- says that there is an event with this number
 abbrev pub HasNumber : List (List ℕ) → ℕ → Type 0
 HasNumber lines number = (event : Event) × Contains (events_of lines) event × (event.number ≡ number)
 
--- Says that there is an event with this number, and that the train passes midnight `falls` times
+-- says that there is an event with this number, and that the train passes midnight `falls` times
 -- before it
 pub record IsTold (lines : List (List ℕ)) (number : ℕ) (falls : ℕ) : Type 0 where
   pub there : HasNumber lines number

@@ -29,7 +29,7 @@ fall_is (Some last) time = refl
 sum : (a b c : ℕ) → a ≡ 0 → b ≡ c → a + b ≡ c
 sum a b c none same = omega arith
 
--- Says what the times of a line show about midnight. If they ascend, no midnight is passed, and the
+-- says what the times of a line show about midnight. If they ascend, no midnight is passed, and the
 -- last time is the one given. If they don't, a midnight is passed before some event
 abbrev Told : Progress → List ℕ → Times → Option ℕ → Type 0
 Told p line times None = (rest : List Occurrence) → some_late (occurrences_at p line times ++ rest) ≡ true

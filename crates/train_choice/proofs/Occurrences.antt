@@ -18,7 +18,7 @@ Times = List (Occasion × ℕ)
 abbrev clock_times : Times → List ℕ
 clock_times times = map (λ (time : Occasion × ℕ). time.1) times
 
--- Says that the walk has met exactly these times
+-- says that the walk has met exactly these times
 pub record HasMet (times : List ℕ) (p : Progress) : Type 0 where
   pub number_is : p.number ≡ length times + 1
   pub falls_are : p.falls ≡ fall_count times

@@ -20,20 +20,20 @@ abbrev pub link_along : Group → ℕ → Option Link → List Row → Option Li
 link_along group day found [] = found
 link_along group day found (row ∷ rows) = link_along group day (next_link group day found row.0 row.1) rows
 
--- Says that the body of each row is well formed and fits its key
+-- says that the body of each row is well formed and fits its key
 abbrev pub AreGoodRows : List Row → Type 0
 AreGoodRows [] = ⊤
 AreGoodRows (row ∷ rows) = IsBodyOf row.0 row.1 × AreGoodRows rows
 
--- Says that each row is in the live table
+-- says that each row is in the live table
 abbrev pub AreLive : Table → List Row → Type 0
 AreLive live [] = ⊤
 AreLive live (row ∷ rows) = (live row.0 ≡ Some row.1) × AreLive live rows
 
--- Says that the schedule is in the live table
+-- says that the schedule is in the live table
 abbrev pub IsLiveTrain : Table → Train → Type 0
 IsLiveTrain live train = live (schedule_key train.key) ≡ Some (schedule_body train.lines)
 
--- Says that the association is in the live table
+-- says that the association is in the live table
 abbrev pub IsLiveLink : Table → Link → Type 0
 IsLiveLink live link = live (association_key link.key) ≡ Some (association_body link.line)

@@ -30,7 +30,7 @@ events_here walk = occurrences_at (progress_of walk) walk.line.now (times_meant 
 abbrev pub behind_line : EventWalk → Progress
 behind_line walk = past_times (progress_of walk) (times_meant walk.times)
 
--- Says that the remaining times of the current line and `more` others can be numbered without
+-- says that the remaining times of the current line and `more` others can be numbered without
 -- overflow
 pub record HasRoom (walk : EventWalk) (more : ℕ) : Type 0 where
   pub bound : walk.number + length (times_meant walk.times) + more ≤ 2 ^ 40
@@ -40,7 +40,7 @@ pub record HasRoom (walk : EventWalk) (more : ℕ) : Type 0 where
 abbrev pub events_left : EventWalk → List (List ℕ) → List model.Occurrence
 events_left walk lines = events_here walk ++ occurrences_from (behind_line walk) lines
 
--- Says that the walk can continue over these lines: their fields are good, and their events can be
+-- says that the walk can continue over these lines: their fields are good, and their events can be
 -- numbered
 pub record CanWalk (walk : EventWalk) (lines : List (List ℕ)) : Type 0 where
   pub good : All HasGoodFields lines

@@ -7,7 +7,7 @@ use Rattle.docker_model.specs.file.Change.{ScheduleKey}
 use Rattle.docker_model.specs.docker.Choice.{schedule_runs}
 use Rattle.train_choice.specs.declared.recent_runs.RecentRuns.{RecentRuns}
 
--- Says that the three flags are `test 0`, `test 1` and `test 2`. `test n` is whether the schedule
+-- says that the three flags are `test 0`, `test 1` and `test 2`. `test n` is whether the schedule
 -- runs n days earlier
 pub record AreRecentRuns (test : ℕ → Bool) (recent : RecentRuns) : Type 0 where
   pub today_is : recent.today ≡ test 0
