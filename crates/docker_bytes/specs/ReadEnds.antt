@@ -59,7 +59,7 @@ EndsReadingBy wants why left failures format limit IsMade source source_now resu
     StopsReading format limit (left source) (left source_now) (IsOutcome wants why format limit IsMade (left source) (left source_now) result)
     (CountsOutcome why (failures source) (failures source_now) result)
 
--- the read fault of a fault that is one itself
+-- the read fault of a result whose fault is a read fault already
 abbrev pub as_it_is : ReadFault → Option ReadFault
 as_it_is fault = Some fault
 
