@@ -67,14 +67,14 @@ pub record IsWanting (format : Format) (limit : ℕ) (text piece : List ℕ) (at
 
 -- says what a fault returned for a piece after a text means: a part is bad, or the state needs a
 -- byte at the limit. If the cause is `None`, memory ran out
-abbrev pub IsToldSoFar : Format → ℕ → List ℕ → List ℕ → ℕ → Option model.StateCause → Type 0
-IsToldSoFar format limit text piece at None = IsWanting format limit text piece at
-IsToldSoFar format limit text piece at (Some cause) =
+abbrev pub IsCauseSoFar : Format → ℕ → List ℕ → List ℕ → ℕ → Option model.StateCause → Type 0
+IsCauseSoFar format limit text piece at None = IsWanting format limit text piece at
+IsCauseSoFar format limit text piece at (Some cause) =
     HasBadPart format limit (text ++ piece) (record { at = at; cause = cause }) ⊎ IsLong format limit (text ++ piece) (record { at = at; cause = cause })
 
--- says the same as `IsToldSoFar`, of a fault as the code has it
-abbrev pub IsFaultTold : Format → ℕ → List ℕ → List ℕ → StateFault → Type 0
-IsFaultTold format limit text piece fault = IsToldSoFar format limit text piece fault.at (cause_meant fault.cause)
+-- says the same as `IsCauseSoFar`, of a fault as the code has it
+abbrev pub IsFaultReported : Format → ℕ → List ℕ → List ℕ → StateFault → Type 0
+IsFaultReported format limit text piece fault = IsCauseSoFar format limit text piece fault.at (cause_meant fault.cause)
 
 -- says that the text is a valid state's text, within the limit
 abbrev pub IsWhole : Format → ℕ → List ℕ → Type 0
@@ -86,13 +86,13 @@ IsOpen format limit text = (fault : model.StateFault) × IsShort format limit te
 
 -- says what a fault returned at the end of a text means: the text ends before the state does. If
 -- the cause is `None`, memory ran out at the end of a complete text, and that end is the offset
-abbrev pub IsToldAtEnd : Format → ℕ → List ℕ → ℕ → Option model.StateCause → Type 0
-IsToldAtEnd format limit text at None = IsWhole format limit text × (at ≡ length text)
-IsToldAtEnd format limit text at (Some cause) = IsShort format limit text (record { at = at; cause = cause })
+abbrev pub IsCauseAtEnd : Format → ℕ → List ℕ → ℕ → Option model.StateCause → Type 0
+IsCauseAtEnd format limit text at None = IsWhole format limit text × (at ≡ length text)
+IsCauseAtEnd format limit text at (Some cause) = IsShort format limit text (record { at = at; cause = cause })
 
--- says the same as `IsToldAtEnd`, of a fault as the code has it
+-- says the same as `IsCauseAtEnd`, of a fault as the code has it
 abbrev pub IsUnended : Format → ℕ → List ℕ → StateFault → Type 0
-IsUnended format limit text fault = IsToldAtEnd format limit text fault.at (cause_meant fault.cause)
+IsUnended format limit text fault = IsCauseAtEnd format limit text fault.at (cause_meant fault.cause)
 
 -- says what a step means when `n` bytes of a piece were used after a text. `Done` means that the
 -- text with these bytes is a whole state's. `More` means that all bytes were used, and that the

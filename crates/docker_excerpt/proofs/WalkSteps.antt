@@ -8,7 +8,7 @@ use Rattle.docker_model.specs.state.Op as ops
 use Rattle.cif_change.specs.declared.key.Key.{Key}
 use Rattle.cif_change.specs.Meaning.{key_meant}
 use Rattle.state_text.specs.Entry.{Entry}
-use Rattle.state_text.specs.Meaning.{entry_meant, row_meant}
+use Rattle.docker_join.specs.Meaning.{entry_meant, row_meant}
 use Rattle.docker_excerpt.specs.Walked.{IsWalk}
 
 -- a row that the code adds is the same row in the definitions

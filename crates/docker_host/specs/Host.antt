@@ -2,7 +2,7 @@
 use Rattle.std.specs.Prelude.{ℕ, ◌^◌, ◌-◌, ◌<◌, Bool, List}
 use Rattle.docker_host.specs.History.{Bytes, Event}
 
--- All devices of a program at one moment. Where a device can't name its bytes, they are None.
+-- All devices of a program at one position. Where a device can't name its bytes, they are None.
 pub record HostView : Type 0 where
   -- what is left of the input, whether its end was reported, and whether it was read past that
   pub input : Bytes

@@ -15,13 +15,13 @@ impl Model for History {
     ghost also_owns = { λ _. ftrue };
 }
 
-/// A moment of a history: how many events were before it. Only proofs see it.
+/// A position of a history: how many events were before it. Only proofs see it.
 #[derive(Drop)]
-pub struct Moment {
+pub struct Position {
     pub ghost at: { ℕ },
 }
 
-impl Model for Moment {
+impl Model for Position {
     ghost also_owns = { λ _. ftrue };
 }
 
@@ -40,10 +40,10 @@ pub enum Note<'a> {
     Closed(&'a [u8]),
     /// An opened file was closed, and what was left of it can't be named.
     ClosedUnnamed,
-    /// A draft was made for a named file, from the look of a moment.
-    Drafted(&'a str, &'a Moment),
-    /// No draft was made for a named file, from the look of a moment.
-    Undrafted(&'a str, &'a Moment),
+    /// A draft was made for a named file, from the look of a position.
+    Drafted(&'a str, &'a Position),
+    /// No draft was made for a named file, from the look of a position.
+    Undrafted(&'a str, &'a Position),
     /// A draft took the place of a named file, which then held these bytes.
     Placed(&'a str, &'a [u8]),
     /// A draft whose bytes can't be named took the place of a named file.
@@ -73,10 +73,10 @@ impl History {
         History {}
     }
 
-    /// The moment before the next event.
-    pub fn moment(&self) -> Moment
+    /// The position before the next event.
+    pub fn position(&self) -> Position
         ensures { result.at ≡ length self.now.events }
     {
-        Moment {}
+        Position {}
     }
 }

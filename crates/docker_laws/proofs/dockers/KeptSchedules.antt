@@ -49,7 +49,7 @@ pub schedule_last : (line : List ℕ) → HasKind basic_schedule line → HasGoo
 unfolding schedule_later
 schedule_last line is good stays = (later_good line is good stays).0
 
--- the days run of a good basic schedule are marks, unless it is a deletion
+-- the days run of a good basic schedule are flags, unless it is a deletion
 pub schedule_days : (line : List ℕ) → HasKind basic_schedule line → HasGoodFields line → is_deletion line ≡ false → is_days (columns 22 28 line) ≡ true
 unfolding schedule_later
 schedule_days line is good stays = (later_good line is good stays).1.0

@@ -13,11 +13,11 @@ last_of (piece ∷ next ∷ pieces) = last_of (next ∷ pieces)
 -- how many lines of a text are sure, whatever follows it. A line is sure once its line feed has
 -- come. A last line of more than 81 bytes is sure too: even with a carriage return it is too long.
 -- The text `HD` has no sure line; with a line feed after it, it has one
-abbrev pub lines_told : List ℕ → ℕ
-lines_told text =
+abbrev pub sure_lines : List ℕ → ℕ
+sure_lines text =
     count_by (λ b. b == 10) text + (if nat_le 82 (length (last_of (slice_split (λ b. b == 10) text))) then 1 else 0)
 
 -- the bytes so far show this fault: the record at fault is a line that is sure
 pub record IsFaultSoFar (limit : ℕ) (text : List ℕ) (fault : FileFault) : Type 0 where
   pub is : IsRecordFault limit (lines_of text) fault
-  pub told : fault.number ≤ lines_told text
+  pub told : fault.number ≤ sure_lines text

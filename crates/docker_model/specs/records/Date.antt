@@ -68,7 +68,7 @@ is_end_date field = is_no_end field || is_date field
 abbrev pub end_number : List ℕ → ℕ
 end_number field = if is_no_end field then no_end_number else date_number field
 
--- days run: seven marks of 0 or 1, Monday first. For a field of seven bytes
+-- days run: seven flags of 0 or 1, Monday first. For a field of seven bytes
 abbrev pub is_days : List ℕ → Bool
 is_days field = list_all (λ b. (b == 48) || (b == 49)) field
 

@@ -30,8 +30,8 @@ abbrev pub open_line : List ℕ → List ℕ
 open_line text = last_of (pieces_of text)
 
 -- the complete lines: those whose line feed has come
-abbrev pub told_lines : List ℕ → Lines
-told_lines text = map strip_carriage_return (but_last (pieces_of text))
+abbrev pub complete_lines : List ℕ → Lines
+complete_lines text = map strip_carriage_return (but_last (pieces_of text))
 
 -- the last piece as a line, or no line if it is empty
 abbrev pub line_left : List ℕ → Lines
