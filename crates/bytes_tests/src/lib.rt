@@ -1,5 +1,5 @@
-//! Worked examples of states and their texts: made, joined, written, read, received and migrated.
-//! This crate has only tests.
+//! Worked examples of states and their texts: states are made, joined, written, read, received and
+//! migrated. This crate has only tests.
 #![tactic(auto)]
 
 #[cfg(test)]

@@ -28,12 +28,12 @@ mod parts;
 mod pieces;
 mod received;
 
-/// These pieces, one after the other.
+/// The text of these pieces, one after the other.
 fn joined_text(rt: &impl Abort, alloc: Global, pieces: &[&[u8]]) -> Vec<u8> {
     text(alloc, pieces, b"").expect(rt, "room")
 }
 
-/// The state of the file of these records.
+/// The state of a file with these records.
 fn state(rt: &impl Abort, alloc: Global, records: &[&[u8]]) -> State {
     let text = text(alloc, records, b"\n").expect(rt, "room");
     let file = read_pieces(alloc, &[text.as_slice()], 1000).expect(rt, "a file");
@@ -58,7 +58,7 @@ fn text_is(rt: &impl Abort, alloc: Global, state: &State, wanted: &[u8]) {
     same(rt, text.bytes(), wanted);
 }
 
-/// The state of a text, which is read `step` bytes at a time.
+/// Reads the state of a text, `step` bytes at a time.
 fn read(rt: &impl Abort, alloc: Global, text: &[u8], step: usize, limit: u64) -> State
     requires { 0 < step }
 {
@@ -66,7 +66,7 @@ fn read(rt: &impl Abort, alloc: Global, text: &[u8], step: usize, limit: u64) ->
     read_state(alloc, &mut source, limit).expect(rt, "a state")
 }
 
-/// How many files the ledger of a text has. The text is read `step` bytes at a time.
+/// Reads the ledger of a text, `step` bytes at a time, and returns how many files it has.
 fn files_in(rt: &impl Abort, alloc: Global, text: &[u8], step: usize, limit: u64) -> usize
     requires { 0 < step }
 {
@@ -85,7 +85,8 @@ fn known_state(rt: &impl Abort, alloc: Global) -> State {
     state(rt, alloc, &[HD, BS, LO, LT, ZZ])
 }
 
-/// Asserts that a state has a text of `len` bytes, and that this text is read back.
+/// Asserts that the text of a state has `len` bytes, and that reading it gives the same state
+/// again.
 fn goes_round(rt: &impl Abort, alloc: Global, state: &State, len: usize, step: usize)
     requires { 0 < step }
 {
@@ -151,8 +152,8 @@ fn at(at: u64, cause: StateCause) -> StateFault {
     StateFault { at, cause }
 }
 
-/// The fault that a parser returns for a piece beginning at this offset, or the fault of a byte
-/// after the state.
+/// The fault that a parser returns when it is fed a piece, which begins at this offset. If bytes of
+/// the piece follow the state, that is a fault too.
 fn fault_in(parser: &mut StateParser, piece: &[u8], begins: u64) -> Option<StateFault> {
     match parser.feed(piece) {
         Ok((used, _)) if used < piece.len() => {
@@ -164,8 +165,8 @@ fn fault_in(parser: &mut StateParser, piece: &[u8], begins: u64) -> Option<State
     }
 }
 
-/// The fault of a text that a parser is fed `step` bytes at a time. A byte that it leaves after the
-/// state is a fault too.
+/// The fault of a text that a parser is fed `step` bytes at a time. If bytes follow the state, that
+/// is a fault too.
 fn fault_fed(alloc: Global, text: &[u8], limit: u64, step: usize) -> Option<StateFault>
     requires { 0 < step }
 {
@@ -186,13 +187,13 @@ fn place(rt: &impl Abort) -> Tiploc {
     Tiploc::from_text("ASHFELD").expect(rt, "a TIPLOC")
 }
 
-/// The day that excerpts are read for.
+/// The day for which excerpts are read.
 fn day(rt: &impl Abort) -> Day {
     Day::from_iso("2024-06-15").expect(rt, "a day")
 }
 
 /// Asserts that a text has this fault under this limit, both when it is read and when a parser is
-/// fed, `step` bytes at a time.
+/// fed it, `step` bytes at a time.
 fn refused_by(
     rt: &impl Abort,
     alloc: Global,
@@ -222,13 +223,14 @@ fn refused(rt: &impl Abort, alloc: Global, pieces: &[&[u8]], limit: u64, fault: 
     refused_by(rt, alloc, text.as_slice(), limit, fault, 4096);
 }
 
-/// Pieces of a text that is refused, and its fault.
+/// The pieces of a text that is refused, and the offset and cause of its fault.
 type Row = (&'static [&'static [u8]], u64, StateCause);
 
-/// Where the parts of the text of a schedule begin, for cutting it.
+/// The offsets at which the items of the text of a schedule's state begin, where the fault of a cut
+/// text is.
 const BEGINNINGS: [u64; 6] = [0, 4, 6, 14, 33, 41];
 
-/// The last of these places that isn't after a length. The places ascend from 0.
+/// The greatest of these offsets that isn't above `len`. The offsets ascend from 0.
 fn last_place(places: &[u64], len: usize) -> u64 {
     let mut last = 0;
     for place in places {
@@ -239,7 +241,7 @@ fn last_place(places: &[u64], len: usize) -> u64 {
     last
 }
 
-/// Faults of the mark and of the ledger.
+/// Texts with a fault in the mark or in the ledger.
 const LEDGERS: &[Row] = &[
     (&[OLD_MARK, ONE], 0, StateCause::Mark),
     (&[b"DKS"], 0, StateCause::Short),
@@ -259,7 +261,7 @@ fn faults_of_the_ledger(rt: HostRuntime) {
     refused(&rt, alloc, &[b"XYZ"], 2, at(2, StateCause::Long));
 }
 
-/// Faults of an entry.
+/// Texts with a fault in an entry.
 const ENTRIES: &[Row] = &[
     (
         &[MARK, ONE, ITEM, ONE, HEAD_OF_NO_TAG, BS, LO, LT],
@@ -306,7 +308,8 @@ fn faults_of_an_entry(rt: HostRuntime) {
     }
 }
 
-/// Asserts that each proper prefix of a text is too short. The text's parts begin at these places.
+/// Asserts that each proper prefix of a text is refused because it is too short. The text's items
+/// begin at `places`.
 fn refused_fronts(rt: &impl Abort, alloc: Global, text: &[u8], places: &[u64]) {
     for (n, _) in text.iter().enumerate() {
         let fault = at(last_place(places, n), StateCause::Short);
@@ -326,7 +329,7 @@ fn faults_of_length(rt: HostRuntime) {
     refused_fronts(&rt, alloc, known, &BEGINNINGS);
 }
 
-/// Asserts that a parser which is fed more than a state uses only the bytes of the state.
+/// Asserts that a parser that is fed a state's text and one more byte uses only the state's bytes.
 fn uses_the_state(rt: &impl Abort, alloc: Global, known: &[u8]) {
     let longer = joined_text(rt, alloc, &[known, b"\0"]);
     let mut parser = StateParser::new(alloc, 1000);
@@ -357,14 +360,15 @@ fn a_fault_is_reported_again(rt: HostRuntime) {
     same(&rt, parser.finish().err(), Some(fault));
 }
 
-/// Asserts that a parser ran out of memory at the item or at the entry, and reports it again.
+/// Asserts that a parser's fault is out of memory, at the ledger item or at the entry, and that it
+/// returns the same fault again.
 fn runs_out_of_memory(rt: &impl Abort, parser: &mut StateParser, known: &[u8], fault: StateFault) {
     same(rt, fault.cause, StateCause::Memory);
     same(rt, fault.at == 14 || fault.at == 41, true);
     same(rt, parser.feed(known), Err(fault));
 }
 
-/// Asserts that a parser takes a text, or runs out of memory.
+/// Asserts that a parser that is fed a text takes it, or runs out of memory.
 fn fed_or_out_of_memory(rt: &impl Abort, alloc: Global, known: &[u8]) {
     let mut parser = StateParser::new(alloc, 1000);
     match parser.feed(known) {
@@ -373,7 +377,7 @@ fn fed_or_out_of_memory(rt: &impl Abort, alloc: Global, known: &[u8]) {
     }
 }
 
-/// Asserts that a text is read, or memory runs out.
+/// Asserts that a text is read, or that memory runs out.
 fn read_or_out_of_memory(rt: &impl Abort, alloc: Global, known: &[u8]) {
     match read_state(alloc, &mut Bytes::new(known, 64), 311) {
         Ok(state) => same(rt, encoded_len(&state), 311),

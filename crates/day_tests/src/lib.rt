@@ -1,5 +1,6 @@
-//! Worked examples of dockers: lines and their order, the choice of schedules, midnights,
-//! associations, horizons, stamps, texts, and running out of memory. This crate holds only tests.
+//! Worked examples of dockers: their lines and the order of the lines, the choice of schedules,
+//! midnights, associations, horizons, stamps, printed texts, and running out of memory. This crate
+//! has only tests.
 #![tactic(auto)]
 
 #[cfg(test)]

@@ -1,4 +1,4 @@
-//! Worked dockers, from small states.
+//! Worked examples of dockers, from small states.
 mod associations;
 mod choice;
 mod compare;
@@ -27,14 +27,14 @@ fn place(rt: &impl Abort, text: &str) -> Tiploc {
     Tiploc::from_text(text).expect(rt, "a place")
 }
 
-/// The state of a file of these records, unless memory runs out.
+/// The state of a file with these records. `None` if memory runs out.
 fn state_of(alloc: Global, records: &[&[u8]]) -> Option<State> {
     let text = text(alloc, records, b"\n").ok()?;
     let file = read_pieces(alloc, &[text.as_slice()], 1000).ok()?;
     State::of_file(alloc, file).ok()
 }
 
-/// The state of a file of these records.
+/// The state of a file with these records.
 fn state(rt: &impl Abort, alloc: Global, records: &[&[u8]]) -> State {
     state_of(alloc, records).expect(rt, "a state")
 }
@@ -62,7 +62,7 @@ fn joined_back(rt: &impl Abort, alloc: Global, files: &[&[&[u8]]]) -> State {
     joined
 }
 
-/// What a sink receives of a docker, if there is memory for it.
+/// The text of a docker in a sink. `None` if memory runs out.
 fn written(alloc: Global, docker: &Docker<'_>) -> Option<Kept> {
     let mut kept = Kept::new(alloc, 10_000).ok()?;
     write_docker(docker, &mut kept).ok()?;
@@ -75,7 +75,8 @@ fn printed(rt: &impl Abort, alloc: Global, state: &State, at: &str, on: &str) ->
     written(alloc, &docker).expect(rt, "a text")
 }
 
-/// Asserts that a docker has exactly these lines between its heading and its last line.
+/// Asserts that the docker of a state has exactly these lines between its heading and its last
+/// line.
 fn lines_are(rt: &impl Abort, alloc: Global, state: &State, at: &str, on: &str, wanted: &[&[u8]]) {
     let kept = printed(rt, alloc, state, at, on);
     let bytes = kept.bytes();
@@ -86,7 +87,7 @@ fn lines_are(rt: &impl Abort, alloc: Global, state: &State, at: &str, on: &str, 
     same(rt, lines, wanted.as_slice());
 }
 
-/// Asserts that a docker of these files, joined in either order, has exactly these lines.
+/// Asserts that the docker of these files, joined in either order, has exactly these lines.
 fn shows(rt: &impl Abort, alloc: Global, files: &[&[&[u8]]], at: &str, on: &str, wanted: &[&[u8]]) {
     lines_are(rt, alloc, &joined(rt, alloc, files), at, on, wanted);
     lines_are(rt, alloc, &joined_back(rt, alloc, files), at, on, wanted);

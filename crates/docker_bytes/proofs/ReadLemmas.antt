@@ -1,4 +1,4 @@
--- Reading a source: what the parser was fed is what the source had.
+-- Reading a source: the parser was fed exactly what the source held.
 use Rattle.std.proofs.Common.{◌≡◌, ◌≢◌, ℕ, ◌<◌, List, [], ◌∷◌, ◌++◌, length, take, drop, refl, ap, sym, ◌∙◌, subst, inl, inr, ◌⊎◌, arith, append_assoc, append-nil, length-drop, Some, None, Err, Result}
 use Rattle.std.specs.Prelude.{Option, Ok, IfErr, IsOk, OnOk, ◌^◌}
 use Rattle.std.proofs.lemmas.List.{take-append-drop}
@@ -24,7 +24,7 @@ use Rattle.docker_bytes.specs.SourceRead.{Held, ReadsState, ReadsMade, IsCauseOf
 use Rattle.docker_bytes.specs.ReadEnds.{as_it_is, CountsOutcome, CountsWhy, EndsReadingBy, EndsText, IsOutcome, IsWhyUnread, StopsReading, Wanting}
 use Rattle.docker_bytes.proofs.TextEnd.{sound_text}
 
--- ---- causes
+-- ---- from the parser's fault to the read fault
 
 none_is_memory : (c : StateCause) → cause_meant c ≡ None → c ≡ cause.Memory
 none_is_memory cause.Mark is = cc
@@ -54,7 +54,8 @@ memory_or_not cause.Long = inr (λ same. cc)
 memory_or_not cause.Memory = inl refl
 memory_or_not cause.Horizon = inr (λ same. cc)
 
--- a fault returned as the state's is the one that was found, and its cause isn't out of memory
+-- if the read fault is a fault of the text, it is the one that the parser found, and its cause
+-- isn't out of memory
 not_memory : {A : Type 0} (found told : StateFault) (result : ReadFault) → (found.cause ≡ cause.Memory → result ≡ fault.Memory)
     → (found.cause ≢ cause.Memory → result ≡ fault.State found)
     → ◌≡◌ {A = Result A ReadFault} (Err result) (Err (fault.State told)) → (found ≡ told) × (found.cause ≢ cause.Memory)
@@ -82,7 +83,8 @@ told_at_end format limit text at c other = by (cause_meant c) refl
     by None is told = other (none_is_memory c is)
     by (Some k) is short = inr (inr (inl short))
 
--- a fault returned for a piece is the fault of all texts that begin with the bytes up to its end
+-- a fault of the text that is returned for a piece is the fault of each text that begins with the
+-- bytes up to the piece's end
 pub told_as_state : {A : Type 0} (format : Format) (limit : ℕ) (text piece rest : List ℕ) (found told : StateFault) (result : ReadFault)
     → IsFaultReported format limit text piece found → (found.cause ≡ cause.Memory → result ≡ fault.Memory)
     → (found.cause ≢ cause.Memory → result ≡ fault.State found) → ◌≡◌ {A = Result A ReadFault} (Err result) (Err (fault.State told))
@@ -91,7 +93,8 @@ told_as_state format limit text piece rest found told result so_far memory state
     let same = not_memory found told result memory state is in
     subst (IsFaultOf format limit ((text ++ piece) ++ rest)) same.0 (told_so_far format limit text piece rest found.at found.cause same.1 so_far)
 
--- a fault found at the end is returned as the text's fault, or as out of memory for a complete text
+-- a fault found at the end of a text is returned as a fault of the text, or as out of memory after
+-- a complete text
 pub ended_for : {A : Type 0} (format : Format) (limit : ℕ) (text : List ℕ) (IsMade : A → Type 0) (found : StateFault) (result : ReadFault)
     → IsUnended format limit text found → (found.cause ≡ cause.Memory → result ≡ fault.Memory)
     → (found.cause ≢ cause.Memory → result ≡ fault.State found)
@@ -106,7 +109,7 @@ ended_for format limit text IsMade found result at_end memory state = by (memory
         subst (λ (told : ReadFault). EndsText format limit text IsMade (Err told)) (sym (state other))
         (told_at_end format limit text found.at found.cause other at_end)
 
--- if out of memory is returned, the fault that was found is out of memory
+-- if the read fault is out of memory, the parser's fault has that cause
 is_memory : {A : Type 0} (found : StateFault) (result : ReadFault) → (found.cause ≢ cause.Memory → result ≡ fault.State found)
     → ◌≡◌ {A = Result A ReadFault} (Err result) (Err fault.Memory)
     → found.cause ≡ cause.Memory
@@ -116,7 +119,7 @@ is_memory found result state is = by (memory_or_not found.cause)
     by (inl wanting) = wanting
     by (inr other) = absurd (let from = state other in cc)
 
--- if out of memory is returned for a piece, memory ran out for one of its parts
+-- if out of memory is returned for a piece, memory ran out for a part that ends in the piece
 pub told_as_memory : {A : Type 0} (format : Format) (limit : ℕ) (text piece : List ℕ) (found : StateFault) (result : ReadFault)
     → IsFaultReported format limit text piece found
     → (found.cause ≢ cause.Memory → result ≡ fault.State found) → ◌≡◌ {A = Result A ReadFault} (Err result) (Err fault.Memory)
@@ -150,7 +153,7 @@ tail_of format limit text piece rest used found below whole at is =
       end_at = at ∙ ap length whole.1.is;
     }
 
--- if a byte of a piece wasn't used, the fault of bytes after the state is the text's fault
+-- if a byte of a piece wasn't used, it follows the state, and the text has the fault for that
 pub tail_told : (format : Format) (limit : ℕ) (text piece rest : List ℕ) (used : ℕ) (step : Step) (found : StateFault) → used < length piece
     → IsStep format limit text piece (used, step)
     → found.at ≡ length (text ++ take used piece) → found.cause ≡ cause.Tail → IsFaultOf format limit ((text ++ piece) ++ rest) found
@@ -159,15 +162,15 @@ tail_told format limit text piece rest used More found below more at is = absurd
 
 -- ---- pieces
 
--- the terms of a parser
+-- the format and the limit that a parser was made for
 abbrev pub terms_of : {K : Type 0} → ParserState K → StateTerms
 terms_of parser = record { format = format_of parser.reading; limit = parser.reading.limit }
 
--- a parser that has read nothing has taken the empty text
+-- a parser that has read nothing has read the empty text
 pub at_start : {K : Type 0} (parser : ParserState K) → IsUnread parser → parser.reading.limit < 2 ^ 64 → TakesState parser (terms_of parser) []
 at_start parser unread small = record { read = unread; small = small }
 
--- if a parser has read a piece, it has taken the piece
+-- if a call returns no fault for a piece, the parser has read the piece
 pub takes_more : {K : Type 0} (before after : ParserState K) (piece : List ℕ) {A : Type 0} (result : Result A ReadFault)
     → ((format : Format) (limit : ℕ) (text : List ℕ) → HasRead before format limit text → IsOk result → HasRead after format limit (text ++ piece))
     → OnOk result (AfterEach TakesState before (λ terms text. TakesState after terms (text ++ piece)))
@@ -175,7 +178,7 @@ takes_more before after piece (Ok done) read = λ terms text has.
     record { read = read terms.format terms.limit text has.read refl; small = has.small }
 takes_more before after piece (Err told) read = tt
 
--- if a parser returned a fault for a piece, it has refused the piece
+-- if a call returns a fault for a piece, the parser has refused the piece
 pub refuses_more : {K : Type 0} (before after : ParserState K) (piece : List ℕ) {A : Type 0} (result : Result A ReadFault)
     → ((format : Format) (limit : ℕ) (text : List ℕ) → HasRead before format limit text → (found : StateFault) → result ≡ Err (fault.State found)
     → (rest : List ℕ) → IsFaultOf format limit ((text ++ piece) ++ rest) found)
@@ -190,7 +193,7 @@ refuses_more before after piece (Err told) state memory source = λ terms text h
   apart = λ is. source (ap Err is);
 }
 
--- the text read up to the end of a source is the text that the source held
+-- the text that was read up to the end of a source is the text that the source held
 held_all : (initial now : Option (List ℕ)) (text : List ℕ) → Reads initial text now → IsEnd now → Held initial text
 held_all None now text lost end = tt
 held_all (Some told) None text lost end = cc
@@ -204,18 +207,18 @@ pub reads_all : {K : Type 0} (terms : StateTerms) (count : ℕ) (initial now : O
 reads_all terms count initial now parser at end =
     record { text = at.bytes; held = held_all initial now at.bytes at.lost end; read = at.taken.read }
 
--- a text that a parser has read was read by the parser's own format and limit
+-- a text that a parser has read was read in the parser's own format, under its own limit
 pub unread : {K : Type 0} (parser : ParserState K) (format : Format) (limit : ℕ) (text : List ℕ) → HasRead parser format limit text
     → HasRead parser (format_of parser.reading) parser.reading.limit text
 unread parser format limit text has =
     record { no_fault = has.no_fault; sound = has.sound; format_is = refl; limit_is = refl; text_is = has.text_is }
 
--- a property of the parser's format and limit holds for the ones that it was made for
+-- what holds for the parser's own format and limit holds for those that it was made for
 pub as_asked : {K : Type 0} (parser : ParserState K) (format : Format) (limit : ℕ) (text : List ℕ) (P : Format → ℕ → Type 0) → HasRead parser format limit text
     → P (format_of parser.reading) parser.reading.limit → P format limit
 as_asked parser format limit text P has told = subst (λ n. P format n) has.limit_is (subst (λ f. P f parser.reading.limit) has.format_is told)
 
--- the fault of a piece is the fault of what the source held
+-- a fault that is returned for a piece is a fault of the text that the source held
 refused_within : {K : Type 0} (terms : StateTerms) (initial next : Option (List ℕ)) (parser : ParserState K) (found : StateFault)
     → HasRefused TakesState RefusesPart 65536 terms [] initial next parser (fault.State found) → RefusesState terms.format terms.limit initial found
 refused_within terms initial next parser found has = by initial next has.more.lost
@@ -231,7 +234,7 @@ refused_within terms initial next parser found has = by initial next has.more.lo
     by (Some left) None lost = cc
     by (Some left) (Some rest) lost = record { text = text ++ rest; held = cc; is = of rest }
 
--- the source loses no more than one piece after a text without a fault
+-- the source was read at most one piece past what the parser took, which is a text without a fault
 pub loses_few : {K : Type 0} (terms : StateTerms) (initial next : Option (List ℕ)) → LosesOnePieceMore (TakesState {K = K}) 65536 terms [] initial next
     → ReadsOnePieceMore terms.format 65536 terms.limit initial next
 loses_few terms initial next more = record {
@@ -242,7 +245,7 @@ loses_few terms initial next more = record {
   sound = sound_text more.taker terms.format terms.limit more.bytes more.taken.read;
 }
 
--- if a parser refuses a piece as out of memory, memory ran out for a part of the piece
+-- if a parser refuses a piece because memory ran out, it ran out for a part that ends in the piece
 wants_part : {K : Type 0} (terms : StateTerms) (initial next : Option (List ℕ)) (parser : ParserState K)
     → HasRefused TakesState RefusesPart 65536 terms [] initial next parser fault.Memory → WantsSoFar terms.format 65536 terms.limit initial next
 wants_part terms initial next parser has =
@@ -252,7 +255,7 @@ wants_part terms initial next parser has =
 
 -- ---- how reading ends
 
--- if a source is unchanged, nothing was read from it
+-- nothing was read from a source that is unchanged
 pub nothing_lost : (initial next : Option (List ℕ)) → next ≡ initial → Reads initial [] next
 nothing_lost initial next same = subst (Reads initial []) (sym same) (at initial)
   where
@@ -260,7 +263,7 @@ nothing_lost initial next same = subst (Reads initial []) (sym same) (at initial
     at None = refl
     at (Some left) = refl
 
--- if the parser refuses a piece, reading ends there
+-- if the parser refuses a piece, reading ends there, with that fault
 pub refused_ends : {K : Type 0} (terms : StateTerms) (initial next : Option (List ℕ)) (parser : ParserState K) (told : ReadFault) (failed failed_now : ℕ)
     → ReadsOnePieceMore terms.format 65536 terms.limit initial next → failed_now ≡ failed
     → HasRefused TakesState RefusesPart 65536 terms [] initial next parser told
@@ -272,7 +275,7 @@ refused_ends terms initial next parser (fault.State found) failed failed_now few
 refused_ends terms initial next parser fault.Memory failed failed_now few same has =
     record { few = few; outcome = wants_part terms initial next parser has; failures = same }
 
--- a reason to stop before the end of a text is a reason to stop reading
+-- a reason to stop before the end of the text is also a reason to stop at any point of it
 pub ends_early : (format : Format) (limit : ℕ) (initial next : Option (List ℕ)) (told : ReadFault) (failed failed_now : ℕ)
     → StopsReading format limit initial next (IsWhyUnread WantsSoFar format limit initial next (Some told)) (CountsWhy (Some told) failed failed_now)
     → StopsReading format limit initial next (IsWhyUnread WantsMemory format limit initial next (Some told)) (CountsWhy (Some told) failed failed_now)
@@ -285,7 +288,7 @@ ends_early format limit initial next fault.Memory failed failed_now ends =
     wants_more (inl nothing) = inl nothing
     wants_more (inr part) = inr (inl part)
 
--- if all of a text was read, reading ends with the result that the parser returns for the text
+-- if all bytes of a source were read, reading ends with the result that the parser returns for them
 pub ends_whole : {K A : Type 0} (format : Format) (limit : ℕ) (initial next : Option (List ℕ)) (parser : ParserState K) (failed failed_now : ℕ)
     (IsMade : List ℕ → A → Type 0) (IsRead : A → Type 0) (result : Result A ReadFault)
     → StopsReading format limit initial next (ReadsAll format limit initial parser) (failed_now ≡ failed)
@@ -308,7 +311,8 @@ ends_whole {A = A} format limit initial next parser failed failed_now IsMade IsR
     by (Err fault.Memory) is =
         record { few = read.few; outcome = inr (inr (is.0, record { text = all.text; held = all.held; is = is.1 })); failures = read.failures }
 
--- if a reading ends with a property, it ends with each property that follows from it
+-- if reading ends with a value for which `IsMade` holds, and `IsRead` follows from `IsMade`, it
+-- ends with a value for which `IsRead` holds
 pub ends_with : {S A E : Type 0} (wants : Wanting) (why : E → Option ReadFault) (left : S → Option (List ℕ)) (failures : S → ℕ) (format : Format) (limit : ℕ)
     (IsMade IsRead : A → Type 0) (source source_now : S) (result : Result A E) → ((made : A) → IsMade made → IsRead made)
     → EndsReadingBy wants why left failures format limit IsMade source source_now result
@@ -317,18 +321,18 @@ ends_with wants why left failures format limit IsMade IsRead source source_now (
     record { few = ends.few; outcome = of made ends.outcome; failures = ends.failures }
 ends_with wants why left failures format limit IsMade IsRead source source_now (Err fault) of ends = ends
 
--- if the value made of a state is the state itself, the value is the text's state
+-- if a keeper makes the state itself, the value made is the state with the text that was read
 pub made_itself : (format : Format) (limit : ℕ) (text : List ℕ) (made : State) → IsMadeOf (λ made state. made ≡ state) format limit text made
     → IsStateText format limit text made
 made_itself format limit text made of = subst (IsStateText format limit text) (sym of.made_of) of.is
 
--- if the value made of a state is the state itself, the value is the state that the source held
+-- if a keeper makes the state itself, the value made is the state whose text the source held
 pub read_itself : (format : Format) (limit : ℕ) (initial : Option (List ℕ)) (made : State) → ReadsMade (λ made state. made ≡ state) format limit initial made
     → ReadsState format limit initial made
 read_itself format limit initial made read =
     record { text = read.text; held = read.held; is = made_itself format limit read.text made read.of }
 
--- a join with the state of a text is the join with the state of the source that held the text
+-- the join with the state of a text that the source held is the join with the source's state
 pub joined : (format : Format) (limit : ℕ) (initial : Option (List ℕ)) (text : List ℕ) (own after : State) → Held initial text
     → JoinsText format limit text own after → JoinsState format limit initial own after
 joined format limit initial text own after held joins =

@@ -1,4 +1,5 @@
--- A reading with no next part has read the text of a whole state. No other reading has.
+-- A reading that has no next part has read the text of a whole state. A reading that has one
+-- hasn't.
 use Rattle.std.proofs.Common.{◌≡◌, ℕ, ◌<◌, ◌≤◌, List, [], ◌++◌, length, refl, ap, sym, ◌∙◌, subst, inl, inr, ◌⊎◌, arith, append-nil, length-append, None}
 use Rattle.docker_model.specs.state.State.{State}
 use Rattle.docker_model.specs.state.StateText.{Format, state_text}
@@ -55,14 +56,15 @@ whole_text reading is none = record {
     empty : length reading.partial.items ≡ 0
     empty = let short = is.short in omega arith
 
--- if there is no next part, the end of the text is where the next item would begin
+-- if there is no next part, a fault because memory ran out has the end of the text as its offset
 pub wanting_at_end : {K : Type 0} (reading : StateReading K) → IsReading reading → width (before_of reading) ≡ 0
     → IsCauseAtEnd (format_of reading) reading.limit (text_of reading) reading.item_at None
 wanting_at_end reading is none =
     let whole = whole_text reading is none in
     ((reading.parts, whole), is.item_is ∙ ap length (ap (items_before (format_of reading)) (at_its_end reading is none) ∙ sym whole.is))
 
--- if there is a next part, the text is too short, with the fault at that part's item
+-- if there is a next part, the text is too short. The fault's offset is where that part's item
+-- begins
 pub short_at_end : {K : Type 0} (reading : StateReading K) → IsReading reading → 0 < width (before_of reading)
     → IsShort (format_of reading) reading.limit (text_of reading) (record { at = reading.item_at; cause = too_short })
 short_at_end reading is some = record {
@@ -77,7 +79,7 @@ short_at_end reading is some = record {
   item_at = is.item_is;
 }
 
--- if there is a next part, the text is open
+-- if there is a next part, the state needs more bytes
 pub open_reading : {K : Type 0} (reading : StateReading K) → IsReading reading → 0 < width (before_of reading) → IsOpen (format_of reading) reading.limit (text_of reading)
 open_reading reading is some = (
   record { at = length (items_before (format_of reading) (before_of reading)); cause = too_short },
@@ -94,11 +96,12 @@ open_reading reading is some = (
   },
 )
 
--- an open text isn't whole
+-- a text after which the state needs more bytes isn't a whole state's
 pub not_both : (format : Format) (limit : ℕ) (text : List ℕ) → IsOpen format limit text → ¬ IsWhole format limit text
 not_both format limit text open_one whole = no_fault_of_state format limit text whole.0 open_one.0 whole.1 (inr (inr (inl open_one.1)))
 
--- a text that a parser has read is open or whole, so it has no fault
+-- a text that a parser has read has no fault: either the state needs more bytes, or it is a whole
+-- state's
 pub sound_text : {K : Type 0} (parser : ParserState K) (format : Format) (limit : ℕ) (text : List ℕ) → HasRead parser format limit text
     → IsOpen format limit text ⊎ IsWhole format limit text
 sound_text parser format limit text has =

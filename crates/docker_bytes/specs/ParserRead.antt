@@ -1,20 +1,21 @@
--- What a parser of a state's text was fed.
+-- What a parser of a state's text has read.
 use Rattle.std.specs.Prelude.{◌≡◌, ℕ, List, [], Option, Some, None}
 use Rattle.docker_model.specs.state.StateText.{Format}
 use Rattle.docker_bytes.specs.declared.fault.StateFault.{StateFault}
 use Rattle.docker_bytes.specs.declared.reading.StateReading.{StateReading}
 use Rattle.docker_bytes.specs.StateReading.{format_of, text_of, IsReading}
 
--- a parser as clauses see it: what it has read, and the fault that it has returned, if any
+-- a parser as clauses see it: the reading of its text, and the fault that it has returned, if any
 pub record ParserState (K : Type 0) : Type 0 where
   pub reading : StateReading K
   pub fault : Option StateFault
 
--- unless a fault was returned, the reading is right
+-- says that the reading is sound, unless a fault was returned
 abbrev pub IsSound : {K : Type 0} → StateReading K → Option StateFault → Type 0
 IsSound reading fault = fault ≡ None → IsReading reading
 
--- the parser, which has this format and limit, has used exactly these bytes and returned no fault
+-- says that the parser has used exactly these bytes and returned no fault, and that it has this
+-- format and this limit
 pub record HasRead {K : Type 0} (parser : ParserState K) (format : Format) (limit : ℕ) (text : List ℕ) : Type 0 where
   pub no_fault : parser.fault ≡ None
   pub sound : IsReading parser.reading
@@ -22,10 +23,10 @@ pub record HasRead {K : Type 0} (parser : ParserState K) (format : Format) (limi
   pub limit_is : parser.reading.limit ≡ limit
   pub text_is : text_of parser.reading ≡ text
 
--- the parser has returned this fault
+-- says that the parser has returned this fault
 abbrev pub HasFailed : {K : Type 0} → ParserState K → StateFault → Type 0
 HasFailed parser fault = parser.fault ≡ Some fault
 
--- the parser has read nothing, and returned no fault
+-- says that the parser has read nothing, and returned no fault
 abbrev pub IsUnread : {K : Type 0} → ParserState K → Type 0
 IsUnread parser = HasRead parser (format_of parser.reading) parser.reading.limit []

@@ -4,7 +4,7 @@ use Rattle.docker_bytes.specs.declared.read.ReadFault.{ReadFault}
 use Rattle.docker_bytes.specs.declared.read.ReadFault.TheVariants.{Source, State, Memory}
 use Rattle.docker_bytes.specs.FaultText.{fault_text}
 
--- the text of a read fault. If the state's text has a fault, it is that fault's text
+-- the text of a read fault. A fault of the state's text has its own text, with an offset
 abbrev pub read_fault_text : ReadFault → List ℕ
 read_fault_text Source = codes "the source failed"
 read_fault_text (State fault) = fault_text fault

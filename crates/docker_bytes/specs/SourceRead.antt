@@ -1,4 +1,4 @@
--- What a source held.
+-- What the result of reading a source says about the text that the source held.
 use Rattle.std.specs.Prelude.{◌≡◌, ℕ, ◌≤◌, ◌⊎◌, List, [], ◌++◌, length, Option, Some, None, ⊤}
 use Rattle.cif_device.specs.Device.{Reads}
 use Rattle.docker_model.specs.state.State.{State, IsJoin}
@@ -10,41 +10,42 @@ use Rattle.state_text.specs.FaultMeaning.{cause_meant}
 use Rattle.docker_bytes.specs.StateReading.{IsMadeOf, IsWhole, IsOpen, IsWanting}
 use Rattle.docker_bytes.specs.ParserRead.{ParserState, HasRead}
 
--- a source whose bytes are known held this text
+-- says that a source held this text. For a source that can't name its bytes it says nothing
 abbrev pub Held : Option (List ℕ) → List ℕ → Type 0
 Held None text = ⊤
 Held (Some left) text = left ≡ text
 
--- the source held the text of this state in a format, within the limit
+-- says that the source held the text of this state, in this format and within the limit
 pub record ReadsState (format : Format) (limit : ℕ) (left : Option (List ℕ)) (state : State) : Type 0 where
   pub text : List ℕ
   pub held : Held left text
   pub is : IsStateText format limit text state
 
--- what was made is made of the state whose text the source held, in this format and within the
--- limit
+-- says that `made` is what a keeper makes of the state whose text the source held, in this format
+-- and within the limit
 pub record ReadsMade {Made : Type 0} (makes : Made → State → Type 0) (format : Format) (limit : ℕ) (left : Option (List ℕ)) (made : Made) : Type 0 where
   pub text : List ℕ
   pub held : Held left text
   pub of : IsMadeOf makes format limit text made
 
--- the text has a fault at this offset, for this cause. Out of memory is no cause of a text's fault
+-- says that the text has a fault at this offset, for this cause. `None` stands for out of memory,
+-- which is never a fault of a text
 abbrev pub IsCauseOf : Format → ℕ → List ℕ → ℕ → Option model.StateCause → Type 0
 IsCauseOf format limit text at None = ⊥
 IsCauseOf format limit text at (Some cause) = IsStateFault format limit text (record { at = at; cause = cause })
 
--- the same for a fault as the code has it
+-- says that the text has this fault, which is given as the code has it
 abbrev pub IsFaultOf : Format → ℕ → List ℕ → StateFault → Type 0
 IsFaultOf format limit text fault = IsCauseOf format limit text fault.at (cause_meant fault.cause)
 
--- the source held a text with this fault
+-- says that the source held a text with this fault
 pub record RefusesState (format : Format) (limit : ℕ) (left : Option (List ℕ)) (fault : StateFault) : Type 0 where
   pub text : List ℕ
   pub held : Held left text
   pub is : IsFaultOf format limit text fault
 
--- from a source were read a text without a fault, complete or not, and then one piece of at most
--- `most` bytes
+-- says that two texts were read from a source: one without a fault, complete or not, and after it
+-- one piece of at most `most` bytes
 pub record ReadsOnePieceMore (format : Format) (most limit : ℕ) (old new : Option (List ℕ)) : Type 0 where
   pub text : List ℕ
   pub piece : List ℕ
@@ -52,7 +53,8 @@ pub record ReadsOnePieceMore (format : Format) (most limit : ℕ) (old new : Opt
   pub few : length piece ≤ most
   pub sound : IsOpen format limit text ⊎ IsWhole format limit text
 
--- memory ran out for a part that ends in the last piece that was read, of at most `most` bytes
+-- says that memory ran out for a part that ends in the last piece read, which has at most `most`
+-- bytes
 pub record WantsPart (format : Format) (most limit : ℕ) (old new : Option (List ℕ)) : Type 0 where
   pub text : List ℕ
   pub piece : List ℕ
@@ -61,23 +63,23 @@ pub record WantsPart (format : Format) (most limit : ℕ) (old new : Option (Lis
   pub at : ℕ
   pub wanting : IsWanting format limit text piece at
 
--- memory ran out: before a byte was read, or for a part. No part up to it is bad
+-- says that memory ran out before a byte was read, or for a part. No part up to it is bad
 abbrev pub WantsSoFar : Format → ℕ → ℕ → Option (List ℕ) → Option (List ℕ) → Type 0
 WantsSoFar format most limit old new = Reads old [] new ⊎ WantsPart format most limit old new
 
--- a parser has read all that a source held
+-- says that a parser has read all that a source held
 pub record ReadsAll {K : Type 0} (format : Format) (limit : ℕ) (left : Option (List ℕ)) (parser : ParserState K) : Type 0 where
   pub text : List ℕ
   pub held : Held left text
   pub read : HasRead parser format limit text
 
--- a state was joined with the state whose text the source held
+-- says that `after` is the join of the state `own` with the state whose text the source held
 pub record JoinsState (format : Format) (limit : ℕ) (left : Option (List ℕ)) (own after : State) : Type 0 where
   pub received : State
   pub read : ReadsState format limit left received
   pub join : IsJoin own received after
 
--- memory ran out: before a byte was read, for a part, or at the end of a state's text. No part up
--- to there is bad
+-- says that memory ran out before a byte was read, for a part, or at the end of a state's text. No
+-- part up to there is bad
 abbrev pub WantsMemory : Format → ℕ → ℕ → Option (List ℕ) → Option (List ℕ) → Type 0
 WantsMemory format most limit old new = Reads old [] new ⊎ WantsPart format most limit old new ⊎ ((state : State) × ReadsState format limit old state)

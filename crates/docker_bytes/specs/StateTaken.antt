@@ -1,4 +1,5 @@
--- What a parser of a state's text has taken, and what its fault says about the next piece.
+-- What a parser of a state's text has read, and what its fault says about the piece that it
+-- refuses.
 use Rattle.std.specs.Prelude.{◌≡◌, ◌≢◌, ℕ, ◌^◌, ◌<◌, List, ◌++◌, length}
 use Rattle.std.proofs.Common.{arith, ap, length-append}
 use Rattle.docker_model.specs.state.StateText.{Format}
@@ -10,17 +11,17 @@ use Rattle.docker_bytes.specs.ParserRead.{ParserState, HasRead}
 use Rattle.docker_bytes.specs.StateReading.{before_of, format_of, IsWanting}
 use Rattle.docker_bytes.specs.SourceRead.{IsFaultOf}
 
--- the terms of a parser, which don't change: the format, and the limit on the text's bytes
+-- what a parser was made for: the format of the text, and the limit on its bytes. They never change
 pub record StateTerms : Type 0 where
   pub format : Format
   pub limit : ℕ
 
--- the parser has read this text and returned no fault, and its limit fits in 64 bits
+-- says that the parser has read this text and returned no fault, and that its limit fits in 64 bits
 pub record TakesState {K : Type 0} (parser : ParserState K) (terms : StateTerms) (text : List ℕ) : Type 0 where
   pub read : HasRead parser terms.format terms.limit text
   pub small : terms.limit < 2 ^ 64
 
--- a text that a parser has taken is within the limit
+-- a text that a parser has read is no longer than the limit, so its length fits in 64 bits
 pub taken_is_bounded : {K : Type 0} (parser : ParserState K) (terms : StateTerms) (text : List ℕ) → TakesState parser terms text → length text < 2 ^ 64
 taken_is_bounded parser terms text has =
     let reading = parser.reading in
@@ -32,8 +33,9 @@ taken_is_bounded parser terms text has =
     let small = has.small in
     omega (arith, same, sum, reached, within, limit, small)
 
--- the fault belongs to each text that begins with the text and the piece. If it is out of memory,
--- memory ran out for a part that ends in the piece
+-- says what a parser's fault for a piece after a text means. A fault of the text is the fault of
+-- every text that begins with that text and that piece. Out of memory means that memory ran out for
+-- a part that ends in the piece
 pub record RefusesPart {K : Type 0} (parser : ParserState K) (terms : StateTerms) (text piece : List ℕ) (told : ReadFault) : Type 0 where
   pub state : (found : StateFault) → told ≡ fault.State found → (rest : List ℕ) → IsFaultOf terms.format terms.limit ((text ++ piece) ++ rest) found
   pub memory : told ≡ fault.Memory → (at : ℕ) × IsWanting terms.format terms.limit text piece at

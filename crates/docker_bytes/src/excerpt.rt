@@ -1,5 +1,5 @@
-//! Reads a state for a command that writes none: it keeps only what the docker of a place and a day
-//! needs, or the ledger.
+//! Reads a state for a command that doesn't write it. It keeps only what the docker of a place and
+//! a day needs, or only the ledger.
 ghost use Rattle.std.specs.Prelude.{◌≡◌, ◌-◌, ◌^◌, ◌<◌};
 ghost use Rattle.docker_model.specs.state.StateText.{dks_2};
 ghost use Rattle.docker_bytes.specs.Excerpts.{IsExcerptAt};
@@ -13,9 +13,9 @@ use state_text::format::Format;
 use std::alloc::Global;
 use std::marker::Brand;
 
-/// Reads a source as `read_state` does. Returns an excerpt of its state: what the docker of a place
-/// and a day is made from. All parts are judged, whether they are kept or not. An excerpt isn't a
-/// state: it is never written, joined or sent.
+/// Reads a source as `read_state` does, and returns an excerpt of its state: what the docker of a
+/// place and a day is made from. All parts of the text are judged, whether they are kept or not. An
+/// excerpt isn't a state: it is never written, joined or sent.
 pub fn read_excerpt<S: Source>(
     alloc: Global,
     source: &mut S,
@@ -30,7 +30,7 @@ pub fn read_excerpt<S: Source>(
     excerpt_at::<Brand, S>(alloc, source, place, day, limit)
 }
 
-/// Like `read_excerpt`, for the place and the day that the type stands for.
+/// Like `read_excerpt`, for the place and the day that the type `P` names.
 fn excerpt_at<P: PlaceDay, S: Source>(
     alloc: Global,
     source: &mut S,
@@ -48,8 +48,9 @@ fn excerpt_at<P: PlaceDay, S: Source>(
     read_format(alloc, Format::Dks2, keeper, source, limit)
 }
 
-/// Reads a source as `read_state` does. Returns the ledger of its state. All parts are judged, but
-/// no entry is kept: memory is needed only for the ledger and for one schedule's lines.
+/// Reads a source as `read_state` does, and returns the ledger of its state. All parts of the text
+/// are judged, but no entry is kept. So memory is needed only for the ledger and for the lines of
+/// one schedule.
 pub fn read_ledger<S: Source>(
     alloc: Global,
     source: &mut S,

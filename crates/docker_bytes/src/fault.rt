@@ -1,4 +1,4 @@
-//! Where bytes aren't the text of a state, and whether a text is complete.
+//! Why bytes aren't the text of a state, and whether a text is complete.
 ghost use Rattle.std.specs.Prelude.{Some};
 ghost use Rattle.docker_bytes.specs.FaultText.{fault_text};
 
@@ -6,13 +6,13 @@ use state_text::StateCause;
 use std::error::Error;
 use std::fmt;
 
-/// Where bytes turned out not to be the text of a state, or where memory ran out.
+/// Where bytes can't be the text of a state, and why; or where memory ran out.
 #[derive(Clone, Copy, PartialEq, Eq, Debug)]
 pub struct StateFault {
-    /// The offset, from 0: the start of the item at fault, the first byte after the state, or the
-    /// limit.
+    /// The offset in the text, from 0: where the item at fault begins, the first byte after the
+    /// state, or the limit.
     pub at: u64,
-    /// What is wrong there.
+    /// What is wrong at that offset.
     pub cause: StateCause,
 }
 
@@ -29,8 +29,8 @@ impl Error for StateFault {}
 /// Whether the text of a state is complete.
 #[derive(Clone, Copy, PartialEq, Eq, Debug)]
 pub enum Step {
-    /// The state's last byte has come.
+    /// The last byte of the state was read.
     Done,
-    /// More bytes have to come.
+    /// The state needs more bytes.
     More,
 }

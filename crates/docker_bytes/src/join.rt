@@ -1,4 +1,4 @@
-//! Joins a state with the one that a source holds.
+//! Joins a state with a state that is read from a source.
 ghost use Rattle.std.specs.Prelude.{◌≡◌, ℕ, ◌-◌, ◌^◌, ◌<◌, List, IsErr};
 ghost use Rattle.docker_model.specs.state.State.{IsValid};
 ghost use Rattle.docker_model.specs.state.StateText.{dks_2};
@@ -18,9 +18,9 @@ use std::marker::Brand;
 use std::mem;
 
 /// Joins a state with the one that a source holds, whose text has the mark `DKS2`. The source is
-/// read as `read_state` reads it. Of the entries received, only the ones that the state takes over
-/// are kept. It takes them over once the end of the source was seen. So each fault is one of
-/// `read_state`, and leaves the state as it was.
+/// read as by `read_state`, and the faults are the same. Of the received entries, only those that
+/// the state takes over are kept. The state takes them over after the end of the source was seen,
+/// so a fault leaves the state unchanged.
 pub fn join_state<S: Source>(
     alloc: Global,
     state: &mut State,
@@ -33,7 +33,7 @@ pub fn join_state<S: Source>(
         source.old source.new result }
     ensures unchanged { IsErr result → state.new ≡ state.old }
 {
-    // Called for its contract: the state is valid.
+    // This call is made only for its contract, which says that the state is valid.
     let _ledger = state.ledger();
     let own = mem::replace(state, State::empty(alloc));
     let (after, result) = receive::<Brand, S>(alloc, own, source, limit);
@@ -41,7 +41,8 @@ pub fn join_state<S: Source>(
     result
 }
 
-/// Like `join_state`, for a state that is passed in and returned: the one that the receiver names.
+/// Like `join_state`, for a state that is passed in and returned. It is the state that the type `R`
+/// names.
 fn receive<R: Receiver, S: Source>(
     alloc: Global,
     own: State,
@@ -64,7 +65,8 @@ fn receive<R: Receiver, S: Source>(
     join(parser)
 }
 
-/// The receiving state, joined with the state that a parser was fed.
+/// Returns the receiving state, joined with the state whose text a parser was fed. On a fault it
+/// returns the receiving state unchanged.
 fn join<R: Receiver>(parser: Parser<Received<R>>) -> (State, Result<(), ReadFault>)
     ensures ends { (format : formats.Format) (limit : ℕ) (text : List ℕ) →
         HasRead parser format limit text →

@@ -1,6 +1,5 @@
-//! The text of a state in bytes: one text for each state, and a reader that accepts nothing else.
-//! Re-exports the writing of a text, and the causes for which a text is refused, from the crates
-//! below.
+//! Readers of a state's text. Each state has one text, and a reader accepts no other. Re-exports
+//! the writing of a text, and the causes for which a text is refused, from the crates below.
 #![tactic(auto)]
 
 mod excerpt;

@@ -1,4 +1,5 @@
-//! A parser that is fed the text of a state piece by piece, and gives its parts to a keeper.
+//! A parser that is fed the text of a state piece by piece, and gives the parts of the text to a
+//! keeper.
 ghost use Rattle.std.specs.Prelude.{◌≡◌, ℕ, ◌+◌, ◌≤◌, List, [], ◌++◌, length, take, IsOk, IsErr, IfOk, IfErr, Ok, Err, None};
 ghost use Rattle.docker_model.specs.state.StateText as formats;
 ghost use Rattle.state_text.specs.FormatMeaning.{format_meant};
@@ -12,8 +13,8 @@ use state_text::{Keeper, Maker, PartsSoFar, Received, Receiver, State};
 use std::alloc::Global;
 use std::marker::Model;
 
-/// A parser of the text of one state, which comes in pieces of any length. It keeps the parts so
-/// far, and at most 80 bytes of the next part.
+/// A parser of the text of one state, which is fed in pieces of any length. It gives each complete
+/// part to its keeper, and itself holds at most 80 bytes of the next part.
 #[derive(Debug, Drop)]
 pub(crate) struct Parser<K: Keeper> {
     reading: StateReading<K>,
@@ -31,7 +32,8 @@ impl<K: Keeper> Model for Parser<K> {
 }
 
 impl<K: Keeper> Parser<K> {
-    /// A parser of a text of a format. It gives the parts to a keeper that was given none yet.
+    /// A parser of a text in this format, of at most `limit` bytes. It gives the parts to `keeper`,
+    /// which has no parts yet.
     pub(crate) fn new(alloc: Global, format: Format, limit: u64, keeper: K) -> Parser<K>
         requires { K.given keeper ≡ record { horizon = 0; ledger = []; entries = [] } }
         ensures { HasRead result (format_meant format) limit [] }
@@ -42,12 +44,12 @@ impl<K: Keeper> Parser<K> {
         }
     }
 
-    /// Takes the next bytes of the text, and returns how many it used. At `More` it used all, and
-    /// more are to come. At `Done` it used the bytes up to the last byte of the state, and from
-    /// then on it uses none. It fails once a bad part is there, or a byte at the limit that the
-    /// state needs, and returns that fault. It also fails if memory runs out for a part whose last
-    /// byte it takes: that fault is at the part's item, and no part up to it is bad. Each later
-    /// call returns the same fault.
+    /// Takes the next bytes of the text, and returns how many of them it used. With `More` it has
+    /// used all of them, and the state needs more. With `Done` it has used the bytes up to the
+    /// state's last byte, and later calls use none. It returns a fault once a part is bad, or once
+    /// the state needs a byte at the limit. It also returns a fault if memory runs out for a part
+    /// that ends in this piece. That fault is at the part's item, and no part up to it is bad.
+    /// After a fault each later call returns the same one.
     pub(crate) fn feed(&mut self, piece: &[u8]) -> Result<(usize, Step), StateFault>
         ensures within { IfOk result (λ answer. answer.0 ≤ length piece.now) }
         ensures read { (format : formats.Format) (limit : ℕ) (text : List ℕ) →
@@ -81,7 +83,7 @@ impl<K: Keeper> Parser<K> {
         }
     }
 
-    /// How many bytes were read, as long as no fault was returned.
+    /// How many bytes were read. No fault may have been returned.
     pub(crate) fn offset(&self) -> u64
         requires { self.now.fault ≡ None }
         ensures { (format : formats.Format) (limit : ℕ) (text : List ℕ) →
@@ -92,9 +94,10 @@ impl<K: Keeper> Parser<K> {
 }
 
 impl<K: Maker> Parser<K> {
-    /// What is made of the state whose text was read. `Short` if the text ends before the state
-    /// does, at the item that isn't complete. `Memory` only after a complete text, at its end.
-    /// After a fault of `feed`, it returns that fault.
+    /// Returns what the keeper makes of the state whose text was read. `Short` if the text ends
+    /// before the state does, with the offset of the incomplete item. `Memory` only after a
+    /// complete text, with the offset of its end. If `feed` returned a fault, that fault is
+    /// returned.
     pub(crate) fn finish(self) -> Result<K::Made, StateFault>
         ensures ok { (format : formats.Format) (limit : ℕ) (text : List ℕ) →
             HasRead self format limit text →
@@ -112,9 +115,9 @@ impl<K: Maker> Parser<K> {
 }
 
 impl<R: Receiver> Parser<Received<R>> {
-    /// The receiving state, joined with the state whose text was read. If `feed` returned a fault,
-    /// the text ends too early or memory runs out, it returns that fault, and the state is as it
-    /// was.
+    /// Returns the receiving state, joined with the state whose text was read. If `feed` returned a
+    /// fault, if the text ends too early, or if memory runs out, it returns the fault and the
+    /// receiving state unchanged.
     pub(crate) fn join(self) -> (State, Result<(), StateFault>)
         ensures ok { (format : formats.Format) (limit : ℕ) (text : List ℕ) →
             HasRead self format limit text → IsOk result.1 →
@@ -131,7 +134,7 @@ impl<R: Receiver> Parser<Received<R>> {
         }
     }
 
-    /// The receiving state, as it was.
+    /// Returns the receiving state unchanged.
     pub(crate) fn into_own(self) -> State
         ensures { result ≡ R.own }
     {

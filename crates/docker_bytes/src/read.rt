@@ -23,9 +23,9 @@ use std::fmt;
 pub enum ReadFault {
     /// The source failed.
     Source,
-    /// What the source holds is not the text of a state. The cause is never `Memory`.
+    /// What the source holds isn't the text of a state. The cause is never `Memory`.
     State(StateFault),
-    /// Out of memory: a growth was refused. No part that was judged before is bad.
+    /// Out of memory: the allocator refused a request. No part that was judged before is bad.
     Memory,
 }
 
@@ -43,9 +43,9 @@ impl fmt::Display for ReadFault {
 
 impl Error for ReadFault {}
 
-/// Reads a source to its end, or to the first fault, and returns the state whose text it held.
-/// Nothing is read after the piece, of at most 65,536 bytes, that decides the result. So a source
-/// that never ends is read at the latest to the piece with the byte at the limit.
+/// Reads a source to its end, or to the first fault, and returns the state whose text the source
+/// held. It reads in pieces of at most 65,536 bytes, and nothing after the piece that decides the
+/// result. So a source that never ends is read at most to the piece that has the byte at the limit.
 pub fn read_state<S: Source>(alloc: Global, source: &mut S, limit: u64) -> Result<State, ReadFault>
     requires { S.failures source.old < 2 ^ 64 - 1 }
     ensures { EndsReading S.left S.failures dks_2 limit
@@ -54,8 +54,8 @@ pub fn read_state<S: Source>(alloc: Global, source: &mut S, limit: u64) -> Resul
     read_state_noting(alloc, source, limit, true)
 }
 
-/// Like `read_state`. Only if `noted` is true, it notes the places that the entries name. Without
-/// these notes the state has no index, and is made with less time and memory.
+/// Like `read_state`, but notes the places that the entries name only if `noted` is true. Without
+/// these notes the state has no index, and making it takes less time and memory.
 pub fn read_state_noting<S: Source>(
     alloc: Global,
     source: &mut S,
@@ -69,8 +69,8 @@ pub fn read_state_noting<S: Source>(
     read_format(alloc, Format::Dks2, Whole::new(alloc, noted), source, limit)
 }
 
-/// Like `read_state`, for a text of a format. The parts are given to a keeper that was given none
-/// yet, and what it makes of the state is returned.
+/// Like `read_state`, for a text in this format. The parts are given to `keeper`, which has no
+/// parts yet. Returns what the keeper makes of them.
 pub(crate) fn read_format<S: Source, K: Maker>(
     alloc: Global,
     format: Format,
@@ -89,8 +89,8 @@ pub(crate) fn read_format<S: Source, K: Maker>(
     finish(parser)
 }
 
-/// Feeds all that a source has to a parser that has read nothing, in pieces of at most 65,536
-/// bytes. All the bytes have to be the state's.
+/// Feeds all bytes of a source to a parser that has read nothing, in pieces of at most 65,536
+/// bytes. A byte that follows the state is a fault.
 pub(crate) fn read_pieces<S: Source, K: Keeper>(
     alloc: Global,
     source: &mut S,
@@ -130,7 +130,7 @@ impl<K: Keeper> Taker for Parser<K> {
     ghost bounded = { taken_is_bounded };
 }
 
-/// Feeds bytes to a parser. All of them have to be the state's.
+/// Feeds bytes to a parser. A byte that follows the state is a fault.
 fn feed<K: Keeper>(parser: &mut Parser<K>, piece: &[u8]) -> Result<(), ReadFault>
     ensures read { (format : formats.Format) (limit : ℕ) (text : List ℕ) →
         HasRead parser.old format limit text → IsOk result →
@@ -154,7 +154,7 @@ fn feed<K: Keeper>(parser: &mut Parser<K>, piece: &[u8]) -> Result<(), ReadFault
     }
 }
 
-/// What is made of the state that a parser was fed.
+/// Returns what a keeper makes of the state whose text a parser was fed.
 fn finish<K: Maker>(parser: Parser<K>) -> Result<K::Made, ReadFault>
     ensures { (format : formats.Format) (limit : ℕ) (text : List ℕ) →
         HasRead parser format limit text →
@@ -166,7 +166,7 @@ fn finish<K: Maker>(parser: Parser<K>) -> Result<K::Made, ReadFault>
     }
 }
 
-/// The fault of a byte after what a parser has read.
+/// The fault of a byte that follows the state: its offset is how many bytes the parser has read.
 fn tail<K: Keeper>(parser: &Parser<K>) -> StateFault
     requires { parser.now.fault ≡ None }
     ensures at { (format : formats.Format) (limit : ℕ) (text : List ℕ) →
@@ -179,7 +179,8 @@ fn tail<K: Keeper>(parser: &Parser<K>) -> StateFault
     }
 }
 
-/// The read fault for a parser's fault: `Memory` for out of memory, and otherwise the text's fault.
+/// The read fault for a fault of the parser: `Memory` if memory ran out, and otherwise a fault of
+/// the text.
 pub(crate) fn fault_of(fault: StateFault) -> ReadFault
     ensures memory { fault.cause ≡ StateCause.Memory → result ≡ ReadFault.Memory }
     ensures state { fault.cause ≢ StateCause.Memory → result ≡ ReadFault.State fault }

@@ -1,4 +1,4 @@
-//! Reads a text in pieces, part by part.
+//! Reads the text of a state in pieces, and judges it part by part.
 ghost use Rattle.std.specs.Prelude.{◌≡◌, ◌+◌, ◌-◌, ◌/◌, ◌<◌, ◌≤◌, ◌↔◌, [], ◌++◌, length, min, take, IsTrue, IsOk, IsErr, IfOk, IfErr};
 ghost use Rattle.docker_model.specs.state.StatePart.{width};
 ghost use Rattle.state_text.specs.FormatMeaning.{format_meant};
@@ -14,8 +14,8 @@ use state_text::{
 };
 use std::alloc::Global;
 
-/// A text so far: what its parts have said, the next part with the bytes of it that came, and where
-/// its item began.
+/// The reading of a text up to some byte. It has what the complete parts have said, which part
+/// comes next, the bytes of that part that were read, and where its item began.
 #[derive(Debug, Drop)]
 pub(crate) struct StateReading<K: Keeper> {
     alloc: Global,
@@ -30,7 +30,7 @@ pub(crate) struct StateReading<K: Keeper> {
 }
 
 impl<K: Keeper> StateReading<K> {
-    /// No bytes and no parts yet, of a text of the format with at most `limit` bytes.
+    /// The reading of a text in this format, of at most `limit` bytes, before its first byte.
     pub(crate) fn new(
         alloc: Global,
         format: Format,
@@ -64,14 +64,14 @@ impl<K: Keeper> StateReading<K> {
         self.reached + self.partial.len() as u64
     }
 
-    /// Whether the state is complete.
+    /// Whether the last part of the state was read.
     pub(crate) fn is_done(&self) -> bool
         ensures { IsTrue result ↔ (width (before_of self.now) ≡ 0) }
     {
         self.stage.width() == 0
     }
 
-    /// The fault of a text that needs a byte at the limit.
+    /// The fault of a text that is longer than the limit allows.
     fn long(&self) -> StateFault
         ensures { result ≡ record { at = self.now.limit; cause = StateCause.Long } }
     {
@@ -81,7 +81,7 @@ impl<K: Keeper> StateReading<K> {
         }
     }
 
-    /// The fault of a bad part, at the part's item.
+    /// The fault of a bad part. Its offset is where the part's item began.
     fn bad(&self, cause: StateCause) -> StateFault
         ensures { result ≡ record { at = self.now.item_at; cause = cause } }
     {
@@ -91,8 +91,7 @@ impl<K: Keeper> StateReading<K> {
         }
     }
 
-    /// Takes a complete line of the schedule that is read, with more lines to come. The stage stays
-    /// as it is.
+    /// Takes a complete line that isn't its schedule's last, so the stage doesn't change.
     #[inline(always)]
     fn take_line(&mut self, key: &ScheduleKey, count: u32, bytes: &[u8]) -> Result<(), StateFault>
         requires reading { IsReading self.old }
@@ -112,8 +111,8 @@ impl<K: Keeper> StateReading<K> {
         }
     }
 
-    /// How many lines at the head of `len` bytes are complete, within the limit, and not the last of
-    /// `count`.
+    /// How many lines a piece of `len` bytes begins with that are complete, end within the limit,
+    /// and aren't the last of the schedule's `count` lines.
     fn inner_lines(&self, count: u32, len: usize) -> u64
         requires { self.now.reached ≤ self.now.limit }
         ensures { result ≡ min (min (len / LINE) ((self.now.limit - self.now.reached) / LINE))
@@ -124,15 +123,17 @@ impl<K: Keeper> StateReading<K> {
         held.min(allowed).min(self.lines.before_last(count) as u64)
     }
 
-    /// Takes room at once for the lines of the schedule that is read, if a piece has all of them.
+    /// Reserves room for all lines of the schedule, if the piece has all of them.
     fn make_room(&mut self, count: u32, piece: &[u8])
         ensures { self.new ≡ self.old }
     {
         self.lines.make_room(self.alloc, count, piece.len());
     }
 
-    /// Takes the complete lines at the head of a piece that have more lines of the same schedule to
-    /// come. How many there are is found once for all of them. Returns the bytes after them.
+    /// Takes the complete lines with which a piece begins, up to but not including the schedule's
+    /// last line. Takes none if the next part isn't a line, or if some of its bytes were read
+    /// already. How many lines there are is worked out once for all of them. Returns the bytes that
+    /// follow.
     fn take_lines<'a>(&mut self, piece: &'a [u8]) -> Result<&'a [u8], StateFault>
         requires { IsReading self.old }
         ensures rest { IfOk result (λ behind.
@@ -160,8 +161,8 @@ impl<K: Keeper> StateReading<K> {
         Ok(rest)
     }
 
-    /// Takes a complete part, of which nothing was kept. After a line with more to come, the stage
-    /// stays as it is.
+    /// Takes a complete part that lies whole in a piece. The stage doesn't change after a line that
+    /// isn't its schedule's last.
     fn judge(&mut self, bytes: &[u8]) -> Result<(), StateFault>
         requires reading { IsReading self.old }
         requires fresh { self.old.partial.items ≡ [] }
@@ -196,7 +197,7 @@ impl<K: Keeper> StateReading<K> {
         }
     }
 
-    /// Takes the bytes up to the end of a part.
+    /// Takes the bytes with which a part ends.
     fn take(&mut self, front: &[u8]) -> Result<(), StateFault>
         requires reading { IsReading self.old }
         requires wide { length self.old.partial.items + length front.now
@@ -217,7 +218,7 @@ impl<K: Keeper> StateReading<K> {
         self.judge(part.as_slice())
     }
 
-    /// Takes bytes that end before a part does.
+    /// Keeps bytes that end before the part does.
     fn keep(&mut self, more: &[u8]) -> Result<(), StateFault>
         requires reading { IsReading self.old }
         requires short { length self.old.partial.items + length more.now
@@ -233,7 +234,7 @@ impl<K: Keeper> StateReading<K> {
         Ok(())
     }
 
-    /// Takes the next bytes, up to the end of the state, and returns how many they are.
+    /// Takes the next bytes, at most up to the end of the state, and returns how many it took.
     pub(crate) fn read(&mut self, piece: &[u8]) -> Result<(usize, Step), StateFault>
         requires { IsReading self.old }
         ensures within { IfOk result (λ answer. answer.0 ≤ length piece.now) }
@@ -262,8 +263,8 @@ impl<K: Keeper> StateReading<K> {
 }
 
 impl<K: Maker> StateReading<K> {
-    /// What is made of the state whose text was read, or the fault of a text that ends before the
-    /// state does.
+    /// Returns what the keeper makes of the state whose text was read. If the text ends before the
+    /// state does, it returns a fault with the cause `Short`.
     pub(crate) fn finish(self) -> Result<K::Made, StateFault>
         requires { IsReading self }
         ensures ok { IfOk result (IsMadeOf K.makes (format_of self) self.limit (text_of self)) }
@@ -298,8 +299,9 @@ impl<K: Maker> StateReading<K> {
 }
 
 impl<R: Receiver> StateReading<Received<R>> {
-    /// The receiving state, joined with the state whose text was read, or the fault of a text that
-    /// ends before the state does. A fault leaves the receiving state as it was.
+    /// Returns the receiving state, joined with the state whose text was read. If the text ends
+    /// before the state does, it returns a fault with the cause `Short`. On any fault the receiving
+    /// state is unchanged.
     pub(crate) fn join(self) -> (State, Result<(), StateFault>)
         requires { IsReading self }
         ensures ok { IsOk result.1
@@ -323,7 +325,7 @@ impl<R: Receiver> StateReading<Received<R>> {
         }
     }
 
-    /// The receiving state, as it was.
+    /// Returns the receiving state unchanged.
     pub(crate) fn into_own(self) -> State
         ensures { result ≡ R.own }
     {

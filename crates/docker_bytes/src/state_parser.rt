@@ -13,8 +13,8 @@ use state_text::{State, Whole};
 use std::alloc::Global;
 use std::marker::Model;
 
-/// A parser of the text of one state, which comes in pieces of any length. It keeps the parts so
-/// far, and at most 80 bytes of the next part.
+/// A parser of the text of one state, which is fed in pieces of any length. It holds the parts that
+/// were read, and at most 80 bytes of the next part.
 #[derive(Debug, Drop)]
 pub struct StateParser {
     parser: Parser<Whole>,
@@ -39,12 +39,12 @@ impl StateParser {
         }
     }
 
-    /// Takes the next bytes of the text, and returns how many it used. At `More` it used all, and
-    /// more are to come. At `Done` it used the bytes up to the last byte of the state, and from
-    /// then on it uses none. It fails once a bad part is there, or a byte at the limit that the
-    /// state needs, and returns that fault. It also fails if memory runs out for a part whose last
-    /// byte it takes: that fault is at the part's item, and no part up to it is bad. Each later
-    /// call returns the same fault.
+    /// Takes the next bytes of the text, and returns how many of them it used. With `More` it has
+    /// used all of them, and the state needs more. With `Done` it has used the bytes up to the
+    /// state's last byte, and later calls use none. It returns a fault once a part is bad, or once
+    /// the state needs a byte at the limit. It also returns a fault if memory runs out for a part
+    /// that ends in this piece. That fault is at the part's item, and no part up to it is bad.
+    /// After a fault each later call returns the same one.
     pub fn feed(&mut self, piece: &[u8]) -> Result<(usize, Step), StateFault>
         ensures within { IfOk result (λ answer. answer.0 ≤ length piece.now) }
         ensures read { (format : formats.Format) (limit : ℕ) (text : List ℕ) →
@@ -65,9 +65,9 @@ impl StateParser {
         self.parser.feed(piece)
     }
 
-    /// The state whose text was read. `Short` if the text ends before the state does, at the item
-    /// that isn't complete. `Memory` only after a complete text, at its end. After a fault of
-    /// `feed`, it returns that fault.
+    /// Returns the state whose text was read. `Short` if the text ends before the state does, with
+    /// the offset of the incomplete item. `Memory` only after a complete text, with the offset of
+    /// its end. If `feed` returned a fault, that fault is returned.
     pub fn finish(self) -> Result<State, StateFault>
         ensures ok { (format : formats.Format) (limit : ℕ) (text : List ℕ) →
             HasRead self format limit text →

@@ -1,4 +1,4 @@
--- Docker lines that are added to the lines so far.
+-- Lines that are added only if a test passes.
 use Rattle.std.proofs.Common.{◌≡◌, Bool, true, false, cond, List, [], ◌++◌, sym, ◌∙◌, append-nil}
 use Rattle.docker_model.specs.docker.DockerLine.{DockerLine}
 
@@ -10,7 +10,7 @@ added_if test more before after is same = same ∙ (λ i. before ++ cond (sym is
 pub not_added : (test : Bool) (more before : List DockerLine) → test ≡ false → before ≡ before ++ cond test more []
 not_added test more before is = sym (append-nil before) ∙ (λ i. before ++ cond (sym is i) more [])
 
--- if the test passes, the lines are these
+-- if the test passes, the lines are those given
 pub told_if : (test : Bool) (told lines : List DockerLine) → test ≡ true → lines ≡ told → lines ≡ cond test told []
 told_if test told lines is same = same ∙ (λ i. cond (sym is i) told [])
 

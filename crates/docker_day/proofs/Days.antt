@@ -1,11 +1,11 @@
--- Start days and the days of events.
+-- Which day an event is on, and the lines for each start day.
 use Rattle.std.proofs.Common.{◌≡◌, ℕ, ◌+◌, ◌-◌, ◌≤◌, ◌==◌, Bool, true, false, cond, List, [], ◌∷◌, ◌++◌, map, refl, ap, sym, ◌∙◌, arith, eqb-true}
 use Rattle.std.specs.Prelude.{nat_le, filter}
 use Rattle.std.specs.List.{flat_map}
 use Rattle.docker_laws.proofs.dockers.ScheduleLines.{number_itself}
 use Rattle.docker_laws.specs.Gathering.{start_days}
 
--- two tests of numbers are equal if each implies the other
+-- two comparisons of numbers have the same result if each implies the other
 same_test : (a b c d : ℕ) → (a ≡ b → c ≡ d) → (c ≡ d → a ≡ b) → (a == b) ≡ (c == d)
 same_test a b c d forth back = by (a == b) refl (c == d) refl
   where
@@ -19,12 +19,13 @@ same_test a b c d forth back = by (a == b) refl (c == d) refl
         let holds : (a == b) ≡ true = ap (λ (n : ℕ). a == n) (sym (back (eqb-true c d g))) ∙ number_itself a in
         sym h ∙ holds
 
--- an event is on the day if the train passes midnight before it as often as there are days from the
--- start day to the day
+-- an event is on a day if and only if the train has passed midnight as often as there are days from
+-- its start day to that day
 pub today_is : (day start falls : ℕ) → start ≤ day → (falls == day - start) ≡ (start + falls == day)
 today_is day start falls low = same_test falls (day - start) (start + falls) day (λ same. omega arith) (λ same. omega arith)
 
--- the lines for the start days, one day after the other
+-- the lines for the start days are those for the day, for the day before and for two days before,
+-- in this order
 pub starts_split : {A : Type 0} (piece : ℕ → List A) (day : ℕ) → flat_map piece (start_days day)
     ≡ cond (nat_le 0 day) (piece (day - 0)) [] ++ (cond (nat_le 1 day) (piece (day - 1)) [] ++ (cond (nat_le 2 day) (piece (day - 2)) [] ++ []))
 starts_split {A} piece day = along (0 ∷ 1 ∷ 2 ∷ [])

@@ -25,12 +25,12 @@ use Rattle.docker_day.specs.declared.base_calls.BaseCalls.{BaseCalls}
 use Rattle.docker_day.specs.Bases.{first_call, meant_if, AreKnownCalls, kept_or, HasCall, HasEvent}
 use Rattle.docker_day.specs.Lines.{is_here, listed, link_line_at, link_line_by, link_line_with}
 
--- this is the first event of the call
+-- says that this is the first event of the UID's call with this suffix at the place
 abbrev pub IsFirstCall : Table → List ℕ → ℕ → List ℕ → ℕ → Option Occurrence → Type 0
 IsFirstCall live place day uid suffix event =
     (rows : List Row) → AreRowsOf live rows → meant_if event ≡ first_call (train_in rows uid day) place suffix
 
--- the first event kept for a call of a UID is the call's first event
+-- the first event that is kept for a call of a UID is the first event of that call
 pub known_calls : (live : Table) (place : List ℕ) (day : ℕ) (known : BaseCalls) (uid : List ℕ) (suffix : ℕ) (answer : Option (Option Occurrence))
     → AreKnownCalls live place day (Some known) → option_map meant_if answer ≡ cond (bytes_eq known.uid uid) (Some (get nat_cmp known.calls suffix)) None
     → IfSome answer (IsFirstCall live place day uid suffix)
@@ -47,12 +47,12 @@ known_calls live place day known uid suffix (Some event) are is = by (bytes_eq k
         ∙ ap (λ u. first_call (train_in rows u day) place suffix) ((bytes_eq-Decides known.uid uid).0 same)
     by false other told = cc
 
--- if no later event follows, the kept event stays
+-- if no later event follows, the kept event is the first one
 pub kept_alone : (event : Option events.Occurrence) → kept_or event None ≡ event
 kept_alone None = refl
 kept_alone (Some event) = refl
 
--- if a suffix has an event already, another event of the suffix changes nothing
+-- if a suffix has an event already, another event with the suffix changes nothing
 pub there_before : (own : ℕ) (event : events.Occurrence) (calls : BTreeMap ℕ events.Occurrence) → is_some (get nat_cmp calls own) ≡ true
     → HasCall own calls event calls
 there_before own event calls is = λ suffix.
@@ -63,7 +63,7 @@ there_before own event calls is = λ suffix.
     by (Some kept) true is = refl
     by None true is = let bad : false ≡ true = is refl in cc
 
--- the first event of a suffix is kept
+-- if a suffix has no event yet, an event with the suffix is kept
 pub first_of_suffix : (own : ℕ) (event : events.Occurrence) (before after : BTreeMap ℕ events.Occurrence) → is_some (get nat_cmp before own) ≡ false
     → Updates nat_cmp before after own (Some event) → HasCall own before event after
 first_of_suffix own event before after unkept updates = λ suffix.
@@ -77,7 +77,7 @@ first_of_suffix own event before after unkept updates = λ suffix.
     by (Some kept) true is = let bad : true ≡ false = is refl in cc
 
 module _ (place : List ℕ) (event : events.Occurrence) where
-  -- an event at another place changes nothing
+  -- an event at another place doesn't change the kept events
   pub elsewhere : (calls : BTreeMap ℕ events.Occurrence) → is_here place event ≡ false → HasEvent place calls event calls
   elsewhere calls away = λ suffix later. λ i.
       kept_or (get nat_cmp calls suffix) (cond (sym away i && (column 10 event.line == suffix)) (Some event) later)
@@ -98,13 +98,14 @@ module _ (place : List ℕ) (event : events.Occurrence) where
 
 -- ---- the docker line at a call
 
--- the train found for a UID has this UID
+-- the train that is found for a UID has that UID
 pub uid_of_train : (live : Table) (rows : List Row) (uid : List ℕ) (day : ℕ) (train : Train) → AreRowsOf live rows → train_in rows uid day ≡ Some train
     → train.key.uid ≡ uid
 uid_of_train live rows uid day train are is = (subst (IsTrainOn live uid day) is (trains_tell live rows are uid day)).chosen.running.uid_is
 
 module _ (trains : List ℕ → ℕ → Option Train) (day start : ℕ) (link : Link) (occasion : Occasion) where
-  -- the docker line at the first event of the call
+  -- if a base train calls there, the association's docker line is the one at the first event of the
+  -- call
   pub line_at_call : (base : Option Train) (event : events.Occurrence) (lines : List DockerLine)
       → Some event ≡ first_call base link.key.location link.key.suffix → ((train : Train) → base ≡ Some train → train.key.uid ≡ link.key.base)
       → ((key : ScheduleKey) → key.uid ≡ link.key.base → lines ≡ link_line_at trains day start link occasion key event)
@@ -119,19 +120,22 @@ module _ (trains : List ℕ → ℕ → Option Train) (day start : ℕ) (link : 
   no_line_there None is = refl
   no_line_there (Some train) is = ap (link_line_by trains day start link occasion train.key) is
 
--- if there is a line, it is the association's line at this event, for any base train of its UID
+-- says that the line, if there is one, is the association's line at this event, whatever key the
+-- base train's schedule has
 abbrev pub IsAtEvent : Link → Occasion → events.Occurrence → Visit → Option DockerLine → Type 0
 IsAtEvent link occasion event visit line =
     (rows : List Row) → AreRowsOf (live_in visit.timetable) rows → (base : ScheduleKey) → base.uid ≡ link.key.base
     → listed line ≡ link_line_at (train_in rows) visit.day visit.start link occasion base event
 
--- if there is a line, it is the association's line with its base train
+-- says that the line, if there is one, is the association's line with the base train that is found
+-- for its UID
 abbrev pub IsWithBase : Link → Occasion → Visit → Option DockerLine → Type 0
 IsWithBase link occasion visit line =
     (rows : List Row) → AreRowsOf (live_in visit.timetable) rows
     → listed line ≡ link_line_with (train_in rows) visit.day visit.start link (Some occasion) (train_in rows link.key.base visit.start)
 
--- the line at the first event of the call is the line with the base train
+-- if the event is the first of the base train's call, the line at the event is the line with the
+-- base train
 pub with_base : {Fault : Type 0} (link : Link) (occasion : Occasion) (event : events.Occurrence) (visit again : Visit) (result : Result (Option DockerLine) Fault) → again ≡ visit
     → ((rows : List Row) → AreRowsOf (live_in visit.timetable) rows
     → Some event ≡ first_call (train_in rows link.key.base visit.start) link.key.location link.key.suffix)

@@ -1,4 +1,4 @@
--- The docker lines that a row has for all visits are the row's docker lines.
+-- The docker lines that a row has for the three visits are, together, all docker lines of the row.
 use Rattle.std.proofs.Common.{◌≡◌, ℕ, ◌-◌, Bool, true, false, cond, List, [], ◌++◌, refl, ap, sym, ◌∙◌, subst, Some, None, append-nil, arith}
 use Rattle.std.specs.Prelude.{Option, nat_le}
 use Rattle.std.proofs.Math.Dec.{leb-zero}
@@ -19,7 +19,7 @@ module _ (there : PlaceDay) (view : RowView) where
   abbrev AddsBack : ℕ → List DockerLine → List DockerLine → Type 0
   AddsBack back before after = Adds (live_in there.timetable) (λ trains links. row_back trains links there.place there.day view back) before after
 
-  -- the lines that a visit adds are the row's for the start day `back` days before
+  -- what a visit adds is the row's lines for the start day `back` days before
   adds_back : (back : ℕ) (visit : Option Visit) (before after : List DockerLine) → visit ≡ visit_back there back → AddsIf visit view before after
       → AddsBack back before after
   adds_back back visit before after is adds = by (nat_le back there.day) refl (subst (λ (v : Option Visit). AddsIf v view before after) is adds)
@@ -40,18 +40,18 @@ module _ (there : PlaceDay) (view : RowView) where
       (λ i. cond (leb-zero there.day i) (Some (record { timetable = there.timetable; place = there.place; day = there.day; start = there.day - 0 })) None)
       ∙ (λ i. Some (record { timetable = there.timetable; place = there.place; day = there.day; start = same i }))
 
-  -- the lines that the day's own visit adds are the row's for that day
+  -- what the visit for the day itself adds is the row's lines for that start day
   adds_today : (today : Visit) (before after : List DockerLine)
       → today ≡ record { timetable = there.timetable; place = there.place; day = there.day; start = there.day } → AddsAt today view before after
       → AddsBack 0 before after
   adds_today today before after is adds = adds_back 0 (Some today) before after (ap Some is ∙ sym today_is_back) adds
 
-  -- all lines of the row were added
+  -- says that all docker lines of the row were added
   abbrev AddsRow : List DockerLine → List DockerLine → Type 0
   AddsRow before after = Adds (live_in there.timetable) (λ trains links. view_lines trains links there.place there.day view) before after
 
 module _ (there again : PlaceDay) (view : RowView) (today : Visit) (day_before two_before : Option Visit) where
-  -- all visits together add the lines of the row
+  -- the three visits together add all docker lines of the row
   pub adds_on_visits : (first second third last : List DockerLine) → there ≡ again
       → AreVisits there today day_before two_before → AddsAt today view first second → AddsIf day_before view second third
       → AddsIf two_before view third last → AddsRow again view first last
@@ -60,7 +60,7 @@ module _ (there again : PlaceDay) (view : RowView) (today : Visit) (day_before t
       (three_backs there.place there.day view (live_in there.timetable) first second third last (adds_today there view today first second are.today_is one)
       (adds_back there view 1 day_before second third are.day_before_is two) (adds_back there view 2 two_before third last are.two_before_is three))
 
-  -- if the row's train can't be there after its start day, the day's own visit adds all lines
+  -- if `row_under_way` is false for the row, the visit for the day itself adds all its lines
   pub adds_today_alone : (first second : List DockerLine) → there ≡ again → AreVisits there today day_before two_before
       → IsLiveView (live_in again.timetable) view → row_under_way again.place view again.day ≡ false → AddsAt today view first second
       → AddsRow again view first second
@@ -68,7 +68,7 @@ module _ (there again : PlaceDay) (view : RowView) (today : Visit) (day_before t
       first_back_alone again.place again.day view (live_in again.timetable) first second is_live idle
       (subst (λ (p : PlaceDay). AddsBack p view 0 first second) same (adds_today there view today first second are.today_is one))
 
--- lines that were added for a place are also added for an equal place
+-- lines that were added for a place and day were also added for an equal place and day
 pub gathered_at : (there again : PlaceDay) (walk : List Row) (before after : List DockerLine) → again ≡ there
     → Adds (live_in again.timetable) (λ trains links. gathered trains links again.place again.day walk) before after
     → Adds (live_in there.timetable) (λ trains links. gathered trains links there.place there.day walk) before after

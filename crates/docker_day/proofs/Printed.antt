@@ -1,4 +1,4 @@
--- The text that is written is the docker's text in the definitions.
+-- The text that the code writes is the docker's text of the definitions.
 use Rattle.std.proofs.Common.{◌≡◌, ℕ, List, ◌++◌, refl, ap, ◌∙◌}
 use Rattle.std.specs.List.{flat_map}
 use Rattle.docker_model.specs.file.Change.{tiploc_key}
@@ -11,7 +11,7 @@ head_is : (live : Table) (place : List ℕ) (day : ℕ) → head place day (desc
 unfolding head
 head_is live place day = refl
 
--- the text written for the docker of a table, a place and a day is its docker text
+-- the text written for the docker of a table, a place and a day is its text in the definitions
 pub printed : (live : Table) (place : List ℕ) (day : ℕ) (docker : Docker) → IsDockerOf live place day docker → IsDockerText live place day (text_of docker)
 printed live place day docker is =
     (docker.lines, is.list, ap (λ text. ended text ++ flat_map (λ line. ended (line_text line)) docker.lines ++ ended last_line) whole)

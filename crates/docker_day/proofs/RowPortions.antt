@@ -1,4 +1,4 @@
--- Rows of a walk that are read a portion at a time.
+-- Reading the rows of a walk a portion at a time leads to the same docker lines.
 use Rattle.std.proofs.Common.{◌≡◌, ℕ, zero, suc, ◌<◌, Bool, true, false, List, [], ◌∷◌, ◌++◌, length, take, get_or, refl, ap, sym, ◌∙◌, subst, Some, None, arith, append_assoc}
 use Rattle.std.specs.Prelude.{Option, ◌||◌}
 use Rattle.std.proofs.lemmas.Grind.{flat_map-append}
@@ -20,14 +20,14 @@ use Rattle.docker_day.specs.declared.row_view.RowView.{RowView}
 use Rattle.docker_day.proofs.PassedOver.{not_recently, row_idle}
 use Rattle.docker_day.proofs.RowViews.{gathered_viewed, lines_viewed, live_view, live_views}
 
--- a row that can't run on the day or on the two days before has no lines
+-- a row has no lines on a day if `row_may_run` is false for it
 no_lines : (place : List ℕ) (day : ℕ) (key : Key) (body : Body) (live : Table) (rows : List Row) → AreRowsOf live rows → live key ≡ Some body
     → IsBodyOf key body → row_may_run (view_of key body) day ≡ false → row_lines (train_in rows) (link_in rows) place day key body ≡ []
 no_lines place day key body live rows are is_live of never =
     sym (lines_viewed (train_in rows) (link_in rows) place day key body)
     ∙ sym (not_recently place day (view_of key body) live [] (live_view live key body is_live) (row_idle key body day of never) rows are)
 
--- a row that can't run on the three days may be passed over
+-- a row may be passed over if `row_may_run` is false for it
 pub row_passed : (day : ℕ) (key : Key) (body : Body) (row : RowView) (before after : List Row) (may : Bool) → before ≡ (key, body) ∷ after
     → AreGoodRows before → row ≡ view_of key body → may ≡ row_may_run row day → ¬ (◌≡◌ {A = Option Bool} (Some may) (Some true))
     → ArePassedOver day before after
@@ -38,20 +38,21 @@ row_passed day key body row before after false is good viewed told never = λ pl
     (sym (told ∙ ap (λ (r : RowView). row_may_run r day) viewed)) i
     ++ gathered (train_in rows) (link_in rows) place day after)
 
--- if rows are left of a walk, the rows that are left of these rows are left of the walk
+-- if `rest` is left of `all`, and `fewer` is left of `rest`, then `fewer` is left of `all`
 pub left_again : (all rest fewer : List Row) → AreLeft all rest → AreLeft rest fewer → AreLeft all fewer
 left_again all rest fewer first second = record {
   good = λ good. second.good (first.good good);
   live = λ live are. second.live live (first.live live are);
 }
 
--- if rows may be passed over, and then more of the rows that are left, all of them may be
+-- if the rows between `all` and `rest` may be passed over, and those between `rest` and `fewer`,
+-- then all rows between `all` and `fewer` may be
 pub passed_again : (day : ℕ) (all rest fewer : List Row) → AreLeft all rest → ArePassedOver day all rest → ArePassedOver day rest fewer
     → ArePassedOver day all fewer
 passed_again day all rest fewer left first second = λ place live are_live rows are.
     first place live are_live rows are ∙ second place live (left.live live are_live) rows are
 
--- if neither the rows so far nor the next may have lines, all may be passed over
+-- if neither the rows read before nor the next one may have lines, all of them may be passed over
 pub none_behind : (day : ℕ) (all rest fewer : List Row) (so_far may : Bool) → AreLeft all rest → (so_far ≡ false → ArePassedOver day all rest)
     → (¬ (◌≡◌ {A = Option Bool} (Some may) (Some true)) → ArePassedOver day rest fewer) → (so_far || may) ≡ false → ArePassedOver day all fewer
 none_behind day all rest fewer true may left before after none = let bad : true ≡ false = none in cc
@@ -59,20 +60,21 @@ none_behind day all rest fewer false true left before after none = let bad : tru
 none_behind day all rest fewer false false left before after none =
     passed_again day all rest fewer left (before refl) (after (λ bad. cc))
 
--- if the rows so far have no lines and no more rows are read, all rows may be passed over
+-- if the rows read before may have no lines, and no more rows are read, all of them may be passed
+-- over
 pub none_after : (day : ℕ) (all rest fewer : List Row) (so_far : Bool) (found : Option Bool) → AreLeft all rest
     → (so_far ≡ false → ArePassedOver day all rest) → ((may : Bool) → ¬ (found ≡ Some may)) → (¬ (found ≡ Some true) → ArePassedOver day rest fewer) → so_far ≡ false
     → ArePassedOver day all fewer
 none_after day all rest fewer so_far None left before end after none = passed_again day all rest fewer left (before none) (after (λ bad. cc))
 none_after day all rest fewer so_far (Some may) left before end after none = absurd (end may refl)
 
--- two moves of a walk, one after the other, make one move
+-- two moves of a walk, one after the other, are together one move
 pub moved_again : (there again : PlaceDay) (all rest fewer : List Row) (first second third : List DockerLine) → again ≡ there
     → HaveMoved there all rest first second → HaveMoved again rest fewer second third → HaveMoved there all fewer first third
 moved_again there again all rest fewer first second third same one two = λ rows are.
     subst (λ (p : PlaceDay). HaveMoved p rest fewer second third) same two rows are ∙ one rows are
 
--- a move of a walk, and then rows that are passed over, make one move
+-- a move of a walk, followed by rows that are passed over, is together one move
 pub moved_over : (there again : PlaceDay) (all rest fewer : List Row) (first second : List DockerLine) → again ≡ there
     → AreLive (live_in again.timetable) rest → HaveMoved there all rest first second → ArePassedOver again.day rest fewer
     → HaveMoved there all fewer first second
@@ -82,18 +84,18 @@ moved_over there again all rest fewer first second same live one passed = λ row
     (subst (λ (p : PlaceDay). AreLive (live_in p.timetable) rest) same live) rows are))
     ∙ one rows are
 
--- rows that are live in one state are live in an equal one
+-- rows that are live for a place and day are live for an equal place and day
 pub live_again : (there again : PlaceDay) (rows : List Row) → again ≡ there → AreLive (live_in there.timetable) rows → AreLive (live_in again.timetable) rows
 live_again there again rows same live = subst (λ (p : PlaceDay). AreLive (live_in p.timetable) rows) (sym same) live
 
 -- ---- the rows of a portion
 
--- if rows are live, the first of them are live
+-- if all of some views are live, the first ones are live
 pub live_first : (live : Table) (first second : List RowView) → AreLiveViews live (first ++ second) → AreLiveViews live first
 live_first live [] second are = tt
 live_first live (row ∷ rows) second are = (are.0, live_first live rows second are.1)
 
--- if the walk's rows are live, the rows of a portion are live
+-- if the walk's rows are live, the rows of its portion are live
 pub live_portion : (live : Table) (all rest : List Row) (portion rows : List (ℕ × RowView)) → AreOpened all rest [] portion → rows ≡ portion
     → AreLive live all → AreLiveViews live (views_in rows)
 live_portion live all rest portion rows opened same are =
@@ -108,7 +110,7 @@ live_item live (next ∷ portion) zero row are below is = subst (λ (r : ℕ × 
 live_item live (next ∷ portion) (suc i) row are below is = live_item live portion i row are.1 (omega arith) is
 live_item live [] i row are below is = let bad : i < 0 = below in absurd (omega arith)
 
--- each row of the portion is live in an equal state
+-- each row of the portion is live for an equal place and day
 pub live_at : (there again : PlaceDay) (portion : List (ℕ × RowView)) (i : ℕ) (row : ℕ × RowView) → again ≡ there
     → AreLiveViews (live_in there.timetable) (views_in portion) → i < length portion → row ≡ get_or portion i row
     → IsLiveView (live_in again.timetable) row.1
@@ -116,12 +118,12 @@ live_at there again portion i row same are below is =
     live_item (live_in again.timetable) portion i row (subst (λ (p : PlaceDay). AreLiveViews (live_in p.timetable) (views_in portion)) (sym same) are) below is
 
 module _ (there : PlaceDay) (portion : List (ℕ × RowView)) where
-  -- the lines of the first rows of the portion were added
+  -- says that the docker lines of the portion's first `n` rows were added
   abbrev pub AddsFirst : ℕ → List DockerLine → List DockerLine → Type 0
   AddsFirst n before after =
       Adds (live_in there.timetable) (λ trains links. lines_of trains links there.place there.day (views_in (take n portion))) before after
 
-  -- once all lines of a portion are added, the walk has gone on by its rows
+  -- once all lines of a portion are added, the walk has moved past the portion's rows
   pub moved_open : (all rest : List Row) (rows : List (ℕ × RowView)) (first second : List DockerLine) → AreOpened all rest [] portion → rows ≡ portion
       → Adds (live_in there.timetable) (λ trains links. lines_of trains links there.place there.day (views_in rows)) first second
       → HaveMoved there all rest first second

@@ -1,4 +1,4 @@
--- The rows of a walk, as typed views.
+-- The typed views of a walk's rows have the same lines as the rows.
 use Rattle.std.proofs.Common.{◌≡◌, ℕ, List, [], ◌∷◌, ◌++◌, refl, Some}
 use Rattle.std.specs.Prelude.{Option}
 use Rattle.docker_model.specs.file.Change.{Key, tiploc_key, association_key, schedule_key, Body, tiploc_body, association_body, schedule_body}
@@ -28,7 +28,7 @@ live_views live [] are = tt
 live_views live (row ∷ rows) are = (live_view live row.0 row.1 are.0, live_views live rows are.1)
 
 module _ (trains : List ℕ → ℕ → Option choices.Train) (links : Group → ℕ → Option live_rows.Link) (place : List ℕ) (day : ℕ) where
-  -- a view has the docker lines of its row
+  -- a row and its view have the same docker lines
   pub lines_viewed : (key : Key) (body : Body) → view_lines trains links place day (view_of key body) ≡ row_lines trains links place day key body
   lines_viewed (schedule_key key) (schedule_body lines) = refl
   lines_viewed (schedule_key key) (tiploc_body bytes) = refl
@@ -38,7 +38,7 @@ module _ (trains : List ℕ → ℕ → Option choices.Train) (links : Group →
   lines_viewed (association_key key) (schedule_body lines) = refl
   lines_viewed (tiploc_key code) body = refl
 
-  -- views have the docker lines of their rows
+  -- rows and their views have the same docker lines
   pub gathered_viewed : (rows : List Row) → lines_of trains links place day (views_of rows) ≡ gathered trains links place day rows
   gathered_viewed [] = refl
   gathered_viewed (row ∷ rows) = λ i. lines_viewed row.0 row.1 i ++ gathered_viewed rows i

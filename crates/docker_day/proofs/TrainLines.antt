@@ -30,7 +30,7 @@ module _ (place : List ℕ) (day start : ℕ) (key : ScheduleKey) (lines : List 
       by true rest = ap (λ more. line_of_event key start lines event ∷ more) rest
       by false rest = rest
 
-  -- the docker lines found event by event are the schedule's docker lines
+  -- the docker lines that are found event by event are the schedule's docker lines
   pub event_lines_are : lines_there place day start key detail (occurrences lines) ≡ event_lines place day start key lines
   event_lines_are = along (events_of lines)
 

@@ -1,4 +1,4 @@
--- No line after the last one at a place has an event there.
+-- The lines after the last one at a place can be left out, because none has an event there.
 use Rattle.std.proofs.Common.{◌≡◌, ℕ, Bool, true, false, cond, List, [], ◌∷◌, ◌++◌, refl, ap, sym, ◌∙◌, append_assoc}
 use Rattle.std.specs.Prelude.{◌&&◌}
 use Rattle.docker_model.specs.file.Change.{ScheduleKey}
@@ -17,13 +17,14 @@ module _ (place : List ℕ) (day start : ℕ) (key : ScheduleKey) (detail : Deta
   abbrev line_of : Occurrence → List DockerLine
   line_of event = cond (is_here place event && is_today day start event) (line_at_event key start detail event ∷ []) []
 
-  -- the docker lines of two lists of events are the lines of the first list and then of the second
+  -- two lists of events, one after the other, give the docker lines of the first, and then the
+  -- docker lines of the second
   there_parts : (events behind : List Occurrence) → there (events ++ behind) ≡ there events ++ there behind
   there_parts [] behind = refl
   there_parts (event ∷ events) behind =
       ap (λ more. line_of event ++ more) (there_parts events behind) ∙ sym (append_assoc (line_of event) (there events) (there behind))
 
-  -- a location record of another place has no event at the place
+  -- a line at another place has no event at the place
   none_elsewhere : (p : Progress) (line : List ℕ) (times : List (Occasion × ℕ)) → names_place place line ≡ false
       → there (occurrences_at p line times) ≡ []
   none_elsewhere p line [] elsewhere = refl
@@ -32,7 +33,8 @@ module _ (place : List ℕ) (day start : ℕ) (key : ScheduleKey) (detail : Deta
       [] ++ there (occurrences_at (past_time p time) line times))
       ∙ none_elsewhere (past_time p time) line times elsewhere
 
-  -- the events up to the last line at the place give the same docker lines as all events
+  -- for a walk that carries `p`, the lines up to the last one at the place give the same docker
+  -- lines as all lines
   lines_up_to : (p : Progress) (lines : List (List ℕ)) → there (occurrences_from p (up_to_last place lines)) ≡ there (occurrences_from p lines)
   lines_up_to p [] = refl
   lines_up_to p (line ∷ lines) = by (names_place place line) refl (up_to_last place lines) (lines_up_to next lines)

@@ -1,4 +1,4 @@
--- A text written part by part.
+-- A text that is written part by part: what the sink has taken, and how often it has failed.
 use Rattle.std.proofs.Common.{◌≡◌, ℕ, suc, ◌+◌, ◌<◌, ◌≤◌, List, [], ◌∷◌, ◌++◌, length, take, drop, get_or, refl, ap, sym, ◌∙◌, subst, Some, None, Ok, Err, arith, append_assoc, append-nil, length-append}
 use Rattle.std.specs.Prelude.{◌≢◌, true, false, Option, option_map, Result, IsErr, IsErrAnd, OnOk, OnErr, ⊤}
 use Rattle.std.specs.List.{flat_map}
@@ -9,7 +9,7 @@ use Rattle.std.proofs.lemmas.Result.{on_ok_weaker, on_err_weaker}
 use Rattle.cif_device.proofs.DeviceLemmas.{counts_error}
 use Rattle.cif_device.specs.Device.{CountsFailure, Takes, TakesPart}
 
--- if two parts are taken one after the other, the text of both is taken
+-- if a sink takes two parts one after the other, it has taken both together
 pub both_taken : (first second third : Option (List ℕ)) (front back : List ℕ) → Takes first front second → Takes second back third
     → Takes first (front ++ back) third
 both_taken None second third front back one two = two ∙ ap (option_map (λ taken. taken ++ back)) one
@@ -23,7 +23,7 @@ part_of_front first second front back (n, short, taken) =
     let same : take n (front ++ back) ≡ take n front = take-append-le n front back (omega arith) in
     (n, omega arith, subst (λ bytes. Takes first bytes second) (sym same) taken)
 
--- the first part and a proper prefix of the second are a proper prefix of both parts
+-- the first part with a proper prefix of the second is a proper prefix of both parts
 pub part_of_back : (first second third : Option (List ℕ)) (front back : List ℕ) → Takes first front second → TakesPart second back third
     → TakesPart first (front ++ back) third
 part_of_back first second third front back one (n, short, taken) =
@@ -34,7 +34,7 @@ part_of_back first second third front back one (n, short, taken) =
           (both_taken first second third front (take n back) one taken),
     )
 
--- a fact that holds in any case holds if a result is an error
+-- what holds in any case holds if the result is an error
 pub on_any_err : {A E : Type 0} (result : Result A E) {P : Type 0} → P → OnErr result P
 on_any_err (Ok a) holds = tt
 on_any_err (Err e) holds = holds
@@ -44,48 +44,49 @@ on_any_err (Err e) holds = holds
 no_error : false ≢ true
 no_error is = cc
 
--- without a failure, the number of failures is the same
+-- if no write has failed, the number of failures hasn't changed
 pub as_often : (before after : ℕ) → CountsFailure (false ≡ true) before after → after ≡ before
 as_often before after counted = counted.1 no_error
 
--- if the number of failures is the same, nothing has failed
+-- if the number of failures hasn't changed, no write has failed
 pub none_failed : (before after : ℕ) → after ≡ before → CountsFailure (false ≡ true) before after
 none_failed before after same = counts_error {A = ⊤} {E = ⊤} (Ok tt) before after same tt
 
--- if one write has failed, the number of failures is one more
+-- if one write has failed, the number of failures has grown by one
 pub one_failed : {A E : Type 0} (Q : E → Type 0) (result : Result A E) (before after : ℕ) → IsErrAnd result Q → after ≡ before + 1
     → CountsFailure (IsErr result) before after
 one_failed {A} {E} Q (Ok value) before after is more = absurd is
 one_failed {A} {E} Q (Err fault) before after is more = counts_error {A = A} {E = E} (Err fault) before after tt more
 
--- if nothing failed before the last write, only that write may have failed
+-- if nothing failed before the last write, only the last write may have failed
 pub last_failed : {A E : Type 0} (result : Result A E) (before between after : ℕ) → between ≡ before → OnOk result (after ≡ between)
     → OnErr result (after ≡ between + 1) → CountsFailure (IsErr result) before after
 last_failed result before between after none same more =
     counts_error result before after (on_ok_weaker result (λ is. is ∙ none) same) (on_err_weaker result (λ is. is ∙ ap (λ n. n + 1) none) more)
 
--- three parts of a text, as they are written and as they should be
+-- the three parts of a text. `a`, `b` and `c` are written, and are equal to `front`, `middle` and
+-- `back`
 module _ (first second third last : Option (List ℕ)) (a b c front middle back : List ℕ) (a_is : a ≡ front) (b_is : b ≡ middle) (c_is : c ≡ back) where
-  -- if each of the three parts is taken, the text is taken
+  -- if the sink takes each of the three parts, it has taken the whole text
   pub all_taken : Takes first a second → Takes second b third → Takes third c last → Takes first (front ++ middle ++ back) last
   all_taken one two three =
       both_taken first third last (front ++ middle) back
       (both_taken first second third front middle (subst (λ bytes. Takes first bytes second) a_is one) (subst (λ bytes. Takes second bytes third) b_is two))
       (subst (λ bytes. Takes third bytes last) c_is three)
 
-  -- if the first write fails, a proper prefix of the text is taken
+  -- if the first write fails, the sink has taken a proper prefix of the text
   pub part_of_first : TakesPart first a second → TakesPart first (front ++ middle ++ back) second
   part_of_first one =
       part_of_front first second (front ++ middle) back (part_of_front first second front middle (subst (λ bytes. TakesPart first bytes second) a_is one))
 
-  -- if the second write fails, a proper prefix of the text is taken
+  -- if the second write fails, the sink has taken a proper prefix of the text
   pub part_of_second : Takes first a second → TakesPart second b third → TakesPart first (front ++ middle ++ back) third
   part_of_second one two =
       part_of_front first third (front ++ middle) back
       (part_of_back first second third front middle (subst (λ bytes. Takes first bytes second) a_is one)
       (subst (λ bytes. TakesPart second bytes third) b_is two))
 
-  -- if the third write fails, a proper prefix of the text is taken
+  -- if the third write fails, the sink has taken a proper prefix of the text
   pub part_of_third : Takes first a second → Takes second b third → TakesPart third c last → TakesPart first (front ++ middle ++ back) last
   part_of_third one two three =
       part_of_back first third last (front ++ middle) back
@@ -94,7 +95,9 @@ module _ (first second third last : Option (List ℕ)) (a b c front middle back 
 
 -- ---- line by line
 
--- if the sink takes the lines that are left from now on, it has taken all lines from the start
+-- says that writing the remaining lines completes the text. If the sink takes them from now on, it
+-- has taken all lines since the start. If it takes a proper prefix of them, it has taken a proper
+-- prefix of all lines
 pub record Leads {A : Type 0} (bytes : A → List ℕ) (lines rest : List A) (first now : Option (List ℕ)) : Type 0 where
   pub whole : (last : Option (List ℕ)) → Takes now (flat_map bytes rest) last → Takes first (flat_map bytes lines) last
   pub part : (last : Option (List ℕ)) → TakesPart now (flat_map bytes rest) last → TakesPart first (flat_map bytes lines) last
@@ -105,11 +108,11 @@ drop_next i xs x below at = drop-cons xs i x below ∙ (λ j. sym at j ∷ drop 
     one_more : suc i ≡ i + 1
     one_more = omega arith
 
--- at the first line, all lines are left
+-- before the first line is written, all lines remain
 pub leads_first : {A : Type 0} (bytes : A → List ℕ) (lines : List A) (first : Option (List ℕ)) → Leads bytes lines (drop 0 lines) first first
 leads_first bytes lines first = record { whole = λ last taken. taken; part = λ last taken. taken }
 
--- after a line is written, the lines after it are left
+-- after a line is written, the lines after it remain
 pub leads_on : {A : Type 0} (bytes : A → List ℕ) (lines : List A) (i : ℕ) (line : A) (text : List ℕ) (first now next : Option (List ℕ))
     → i < length lines → line ≡ get_or lines i line
     → text ≡ bytes line → Leads bytes lines (drop i lines) first now → Takes now text next → Leads bytes lines (drop (i + 1) lines) first next
@@ -126,7 +129,7 @@ leads_on bytes lines i line text first now next below at is leads taken = record
     joined : bytes line ++ flat_map bytes (drop (i + 1) lines) ≡ flat_map bytes (drop i lines)
     joined = ap (flat_map bytes) (sym (drop_next i lines line below at))
 
--- if a proper prefix of a line is written, a proper prefix of the text is written
+-- if only a proper prefix of a line is written, the sink has taken a proper prefix of the text
 pub leads_part : {A : Type 0} (bytes : A → List ℕ) (lines : List A) (i : ℕ) (line : A) (text : List ℕ) (first now next : Option (List ℕ))
     → i < length lines → line ≡ get_or lines i line
     → text ≡ bytes line → Leads bytes lines (drop i lines) first now → TakesPart now text next → TakesPart first (flat_map bytes lines) next
@@ -135,7 +138,7 @@ leads_part bytes lines i line text first now next below at is leads part =
     (subst (λ b. TakesPart now b next) (ap (flat_map bytes) (sym (drop_next i lines line below at)))
     (part_of_front now next (bytes line) (flat_map bytes (drop (i + 1) lines)) (subst (λ b. TakesPart now b next) is part)))
 
--- after the last line the whole text is written
+-- after the last line, the whole text is written
 pub leads_last : {A : Type 0} (bytes : A → List ℕ) (lines : List A) (i : ℕ) (first now : Option (List ℕ)) → length lines ≤ i
     → Leads bytes lines (drop i lines) first now → Takes first (flat_map bytes lines) now
 leads_last {A} bytes lines i first now end leads = leads.whole now (nothing now (drop i lines) (drop_of_length-le lines end))

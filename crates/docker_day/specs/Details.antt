@@ -1,10 +1,10 @@
--- The end of a docker line in the code, as the definitions have it.
+-- Converts the last columns of a docker line from the code's type to the type of the definitions.
 use Rattle.docker_model.specs.docker.DockerLine.{ends, partner}
 use Rattle.docker_model.specs.docker.DockerLine as model
 use Rattle.docker_day.specs.declared.detail.Detail.{Detail}
 use Rattle.docker_day.specs.declared.detail.Detail.TheVariants.{Ends, Partner}
 
--- the end of a docker line in the code, as the definitions have it
+-- the last columns of a docker line of the code, converted to the definitions' type
 abbrev pub detail_meant : Detail → model.Detail
 detail_meant (Ends origin destination) = ends origin destination
 detail_meant (Partner uid identity) = partner uid identity

@@ -11,10 +11,10 @@ pub record Docker : Type 0 where
   pub description : List ℕ
   pub lines : List DockerLine
 
--- the text of a heading
+-- the text of a docker's heading, without a line feed
 unfoldable pub head : List ℕ → ℕ → List ℕ → List ℕ
 head place day description = codes "DOCKER " ++ place ++ spaces 1 ++ day_text day ++ spaces 1 ++ description ++ spaces 4
 
--- the text of a docker
+-- the text of a docker: heading, lines and last line, each with a line feed
 abbrev pub text_of : Docker → List ℕ
 text_of docker = ended (head docker.place docker.day docker.description) ++ flat_map (λ line. ended (line_text line)) docker.lines ++ ended last_line

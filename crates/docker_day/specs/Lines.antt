@@ -21,7 +21,8 @@ use Rattle.train_choice.specs.Midnights.{some_late}
 use Rattle.train_choice.specs.UpTo.{occurrences_to}
 use Rattle.train_choice.specs.RecentRuns.{runs_back}
 
--- the docker line of an event, for the schedule with this key, on this start day, with these ends
+-- the docker line of an event. `key` is the schedule's key, `start` the day on which the train
+-- starts, and `detail` has its origin and destination
 abbrev pub line_at_event : ScheduleKey → ℕ → Detail → Occurrence → DockerLine
 line_at_event key start detail event = record {
   time = event.time;
@@ -39,7 +40,9 @@ line_at_event key start detail event = record {
   detail = detail;
 }
 
--- the docker line of an association at an event of the base train
+-- the docker line of an association at an event of the base train. `base` is the key of the base
+-- train's schedule, `start` the day on which the base train starts, and `identity` the associated
+-- train's identity
 abbrev pub line_of_link : Occasion → AssociationKey → ScheduleKey → ℕ → Occurrence → List ℕ → DockerLine
 line_of_link occasion key base start event identity = record {
   time = event.time;
@@ -61,7 +64,7 @@ line_of_link occasion key base start event identity = record {
 abbrev pub is_here : List ℕ → Occurrence → Bool
 is_here place event = bytes_eq (columns 3 9 event.line) place
 
--- whether the event is on the day, if its train starts on this day
+-- whether the event is on the day, for a train that starts on the day `start`
 abbrev pub is_today : ℕ → ℕ → Occurrence → Bool
 is_today day start event = start + event.falls == day
 
@@ -72,20 +75,22 @@ lines_there place day start key detail (event ∷ events) =
     (if is_here place event && is_today day start event then line_at_event key start detail event ∷ [] else [])
     ++ lines_there place day start key detail events
 
--- the schedule runs on the day or on one of the two days before
+-- whether the schedule runs on the day or on one of the two days before
 abbrev pub runs_recently : List (List ℕ) → ℕ → Bool
 runs_recently lines day = runs_back lines day 0 || runs_back lines day 1 || runs_back lines day 2
 
--- the schedule's train may be there on the day, after starting earlier. The schedule runs on one of
--- the two days before, and passes midnight by its last event at the place
+-- whether the schedule's train may be at the place on the day after an earlier start day. It may if
+-- the schedule runs on one of the two days before, and passes midnight before or at its last event
+-- at the place
 abbrev pub is_under_way : List ℕ → List (List ℕ) → ℕ → Bool
 is_under_way place lines day = (runs_back lines day 1 || runs_back lines day 2) && some_late (occurrences_to place lines)
 
--- the event is of a call at the place, with this suffix
+-- whether the event belongs to a call at the place with this suffix
 abbrev pub is_call : List ℕ → ℕ → Occurrence → Bool
 is_call place suffix event = is_at place suffix event.line
 
--- these lines were added, with the trains and the chosen associations of the table
+-- says that these lines were added. `more` makes them from two functions: one finds the train of a
+-- UID and a start day, the other the association chosen in a group
 abbrev pub Adds : Table → ((List ℕ → ℕ → Option Train) → (Group → ℕ → Option Link) → List DockerLine) → List DockerLine → List DockerLine → Type 0
 Adds live more before after = (rows : List Row) → AreRowsOf live rows → after ≡ before ++ more (train_in rows) (link_in rows)
 
@@ -94,37 +99,41 @@ abbrev pub listed : Option DockerLine → List DockerLine
 listed None = []
 listed (Some line) = line ∷ []
 
--- the docker lines of a schedule for a start day, if its train runs by it then
+-- the docker lines of a schedule for a start day. There are none unless its train runs by this
+-- schedule on that day
 abbrev pub schedule_piece : (List ℕ → ℕ → Option Train) → List ℕ → ℕ → ScheduleKey → List (List ℕ) → ℕ → List DockerLine
 schedule_piece trains place day key lines start = if runs_by (trains key.uid start) key then event_lines place day start key lines else []
 
--- the docker line of an association at an event of the base train, if the event is on the day
+-- the docker line of an association at an event of the base train. There is none if the event is on
+-- another day
 abbrev pub link_line_at : (List ℕ → ℕ → Option Train) → ℕ → ℕ → Link → Occasion → ScheduleKey → Occurrence → List DockerLine
 link_line_at trains day start link occasion base event =
     if is_today day start event
     then line_of_link occasion link.key base start event (partner_identity trains link.key.associated (partner_start (column 37 link.line) start)) ∷ []
     else []
 
--- like `link_line_at`; none if there is no event
+-- like `link_line_at`, or no line if there is no event
 abbrev pub link_line_by : (List ℕ → ℕ → Option Train) → ℕ → ℕ → Link → Occasion → ScheduleKey → Option Occurrence → List DockerLine
 link_line_by trains day start link occasion base None = []
 link_line_by trains day start link occasion base (Some event) = link_line_at trains day start link occasion base event
 
--- the docker line of an association, if its category gives one and there is a base train
+-- the docker line of an association. There is none if its category gives no line, or if there is no
+-- base train
 abbrev pub link_line_with : (List ℕ → ℕ → Option Train) → ℕ → ℕ → Link → Option Occasion → Option Train → List DockerLine
 link_line_with trains day start link None base = []
 link_line_with trains day start link (Some occasion) None = []
 link_line_with trains day start link (Some occasion) (Some base) =
     link_line_by trains day start link occasion base.key (find (is_call link.key.location link.key.suffix) (occurrences base.lines))
 
--- the docker line of an association for a start day of its base train
+-- the docker line of an association for a start day of its base train. There is none if the
+-- association isn't in force on that day
 abbrev pub link_piece : (List ℕ → ℕ → Option Train) → (Group → ℕ → Option Link) → ℕ → Link → ℕ → List DockerLine
 link_piece trains links day link start =
     if is_in_force links start link.key link.line
     then link_line_with trains day start link (category_occasion (columns 35 36 link.line)) (trains link.key.base start)
     else []
 
--- like `link_piece`; none if the association isn't at the place
+-- like `link_piece`, or no line if the association isn't at the place
 abbrev pub link_here : (List ℕ → ℕ → Option Train) → (Group → ℕ → Option Link) → List ℕ → ℕ → Link → ℕ → List DockerLine
 link_here trains links place day link start = if bytes_eq link.key.location place then link_piece trains links day link start else []
 

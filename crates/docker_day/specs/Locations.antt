@@ -1,4 +1,4 @@
--- What a docker prints of a location record.
+-- The columns of a location record that a docker prints.
 use Rattle.std.specs.Prelude.{ℕ, List, Option}
 use Rattle.docker_model.specs.records.Record.{Kind}
 use Rattle.docker_model.specs.file.Journey.{Occasion, arrival, pass, joining, dividing, next_working, departure}
@@ -6,7 +6,8 @@ use Rattle.docker_model.specs.docker.DockerLine.{platform_by_kind, track_by_kind
 use Rattle.docker_model.specs.records.PrintedTime.{spaces}
 use Rattle.docker_day.specs.declared.location.Location.{Location}
 
--- what is printed: platform, line, path, and the public times of arrival and departure
+-- the columns that a docker prints: platform, line, path, and the public times of arrival and
+-- departure
 pub record Shown : Type 0 where
   pub platform : List ℕ
   pub track : List ℕ
@@ -14,7 +15,7 @@ pub record Shown : Type 0 where
   pub arrival : List ℕ
   pub departure : List ℕ
 
--- what the code prints, as the definitions have it
+-- the printed columns as the code has them, converted to the definitions' type
 abbrev pub location_meant : Location → Shown
 location_meant location = record {
   platform = location.platform.now;
@@ -24,7 +25,7 @@ location_meant location = record {
   departure = location.departure.now;
 }
 
--- what is printed of a record of this kind
+-- the columns that a docker prints of a record of this kind
 abbrev pub location_by_kind : Option Kind → List ℕ → Shown
 location_by_kind kind line = record {
   platform = platform_by_kind kind line;
@@ -34,7 +35,7 @@ location_by_kind kind line = record {
   departure = public_by_kind kind departure line;
 }
 
--- the public time for an occasion
+-- the public time for an occasion. It is spaces unless the occasion is an arrival or a departure
 abbrev pub public_at : Occasion → Shown → List ℕ
 public_at arrival shown = shown.arrival
 public_at departure shown = shown.departure

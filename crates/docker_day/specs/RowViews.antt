@@ -1,4 +1,4 @@
--- A row as a docker reads it: a schedule, an association, or neither.
+-- The typed view of a state's row: a schedule, an association, or neither.
 use Rattle.std.specs.Prelude.{ℕ, ◌-◌, Bool, true, nat_le, if◌then◌else◌, List, [], ◌∷◌, map, Option, ⊤}
 use Rattle.std.specs.List.{flat_map}
 use Rattle.docker_model.specs.file.Change.{Key, association_key, schedule_key, Body, association_body, schedule_body}
@@ -25,36 +25,37 @@ view_of _ _ = Other
 abbrev pub views_of : List Row → List RowView
 views_of rows = map (λ (row : Row). view_of row.0 row.1) rows
 
--- the views of rows, without the rows' indexes
+-- the typed views of a portion's rows, without the rows' indexes
 abbrev pub views_in : List (ℕ × RowView) → List RowView
 views_in rows = map (λ (row : ℕ × RowView). row.1) rows
 
--- the schedule or the association is in the live table
+-- says that the schedule or association of the view is in the live table
 abbrev pub IsLiveView : Table → RowView → Type 0
 IsLiveView live (Train train) = IsLiveTrain live train
 IsLiveView live (Link link) = IsLiveLink live link
 IsLiveView live Other = ⊤
 
--- each schedule or association is in the live table
+-- says that each schedule or association of the views is in the live table
 abbrev pub AreLiveViews : Table → List RowView → Type 0
 AreLiveViews live [] = ⊤
 AreLiveViews live (row ∷ rows) = IsLiveView live row × AreLiveViews live rows
 
--- a schedule's row runs on the day or on one of the two days before; any other row may have lines
+-- whether the row may have lines on the day. A schedule may if it runs on the day or on one of the
+-- two days before, and any other row may
 abbrev pub row_runs_recently : RowView → ℕ → Bool
 row_runs_recently (Train train) day = runs_recently train.lines day
 row_runs_recently (Link link) day = true
 row_runs_recently Other day = true
 
--- the train of a schedule's row may be at the place on a day after its start; any other row may
--- have lines
+-- whether the row may have lines at the place for a train that started before the day. A schedule
+-- may if its train may still be under way, and any other row may
 abbrev pub row_under_way : List ℕ → RowView → ℕ → Bool
 row_under_way place (Train train) day = is_under_way place train.lines day
 row_under_way place (Link link) day = true
 row_under_way place Other day = true
 
--- a schedule's row has begun by the day and marks it or one of the two days before; any other row
--- may have lines
+-- whether the row may have lines on the day. A schedule may if it has begun by the day, and its
+-- days-run field marks that weekday or one of the two before. Any other row may
 abbrev pub row_may_run : RowView → ℕ → Bool
 row_may_run (Train train) day = may_run_recently train.key train.lines day
 row_may_run (Link link) day = true
@@ -70,12 +71,13 @@ view_lines trains links place day Other = []
 abbrev pub lines_of : (List ℕ → ℕ → Option choices.Train) → (Group → ℕ → Option live_rows.Link) → List ℕ → ℕ → List RowView → List DockerLine
 lines_of trains links place day rows = flat_map (view_lines trains links place day) rows
 
--- the docker lines of a row for a start day
+-- the docker lines of a row for one start day
 abbrev pub row_piece : (List ℕ → ℕ → Option choices.Train) → (Group → ℕ → Option live_rows.Link) → List ℕ → ℕ → RowView → ℕ → List DockerLine
 row_piece trains links place day (Train train) start = schedule_piece trains place day train.key train.lines start
 row_piece trains links place day (Link link) start = link_here trains links place day link start
 row_piece trains links place day Other start = []
 
--- the docker lines of a row for the start day `back` days before; none if there is no such day
+-- the docker lines of a row for the start day `back` days before the day. There are none if that
+-- would be before day 0
 abbrev pub row_back : (List ℕ → ℕ → Option choices.Train) → (Group → ℕ → Option live_rows.Link) → List ℕ → ℕ → RowView → ℕ → List DockerLine
 row_back trains links place day row back = if nat_le back day then row_piece trains links place day row (day - back) else []

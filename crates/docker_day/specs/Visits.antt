@@ -1,4 +1,5 @@
--- Visits: a place on a day, for the trains that start on one day. The visits of all start days.
+-- Visits: for a place and a day, the trains that start on one day. There is a visit for each start
+-- day.
 use Rattle.std.specs.Prelude.{◌≡◌, ℕ, ◌≤◌, ◌-◌, nat_le, if◌then◌else◌, List, Option, Some, None, ⊤}
 use Rattle.docker_state.specs.Timetables.{Timetable, live_in}
 use Rattle.docker_model.specs.docker.DockerLine.{DockerLine}
@@ -7,43 +8,47 @@ use Rattle.docker_day.specs.Lines.{Adds}
 use Rattle.docker_day.specs.RowViews.{IsLiveView, row_piece}
 use Rattle.docker_day.specs.declared.row_view.RowView.{RowView}
 
--- a visit: a timetable, a place, a day and a start day
+-- a visit: a timetable, a place, a day, and the day on which the trains start
 pub record Visit : Type 0 where
   pub timetable : Timetable
   pub place : List ℕ
   pub day : ℕ
   pub start : ℕ
 
--- whatever is kept for a visit belongs to its timetable, place and start day, which isn't after the day
+-- says that the parts of a visit fit together: each has the visit's timetable, place and start day.
+-- The start day isn't after the day
 pub record IsOnePlace (timetable : Timetable) (place : List ℕ) (day start : ℕ) (trains : StartDay) (links bases : PlaceDay) : Type 0 where
   pub past : start ≤ day
   pub trains_are : trains ≡ record { timetable = timetable; day = start }
   pub links_are : links ≡ record { timetable = timetable; place = place; day = start }
   pub bases_are : bases ≡ record { timetable = timetable; place = place; day = start }
 
--- the visit of the trains that start `back` days before the day; none if there is no such day
+-- the visit for the trains that start `back` days before the day. There is none if that would be
+-- before day 0
 abbrev pub visit_back : PlaceDay → ℕ → Option Visit
 visit_back there back =
     if nat_le back there.day
     then Some (record { timetable = there.timetable; place = there.place; day = there.day; start = there.day - back })
     else None
 
--- the visits of the trains that start on the day, on the day before and two days before
+-- says that these are the three visits: for the trains that start on the day, one day before and
+-- two days before
 pub record AreVisits (there : PlaceDay) (today : Visit) (day_before two_before : Option Visit) : Type 0 where
   pub today_is : today ≡ record { timetable = there.timetable; place = there.place; day = there.day; start = there.day }
   pub day_before_is : day_before ≡ visit_back there 1
   pub two_before_is : two_before ≡ visit_back there 2
 
--- the row is live, or there is no visit
+-- says that the row is live in the visit's timetable, or that there is no visit
 abbrev pub IsLiveAt : Option Visit → RowView → Type 0
 IsLiveAt None row = ⊤
 IsLiveAt (Some visit) row = IsLiveView (live_in visit.timetable) row
 
--- the lines of a row for a visit were added
+-- says that the docker lines of a row for a visit were added
 abbrev pub AddsAt : Visit → RowView → List DockerLine → List DockerLine → Type 0
 AddsAt visit row before after = Adds (live_in visit.timetable) (λ trains links. row_piece trains links visit.place visit.day row visit.start) before after
 
--- the lines of a row for a visit were added, or there is no visit and nothing was added
+-- says that the docker lines of a row for a visit were added, or that there is no visit and nothing
+-- was added
 abbrev pub AddsIf : Option Visit → RowView → List DockerLine → List DockerLine → Type 0
 AddsIf None row before after = after ≡ before
 AddsIf (Some visit) row before after = AddsAt visit row before after

@@ -1,4 +1,4 @@
-//! The calls of a train at a place, each with its first event.
+//! The calls of a base train at a place, each with its first event.
 ghost use Rattle.std.specs.Prelude.{◌≡◌, ℕ, Some, None, if◌then◌else◌, find, option_map, IfOk, OnOk};
 ghost use Rattle.std.specs.BTreeMap.{get};
 ghost use Rattle.std.specs.Ordering.{nat_cmp};
@@ -15,8 +15,8 @@ use std::alloc::Global;
 use std::collections::BTreeMap;
 use train_choice::{Events, Occurrence};
 
-/// A UID, and the calls of its train at a place on a start day: for each suffix the first event
-/// there. There are none if the train doesn't run then.
+/// A UID, and the calls of its train at a place on a start day. For each suffix it has the call's
+/// first event. There are no calls if the train doesn't run on that start day.
 #[derive(Debug, Drop)]
 pub(crate) struct BaseCalls<'a> {
     pub(crate) uid: Uid,
@@ -24,8 +24,8 @@ pub(crate) struct BaseCalls<'a> {
 }
 
 impl<'a> BaseCalls<'a> {
-    /// The first event of the call with this suffix. The inner `None` says that there is no such
-    /// call, and the outer that these calls are another UID's.
+    /// The first event of the call with this suffix. The outer `None` says that the calls kept here
+    /// are another UID's. The inner `None` says that the train has no such call.
     pub(crate) fn asked(&self, uid: &Uid, suffix: u8) -> Option<Option<Occurrence<'a>>>
         ensures { option_map meant_if result ≡ (if bytes_eq self.now.uid uid.now
             then Some (get nat_cmp self.now.calls suffix) else None) }
@@ -48,7 +48,7 @@ impl<'a> BaseCalls<'a> {
     }
 }
 
-/// For each suffix, the first event of a call with it at a place.
+/// For each suffix, the first event of the train's call with that suffix at a place.
 pub(crate) fn first_calls<'a>(
     alloc: Global,
     events: Events<'a>,
@@ -64,7 +64,7 @@ pub(crate) fn first_calls<'a>(
     Ok(calls)
 }
 
-/// Updates the first events after one more event. It counts only if it is at the place.
+/// Updates the first events with one more event, which counts only if it is at the place.
 fn add_event<'a>(
     calls: &mut BTreeMap<u8, FirstEvent<'a>>,
     event: &Occurrence<'a>,
@@ -80,7 +80,7 @@ fn add_event<'a>(
     }
 }
 
-/// Updates the first events after one more event at the place. It counts only if its suffix has no
+/// Updates the first events with one more event at the place. It counts only if its suffix has no
 /// event yet.
 fn add_call<'a>(
     calls: &mut BTreeMap<u8, FirstEvent<'a>>,

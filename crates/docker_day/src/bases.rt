@@ -1,4 +1,5 @@
-//! The calls of base trains at a place. The last ones that were looked up are kept.
+//! The calls of base trains at a place. The calls of the last base train that was looked up are
+//! kept.
 ghost use Rattle.std.specs.Prelude.{◌≡◌, ℕ, List, IfOk, IfSome};
 ghost use Rattle.std.specs.BTreeMap.{get};
 ghost use Rattle.std.specs.Ordering.{nat_cmp};
@@ -16,8 +17,8 @@ use std::collections::BTreeMap;
 use std::marker::Model;
 use train_choice::{Occurrence, train_on};
 
-/// The calls at a place of the base trains that start on a day. The calls of the last train that
-/// was looked up are kept. A walk meets all associations of a base train one after the other, so
+/// The calls at a place of the base trains that start on a day. The calls of the train that was
+/// looked up last are kept. A walk meets all associations of a base train one after the other, so
 /// each base train's lines are read only once.
 #[derive(Debug, Drop)]
 pub(crate) struct Bases<'a> {
@@ -46,7 +47,7 @@ impl<'a> Model for Bases<'a> {
 }
 
 impl<'a> Bases<'a> {
-    /// The calls at a place of the trains that start on a day, before any is looked up.
+    /// The calls at a place of the trains that start on a day. None are kept yet.
     pub(crate) fn at(
         alloc: Global,
         timetable: &Timetable<'a>,
@@ -68,7 +69,7 @@ impl<'a> Bases<'a> {
         }
     }
 
-    /// The first event of a train's call at the place with this suffix. `None` if there is no such
+    /// The first event of a train's call with this suffix at the place. `None` if there is no such
     /// call, or if the train doesn't run. `Memory` if there is no room for the train's calls.
     pub(crate) fn first_call(
         &mut self,
@@ -86,8 +87,9 @@ impl<'a> Bases<'a> {
         }
     }
 
-    /// The first event of the call, from the kept calls. The outer `None` says that no calls are
-    /// kept, or another train's.
+    /// The first event of the call, if the train's calls are kept. The outer `None` says that no
+    /// calls are kept, or those kept are another train's. The inner `None` says that the train has
+    /// no such call.
     fn known(&self, uid: &Uid, suffix: u8) -> Option<Option<Occurrence<'a>>>
         ensures { IfSome result (λ event. (rows : List Row)
             → AreRowsOf (live_in self.now.timetable) rows → meant_if event
@@ -99,7 +101,7 @@ impl<'a> Bases<'a> {
         }
     }
 
-    /// Like `first_call`, by a walk over the train's lines. It keeps the train's calls.
+    /// Like `first_call`, but always walks over the train's lines. Keeps the train's calls.
     fn look_up(&mut self, uid: &Uid, suffix: u8) -> Result<Option<Occurrence<'a>>, Memory>
         ensures same { self.new ≡ self.old }
         ensures event { IfOk result (λ event. (rows : List Row)
@@ -114,7 +116,7 @@ impl<'a> Bases<'a> {
     }
 }
 
-/// The calls at a place of a UID's train that starts on a day, each with its first event.
+/// The calls at a place of the train of a UID that starts on a day, each with its first event.
 fn calls_of<'a>(
     alloc: Global,
     timetable: &Timetable<'a>,

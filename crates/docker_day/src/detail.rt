@@ -1,11 +1,11 @@
-//! The end of a docker line.
+//! The last columns of a docker line: where a train starts and ends, or the associated train.
 ghost use Rattle.std.specs.Prelude.{◌≡◌};
 ghost use Rattle.docker_model.specs.docker.DockerLine.{associated_uid};
 ghost use Rattle.docker_day.specs.Details.{detail_meant};
 
 use cif_line::Uid;
 
-/// The end of a docker line.
+/// The content of a docker line's last columns.
 #[derive(Clone, Copy, Debug)]
 pub enum Detail {
     /// For an event: where the train starts and where it ends.
@@ -19,13 +19,13 @@ pub enum Detail {
     Partner {
         /// The UID of that train.
         uid: Uid,
-        /// Its train identity on its start day, or `????` if it doesn't run then.
+        /// The train identity of that train on its start day, or `????` if it doesn't run then.
         identity: [u8; 4],
     },
 }
 
 impl Detail {
-    /// The UID of the associated train; empty for an event.
+    /// The UID of the associated train. Empty for an event.
     pub(crate) fn associated_uid(&self) -> &[u8]
         ensures { result.now ≡ associated_uid (detail_meant self.now) }
     {

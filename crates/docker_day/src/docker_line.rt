@@ -19,7 +19,7 @@ use std::cmp::Ordering;
 use std::marker::Model;
 use train_choice::{LinkView, Occasion, Occurrence, ScheduleView};
 
-/// A line of a docker: an event of a train, or an association of its train with another. Lines are
+/// A line of a docker: an event of a train, or an association of the train with another. Lines are
 /// ordered by time, occasion, UID, start day, event number and UID of the associated train.
 #[derive(Debug, Drop)]
 pub struct DockerLine<'a> {
@@ -64,7 +64,8 @@ impl<'a> Model for DockerLine<'a> {
 }
 
 impl<'a> DockerLine<'a> {
-    /// The line of an event, for a train that starts on this day. It ends with this detail.
+    /// The line of an event. `start` is the day on which the train starts, and `detail` fills the
+    /// last columns.
     #[tactic(auto, using(crate::proofs::Shown::public_is))]
     pub(crate) fn of_event(
         train: &ScheduleView<'a>,
@@ -94,8 +95,8 @@ impl<'a> DockerLine<'a> {
         }
     }
 
-    /// The line of an association at an event of its base train, which starts on this day. The
-    /// associated train has this identity.
+    /// The line of an association at an event of its base train. `start` is the day on which the
+    /// base train starts, and `identity` is the associated train's identity.
     pub(crate) fn of_link(
         link: &LinkView<'a>,
         occasion: Occasion,
@@ -134,7 +135,7 @@ impl<'a> DockerLine<'a> {
         self.time
     }
 
-    /// What happens: an event or an association.
+    /// The kind of event or of association.
     pub fn occasion(&self) -> Occasion
         ensures { occasion_meant result ≡ self.now.occasion }
     {
@@ -155,7 +156,7 @@ impl<'a> DockerLine<'a> {
         self.uid
     }
 
-    /// The STP indicator of the schedule, or in the line of an association the association's.
+    /// The STP indicator of the schedule. In the line of an association it is the association's.
     pub fn stp(&self) -> Stp
         ensures { stp_letter result ≡ self.now.indicator }
     {
@@ -206,14 +207,15 @@ impl<'a> DockerLine<'a> {
         self.start
     }
 
-    /// The number of the event among the train's events, from 1.
+    /// The number of the event among the schedule's events, from 1.
     pub fn number(&self) -> u64
         ensures { result ≡ self.now.number }
     {
         self.number
     }
 
-    /// The train's origin and destination, or the associated train.
+    /// The origin and destination of the train. In the line of an association it is the associated
+    /// train.
     pub fn detail(&self) -> Detail
         ensures { detail_meant result ≡ self.now.detail }
     {

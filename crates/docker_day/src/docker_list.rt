@@ -1,4 +1,4 @@
-//! A docker: its heading and its lines.
+//! A docker: its timing point, its day and its lines.
 ghost use Rattle.std.specs.Prelude.{◌≡◌};
 
 use crate::docker_line::DockerLine;

@@ -7,7 +7,7 @@ pub enum DockerFault {
     /// The state has a horizon, and the day is earlier than three days after it.
     #[error("lapsed")]
     Lapsed,
-    /// Out of memory: the allocator refused it.
+    /// Out of memory: the allocator refused a request.
     #[error("out of memory")]
     Memory,
 }

@@ -1,4 +1,4 @@
-//! The first event of a call, in the form in which it is kept.
+//! The first event of a call, as it is kept in a map.
 ghost use Rattle.std.specs.Prelude.{◌≡◌};
 ghost use Rattle.train_choice.specs.EventWalk.{occurrence_meant};
 
@@ -6,7 +6,7 @@ use cif_line::{Line, Time};
 use std::marker::Model;
 use train_choice::{Occasion, Occurrence};
 
-/// The first event of a train's call, in the form in which it is kept.
+/// The first event of a train's call, as it is kept in a map.
 #[derive(Debug, Drop)]
 pub(crate) struct FirstEvent<'a> {
     number: u64,
@@ -34,7 +34,7 @@ impl<'a> Model for FirstEvent<'a> {
 }
 
 impl<'a> FirstEvent<'a> {
-    /// The event, to be kept.
+    /// The event, in the form that a map can keep.
     pub(crate) fn of(event: &Occurrence<'a>) -> FirstEvent<'a>
         ensures { result ≡ occurrence_meant event.now }
     {
@@ -48,7 +48,7 @@ impl<'a> FirstEvent<'a> {
         }
     }
 
-    /// The event again.
+    /// The kept event, as a walk met it.
     pub(crate) fn event(&self) -> Occurrence<'a>
         ensures { occurrence_meant result ≡ self.now }
     {

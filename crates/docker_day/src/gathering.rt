@@ -1,4 +1,4 @@
-//! The lines of one row in a docker.
+//! The docker lines of one row of a state.
 ghost use Rattle.std.specs.Prelude.{◌≡◌, OnOk};
 ghost use Rattle.train_choice.specs.Along.{IsLiveLink};
 ghost use Rattle.docker_day.specs.Lines.{Adds, link_here};
@@ -15,8 +15,8 @@ use crate::visits::Visits;
 use cif_line::{Day, Memory, Tiploc};
 use train_choice::LinkView;
 
-/// Adds the lines of a row, for each start day whose trains can be at the place on the day. `row`
-/// is the row's index.
+/// Adds the docker lines of a row, for each start day whose trains may be at the place on the day.
+/// `row` is the row's index. Returns `Memory` if there is no room for them.
 pub(crate) fn add_row<'a>(
     lines: &mut Vec<DockerLine<'a>>,
     visits: &mut Visits<'a>,
@@ -41,7 +41,7 @@ pub(crate) fn add_row<'a>(
 }
 
 /// Whether a row may have lines on a day. A schedule has none if it runs neither on that day nor on
-/// one of the two days before. Its fields are read once for that.
+/// one of the two days before. This reads the fields of the schedule once for all three days.
 fn row_runs_recently(view: &RowView<'_>, day: Day) -> bool
     ensures { result ≡ row_runs_recently view.now day }
 {
@@ -51,7 +51,7 @@ fn row_runs_recently(view: &RowView<'_>, day: Day) -> bool
     }
 }
 
-/// Whether a row may have lines, at a place on a day, of a train that started on an earlier day. A
+/// Whether a row may have lines at a place on a day for a train that started on an earlier day. A
 /// schedule has none unless its train may be under way.
 fn is_row_under_way(view: &RowView<'_>, place: &Tiploc, day: Day) -> bool
     ensures { result ≡ row_under_way place.now view.now day }
@@ -62,7 +62,8 @@ fn is_row_under_way(view: &RowView<'_>, place: &Tiploc, day: Day) -> bool
     }
 }
 
-/// Adds the lines of a row for a visit, if there is one.
+/// Adds the lines of a row for a visit. Adds nothing if there is no visit, because its start day
+/// would be before day 0.
 fn add_back<'a>(
     lines: &mut Vec<DockerLine<'a>>,
     visit: &mut Option<Visit<'a>>,
@@ -79,7 +80,7 @@ fn add_back<'a>(
     }
 }
 
-/// Adds the lines of a row for a visit.
+/// Adds the lines of a row for one visit.
 fn add_piece<'a>(
     lines: &mut Vec<DockerLine<'a>>,
     visit: &mut Visit<'a>,

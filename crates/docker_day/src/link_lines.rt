@@ -19,7 +19,7 @@ use cif_line::Memory;
 use train_choice::{LinkView, Occasion, Occurrence, is_cancellation};
 
 /// The docker line of an association for a visit. `None` if the association isn't in force on the
-/// start day, its category gives no line, or its base train doesn't call there on the day.
+/// start day, if its category gives no line, or if its base train doesn't call there on the day.
 pub(crate) fn link_line<'a>(
     visit: &mut Visit<'a>,
     link: &LinkView<'a>,
@@ -38,15 +38,15 @@ pub(crate) fn link_line<'a>(
     }
 }
 
-/// Whether an association is chosen on the start day, isn't a cancellation, and has a date
-/// indicator that gives a line.
+/// Whether an association is in force on the start day: it is chosen in its group, isn't a
+/// cancellation, and has a date indicator that gives a line.
 fn is_in_force(visit: &Visit<'_>, link: &LinkView<'_>) -> bool
     requires live { IsLiveLink (live_in visit.now.timetable) link.now }
     requires here { link.now.key.location ≡ visit.now.place }
     ensures { (rows : List Row) → AreRowsOf (live_in visit.now.timetable) rows
         → result ≡ is_in_force (link_in rows) visit.now.start link.now.key link.now.line }
 {
-    // Its own days are checked first, as the choice in its group takes a search.
+    // The association's days are checked first, because the choice in its group takes a search.
     if !link.runs_on(visit.start()) {
         return false;
     }
@@ -79,7 +79,8 @@ fn occasion_of(category: &[u8; 2]) -> Option<Occasion>
     }
 }
 
-/// The docker line of an association in force, if its category gives one and its base train runs.
+/// The docker line of an association in force. `None` if its category gives no line, or if its base
+/// train doesn't run or doesn't call there on the day.
 fn line_with<'a>(
     visit: &mut Visit<'a>,
     link: &LinkView<'a>,
@@ -98,7 +99,8 @@ fn line_with<'a>(
     }
 }
 
-/// The docker line of an association with this occasion, if its base train runs and calls there.
+/// The docker line of an association with this occasion. `None` if its base train doesn't run, or
+/// doesn't call there on the day.
 fn line_by<'a>(
     visit: &mut Visit<'a>,
     link: &LinkView<'a>,
@@ -119,7 +121,8 @@ fn line_by<'a>(
     }
 }
 
-/// The docker line of an association at an event of its base train, if the event is on the day.
+/// The docker line of an association at an event of its base train. `None` if the event is on
+/// another day.
 fn line_at<'a>(
     visit: &mut Visit<'a>,
     link: &LinkView<'a>,
@@ -140,8 +143,8 @@ fn line_at<'a>(
     Ok(Some(DockerLine::of_link(link, occasion, visit.start(), event, identity)))
 }
 
-/// The train identity of the associated train on its start day. Question marks if the train doesn't
-/// run then, or if there is no such day.
+/// The train identity of the associated train on its start day. Four question marks if that train
+/// doesn't run, or if its start day would be before day 0.
 fn partner_identity<'a>(visit: &mut Visit<'a>, link: &LinkView<'_>) -> Result<[u8; 4], Memory>
     ensures same { visit.new ≡ visit.old }
     ensures identity { IfOk result (λ identity. (rows : List Row)

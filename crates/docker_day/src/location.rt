@@ -1,4 +1,4 @@
-//! What a docker prints of a location record.
+//! The columns of a location record that a docker prints.
 ghost use Rattle.std.specs.Prelude.{◌≡◌, ◌+◌, ◌-◌, ◌<◌, ◌≤◌};
 ghost use Rattle.docker_model.specs.records.Record.{kind_of, columns, column};
 ghost use Rattle.docker_model.specs.records.PrintedTime.{shown_public};
@@ -8,7 +8,8 @@ ghost use Rattle.docker_day.specs.Locations.{location_meant, location_by_kind, p
 use cif_line::{Kind, Line, kind};
 use train_choice::Occasion;
 
-/// What a docker prints of a location record. Anything that the record doesn't have is spaces.
+/// The columns of a location record that a docker prints. They are spaces if that kind of record
+/// doesn't have them.
 #[derive(Clone, Copy, Debug)]
 pub(crate) struct Location<'a> {
     /// The platform.
@@ -24,8 +25,9 @@ pub(crate) struct Location<'a> {
 }
 
 impl<'a> Location<'a> {
-    /// What a docker prints of a line. Only location records have events, so no docker prints
-    /// another line. Its platform would be columns 20 to 22, and all else spaces.
+    /// The columns of a line that a docker prints. It is called only with location records, because
+    /// no other line has an event. For any other line the platform would be columns 20 to 22, and
+    /// all else spaces.
     pub(crate) fn of(line: &'a Line) -> Location<'a>
         ensures { location_meant result ≡ location_by_kind (kind_of line.entry.now) line.entry.now }
     {
@@ -61,7 +63,7 @@ impl<'a> Location<'a> {
         }
     }
 
-    /// The public time for an occasion.
+    /// The public time for an occasion. Spaces unless the occasion is an arrival or a departure.
     pub(crate) fn public_time(&self, occasion: Occasion) -> &'a [u8; 4]
         ensures { result.now ≡ public_at (occasion_meant occasion) (location_meant self.now) }
     {

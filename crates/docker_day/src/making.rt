@@ -23,10 +23,10 @@ use docker_state::{State, Timetable};
 use std::alloc::Global;
 use train_choice::{associations_at, schedules_at};
 
-/// The docker of a timing point and a day: the events of trains that run, and the associations, at
-/// the timing point on the day. `Lapsed` if and only if the state has a horizon and the day is
-/// earlier than three days after it; entries that have lapsed could be missing then. `Memory` if
-/// there is no room for the lines, or for what is looked up for them.
+/// Makes the docker of a timing point and a day. It has the events there on that day, of trains
+/// that run, and the associations there. `Lapsed` if and only if the state has a horizon and the
+/// day is earlier than three days after it, because entries that have lapsed could be missing.
+/// `Memory` if there is no room for the lines, or for what is looked up for them.
 pub fn docker<'a>(
     alloc: Global,
     state: &'a State,
@@ -39,9 +39,10 @@ pub fn docker<'a>(
     docker_of(alloc, &Timetable::of(state), tiploc, day)
 }
 
-/// Like `docker`, without the short-term plan: of schedules and associations only those with the STP
-/// indicator `P` count. So it has the trains that short-term entries cancel or change, as they run
-/// otherwise, and none that they add. It is refused as `docker` is.
+/// Like `docker`, without the short-term plan: of schedules and associations, only those with the
+/// STP indicator `P` count. Trains that short-term entries cancel or change appear as they run
+/// otherwise. Trains that short-term entries add don't appear. The same days are refused as by
+/// `docker`.
 pub fn permanent_docker<'a>(
     alloc: Global,
     state: &'a State,
@@ -54,7 +55,7 @@ pub fn permanent_docker<'a>(
     docker_of(alloc, &Timetable::permanent(state), tiploc, day)
 }
 
-/// The docker of a timetable, a timing point and a day.
+/// Makes the docker of a timing point and a day from a timetable.
 fn docker_of<'a>(
     alloc: Global,
     timetable: &Timetable<'a>,
@@ -77,7 +78,7 @@ fn docker_of<'a>(
     }
 }
 
-/// Adds the lines of the associations at a place and of the schedules that call there.
+/// Adds the docker lines of the associations at a place and of the schedules that call there.
 fn add_all<'a>(
     alloc: Global,
     lines: &mut Vec<DockerLine<'a>>,
@@ -93,7 +94,7 @@ fn add_all<'a>(
     add_rows(lines, &mut visits, schedules_at(timetable, place))
 }
 
-/// The lines, in order.
+/// Sorts the lines into the order of a docker.
 fn in_order(mut lines: Vec<DockerLine<'_>>) -> Vec<DockerLine<'_>>
     ensures same { IsPermutation lines.entry.items result.items }
     ensures sorted { IsSorted docker_line_cmp result.items }
@@ -110,7 +111,7 @@ fn is_refused(horizon: u16, day: Day) -> bool
     (horizon > 0) & (day.number() < horizon + 3)
 }
 
-/// The description of a timing point: 26 bytes, which are spaces if the timing point isn't live.
+/// The description of a timing point: 26 bytes. They are spaces if the timing point isn't live.
 fn description<'a>(timetable: &Timetable<'a>, tiploc: &Tiploc) -> &'a [u8; 26]
     ensures text { result.now ≡ description_in (live_in timetable.now (tiploc_key tiploc.now)) }
     ensures good { IsOfGoodRows (live_in timetable.now) }
@@ -121,15 +122,15 @@ fn description<'a>(timetable: &Timetable<'a>, tiploc: &Tiploc) -> &'a [u8; 26]
     }
 }
 
-/// The description in a TIPLOC's body: columns 19 to 44 of its record. The body is columns 10 to
-/// 72.
+/// The description in a TIPLOC's body. The body is columns 10 to 72 of the TIPLOC record, and the
+/// description columns 19 to 44.
 fn description_of(bytes: &[u8; 63]) -> &[u8; 26]
     ensures { result.now ≡ columns 10 35 bytes.now }
 {
     columns_of(bytes, 10)
 }
 
-/// `N` bytes of a TIPLOC's body, from this column of the body on, counted from 1.
+/// `N` bytes of a TIPLOC's body from column `first` on. Columns of the body are counted from 1.
 fn columns_of<const N: usize>(bytes: &[u8; 63], first: usize) -> &[u8; N]
     requires from { 0 < first }
     requires within { first - 1 + N ≤ 63 }

@@ -1,4 +1,4 @@
-//! Gathers the lines of a docker from the rows of a walk, a portion at a time.
+//! Gathers the docker lines from the rows of a walk, a portion of sixteen rows at a time.
 ghost use Rattle.std.specs.Prelude.{◌≡◌, ◌<◌, ◌⊎◌, [], true, false, length, IsNone, IsSome, OnOk, Some};
 ghost use Rattle.arrayvec.specs.ArrayVec.{array_vec_len};
 ghost use Rattle.docker_laws.specs.Gathering.{gathered};
@@ -16,13 +16,13 @@ use arrayvec::ArrayVec;
 use cif_line::{Day, Memory};
 use docker_state::TimetableRows;
 
-/// How many rows are read before lines are added, so that cache misses overlap.
+/// How many rows are read before any line is added. Their cache misses then overlap.
 const PORTION: usize = 16;
 
-/// A portion: rows of a walk that have been read, each with its index.
+/// Rows of a walk that have been read, each with its index in the state.
 type Portion<'a> = ArrayVec<(usize, RowView<'a>), PORTION>;
 
-/// Adds the lines of rows at a place on a day. `Memory` if out of memory.
+/// Adds the docker lines of all rows of a walk. Returns `Memory` if there is no room for them.
 pub(crate) fn add_rows<'a>(
     lines: &mut Vec<DockerLine<'a>>,
     visits: &mut Visits<'a>,
@@ -49,7 +49,7 @@ pub(crate) fn add_rows<'a>(
 }
 
 /// Refills the portion with the next rows of the walk, and returns whether any of them may have
-/// lines on the day. It reads every row, so that cache misses overlap. At the end of the walk the
+/// lines on the day. Reads every row, so that the cache misses overlap. At the end of the walk the
 /// portion is empty.
 fn open_portion<'a>(portion: &mut Portion<'a>, rows: &mut TimetableRows<'a>, day: Day) -> bool
     requires { AreGoodRows rows.old }
@@ -86,8 +86,8 @@ fn open_next<'a>(portion: &mut Portion<'a>, rows: &mut TimetableRows<'a>, day: D
     Some(may_run)
 }
 
-/// Whether a row may have lines on a day. A schedule has none unless it has begun and marks that
-/// weekday or one of the two before.
+/// Whether a row may have lines on a day. A schedule has none unless it has begun by that day, and
+/// its days-run field marks that weekday or one of the two before.
 fn may_row_run(view: &RowView<'_>, day: Day) -> bool
     ensures { result ≡ row_may_run view.now day }
 {
@@ -97,7 +97,7 @@ fn may_row_run(view: &RowView<'_>, day: Day) -> bool
     }
 }
 
-/// Adds the lines of the rows of a portion, each with its index.
+/// Adds the docker lines of the rows of a portion.
 fn add_portion<'a>(
     lines: &mut Vec<DockerLine<'a>>,
     visits: &mut Visits<'a>,

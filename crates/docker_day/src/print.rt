@@ -1,4 +1,4 @@
-//! The text of a docker: a heading, the docker's lines and a last line, each of 56 columns and a
+//! The text of a docker: a heading, the docker's lines and a last line. Each has 56 columns and a
 //! line feed.
 ghost use Rattle.std.specs.Prelude.{◌≡◌, ℕ, List, ◌-◌, ◌^◌, ◌<◌, IsErr, OnOk, OnErr};
 ghost use Rattle.std.specs.List.{flat_map};
@@ -19,8 +19,8 @@ use fixed_text::{put, whole};
 /// How many bytes a line has: 56 columns and a line feed.
 const WIDTH: usize = 57;
 
-/// Writes a docker as it is printed. If a write fails, the sink has gained a proper prefix of the
-/// text.
+/// Writes a docker to a sink. If a write fails, the sink has gained only a proper prefix of the
+/// docker's text.
 pub fn write_docker<K: Sink>(docker: &Docker<'_>, sink: &mut K) -> Result<(), Failed>
     requires { K.failures sink.old < 2 ^ 64 - 1 }
     ensures whole { OnOk result (Takes (K.taken sink.old) (text_of docker.now) (K.taken sink.new)) }
@@ -53,7 +53,7 @@ fn write_lines<K: Sink>(sink: &mut K, lines: &[DockerLine<'_>]) -> Result<(), Fa
     Ok(())
 }
 
-/// The heading, with a line feed.
+/// The text of the heading, with a line feed.
 #[tactic(auto, unfolding(crate::specs::DockerValue::head))]
 fn heading(place: &Tiploc, day: Day, description: &[u8; 26]) -> [u8; WIDTH]
     ensures { result ≡ ended (head place.now day description.now) }
@@ -70,7 +70,7 @@ fn heading(place: &Tiploc, day: Day, description: &[u8; 26]) -> [u8; WIDTH]
     whole(text)
 }
 
-/// The last line, with a line feed.
+/// The text of the last line, with a line feed.
 fn last_line() -> [u8; WIDTH]
     ensures { result ≡ ended last_line }
 {
@@ -81,7 +81,7 @@ fn last_line() -> [u8; WIDTH]
     whole(text)
 }
 
-/// A line, with a line feed.
+/// The text of a docker line, with a line feed.
 fn text_of_line(line: &DockerLine<'_>) -> [u8; WIDTH]
     ensures { result ≡ ended (line_text line.now) }
 {
@@ -109,7 +109,7 @@ fn text_of_line(line: &DockerLine<'_>) -> [u8; WIDTH]
     whole(text)
 }
 
-/// The last 15 columns of a line.
+/// The last 15 columns of a docker line.
 fn text_of_detail(detail: &Detail) -> [u8; 15]
     ensures { result ≡ detail_text (detail_meant detail.now) }
 {

@@ -1,4 +1,4 @@
-//! A row, as a docker reads it.
+//! A typed view of a state's row.
 ghost use Rattle.std.specs.Prelude.{◌≡◌};
 ghost use Rattle.cif_change.specs.Meaning.{key_meant, body_meant};
 ghost use Rattle.docker_model.specs.state.State.{IsBodyOf};
@@ -8,7 +8,7 @@ ghost use Rattle.docker_day.specs.RowViews.{view_of};
 use cif_change::{Body, Key};
 use train_choice::{LinkView, ScheduleView, association_of, schedule_of};
 
-/// A row, read as a schedule, as an association, or as neither.
+/// A typed view of a state's row: its schedule, its association, or neither.
 #[derive(Default, Drop)]
 pub(crate) enum RowView<'a> {
     Train(ScheduleView<'a>),
@@ -18,7 +18,7 @@ pub(crate) enum RowView<'a> {
 }
 
 impl<'a> RowView<'a> {
-    /// The row with this key and body, read.
+    /// The typed view of the row with this key and body.
     pub(crate) fn of(key: &'a Key, body: &'a Body) -> RowView<'a>
         requires { IsBodyOf (key_meant key.now) (body_meant body.now) }
         ensures { result ≡ view_of (key_meant key.entry.now) (body_meant body.entry.now) }

@@ -1,4 +1,4 @@
-//! Start days: of associated trains, and of the trains that can be somewhere on a day.
+//! Start days: of associated trains, and of trains that may be at a place on a day.
 ghost use Rattle.std.specs.Prelude.{◌≡◌, ◌+◌, ◌≤◌};
 ghost use Rattle.docker_model.specs.docker.Association.{partner_start};
 ghost use Rattle.train_choice.specs.EventWalk.{occurrence_meant};
@@ -8,9 +8,9 @@ use crate::location::tiploc_in;
 use cif_line::{Day, Tiploc};
 use train_choice::{Occurrence, day_back};
 
-/// The start day of the associated train, from the base train's. It is the next day for the date
-/// indicator `N`, the day before for `P`, and otherwise the same day. `None` if there is no such
-/// day.
+/// The start day of the associated train, from the base train's start day and the date indicator.
+/// It is the next day for `N`, the day before for `P`, and otherwise the same day. `None` if there
+/// is no such day: day numbers go from 0 to 36524.
 pub(crate) fn partner_start(indicator: u8, start: Day) -> Option<Day>
     ensures { result ≡ partner_start indicator start }
 {
@@ -28,7 +28,7 @@ pub(crate) fn is_here(event: &Occurrence<'_>, place: &Tiploc) -> bool
     tiploc_in(event.line) == place.bytes()
 }
 
-/// Whether an event is on a day, if its train starts on `start`, which isn't after the day.
+/// Whether an event of a train that starts on `start` is on the day. The day isn't before `start`.
 #[tactic(auto, using(crate::proofs::Days::today_is))]
 pub(crate) fn is_today(event: &Occurrence<'_>, day: Day, start: Day) -> bool
     requires past { start ≤ day }

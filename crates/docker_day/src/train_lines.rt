@@ -18,8 +18,8 @@ use crate::visit::Visit;
 use cif_line::{Day, Memory, Tiploc};
 use train_choice::{Occurrence, ScheduleView, ends_of, passes_midnight};
 
-/// Adds the lines of a schedule for a visit, if its train runs by it on the start day. `row` is the
-/// index of the schedule's row. `Memory` if out of memory.
+/// Adds the docker lines of a schedule for a visit, if its train runs by it on the start day. `row`
+/// is the index of the schedule's row. Returns `Memory` if there is no room for them.
 pub(crate) fn add_schedule<'a>(
     lines: &mut Vec<DockerLine<'a>>,
     visit: &mut Visit<'a>,
@@ -33,7 +33,8 @@ pub(crate) fn add_schedule<'a>(
         train.now.lines visit.old.start)
         lines.old.items lines.new.items) }
 {
-    // Its own days are checked first, as the choice among its UID's schedules takes a search.
+    // The schedule's days are checked first, because the choice among its UID's schedules takes a
+    // search.
     if !train.runs_on(visit.start()) {
         return Ok(());
     }
@@ -51,8 +52,9 @@ pub(crate) fn runs_recently(train: &ScheduleView<'_>, day: Day) -> bool
     train.recent_runs(day).is_some()
 }
 
-/// Whether a schedule's train may be at a place on a day, after starting earlier. It may if the
-/// schedule runs on one of the two days before, and passes midnight by its last event at the place.
+/// Whether the train of a schedule may be at a place on a day after an earlier start day. It may if
+/// the schedule runs on one of the two days before, and passes midnight before or at its last event
+/// at the place.
 pub(crate) fn is_under_way(train: &ScheduleView<'_>, place: &Tiploc, day: Day) -> bool
     ensures { result ≡ is_under_way place.now train.now.lines day }
 {
@@ -63,7 +65,8 @@ pub(crate) fn is_under_way(train: &ScheduleView<'_>, place: &Tiploc, day: Day) -
     passes_midnight(train, place)
 }
 
-/// Adds the lines of a train's events at a place on a day.
+/// Adds the docker lines of a train's events at a place on a day. `start` is the day on which the
+/// train starts.
 fn add_events<'a>(
     lines: &mut Vec<DockerLine<'a>>,
     train: &ScheduleView<'a>,
@@ -81,7 +84,7 @@ fn add_events<'a>(
     }
 }
 
-/// Like `add_events`, for a train whose ends are known.
+/// Like `add_events`, for a train whose origin and destination are given as `detail`.
 fn add_there<'a>(
     lines: &mut Vec<DockerLine<'a>>,
     train: &ScheduleView<'a>,
@@ -103,7 +106,7 @@ fn add_there<'a>(
     Ok(())
 }
 
-/// Whether an event is at a place on a day.
+/// Whether an event of a train that starts on `start` is at the place on the day.
 fn is_there(event: &Occurrence<'_>, place: &Tiploc, day: Day, start: Day) -> bool
     requires past { start ≤ day }
     ensures { result ≡ (is_here place.now (occurrence_meant event.now)

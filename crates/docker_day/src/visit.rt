@@ -1,4 +1,4 @@
-//! A visit: a place on a day, for the trains that start on one day.
+//! A visit: what is looked up for the trains of one start day that may be at a place on a day.
 ghost use Rattle.std.specs.Prelude.{◌≡◌, ◌≤◌, true, List, IfOk};
 ghost use Rattle.docker_model.specs.file.File.{first_record};
 ghost use Rattle.state_laws.specs.Row.{Row, AreRowsOf};
@@ -18,10 +18,10 @@ use std::alloc::Global;
 use std::marker::Model;
 use train_choice::{DayLinks, DayTrains, Identities, Occurrence, ScheduleView};
 
-/// A visit: the trains that start on one day, at a place on that day or a later one. Whatever is
-/// looked up for it is kept: the trains and associations chosen on the start day, the calls of base
-/// trains, and the identities of associated trains. So each row is read only once, even if many
-/// rows need it.
+/// A visit: the trains that start on one day, and may be at a place on that day or a later one. It
+/// keeps whatever is looked up for them: the trains and associations chosen on the start day, the
+/// calls of base trains, and the identities of associated trains. So each row is read only once,
+/// even if many rows need it.
 #[derive(Debug, Drop)]
 pub(crate) struct Visit<'a> {
     place: Tiploc,
@@ -51,7 +51,7 @@ impl<'a> Model for Visit<'a> {
 }
 
 impl<'a> Visit<'a> {
-    /// The visit of the trains that start on a day. `Memory` if there is no room for the
+    /// The visit for the trains that start on `start`. `Memory` if there is no room for the
     /// associations chosen on that day.
     pub(crate) fn of(
         alloc: Global,
@@ -86,7 +86,7 @@ impl<'a> Visit<'a> {
         &self.place
     }
 
-    /// The day.
+    /// The day of the docker.
     pub(crate) fn day(&self) -> Day
         ensures { result ≡ self.now.day }
     {
@@ -101,8 +101,9 @@ impl<'a> Visit<'a> {
         self.start
     }
 
-    /// Whether the train of this schedule's UID runs by this schedule on the start day. The
-    /// schedule has to run on that day. `row` is the index of its row.
+    /// Whether a train runs by this schedule: whether the schedule is the one chosen for its UID on
+    /// the start day, and isn't a cancellation. The schedule has to run on that day. `row` is the
+    /// index of its row.
     pub(crate) fn runs_by(&mut self, row: usize, train: &ScheduleView<'a>) -> bool
         requires live { IsLiveTrain (live_in self.old.timetable) train.now }
         requires runs { schedule_runs (first_record train.now.lines) self.old.start ≡ true }
@@ -123,8 +124,9 @@ impl<'a> Visit<'a> {
         self.links.counts(key)
     }
 
-    /// The first event of a train's call at the place with this suffix. `None` if there is no such
-    /// call, or if the train doesn't run on the start day.
+    /// The first event of a train's call with this suffix at the place. `None` if there is no such
+    /// call, or if the train doesn't run on the start day. `Memory` if there is no room for the
+    /// train's calls.
     pub(crate) fn first_call(
         &mut self,
         uid: &Uid,
@@ -138,8 +140,8 @@ impl<'a> Visit<'a> {
         self.bases.first_call(uid, suffix)
     }
 
-    /// The train identity of a UID's train that starts on a day. Question marks if the train
-    /// doesn't run then.
+    /// The identity of the train of a UID that starts on a day. Four question marks if that train
+    /// doesn't run. `Memory` if there is no room to keep the identity.
     pub(crate) fn identity(&mut self, uid: &Uid, day: Day) -> Result<[u8; 4], Memory>
         ensures same { self.new ≡ self.old }
         ensures identity { IfOk result (λ identity. (rows : List Row)

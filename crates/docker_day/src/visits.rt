@@ -1,4 +1,4 @@
-//! A place on a day, for the trains of all start days that can be there.
+//! The visits for a place and a day: one for each day on which a train there may have started.
 ghost use Rattle.std.specs.Prelude.{◌≡◌, IfOk};
 ghost use Rattle.train_choice.specs.Known.{PlaceDay};
 ghost use Rattle.docker_day.specs.Visits.{visit_back};
@@ -10,8 +10,8 @@ use std::alloc::Global;
 use std::marker::Model;
 use train_choice::day_back;
 
-/// The visits to a place on a day. One is of the trains that start on that day. The others are of
-/// trains that start on the day before and two days before, if there are such days.
+/// The visits for a place and a day. One is for the trains that start on that day. The others are
+/// for the trains that start one and two days before, if those days exist.
 #[derive(Debug, Drop)]
 pub(crate) struct Visits<'a> {
     pub(crate) today: Visit<'a>,
@@ -41,8 +41,8 @@ impl<'a> Model for Visits<'a> {
 }
 
 impl<'a> Visits<'a> {
-    /// The visits to a place on a day. `Memory` if there is no room for the associations chosen on
-    /// the start days.
+    /// The visits for a place and a day. `Memory` if there is no room for the associations chosen
+    /// on the start days.
     pub(crate) fn at(
         alloc: Global,
         timetable: &Timetable<'a>,
@@ -66,7 +66,7 @@ impl<'a> Visits<'a> {
         self.today.place()
     }
 
-    /// The day.
+    /// The day of the docker.
     pub(crate) fn day(&self) -> Day
         ensures { result ≡ self.now.day }
     {
@@ -74,7 +74,8 @@ impl<'a> Visits<'a> {
     }
 }
 
-/// The visit of the trains that start `back` days before the day. `None` if there is no such day.
+/// The visit for the trains that start `back` days before the day. `None` if that would be before
+/// day 0. `Memory` if there is no room for the associations chosen on that start day.
 fn visit_back<'a>(
     alloc: Global,
     timetable: &Timetable<'a>,

@@ -1,4 +1,5 @@
--- The state of the changes kept of a file stands for the state of the whole file.
+-- The state made from the kept changes of a file gives the same docker as the state of the whole
+-- file.
 use Rattle.std.proofs.Common.{◌≡◌, ℕ, ◌≤◌, List, [], ◌∷◌, length, map, refl, ap, sym, ◌∙◌, subst, cond, None}
 use Rattle.std.specs.Prelude.{Option, option_and_then, slice_index_or}
 use Rattle.docker_model.specs.file.File.{IsFile, first_record, most_records}
@@ -21,7 +22,7 @@ first_is : (lines : List (List ℕ)) → slice_index_or lines 0 [] ≡ first_rec
 first_is [] = refl
 first_is (line ∷ lines) = refl
 
--- the state made by a file's header line and its changes
+-- the state that some changes make, under the date, time and reference of the header line `head`
 abbrev state_by : List ℕ → List Change → State
 state_by head all = record {
   horizon = 0;
@@ -29,7 +30,7 @@ state_by head all = record {
   entries = latest_entries (map (λ (change : Change). (change.key, entry_of (head ∷ []) change)) all);
 }
 
--- the state made by a file's changes is the file's summary
+-- the state that all changes of a file make is the file's summary
 pub state_is_summary : (file : FileRead) (lines : List (List ℕ)) → IsOfRecords file lines → state_of_read file ≡ summary_of lines
 state_is_summary file lines of = λ i. state_by ((of.header_is ∙ first_is lines) i) (of.changes_are i)
 
@@ -44,7 +45,7 @@ module _ (place : List ℕ) (day : ℕ) (lines : List (List ℕ)) (is_file : IsF
       (live_of_summary lines (summary_of lines) (summary_is lines) key)
       ∙ sym (thin_live place day lines kept thinning part of key)
 
-  -- the state of the kept changes stands for the file's summary
+  -- the state of the kept changes makes the same docker as the file's summary
   stands_for_summary : StandsAt place day (summary_of lines) part
   stands_for_summary docker made = record {
     place_is = made.place_is;
@@ -54,7 +55,8 @@ module _ (place : List ℕ) (day : ℕ) (lines : List (List ℕ)) (is_file : IsF
     list = (thin_state_list place day lines is_file few kept thinning part of (summary_of lines) (summary_is lines) docker.lines).1 made.list;
   }
 
--- the part, with the entries of the whole file, is the file's state
+-- the state of the kept changes, with the entries of the whole file instead of its own, is the
+-- file's state
 pub given_is_state : (file : FileRead) (lines : List (List ℕ)) → IsOfRecords file lines → (kept : List Change) (part : State)
     → IsStateOfChanges lines kept part → (entries : List (Key × Entry)) → entries ≡ (state_of_read file).entries
     → with_entries part entries ≡ state_of_read file
@@ -64,7 +66,7 @@ given_is_state file lines of_lines kept part of entries given = λ i. record {
   entries = given i;
 }
 
--- the state of the kept changes stands for the file's state
+-- the state of the kept changes makes the same docker as the file's state
 pub thin_stands : (place : List ℕ) (day : ℕ) (file : FileRead) (lines : List (List ℕ)) → IsOfRecords file lines → IsFile lines
     → length lines ≤ most_records → (kept : List Change) → IsThinning place day file.changes_made kept
     → (part : State) → IsStateOfChanges lines kept part → (entries : List (Key × Entry)) → entries ≡ (state_of_read file).entries

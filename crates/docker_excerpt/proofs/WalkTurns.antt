@@ -1,4 +1,4 @@
--- The steps of the walk that keeps an excerpt and the partners' names.
+-- What stays true of a walk that makes an excerpt, with each step.
 use Rattle.std.proofs.Common.{◌≡◌, ℕ, List, [], ◌∷◌, ◌++◌, refl, ap, sym, ◌∙◌, subst, inl, inr, ◌⊎◌, Bool, true, false, cond, Contains}
 use Rattle.std.specs.Prelude.{◌||◌, ◌↔◌, Option, Some, None}
 use Rattle.std.specs.Option.{option_to_list}
@@ -19,11 +19,11 @@ use Rattle.docker_excerpt.specs.Walked.{AreNames, IsWalk}
 abbrev Keyed : Type 0
 Keyed = Key × Entry
 
--- without entries no partner is named
+-- without entries, no associated train is named
 pub no_names : AreNames [] []
 no_names uid = (λ among. among, λ among. among)
 
--- before the first entry nothing is kept
+-- a walk that hasn't passed any entry has kept nothing
 pub walk_first : (place : List ℕ) → IsWalk place [] [] [] false []
 walk_first place = record { has_kept = kept_first place; told = no_names; sorted = inl refl }
 
@@ -32,7 +32,7 @@ unneeded : (place : List ℕ) (entries kept run : List Keyed) (needed : Bool) �
 unneeded place entries kept run needed has none =
     sym has.is_needed ∙ ap (λ (r : List Keyed). is_run_needed place (record { kept = kept; run = r })) none
 
--- the partners that one entry names
+-- the associated trains named in one entry: one or none
 names_of_one : (key : Key) (entry : Entry) → names_in ((key, entry) ∷ []) ≡ option_to_list (name_in key entry.op)
 names_of_one key entry = by (name_in key entry.op)
   where
@@ -40,7 +40,7 @@ names_of_one key entry = by (name_in key entry.op)
     by None = refl
     by (Some name) = refl
 
--- if one more entry is kept, the name in it is added to the names
+-- if one more entry is kept, the associated train that it names is added to the names
 names_more : (names : List (List ℕ)) (kept : List Keyed) (key : Key) (entry : Entry) → AreNames names kept
     → AreNames (names ++ option_to_list (name_in key entry.op)) (kept ++ (key, entry) ∷ [])
 names_more names kept key entry are uid =
@@ -58,7 +58,8 @@ names_more names kept key entry are uid =
 
 module _ (place : List ℕ) (state : State) (kept run : List Keyed) (needed : Bool) (names : List (List ℕ))
     (is : IsWalk place state.entries kept run needed names) where
-  -- when a TIPLOC or an association comes, no schedules of a UID are still being gathered
+  -- when a TIPLOC or an association follows, the run is empty, because schedules come after all
+  -- TIPLOCs and associations
   alone : (key : Key) → IsAboveEntries state key → ((uid : List ℕ) → has_uid uid key ≡ false) → run ≡ []
   alone = kept_alone place state kept run needed is.has_kept
 
@@ -67,7 +68,8 @@ module _ (place : List ℕ) (state : State) (kept run : List Keyed) (needed : Bo
       subst (λ (r : List Keyed). HasKept place entries after r needed) (sym none)
       (subst (λ (b : Bool). HasKept place entries after [] b) (sym (unneeded place state.entries kept run needed is.has_kept none)) has)
 
-  -- an entry at the place is kept, and its partner's name is noted
+  -- a TIPLOC or an association at the place is kept, and the associated train that it names is
+  -- added to the names
   pub walk_here : (key : Key) (entry : Entry) → IsAboveEntries state key → ((uid : List ℕ) → has_uid uid key ≡ false) → is_here place key ≡ true
       → IsWalk place (state.entries ++ (key, entry) ∷ []) (kept ++ (key, entry) ∷ []) run needed (names ++ option_to_list (name_in key entry.op))
   walk_here key entry above never here = record {
@@ -77,7 +79,7 @@ module _ (place : List ℕ) (state : State) (kept run : List Keyed) (needed : Bo
     sorted = inl (alone key above never);
   }
 
-  -- an entry of another place is not kept
+  -- a TIPLOC or an association at another place isn't kept
   pub walk_elsewhere : (key : Key) (entry : Entry) → IsAboveEntries state key → ((uid : List ℕ) → has_uid uid key ≡ false) → is_here place key ≡ false
       → IsWalk place (state.entries ++ (key, entry) ∷ []) kept run needed names
   walk_elsewhere key entry above never elsewhere = record {
@@ -87,7 +89,7 @@ module _ (place : List ℕ) (state : State) (kept run : List Keyed) (needed : Bo
     sorted = inl (alone key above never);
   }
 
-  -- a schedule with the run's UID joins the run
+  -- a schedule with the run's UID is added to the run
   pub walk_joins : (key : ScheduleKey) (entry : Entry) → goes_on run key.uid ≡ true
       → IsWalk place (state.entries ++ (schedule_key key, entry) ∷ []) kept (run ++ (schedule_key key, entry) ∷ []) (needed || is_call place entry.op) names
   walk_joins key entry goes = record {
@@ -100,7 +102,7 @@ module _ (place : List ℕ) (state : State) (kept run : List Keyed) (needed : Bo
       by (inl none) = absurd (let bad : false ≡ true = ap (λ (r : List Keyed). goes_on r key.uid) (sym none) ∙ goes in cc)
       by (inr sorted) = inr sorted
 
-  -- a schedule with another UID ends the run and begins the next
+  -- a schedule with another UID ends the run and begins the next one
   pub walk_begins : (key : ScheduleKey) (entry : Entry) (named : Bool) → goes_on run key.uid ≡ false → IsSorted bytes_cmp names
       → (named ≡ true) ↔ Contains names key.uid
       → IsWalk place (state.entries ++ (schedule_key key, entry) ∷ []) (cond needed (kept ++ run) kept) ((schedule_key key, entry) ∷ [])
@@ -123,7 +125,7 @@ module _ (place : List ℕ) (state : State) (kept run : List Keyed) (needed : Bo
           ∙ names_stay place state.entries key entry
           ∙ ap (λ (so_far : ExcerptSoFar). names_in so_far.kept) is.has_kept.so_far
 
-  -- sorting the names changes nothing else in the walk
+  -- sorting the names doesn't change what the walk has passed and kept
   pub walk_sorted : (after : List (List ℕ)) → IsPermutation names after → IsSorted bytes_cmp after → IsWalk place state.entries kept run needed after
   walk_sorted after moved sorted = record {
     has_kept = is.has_kept;
@@ -134,6 +136,6 @@ module _ (place : List ℕ) (state : State) (kept run : List Keyed) (needed : Bo
     sorted = inr sorted;
   }
 
-  -- at the end the excerpt has the entries that are kept, and the last run if it is needed
+  -- at the end, the excerpt has the kept entries, and the entries of the last run if it is needed
   pub walk_last : (excerpt_for place state).entries ≡ cond needed (kept ++ run) kept
   walk_last = kept_last place state kept run needed is.has_kept

@@ -1,4 +1,4 @@
--- The ledger of a state, as far as the state's parts were given.
+-- The ledger of a state whose parts are given one after the other.
 use Rattle.std.specs.Prelude.{◌≡◌, ℕ, List, [], length, Option}
 use Rattle.std.specs.Option.{option_map}
 use Rattle.docker_model.specs.file.Change as model
@@ -9,8 +9,9 @@ use Rattle.cif_change.specs.Meaning.{key_meant}
 use Rattle.state_text.specs.Parts.{last_key}
 use Rattle.docker_excerpt.specs.Values.{with_entries}
 
--- these parts have no entries yet. With the given entries they are a valid state without a horizon,
--- of which this is the last key and the number of entries
+-- says that `parts` is the ledger of a state with these entries. `parts` has no entry itself.
+-- Together they are a valid state without a horizon, `last` is the last entry's key, and `count`
+-- the number of entries
 pub record IsLedgerOf (parts : State) (last : Option Key) (count : ℕ) (entries : List (model.Key × Entry)) : Type 0 where
   pub valid : IsValid (with_entries parts entries)
   pub plain : parts.horizon ≡ 0

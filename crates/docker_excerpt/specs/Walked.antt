@@ -1,4 +1,4 @@
--- The walk over a state's entries that keeps an excerpt.
+-- How far a walk over a state's entries has come when it makes an excerpt.
 use Rattle.std.specs.Prelude.{◌≡◌, ℕ, Bool, List, [], ◌⊎◌, ◌↔◌, Contains}
 use Rattle.std.specs.List.Sorted.{IsSorted}
 use Rattle.docker_model.specs.file.Change.{Key}
@@ -7,18 +7,19 @@ use Rattle.docker_model.specs.state.Order.{bytes_cmp}
 use Rattle.docker_model.specs.state.State.{State}
 use Rattle.docker_laws.specs.ExcerptWalk.{names_in, HasKept}
 
--- the names are the partners that these entries' live associations name, in any order and with
--- repeats
+-- says that these names are the associated trains that live associations among the entries name.
+-- Their order doesn't matter, and a name may occur more than once
 abbrev pub AreNames : List (List ℕ) → List (Key × Entry) → Type 0
 AreNames names entries = (uid : List ℕ) → Contains names uid ↔ Contains (names_in entries) uid
 
--- after these entries the walk has kept these. `run` is the present UID's schedules, and `needed`
--- says whether they will be kept. The partners' names are sorted from the first run on
+-- says what a walk has kept after these entries. `run` has the schedules of the present UID, and
+-- `needed` says whether they will be kept. `names` are the associated trains, which are sorted when
+-- a run has begun
 pub record IsWalk (place : List ℕ) (entries kept run : List (Key × Entry)) (needed : Bool) (names : List (List ℕ)) : Type 0 where
   pub has_kept : HasKept place entries kept run needed
   pub told : AreNames names kept
   pub sorted : (run ≡ []) ⊎ IsSorted bytes_cmp names
 
--- the state with only these entries
+-- the state that has these entries, no ledger item and no horizon
 abbrev pub state_of_entries : List (Key × Entry) → State
 state_of_entries entries = record { horizon = 0; ledger = []; entries = entries }

@@ -1,5 +1,5 @@
-//! Walks over a state's entries for the docker of one place and one day. It skips what can't count
-//! on that day.
+//! Walks over a state's entries for the docker of one place and one day, and skips the schedules
+//! that can't count on that day.
 ghost use Rattle.std.specs.Prelude.{◌≡◌, [], ◌∷◌, ◌++◌, map, IsOk, IsErr, IfOk};
 ghost use Rattle.docker_model.specs.state.State as states;
 ghost use Rattle.docker_model.specs.state.State.{IsOpOf};
@@ -17,7 +17,7 @@ use cif_line::{Day, Memory, Tiploc};
 use state_text::{Entry, Given};
 use std::alloc::Global;
 
-/// A walk over the entries that may count near a day.
+/// A walk over the entries of a state that may count on a day.
 #[derive(Drop)]
 pub(crate) struct DayWalk {
     day: Day,
@@ -26,7 +26,7 @@ pub(crate) struct DayWalk {
 }
 
 impl DayWalk {
-    /// The walk before the first entry. It allocates nothing.
+    /// A walk that hasn't passed any entry. It allocates nothing.
     pub(crate) fn new(alloc: Global, place: Tiploc, day: Day) -> DayWalk
         ensures passed { HasPassed result [] }
         ensures place { result.walk.place ≡ place }
@@ -46,15 +46,15 @@ impl DayWalk {
         self.walk.place()
     }
 
-    /// The day.
+    /// The day of the docker.
     pub(crate) fn day(&self) -> Day
         ensures { result ≡ self.now.day }
     {
         self.day
     }
 
-    /// Passes the next entry, with its key. If memory runs out, the walk is still before that
-    /// entry.
+    /// Passes the next entry, which has this key. If memory runs out, the walk stays before the
+    /// entry, which is dropped.
     pub(crate) fn entry(&mut self, given: &Given, key: Key, entry: Entry) -> Result<(), Memory>
         requires passed { HasPassed self.old given.now.entries }
         requires above { IsAboveEntries (state_of_entries given.now.entries) (key_meant key) }
@@ -74,7 +74,8 @@ impl DayWalk {
         Ok(())
     }
 
-    /// The excerpt's entries, each with its key, in key order.
+    /// Ends the walk and returns the excerpt's entries, each with its key, in key order. `Memory`
+    /// if the last run of schedules can't be kept.
     pub(crate) fn finish(self) -> Result<Vec<(Key, Entry)>, Memory>
         ensures { IfOk result (λ rows. (state : states.State) → HasPassed self state.entries
             → map row_meant rows.items ≡ (excerpt_on self.walk.place self.day state).entries) }

@@ -16,9 +16,9 @@ use std::alloc::Global;
 use std::fmt;
 use std::marker::Model;
 
-/// What is kept of a state for a place and a day. The docker there on that day is the same as the
-/// whole state's. It serves for nothing else: it is no state to write, join or send, and it makes
-/// no docker of another day.
+/// What is kept of a state for the docker of one place and day, which is the same as the whole
+/// state's. It can't be used for anything else: it can't be written, joined or sent, and it makes
+/// no docker of another place or day.
 #[derive(Drop)]
 pub struct Excerpt {
     place: Tiploc,
@@ -50,8 +50,8 @@ impl fmt::Debug for Excerpt {
 }
 
 impl Excerpt {
-    /// The excerpt for a place and a day of the state with the entries that were given. `part` is
-    /// what was kept of that state.
+    /// The excerpt of a state for a place and a day. `part` is what was kept of the state. `given`
+    /// are, for proofs, all entries of the state.
     pub(crate) fn of(place: Tiploc, day: Day, part: State, given: Given) -> Excerpt
         requires { StandsAt place day (with_entries part given.entries) part }
         ensures { result ≡ record {
@@ -68,8 +68,8 @@ impl Excerpt {
         }
     }
 
-    /// The excerpt for a place and a day, from what was kept of a file for them. Its value has the
-    /// state of the whole file. If memory runs out, what was kept is dropped.
+    /// The excerpt for a place and a day, made from what was kept of a file for them. Its value has
+    /// the state of the whole file. If memory runs out, what was kept is dropped.
     pub fn of_file(
         alloc: Global,
         place: Tiploc,
@@ -83,15 +83,15 @@ impl Excerpt {
         ensures state { (records : List (List ℕ)) → IsOfRecords file.file records
             → IfOk result (λ it. it.state ≡ summary_of records) }
     {
-        // Called for its contract: enough of a file was kept.
+        // This call is made only for its contract, which says that enough of the file was kept.
         let _header = file.header();
         let given = given_of(&file);
         let part = State::of_thin(alloc, file)?;
         Ok(Excerpt::of(place, day, part, given))
     }
 
-    /// The docker of the place and the day. `Lapsed` if the state has a horizon and the day is
-    /// before the horizon plus three days, because lapsed entries may then be missing. `Memory` if
+    /// Makes the docker of the place and the day. `Lapsed` if the state has a horizon and the day
+    /// is earlier than three days after it, because lapsed entries may be missing. `Memory` if
     /// there is no room for the docker.
     pub fn docker(&self, alloc: Global) -> Result<Docker<'_>, DockerFault>
         ensures ok { IfOk result

@@ -20,11 +20,12 @@ use std::alloc::Global;
 use std::fmt;
 use std::marker::Model;
 
-/// The excerpt of a state for a place and a day. The state's parts are given in order, as `Parts`
-/// takes them. It keeps only the entries from which the docker is made: the place's TIPLOC, the
-/// associations there, and the schedules of some UIDs. These are the UIDs that call there, and the
-/// ones that a live association there names as its associated train. A schedule that runs on no
-/// start day near the day is passed over: it is neither kept nor looked at for calls.
+/// Makes the excerpt of a state for a place and a day. It is given the state's parts in order, as
+/// `Parts` is. It keeps only the entries from which the docker is made: the place's TIPLOC, the
+/// associations there, and all schedules of some UIDs. These are the UIDs of the trains that call
+/// there, and of the associated trains that live associations there name. A schedule that doesn't
+/// run on any start day from three days before the day to the day after is skipped. It is neither
+/// kept nor searched for calls.
 #[derive(Drop)]
 pub struct Excerpting {
     ledger: Ledger,
@@ -53,7 +54,7 @@ impl fmt::Debug for Excerpting {
 }
 
 impl Excerpting {
-    /// No parts yet. It takes no memory.
+    /// An excerpt to which no part was given. It allocates nothing.
     pub fn new(alloc: Global, place: Tiploc, day: Day) -> Excerpting
         ensures { result ≡ record {
           place = place;
@@ -67,7 +68,7 @@ impl Excerpting {
         }
     }
 
-    /// Gives the next ledger item. If memory runs out, everything is as it was.
+    /// Takes the next ledger item. If memory runs out, nothing changes and the item is dropped.
     pub fn item(&mut self, item: LedgerItem) -> Result<(), Memory>
         requires before_entries { self.old.told.entries ≡ [] }
         requires ledger { IsLedger (self.old.told.ledger ++ item_meant item ∷ []) }
@@ -80,8 +81,8 @@ impl Excerpting {
         self.ledger.item(item)
     }
 
-    /// Gives the next entry, with its key. If memory runs out, everything is as it was, without the
-    /// entry.
+    /// Takes the next entry, with its key. If memory runs out, nothing changes and the entry is
+    /// dropped.
     pub fn entry(&mut self, key: Key, entry: Entry) -> Result<(), Memory>
         requires few { length self.old.told.entries < 2 ^ 64 - 1 }
         requires here { IsStampHere self.old.told (key_meant key) (entry_meant entry).stamp }
@@ -98,7 +99,7 @@ impl Excerpting {
         Ok(())
     }
 
-    /// The ledger items given so far, ascending.
+    /// The ledger items that were given, in ascending order.
     pub fn ledger(&self) -> &[LedgerItem]
         ensures items { map item_meant result.now ≡ self.now.told.ledger }
         ensures valid { IsValid self.now.told }
@@ -106,23 +107,23 @@ impl Excerpting {
         self.ledger.items()
     }
 
-    /// How many entries were given, kept or not.
+    /// How many entries were given, whether kept or not.
     pub fn len(&self) -> u64
         ensures { result ≡ length self.now.told.entries }
     {
         self.ledger.len()
     }
 
-    /// The key of the last entry given, kept or not. `None` if there is none yet.
+    /// The key of the last entry that was given, whether kept or not. `None` if none was given.
     pub fn last(&self) -> Option<&Key>
         ensures { option_map key_meant (option_copied result) ≡ last_key self.now.told.entries }
     {
         self.ledger.last()
     }
 
-    /// The excerpt of the state whose parts were given, under the horizon that was read, if one
-    /// was. `Memory` if memory runs out, or if more than 4,294,967,295 entries or places are kept,
-    /// which are numbered in 32 bits. The parts are then dropped.
+    /// Makes the excerpt of the state whose parts were given. `horizon` is the state's horizon, if
+    /// it has one. `Memory` if memory runs out, or if more than 4,294,967,295 entries or places are
+    /// kept, because they are numbered in 32 bits. What was kept is then dropped.
     pub fn finish(self, horizon: Option<Day>) -> Result<Excerpt, Memory>
         requires { IsValid (under (horizon_meant horizon) self.told) }
         ensures { IfOk result (λ excerpt. excerpt ≡ record {
@@ -142,7 +143,7 @@ impl Excerpting {
     }
 }
 
-/// Gives rows to parts as entries.
+/// Adds rows to parts, as entries in the same order.
 fn with_rows(mut parts: Parts, rows: Vec<(Key, Entry)>) -> Result<Parts, Memory>
     requires plain { parts.horizon ≡ 0 }
     requires none { parts.entries ≡ [] }
@@ -155,7 +156,7 @@ fn with_rows(mut parts: Parts, rows: Vec<(Key, Entry)>) -> Result<Parts, Memory>
     Ok(parts)
 }
 
-/// A state under the horizon that was read, if one was. None of its entries lapses.
+/// Sets the horizon of a state, if there is one. No entry of the state lapses under it.
 fn under_horizon(mut state: State, horizon: Option<Day>) -> State
     requires plain { state.horizon ≡ 0 }
     requires valid { IsValid (under (horizon_meant horizon) state) }

@@ -1,4 +1,4 @@
-//! Keeps only the ledger while a state's parts are given, and no entries.
+//! Keeps the ledger of a state whose parts are given, and none of its entries.
 ghost use Rattle.std.specs.Prelude.{◌≡◌, ◌+◌, ◌-◌, ◌^◌, ◌<◌, [], ◌∷◌, ◌++◌, length, map, IsOk, IsErr, Some};
 ghost use Rattle.std.specs.Option.{option_copied, option_map};
 ghost use Rattle.docker_model.specs.state.State.{IsLedger, IsOpOf, IsValid};
@@ -17,11 +17,11 @@ use std::alloc::Global;
 use std::fmt;
 use std::marker::Model;
 
-/// The ledger of a state whose parts are given in order, as for `Parts`: ledger items, and then
-/// entries. It keeps none of the entries.
+/// The ledger of a state whose parts are given in order, as to `Parts`: first the ledger items,
+/// then the entries. Of the entries it keeps only their number and the last key.
 #[derive(Drop)]
 pub struct Ledger {
-    // these parts are only ledger items
+    // these parts have ledger items and no entries
     parts: Parts,
     last: Option<Key>,
     count: u64,
@@ -47,7 +47,7 @@ impl fmt::Debug for Ledger {
 }
 
 impl Ledger {
-    /// Without parts. It allocates nothing.
+    /// A ledger to which no part was given. It allocates nothing.
     pub fn new(alloc: Global) -> Ledger
         ensures { result ≡ record { horizon = 0; ledger = []; entries = [] } }
     {
@@ -84,21 +84,21 @@ impl Ledger {
         self.count
     }
 
-    /// The key of the last entry. `None` if there is no entry yet.
+    /// The key of the last entry that was given. `None` if none was given.
     pub fn last(&self) -> Option<&Key>
         ensures { option_map key_meant (option_copied result) ≡ last_key self.now.entries }
     {
         self.last.as_ref()
     }
 
-    /// The entries that were given, for proofs.
+    /// The entries that were given. They exist only for proofs.
     pub(crate) fn given(&self) -> &Given
         ensures { result.now.entries ≡ self.now.entries }
     {
         &self.given
     }
 
-    /// The entries that were given and one more, for proofs.
+    /// The entries that were given and one more. They exist only for proofs.
     pub(crate) fn with(&self, key: &Key, entry: &Entry) -> Given
         requires here { IsStampHere self.now (key_meant key.now) (entry_meant entry.now).stamp }
         requires op { IsOpOf (key_meant key.now) (entry_meant entry.now).op }
@@ -110,7 +110,8 @@ impl Ledger {
         Given::with(&self.given, key, entry)
     }
 
-    /// Counts one more entry, which has this key.
+    /// Counts one more entry and notes its key. `given` are, for proofs, all entries that were
+    /// given.
     pub(crate) fn pass(&mut self, key: Key, given: Given)
         requires few { length self.old.entries < 2 ^ 64 - 1 }
         requires valid { IsValid (with_entries self.old given.entries) }
@@ -123,8 +124,8 @@ impl Ledger {
         self.given = given;
     }
 
-    /// The ledger items as parts of a state, to which entries can then be given, and the entries
-    /// that were given, for proofs.
+    /// Returns the ledger items as parts of a state, to which entries can then be added. Returns
+    /// also, for proofs, the entries that were given.
     pub(crate) fn into_parts(self) -> (Parts, Given)
         ensures parts { result.0 ≡ record { horizon = 0; ledger = self.ledger; entries = [] } }
         ensures given { result.1.entries ≡ self.entries }
@@ -146,7 +147,7 @@ impl Keeper for Ledger {
         self.parts.item(item)
     }
 
-    /// Counts the entry and drops it. It allocates nothing.
+    /// Counts the entry and drops it. It allocates nothing, so it never returns `Memory`.
     fn entry(&mut self, key: Key, entry: Entry) -> Result<(), Memory> {
         let given = self.with(&key, &entry);
         self.pass(key, given);

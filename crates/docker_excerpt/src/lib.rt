@@ -1,5 +1,5 @@
-//! What a reader of a state keeps for one docker, of a place and a day: an excerpt, from which the
-//! docker is made. For the list of a state's files it keeps only the ledger.
+//! Excerpts: what a reader of a state keeps for the docker of one place and day. To list a state's
+//! files, a reader keeps only the ledger.
 #![tactic(auto)]
 
 mod day_walk;

@@ -1,4 +1,4 @@
-//! What is needed of an entry at a place.
+//! Which entries of a state the docker of a place needs.
 ghost use Rattle.std.specs.Prelude.{◌≡◌, ◌||◌, ◌↔◌, map, true, Contains};
 ghost use Rattle.std.specs.List.Sorted.{IsSorted};
 ghost use Rattle.docker_model.specs.state.Order.{bytes_cmp};
@@ -11,7 +11,7 @@ use cif_file::calls_at;
 use cif_line::{Tiploc, Uid};
 use state_text::{Entry, Op};
 
-/// Whether a key is a TIPLOC's or an association's at a place.
+/// Whether a key is the place's TIPLOC, or an association at the place.
 pub(crate) fn is_here(place: &Tiploc, key: &Key) -> bool
     ensures { result ≡ is_here place.now (key_meant key.now) }
 {
@@ -32,7 +32,8 @@ pub(crate) fn name_in(key: &Key, op: &Op) -> Option<Uid>
     }
 }
 
-/// Whether a schedule of this UID continues a run.
+/// Whether a schedule of this UID belongs to the run, because the run's schedules have the same
+/// UID. False for an empty run.
 pub(crate) fn goes_on(run: &[(Key, Entry)], uid: &Uid) -> bool
     ensures { result ≡ goes_on (map row_meant run.now) uid.now }
 {
@@ -42,7 +43,7 @@ pub(crate) fn goes_on(run: &[(Key, Entry)], uid: &Uid) -> bool
     }
 }
 
-/// Whether a UID is among sorted names, by a binary search.
+/// Whether a UID is among these sorted names. Takes a binary search.
 pub(crate) fn has_name(names: &[Uid], uid: &Uid) -> bool
     requires { IsSorted bytes_cmp names.now }
     ensures { (result ≡ true) ↔ Contains names.now uid.now }
@@ -50,8 +51,8 @@ pub(crate) fn has_name(names: &[Uid], uid: &Uid) -> bool
     names.binary_search(uid).is_ok()
 }
 
-/// Whether a run is needed with one more entry: it was needed before, or the entry is a live
-/// schedule that calls at a place.
+/// Whether a run with one more entry is needed. It is if it was needed before, or if the entry is a
+/// live schedule that calls at the place.
 pub(crate) fn is_needed_with(needed: bool, place: &Tiploc, op: &Op) -> bool
     ensures { result ≡ (needed || is_call place.now (op_meant op.now)) }
 {
@@ -61,7 +62,7 @@ pub(crate) fn is_needed_with(needed: bool, place: &Tiploc, op: &Op) -> bool
     is_call(place, op)
 }
 
-/// Whether an entry is a live schedule that calls at a place.
+/// Whether an op puts a schedule that calls at the place.
 fn is_call(place: &Tiploc, op: &Op) -> bool
     ensures { result ≡ is_call place.now (op_meant op.now) }
 {

@@ -1,5 +1,5 @@
-//! An excerpt for the place and the day that a type names, for a reader that gives a state's parts
-//! to any keeper.
+//! An excerpt for a place and a day that are named by a type. A reader gives it a state's parts, as
+//! it would to any `Keeper`.
 ghost use Rattle.std.specs.Prelude.{◌≡◌, []};
 
 use crate::excerpt::Excerpt;
@@ -11,7 +11,7 @@ use state_text::{Entry, Keeper, LedgerItem, Maker};
 use std::alloc::Global;
 use std::marker::{Model, PhantomData};
 
-/// An `Excerpting` for the place and the day that the type names.
+/// An `Excerpting` for the place and the day that the type `P` names.
 #[derive(Debug, Drop)]
 pub struct ExcerptingAt<P: PlaceDay> {
     excerpting: Excerpting,
@@ -31,7 +31,7 @@ impl<P: PlaceDay> Model for ExcerptingAt<P> {
 }
 
 impl<P: PlaceDay> ExcerptingAt<P> {
-    /// No parts yet. It takes no memory.
+    /// An excerpt to which no part was given. It allocates nothing.
     pub fn new(alloc: Global, place: Tiploc, day: Day) -> ExcerptingAt<P>
         requires place { place ≡ P.place }
         requires day { day ≡ P.day }

@@ -1,4 +1,4 @@
-//! Walks over a state's entries, and keeps the entries from which the dockers of a place are made.
+//! Walks over a state's entries and keeps those that the dockers of a place need.
 ghost use Rattle.std.specs.Prelude.{◌≡◌, ◌<◌, ℕ, List, [], ◌∷◌, ◌++◌, map, true, false, vec_len, vec_capacity, if◌then◌else◌, IsOk, IsErr, IfOk};
 ghost use Rattle.std.specs.List.Sorted.{IsSorted};
 ghost use Rattle.docker_model.specs.state.Order.{bytes_cmp};
@@ -16,20 +16,21 @@ use cif_line::{Memory, Tiploc, Uid};
 use state_text::{Entry, Given};
 use std::alloc::Global;
 
-/// What is kept so far, and the run of schedules of one UID. The run is separate until it ends.
+/// The entries that a walk has kept, and the run that it is in: the schedules of one UID. Only when
+/// a run ends is it kept or dropped, as a whole.
 #[derive(Debug, Drop)]
 pub(crate) struct ExcerptWalk {
     place: Tiploc,
     kept: Vec<(Key, Entry)>,
     run: Vec<(Key, Entry)>,
-    // whether the run is needed: its UID is a partner's, or one of its schedules calls at the place
+    // whether the run is needed: its UID is in `names`, or one of its schedules calls at the place
     needed: bool,
-    // the UIDs of partners; sorted from the first run on, since all associations come before it
+    // the associated trains that kept associations name, sorted when the first run begins
     names: Vec<Uid>,
 }
 
 impl ExcerptWalk {
-    /// Nothing kept yet. It takes no memory.
+    /// A walk that hasn't passed any entry. It allocates nothing.
     pub(crate) fn new(alloc: Global, place: Tiploc) -> ExcerptWalk
         ensures walked { HasWalked result [] }
         ensures place { result.place ≡ place }
@@ -50,7 +51,8 @@ impl ExcerptWalk {
         self.place
     }
 
-    /// Passes the next entry, with its key. If memory runs out, the walk is still before it.
+    /// Passes the next entry, which has this key. If memory runs out, the walk stays before the
+    /// entry, which is dropped.
     pub(crate) fn entry(&mut self, given: &Given, key: Key, entry: Entry) -> Result<(), Memory>
         requires walked { HasWalked self.old given.now.entries }
         requires above { IsAboveEntries (state_of_entries given.now.entries) (key_meant key) }
@@ -66,7 +68,7 @@ impl ExcerptWalk {
         }
     }
 
-    /// Passes a TIPLOC or an association, which is kept at once if it is at the place.
+    /// Passes a TIPLOC or an association, and keeps it if it is at the place.
     fn single(&mut self, given: &Given, key: Key, entry: Entry) -> Result<(), Memory>
         requires walked { HasWalked self.old given.now.entries }
         requires above { IsAboveEntries (state_of_entries given.now.entries) (key_meant key) }
@@ -87,7 +89,7 @@ impl ExcerptWalk {
         Ok(())
     }
 
-    /// Passes a schedule.
+    /// Passes a schedule, which belongs to the present run or begins the next.
     fn schedule(&mut self, given: &Given, key: ScheduleKey, entry: Entry) -> Result<(), Memory>
         requires { HasWalked self.old given.now.entries }
         ensures ok { IsOk result → HasWalked self.new
@@ -102,7 +104,7 @@ impl ExcerptWalk {
         }
     }
 
-    /// Adds a schedule to the run of its UID.
+    /// Adds a schedule to the present run, which has the same UID.
     fn join(&mut self, given: &Given, key: ScheduleKey, entry: Entry) -> Result<(), Memory>
         requires walked { HasWalked self.old given.now.entries }
         requires same { goes_on (map row_meant self.old.run.items) key.uid ≡ true }
@@ -117,7 +119,7 @@ impl ExcerptWalk {
         Ok(())
     }
 
-    /// Ends the run before a schedule of another UID, and begins the next run with that schedule.
+    /// Ends the present run, and begins the next one with a schedule of another UID.
     fn begin(&mut self, given: &Given, key: ScheduleKey, entry: Entry) -> Result<(), Memory>
         requires walked { HasWalked self.old given.now.entries }
         requires other { goes_on (map row_meant self.old.run.items) key.uid ≡ false }
@@ -136,7 +138,7 @@ impl ExcerptWalk {
         Ok(())
     }
 
-    /// Sorts the partners' names before the first run.
+    /// Sorts the names of associated trains. It does so only before the first run.
     fn sort_names(&mut self, given: &Given)
         requires { HasWalked self.old given.now.entries }
         ensures walked { HasWalked self.new given.now.entries }
@@ -151,8 +153,8 @@ impl ExcerptWalk {
         }
     }
 
-    /// Moves the run to what is kept if it is needed, and drops it if not. If memory runs out, both
-    /// are as they were.
+    /// Ends the run: its schedules are kept if the run is needed, and dropped if not. If memory
+    /// runs out, the run and what was kept are unchanged.
     fn end_run(&mut self) -> Result<(), Memory>
         ensures kept { IsOk result → self.new.kept.items ≡ (if self.old.needed
             then self.old.kept.items ++ self.old.run.items else self.old.kept.items) }
@@ -172,7 +174,8 @@ impl ExcerptWalk {
         Ok(())
     }
 
-    /// The entries of the excerpt, each with its key, in key order.
+    /// Ends the walk and returns the excerpt's entries, each with its key, in key order. `Memory`
+    /// if the last run can't be kept.
     pub(crate) fn finish(self) -> Result<Vec<(Key, Entry)>, Memory>
         ensures { IfOk result (λ rows. (state : states.State) → HasWalked self state.entries
             → map row_meant rows.items ≡ (excerpt_for self.place state).entries) }

@@ -1,4 +1,4 @@
--- Offices at the end of their runs.
+-- What offices know and print at the end of their runs.
 use Rattle.std.proofs.Common.{◌≡◌, ℕ, List, subst, arith}
 use Rattle.docker_model.specs.state.State.{State, live_table}
 use Rattle.docker_model.specs.state.StateText.{dks_2}
@@ -18,12 +18,13 @@ is_there known state end =
     let low = end.there in
     omega arith
 
--- what holds for an office's knowledge and state within a run holds for both at its end
+-- what holds for an office's knowledge and state in the result of a run holds for the `known` and
+-- `state` of `EndsWith`
 at_end : (P : Known → State → Type 0) (known : Known) (state : State) → (end : EndsWith known state)
     → P (known_at_end end.offices end.events end.exchange end.office) (office_state end.exchange.states end.office) → P known state
 at_end P known state end is = subst (P known) end.has (subst (λ k. P k (office_state end.exchange.states end.office)) end.knows is)
 
--- offices that know the same files and horizon have equal states
+-- two offices that know the same files and the same horizon have equal states
 pub one_state : (first second : Known) (one two : State) → EndsWith first one → EndsWith second two → AreOneKnowledge first second → one ≡ two
 one_state first second one two left right same =
     at_end (λ f o. AreOneKnowledge f second → o ≡ two) first one left
@@ -32,13 +33,14 @@ one_state first second one two left right same =
     (same_state dks_2 left.offices right.offices left.events right.events left.exchange right.exchange left.leaves.run right.leaves.run left.office
     right.office (is_there first one left) (is_there second two right))) same
 
--- for each place and day, all dockers that these two states print are equal
+-- says that these two states print the same docker, for each place and each day that neither of
+-- them refuses
 abbrev PrintOne : State → State → Type 0
 PrintOne one two =
     (place : List ℕ) (day : ℕ) → ¬ IsDayRefused one.horizon day → ¬ IsDayRefused two.horizon day → (text other : List ℕ)
     → IsDockerText (live_table one) place day text → IsDockerText (live_table two) place day other → text ≡ other
 
--- offices that know the same files print the same dockers
+-- two offices that know the same files print the same dockers
 pub one_docker : (first second : Known) (one two : State) → EndsWith first one → EndsWith second two → HaveSameFiles first.files second.files
     → PrintOne one two
 one_docker first second one two left right same =
@@ -48,7 +50,7 @@ one_docker first second one two left right same =
     (same_docker dks_2 left.offices right.offices left.events right.events left.exchange right.exchange left.leaves.run right.leaves.run left.office
     right.office (is_there first one left) (is_there second two right) left.leaves.good right.leaves.good)) same
 
--- an office prints the dockers of its files' plain table
+-- an office prints the dockers of the plain table of the files that it knows
 pub plain_prints : (known : Known) (state : State) → EndsWith known state → (plain : Table) → IsPlainTable known.files plain → PrintsAs state plain
 plain_prints known state end plain is =
     at_end (λ k s. IsPlainTable k.files plain → PrintsAs s plain) known state end

@@ -1,4 +1,4 @@
--- Each event of a run meets its definition, whatever the office returns.
+-- Whatever an office's call returns, its event in a run gets a reply that the definitions allow.
 use Rattle.std.proofs.Common.{◌≡◌, ℕ, ◌^◌, ◌<◌, ◌≤◌, List, [], ◌∷◌, ◌++◌, length, set, get_or, refl, sym, ◌∙◌}
 use Rattle.std.proofs.Common.{ap, subst, arith, Option, Some, None, Result, Ok, Err, IsOk, IsErr, IfErr}
 use Rattle.std.proofs.lemmas.List.{length-map, set-get_or, map-append}
@@ -35,7 +35,7 @@ use Rattle.docker_office.specs.declared.steps.Holdings.{Holdings}
 use Rattle.docker_office.specs.RunMeaning.{IsMissing, IsTextCause, refusal_of_file, reply_for, texts_of}
 use Rattle.docker_office.specs.RunSteps.{AreOf, MeetsEvent}
 
--- if a source's bytes are this text, a fault of reading the source is the text's fault
+-- if the bytes of a source are this text, the source's text has the fault that reading it returns
 pub refused_text : (limit : ℕ) (left text : List ℕ) (answer : Result Unit OfficeFault) → left ≡ text
     → ((fault : StateFault) → answer ≡ Err (why.State fault) → RefusesState dks_2 limit (Some left) fault)
     → (fault : StateFault) → answer ≡ Err (why.State fault) → RefusesState dks_2 limit (Some text) fault
@@ -113,7 +113,7 @@ module _ (known : KnownSets) (held : Holdings) (holds : AreOf known held) where
 
   -- ---- the states and messages after an event
 
-  -- only this office's state has changed, and the messages are unchanged
+  -- says that only the state of this office has changed, and no message
   pub record IsReplaced (office : ℕ) (now : State) (after : Holdings) : Type 0 where
     pub offices : after.offices.items ≡ set held.offices.items office now
     pub messages : after.messages.items ≡ held.messages.items
@@ -124,7 +124,8 @@ module _ (known : KnownSets) (held : Holdings) (holds : AreOf known held) where
       subst (λ states. Holds dks_2 sets states (texts_of after.messages.items)) (sym is.offices)
       (subst (λ kept. Holds dks_2 sets (set held.offices.items office now) (texts_of kept)) (sym is.messages) have)
 
-  -- if the office's new state equals its old one, nothing more is known
+  -- if the office's new state equals its old one, the offices and messages hold the states of what
+  -- was known before
   unchanged : (office : ℕ) (now : State) (after : Holdings) → IsReplaced office now after → now ≡ get_or held.offices.items office no_state
       → AreOf known after
   unchanged office now after is same =
@@ -174,7 +175,7 @@ module _ (known : KnownSets) (held : Holdings) (holds : AreOf known held) where
       holds = unchanged office now after is same;
     }
 
-    -- a take meets its definition, whatever the office returns
+    -- whatever a take returns, its reply is allowed
     pub take_met : (answer : Result Unit OfficeFault) (reply : Reply) → reply ≡ reply_for answer → limit ≤ 4_294_967_294
         → (IsOk answer → TakesFile limit (Some text) (get_or held.offices.items office no_state) now)
         → (IsErr answer → now ≡ get_or held.offices.items office no_state)
@@ -197,7 +198,7 @@ module _ (known : KnownSets) (held : Holdings) (holds : AreOf known held) where
 
   -- ---- a state is sent
 
-  -- the message of a send comes after the messages before it
+  -- a message that is sent comes after all earlier messages, and has the state of its office
   pub send_met : (office : ℕ) (message : Store) (after : Holdings) → office < length held.offices.items → after.offices.items ≡ held.offices.items
       → after.messages.items ≡ held.messages.items ++ message ∷ [] → message.taken ≡ state_text dks_2 (get_or held.offices.items office no_state)
       → MeetsEvent known (send_state office) Done after
@@ -237,7 +238,7 @@ module _ (known : KnownSets) (held : Holdings) (holds : AreOf known held) where
 
   module _ (office message : ℕ) (text : List ℕ) (there : office < length held.offices.items) (sent : message < length held.messages.items)
       (text_is : text ≡ message_text (texts_of held.messages.items) message) (short : length text < 2 ^ 64) where
-    -- the message's text has no fault
+    -- reading the message's text returns no fault of the text
     no_fault : (fault : StateFault) → RefusesState dks_2 (length text) (Some text) fault → ⊥
     no_fault fault refuses = by (state_cause_meant fault.cause) refuses.is
       where
@@ -253,7 +254,7 @@ module _ (known : KnownSets) (held : Holdings) (holds : AreOf known held) where
             no_fault_of_state dks_2 (length text) text reads.0 (record { at = fault.at; cause = cause }) reads.1
             (subst (λ t. states.IsStateFault dks_2 (length text) t (record { at = fault.at; cause = cause })) (sym refuses.held) is)
 
-    -- the message is the text of the state that was read from the message
+    -- the message is the text of the state that was read from it
     read_of : (state : State) → (read : ReadsState dks_2 (length text) (Some text) state)
         → IsStateText dks_2 (length text) (message_text (texts_of held.messages.items) message) state
     read_of state read = subst (λ t. IsStateText dks_2 (length text) t state) (sym read.held ∙ text_is) read.is
@@ -291,7 +292,7 @@ module _ (known : KnownSets) (held : Holdings) (holds : AreOf known held) where
       reload_without_memory : now ≡ get_or held.offices.items office no_state → MeetsEvent known (reload office message) (Refused (Office why.Memory)) after
       reload_without_memory same = record { told = tt; may = no_memory_there; holds = unchanged office now after is same }
 
-      -- a delivery meets its definition, whatever the office returns
+      -- whatever a delivery returns, its reply is allowed
       pub delivery_met : (answer : Result Unit OfficeFault) (reply : Reply) → reply ≡ reply_for answer
           → (IsOk answer → JoinsState dks_2 (length text) (Some text) (get_or held.offices.items office no_state) now)
           → (IsErr answer → now ≡ get_or held.offices.items office no_state)
@@ -312,7 +313,7 @@ module _ (known : KnownSets) (held : Holdings) (holds : AreOf known held) where
           by (Err why.Lapsed) ok stays state source only = absurd only
           by (Err why.Sink) ok stays state source only = absurd only
 
-      -- a reload meets its definition, whatever the office returns
+      -- whatever a reload returns, its reply is allowed
       pub reload_met : (answer : Result Unit OfficeFault) (reply : Reply) → reply ≡ reply_for answer
           → (IsOk answer → ReadsState dks_2 (length text) (Some text) now) → (IsErr answer → now ≡ get_or held.offices.items office no_state)
           → ((fault : StateFault) → answer ≡ Err (why.State fault) → RefusesState dks_2 (length text) (Some text) fault) → ¬ (answer ≡ Err why.Source)

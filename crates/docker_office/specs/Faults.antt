@@ -1,5 +1,5 @@
--- The faults of an office: the one that stands for a fault of a call below, and those that each
--- kind of call can have.
+-- The faults of an office: the one for each fault of a call below, and those that each kind of call
+-- can return.
 use Rattle.std.specs.Prelude.{⊤}
 use Rattle.cif_file.specs.declared.fault.ReadFault as files
 use Rattle.cif_file.specs.declared.fault.ReadFault.TheVariants as file_faults
@@ -27,7 +27,7 @@ abbrev pub office_fault_of_docker : dockers.DockerFault → OfficeFault
 office_fault_of_docker docker_faults.Lapsed = Lapsed
 office_fault_of_docker docker_faults.Memory = Memory
 
--- the faults of a call that reads a file
+-- says that a call that reads a file can return this fault
 abbrev pub IsOfFile : OfficeFault → Type 0
 IsOfFile (File fault) = ⊤
 IsOfFile Source = ⊤
@@ -36,7 +36,7 @@ IsOfFile (State fault) = ⊥
 IsOfFile Lapsed = ⊥
 IsOfFile Sink = ⊥
 
--- the faults of a call that reads a state
+-- says that a call that reads a state can return this fault
 abbrev pub IsOfState : OfficeFault → Type 0
 IsOfState (State fault) = ⊤
 IsOfState Source = ⊤
@@ -45,7 +45,7 @@ IsOfState (File fault) = ⊥
 IsOfState Lapsed = ⊥
 IsOfState Sink = ⊥
 
--- the faults of a call that prints a docker
+-- says that a call that prints a docker can return this fault
 abbrev pub IsOfDocker : OfficeFault → Type 0
 IsOfDocker Lapsed = ⊤
 IsOfDocker Sink = ⊤

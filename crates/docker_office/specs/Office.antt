@@ -10,19 +10,19 @@ use Rattle.docker_model.specs.state.StateFault.{IsStateText}
 use Rattle.docker_model.specs.docker.DockerText.{IsDockerText}
 use Rattle.cif_file.specs.SourceRead.{Held, WantsMemory}
 
--- no file is known, and no horizon is set
+-- the state without any file, and without a horizon
 abbrev pub no_state : State
 no_state = record { horizon = 0; ledger = []; entries = [] }
 
--- the source held the text of a file, of at most `limit` records
+-- says that the source held the text of a file, of at most `limit` records
 pub record HoldsFile (limit : ℕ) (left : Option (List ℕ)) : Type 0 where
   pub text : List ℕ
   pub held : Held left text
   pub file : List (List ℕ)
   pub is_text : IsFileText limit text file
 
--- the source held the text of a file, of at most `limit` records, and the state was joined with the
--- file's summary
+-- says that the source held the text of a file, of at most `limit` records, and that `new` is the
+-- join of `old` with the file's summary
 pub record TakesFile (limit : ℕ) (left : Option (List ℕ)) (old new : State) : Type 0 where
   pub text : List ℕ
   pub held : Held left text
@@ -32,11 +32,12 @@ pub record TakesFile (limit : ℕ) (left : Option (List ℕ)) (old new : State) 
   pub of_file : IsSummary (file ∷ []) 0 own
   pub joined : IsJoin old own new
 
--- memory ran out while a file was read, or for the state of a file that was read whole
+-- says that memory ran out while a file was read, or for the state of a file that was read whole
 abbrev pub WantsForFile : ℕ → Option (List ℕ) → Option (List ℕ) → Type 0
 WantsForFile limit old new = WantsMemory most_at_once limit old new ⊎ HoldsFile limit old
 
--- the state is the summary of these files and the one whose text the source held, under the horizon
+-- says that `new` is the summary of these files and of the file whose text the source held, under
+-- the horizon
 pub record KnowsFileToo (limit : ℕ) (left : Option (List ℕ)) (files : List (List (List ℕ))) (horizon : ℕ) (new : State) : Type 0 where
   pub text : List ℕ
   pub held : Held left text
@@ -44,26 +45,28 @@ pub record KnowsFileToo (limit : ℕ) (left : Option (List ℕ)) (files : List (
   pub is_text : IsFileText limit text file
   pub summary : IsSummary (file ∷ files) horizon new
 
--- the source's bytes are known, and are the text of this state in a format, within the limit
+-- says that the source can name its bytes, and that they are the text of this state, in this format
+-- and within the limit
 pub record HoldsState (format : Format) (limit : ℕ) (left : Option (List ℕ)) (sent : State) : Type 0 where
   pub text : List ℕ
   pub told : left ≡ Some text
   pub is : IsStateText format limit text sent
 
--- suppose that the old state is the summary of some files, and that the source held the text of the
--- summary of others. Then the new state is the summary of all of them, under the greater horizon
+-- says what a join makes of summaries. Suppose that `old` is the summary of some files, and that
+-- the source held the text of a summary of others. Then `new` is the summary of all these files,
+-- under the greater horizon
 abbrev pub JoinsSummaries : ℕ → Option (List ℕ) → State → State → Type 0
 JoinsSummaries limit left old new =
     (files others : List (List (List ℕ))) (g h : ℕ) (sent : State) → IsSummary files g old → IsSummary others h sent → HoldsState dks_2 limit left sent
     → IsSummary (files ++ others) (max g h) new
 
--- the sink gained the docker text of the state for a place and a day
+-- says that the sink gained the text of the state's docker for a place and a day
 pub record PrintsDocker (state : State) (place : List ℕ) (day : ℕ) (old new : Option (List ℕ)) : Type 0 where
   pub text : List ℕ
   pub is : IsDockerText (live_table state) place day text
   pub gained : Takes old text new
 
--- the sink gained a proper prefix of that text
+-- says that the sink gained a proper prefix of the text of the state's docker for a place and a day
 pub record PrintsPart (state : State) (place : List ℕ) (day : ℕ) (old new : Option (List ℕ)) : Type 0 where
   pub text : List ℕ
   pub is : IsDockerText (live_table state) place day text

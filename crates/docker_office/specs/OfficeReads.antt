@@ -1,4 +1,4 @@
--- The end of an office's reading of a state or a file.
+-- How the reading of a state or a file by an office ends.
 use Rattle.std.specs.Prelude.{◌≡◌, ℕ, ◌+◌, Option, Some, None, Result, Ok, Err, ⊤}
 use Rattle.cif_file.specs.SourceRead.{ReadsNoFurther, RefusesText}
 use Rattle.cif_device.specs.Device.{IsEnd}
@@ -14,7 +14,8 @@ use Rattle.docker_office.specs.declared.fault.OfficeFault.TheVariants.{File, Sta
 
 -- ---- a state
 
--- the fault of reading a state that an office's fault stands for, if it stands for one
+-- the fault of reading a state from which an office's fault comes. `None` if an office's fault
+-- doesn't come from reading a state
 abbrev pub why_unread : OfficeFault → Option ReadFault
 why_unread (State fault) = Some (states.State fault)
 why_unread Source = Some states.Source
@@ -23,15 +24,16 @@ why_unread (File fault) = None
 why_unread Lapsed = None
 why_unread Sink = None
 
--- the end of reading a state's text, with an office's faults
+-- says how the reading of a state's text by an office has ended
 abbrev pub EndsReadingState : {S A : Type 0} → (S → BytesLeft) → (S → ℕ) → Format → ℕ → (A → Type 0) → S → S → Result A OfficeFault → Type 0
 EndsReadingState left failures format limit IsMade source source_now result =
     EndsReadingBy WantsMemory why_unread left failures format limit IsMade source source_now result
 
 -- ---- a file
 
--- the result of taking a file: a value for which this holds, after the source was read to its end.
--- Or the fault of the file; or memory ran out, or the source failed
+-- says what the result of taking a file means. A value is one for which `IsMade` holds, and the
+-- source was read to its end. A fault is the file's, or it says that memory ran out or that the
+-- source failed
 abbrev pub IsTakingOutcome : {A : Type 0} → ℕ → (A → Type 0) → BytesLeft → BytesLeft → Result A OfficeFault → Type 0
 IsTakingOutcome limit IsMade left left_now (Ok made) = IsMade made × IsEnd left_now
 IsTakingOutcome limit IsMade left left_now (Err (File fault)) = RefusesText limit left fault
@@ -41,8 +43,8 @@ IsTakingOutcome limit IsMade left left_now (Err (State fault)) = ⊥
 IsTakingOutcome limit IsMade left left_now (Err Lapsed) = ⊥
 IsTakingOutcome limit IsMade left left_now (Err Sink) = ⊥
 
--- how often the source has failed: once more if that is the fault, and otherwise no more than
--- before
+-- says how the number of the source's failures has changed. It has grown by one if the fault is
+-- that the source failed, and otherwise not at all
 abbrev pub CountsTaking : {A : Type 0} → ℕ → ℕ → Result A OfficeFault → Type 0
 CountsTaking failures failures_now (Ok made) = failures_now ≡ failures
 CountsTaking failures failures_now (Err (File fault)) = failures_now ≡ failures
@@ -52,14 +54,14 @@ CountsTaking failures failures_now (Err (State fault)) = ⊥
 CountsTaking failures failures_now (Err Lapsed) = ⊥
 CountsTaking failures failures_now (Err Sink) = ⊥
 
--- nothing was read after the piece that decides the result. The result has these two properties:
--- what it says of the file, and how often the source has failed
+-- says that reading stopped at the piece that decides the result. `Outcome` says what the result
+-- means for the file, and `Counted` how often the source has failed
 pub record StopsTaking (limit : ℕ) (left left_now : BytesLeft) (Outcome Counted : Type 0) : Type 0 where
   pub no_further : ReadsNoFurther most_at_once limit left left_now
   pub outcome : Outcome
   pub failures : Counted
 
--- the end of taking a file with at most `limit` records
+-- says how the taking of a file with at most `limit` records has ended
 abbrev pub EndsTakingFile : {S A : Type 0} → (S → BytesLeft) → (S → ℕ) → ℕ → (A → Type 0) → S → S → Result A OfficeFault → Type 0
 EndsTakingFile left failures limit IsMade source source_now result =
     StopsTaking limit (left source) (left source_now) (IsTakingOutcome limit IsMade (left source) (left source_now) result)

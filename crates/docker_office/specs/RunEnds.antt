@@ -1,4 +1,4 @@
--- The result of a run, by event, by office and by message.
+-- The result of a run, for each event, each office and each message.
 use Rattle.std.specs.Prelude.{◌≡◌, ℕ, ◌<◌, ◌≤◌, ◌↔◌, List, take, slice_index_or, All, ⊤}
 use Rattle.docker_model.specs.state.State.{State, live_table}
 use Rattle.docker_model.specs.state.Lapse.{IsDayRefused}
@@ -8,7 +8,7 @@ use Rattle.docker_model.specs.state.StateText.{dks_2}
 use Rattle.docker_model.specs.run.Run.{RunEvent, take_file, send_state, deliver, reload, horizon_event, Reply, done, Known, Exchange, IsRun, IsReply, IsStateOf, IsMessageOf, office_known, message_known, known_sets}
 use Rattle.docker_model.specs.run.Knowledge.{IsGoodEvent, office_state, message_text, sets_of}
 
--- a take's limit is at most 4,294,967,294 records
+-- says that the limit of a take is at most 4,294,967,294 records
 abbrev pub HasGoodLimit : RunEvent → Type 0
 HasGoodLimit (take_file office text limit) = limit ≤ 4_294_967_294
 HasGoodLimit (send_state office) = ⊤
@@ -16,8 +16,8 @@ HasGoodLimit (deliver office message) = ⊤
 HasGoodLimit (reload office message) = ⊤
 HasGoodLimit (horizon_event office day) = ⊤
 
--- this is the result of a run of these events at `offices` offices, with messages in the format
--- `DKS2`. The limits and horizons of the events are good
+-- says that this is the result of a run of these events at `offices` offices. Messages are in the
+-- format `DKS2`, and the limits and horizons of the events are good
 pub record LeavesRun (offices : ℕ) (events : List RunEvent) (exchange : Exchange) : Type 0 where
   pub run : IsRun dks_2 offices events exchange
   pub good : All (IsGoodEvent dks_2) events
@@ -38,20 +38,21 @@ event_at events place = slice_index_or events place (send_state 0)
 abbrev pub reply_at : List Reply → ℕ → Reply
 reply_at replies place = slice_index_or replies place done
 
--- the reply at this index is one that its event may have, after the earlier events and replies
+-- says that the reply at this index is one that its event may have, after the earlier events with
+-- their replies
 abbrev pub IsReplyAt : ℕ → List RunEvent → List Reply → ℕ → Type 0
 IsReplyAt offices events replies place =
     IsReply (known_sets offices (take place events) (take place replies)) (event_at events place) (reply_at replies place)
 
--- the state of this office is the summary of what the office knows
+-- says that the state of this office is the summary of what the office knows
 abbrev pub HasSummary : ℕ → List RunEvent → Exchange → ℕ → Type 0
 HasSummary offices events exchange office = IsStateOf (known_at_end offices events exchange office) (office_state exchange.states office)
 
--- this message is the text of the summary of what its office knew when it was sent
+-- says that this message is the text of the summary of what its office knew when it was sent
 abbrev pub TellsSummary : ℕ → List RunEvent → Exchange → ℕ → Type 0
 TellsSummary offices events exchange message = IsMessageOf dks_2 (sent_with offices events exchange message) (message_text exchange.messages message)
 
--- at the end of some run, an office knows this and has this state
+-- says that an office knows this and has this state at the end of some run
 pub record EndsWith (known : Known) (state : State) : Type 0 where
   pub offices : ℕ
   pub events : List RunEvent
@@ -62,8 +63,8 @@ pub record EndsWith (known : Known) (state : State) : Type 0 where
   pub knows : known_at_end offices events exchange office ≡ known
   pub has : office_state exchange.states office ≡ state
 
--- for each place and each day that the state doesn't refuse, the state's docker is the table's
--- docker
+-- says that the state's docker is the table's docker, for each place and each day that the state
+-- doesn't refuse
 abbrev pub PrintsAs : State → Table → Type 0
 PrintsAs state table =
     (place : List ℕ) (day : ℕ) → ¬ IsDayRefused state.horizon day → (text : List ℕ) → IsDockerText (live_table state) place day text

@@ -1,4 +1,4 @@
--- Events, replies and messages of the code, translated to the definitions.
+-- Converts events, replies and messages from the code's types to the types of the definitions.
 use Rattle.std.specs.Prelude.{ℕ, ◌<◌, ◌≤◌, List, map, Option, Some, None, Result, Ok, Err, ⊤}
 use Rattle.cif_change.specs.Cause.{cause_meant}
 use Rattle.cif_device.specs.Device.{Store}
@@ -14,7 +14,7 @@ use Rattle.docker_office.specs.declared.reply.Reply.TheVariants.{Done, Refused}
 use Rattle.docker_office.specs.declared.reply.RunFault.{RunFault}
 use Rattle.docker_office.specs.declared.reply.RunFault.TheVariants.{NoOffice, NoMessage, Office}
 
--- an event as the definitions have it
+-- an event of the code, converted to the definitions' type
 abbrev pub event_meant : Event → model.RunEvent
 event_meant (event.Take office text limit) = take_file office text.now limit
 event_meant (event.Send office) = send_state office
@@ -22,34 +22,36 @@ event_meant (event.Deliver office message) = deliver office message
 event_meant (event.Reload office message) = reload office message
 event_meant (event.Horizon office day) = horizon_event office day
 
--- events as the definitions have them
+-- events of the code, converted to the definitions' type
 abbrev pub events_meant : List Event → List model.RunEvent
 events_meant = map event_meant
 
--- the refusal for a file's fault at this record. If the cause isn't a text's, it is out of memory
+-- the refusal of a file for its fault at this record, in the definitions' type. `None` as the cause
+-- stands for out of memory
 abbrev pub refusal_of_file : ℕ → Option files.FileCause → model.Refusal
 refusal_of_file number None = no_memory
 refusal_of_file number (Some cause) = bad_file (record { number = number; cause = cause })
 
--- the refusal for an office's fault. In a run that is a file's fault or out of memory
+-- the fault of an office in a run, converted to the definitions' type: a file's fault, or out of
+-- memory
 abbrev pub refusal_meant : OfficeFault → model.Refusal
 refusal_meant (fault.File why) = refusal_of_file why.number (cause_meant why.cause)
 refusal_meant _ = no_memory
 
--- a reply as the definitions have it
+-- a reply of the code, converted to the definitions' type
 abbrev pub reply_meant : Reply → model.Reply
 reply_meant Done = done
 reply_meant (Refused NoOffice) = refused no_office
 reply_meant (Refused NoMessage) = refused no_message
 reply_meant (Refused (Office why)) = refused (refusal_meant why)
 
--- the cause is one that a text can have
+-- says that the cause is one that a file's text can have. Out of memory isn't
 abbrev pub IsTextCause : Option files.FileCause → Type 0
 IsTextCause None = ⊥
 IsTextCause (Some cause) = ⊤
 
--- the office faults that can occur in a run: a file's fault, whose cause is never out of memory,
--- and out of memory
+-- says that an office's fault can occur in a run: it is a file's fault, whose cause isn't out of
+-- memory, or it is out of memory
 abbrev pub IsRunRefusal : OfficeFault → Type 0
 IsRunRefusal (fault.File why) = IsTextCause (cause_meant why.cause)
 IsRunRefusal fault.Memory = ⊤
@@ -58,19 +60,20 @@ IsRunRefusal fault.Lapsed = ⊥
 IsRunRefusal fault.Source = ⊥
 IsRunRefusal fault.Sink = ⊥
 
--- the replies that can occur in a run
+-- says that a reply can occur in a run
 abbrev pub IsRunReply : Reply → Type 0
 IsRunReply Done = ⊤
 IsRunReply (Refused NoOffice) = ⊤
 IsRunReply (Refused NoMessage) = ⊤
 IsRunReply (Refused (Office why)) = IsRunRefusal why
 
--- the reply to an event, by its office's result
+-- the reply to an event, from the office's result
 abbrev pub reply_for : Result Unit OfficeFault → Reply
 reply_for (Ok unit) = Done
 reply_for (Err why) = Refused (Office why)
 
--- what doesn't exist, among this many offices and messages: the office, or else the message
+-- says what doesn't exist among this many offices and messages: the office, or otherwise the
+-- message
 abbrev pub IsMissing : (offices messages office message : ℕ) → RunFault → Type 0
 IsMissing offices messages office message NoOffice = offices ≤ office
 IsMissing offices messages office message NoMessage = (office < offices) × (messages ≤ message)

@@ -1,4 +1,4 @@
--- The states and messages in the middle of a run, and the next event.
+-- One event in the middle of a run: what offices and messages hold before it and after it.
 use Rattle.docker_model.specs.state.StateText.{dks_2}
 use Rattle.docker_model.specs.run.Run.{RunEvent, KnownSets, IsReply, after_reply}
 use Rattle.docker_model.specs.run.Knowledge.{Holds}
@@ -6,12 +6,12 @@ use Rattle.docker_office.specs.declared.reply.Reply.{Reply}
 use Rattle.docker_office.specs.declared.steps.Holdings.{Holdings}
 use Rattle.docker_office.specs.RunMeaning.{IsRunReply, reply_meant, texts_of}
 
--- the offices and messages hold exactly what is known
+-- says that the offices and the messages hold exactly the states of what is known
 abbrev pub AreOf : KnownSets → Holdings → Type 0
 AreOf known held = Holds dks_2 known held.offices.items (texts_of held.messages.items)
 
--- the event may have this reply there, and after it the offices and messages hold exactly what is
--- known then
+-- says that an event may have this reply, and that after it the offices and messages hold the
+-- states of what is then known
 pub record MeetsEvent (known : KnownSets) (event : RunEvent) (reply : Reply) (held : Holdings) : Type 0 where
   pub told : IsRunReply reply
   pub may : IsReply known event (reply_meant reply)

@@ -1,11 +1,11 @@
 //! Events at offices.
 use cif_line::Day;
 
-/// An event at an office. Offices and messages are numbered from 0. A message that no event
-/// delivers is lost.
+/// An event at one office in a run. Offices and messages are numbered from 0. A message that no
+/// event delivers is lost.
 #[derive(Clone, Copy, Debug)]
 pub enum Event<'a> {
-    /// The office takes the file with this text.
+    /// The office takes a file: it joins its state with the file's.
     Take {
         /// The office.
         office: usize,
@@ -19,14 +19,14 @@ pub enum Event<'a> {
         /// The office.
         office: usize,
     },
-    /// A message is delivered: the office joins its state with the message's.
+    /// The office receives a message: it joins its state with the one in the message.
     Deliver {
         /// The office.
         office: usize,
         /// The message.
         message: usize,
     },
-    /// The office goes back to a message's state.
+    /// The office replaces its state by the one in a message.
     Reload {
         /// The office.
         office: usize,
@@ -37,7 +37,7 @@ pub enum Event<'a> {
     Horizon {
         /// The office.
         office: usize,
-        /// The first day whose dockers are kept.
+        /// The horizon: whatever ended before this day lapses.
         day: Day,
     },
 }

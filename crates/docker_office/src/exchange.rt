@@ -7,7 +7,7 @@ use crate::reply::Reply;
 use cif_line::Kept;
 use std::marker::Model;
 
-/// The result of a run: the offices, all messages that were sent, and the replies to the events.
+/// The result of a run: the offices, all messages that were sent, and a reply to each event.
 #[derive(Debug, Drop)]
 pub struct Exchange {
     offices: Vec<Office>,
@@ -32,7 +32,7 @@ impl Model for Exchange {
 }
 
 impl Exchange {
-    /// The result with these parts.
+    /// The result of a run with these offices, messages and replies.
     pub(crate) fn of(offices: Vec<Office>, messages: Vec<Kept>, replies: Vec<Reply>) -> Exchange
         requires { All IsRunReply replies.items }
         ensures { result ≡ record {
@@ -55,7 +55,7 @@ impl Exchange {
         self.offices.as_slice()
     }
 
-    /// All messages, in the order in which they were sent, whether they were delivered or not. Each
+    /// All messages, whether they were delivered or not, in the order in which they were sent. Each
     /// holds its whole text.
     pub fn messages(&self) -> &[Kept]
         ensures { texts_of result.now ≡ self.now.messages }

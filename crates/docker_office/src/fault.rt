@@ -7,15 +7,15 @@ use thiserror::Error;
 /// Why an office refuses a request.
 #[derive(Clone, Copy, PartialEq, Eq, Debug, Error)]
 pub enum OfficeFault {
-    /// The source holds no file: the fault is at the first bad record. The cause is never out of
-    /// memory.
+    /// The source doesn't hold a file. The fault is at the first bad record, and its cause is never
+    /// out of memory.
     #[error("file refused: {0}")]
     File(FileFault),
-    /// The source holds no state: the fault is at the first bad part. The cause is never out of
-    /// memory.
+    /// The source doesn't hold a state. The fault is at the first bad part, and its cause is never
+    /// out of memory.
     #[error("state refused: {0}")]
     State(StateFault),
-    /// The state has a horizon, and the day is less than three days after it.
+    /// The state has a horizon, and the day is earlier than three days after it.
     #[error("day refused: before horizon plus three days")]
     Lapsed,
     /// The source failed.
@@ -24,7 +24,7 @@ pub enum OfficeFault {
     /// The sink failed.
     #[error("the sink failed")]
     Sink,
-    /// Out of memory: the allocator refused to grow.
+    /// Out of memory: the allocator refused a request.
     #[error("want of memory")]
     Memory,
 }

@@ -1,4 +1,4 @@
-//! The list of a state's files, as text: for each file a line of 33 columns and a line feed.
+//! Writes the list of a state's files: for each file a line of 33 columns and a line feed.
 ghost use Rattle.std.specs.Prelude.{◌≡◌, ◌-◌, ◌^◌, ◌<◌, map, All, IsErr, OnOk, OnErr};
 ghost use Rattle.cif_device.specs.Device.{CountsFailure, Takes, TakesPart};
 ghost use Rattle.docker_model.specs.docker.DockerText.{ended, file_text, files_text};
@@ -11,10 +11,10 @@ use cif_line::{Failed, Sink, write_all};
 use docker_day::LedgerItem;
 use fixed_text::{put, whole};
 
-/// The bytes of a line with its line feed.
+/// How many bytes a line has: 33 columns and a line feed.
 const WIDTH: usize = 34;
 
-/// Writes the lines of these ledger items, in order.
+/// Writes a line for each ledger item, in order.
 pub(crate) fn write_files<K: Sink>(items: &[LedgerItem], sink: &mut K) -> Result<(), Failed>
     requires failures { K.failures sink.old < 2 ^ 64 - 1 }
     requires good { All IsGoodItem (map item_meant items.now) }
@@ -30,8 +30,8 @@ pub(crate) fn write_files<K: Sink>(items: &[LedgerItem], sink: &mut K) -> Result
     Ok(())
 }
 
-/// The line of a ledger item: day, minute, reference, update indicator and last reference, then a
-/// line feed.
+/// The line of a ledger item, with a line feed: day, minute, reference, update indicator and last
+/// reference.
 fn line_of(item: &LedgerItem) -> [u8; WIDTH]
     requires { item.now.minute < 1440 }
     ensures { result ≡ ended (file_text (item_meant item.now)) }
@@ -49,7 +49,7 @@ fn line_of(item: &LedgerItem) -> [u8; WIDTH]
     whole(text)
 }
 
-/// A minute of the day as hours and minutes, HHMM.
+/// The time of a minute of the day as HHMM.
 fn clock_text(minute: u16) -> [u8; 4]
     requires { minute < 1440 }
     ensures { result ≡ minute_text minute }

@@ -1,7 +1,7 @@
 //! The laws of runs. Offices may take files, send, receive and reload, and messages may be lost,
-//! repeated or reordered. In each run the files and the horizon that an office knows determine its
+//! repeated or reordered. In each run, the files and the horizon that an office knows determine its
 //! bytes and its dockers. Each law is the contract of a function with an empty body, so it holds
-//! for every value that it names.
+//! for all values of its variables.
 ghost use Rattle.std.specs.Prelude.{◌≡◌, ℕ, List};
 ghost use Rattle.docker_model.specs.state.State.{State, live_table};
 ghost use Rattle.docker_model.specs.state.StateText.{dks_2, state_text};
@@ -14,7 +14,7 @@ ghost use Rattle.docker_model.specs.run.Knowledge.{AreOneKnowledge, HaveSameFile
 ghost use Rattle.docker_office.specs.RunEnds.{EndsWith, PrintsAs};
 
 /// Two offices that know the same files and the same horizon have equal states, and so equal bytes.
-/// They may be in one run or in two.
+/// The offices may be in one run or in two different runs.
 pub fn known_files_fix_states()
     ensures state { (first second : Known) (one two : State) → EndsWith first one
         → EndsWith second two → AreOneKnowledge first second → one ≡ two }
@@ -23,8 +23,9 @@ pub fn known_files_fix_states()
         → state_text dks_2 one ≡ state_text dks_2 two }
 {}
 
-/// Two offices that know the same files print the same dockers, whatever their horizons, for each
-/// timing point and each day that neither refuses. They may be in one run or in two.
+/// Two offices that know the same files print the same dockers, for each timing point and each day
+/// that neither of them refuses. Their horizons may differ. The offices may be in one run or in two
+/// different runs.
 pub fn known_files_fix_dockers()
     ensures { (first second : Known) (one two : State) → EndsWith first one → EndsWith second two
         → HaveSameFiles first.files second.files → (place : List ℕ) (day : ℕ)
@@ -33,9 +34,9 @@ pub fn known_files_fix_dockers()
         → IsDockerText (live_table two) place day other → text ≡ other }
 {}
 
-/// If no two files that an office knows have the same moment, they have a plain table. That is the
-/// result of the newest full extract and then each later update, in the order of their moments.
-/// Each docker that the office prints is the docker of this table.
+/// If no two files that an office knows have the same moment, the files have a plain table. It is
+/// the newest full extract, with each later update applied in the order of their moments. Each
+/// docker that the office prints is the docker of this table.
 pub fn dockers_are_of_the_plain_table()
     ensures { (known : Known) (state : State) → EndsWith known state
         → HaveDistinctMoments known.files

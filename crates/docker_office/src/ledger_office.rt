@@ -15,8 +15,8 @@ use docker_bytes::{KeptLedger, read_ledger};
 use std::alloc::Global;
 use std::marker::Model;
 
-/// An office with the ledger of a state. In contracts its value is the whole state. It only lists
-/// the files: its state can't be written, joined or sent.
+/// An office that keeps only the ledger of a state, and lists its files. In contracts its value is
+/// the whole state. The state can't be written, joined or sent.
 #[derive(Debug, Drop)]
 pub struct LedgerOffice {
     ledger: KeptLedger,
@@ -31,9 +31,9 @@ impl Model for LedgerOffice {
 }
 
 impl LedgerOffice {
-    /// The office with the state that a source holds, whose text has at most `limit` bytes. Like
-    /// `Office::reload`, it fails with `State`, `Source` or `Memory`: all parts of the text are
-    /// judged, though no entry is kept.
+    /// Reads a state from a source, and keeps its ledger. A text with more than `limit` bytes is
+    /// refused. It refuses, by `State`, `Source` or `Memory`, what `Office::reload` refuses: all
+    /// parts of the text are judged, although no entry is kept.
     pub fn read<S: Source>(
         alloc: Global,
         source: &mut S,
@@ -50,7 +50,7 @@ impl LedgerOffice {
     }
 
     /// Writes a line for each file that the state knows, in the order of the ledger. It allocates
-    /// nothing, so it fails only with `Sink`. Then the sink has gained a proper prefix of the text.
+    /// nothing, so it fails only with `Sink`; the sink has then gained a proper prefix of the text.
     pub fn files<K: Sink>(&self, sink: &mut K) -> Result<(), OfficeFault>
         requires { K.failures sink.old < 2 ^ 64 - 1 }
         ensures whole { OnOk result

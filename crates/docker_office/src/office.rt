@@ -1,4 +1,4 @@
-//! An office, and what it can be asked for.
+//! An office, and the requests that it answers.
 ghost use Rattle.std.specs.Prelude.{◌≡◌, ℕ, List, [], ◌-◌, ◌^◌, ◌<◌, ◌≤◌, ◌⊎◌, ◌↔◌, max, IsOk, IsErr, IfErr, OnOk, OnErr, Err};
 ghost use Rattle.cif_device.specs.Device.{CountsFailure, Takes, TakesPart};
 ghost use Rattle.docker_bytes.specs.SourceRead.{JoinsState, ReadsState};
@@ -22,8 +22,8 @@ use std::alloc::Global;
 use std::marker::Model;
 use std::mem;
 
-/// An office: the state of the files that it knows, under its horizon, and whether what it reads is
-/// to have an index.
+/// An office: the state of the files that it knows, under its horizon. `noted` says whether the
+/// states that it reads get an index.
 #[derive(Debug, Drop)]
 pub struct Office {
     alloc: Global,
@@ -52,8 +52,8 @@ impl Office {
         }
     }
 
-    /// Like `new`. The state of this office has no index, and what it reads is read with less time
-    /// and memory. So it serves best for what prints no docker.
+    /// Like `new`, but the office's state has no index, so reading takes less time and memory. This
+    /// suits an office that prints no docker.
     pub fn unindexed(alloc: Global) -> Office
         ensures empty { result ≡ no_state }
         ensures summary { IsSummary [] 0 result }
@@ -70,15 +70,15 @@ impl Office {
         ensures state { result.now ≡ self.now }
         ensures valid { IsValid self.now }
     {
-        // Called for its contract: the state is valid.
+        // This call is made only for its contract, which says that the state is valid.
         let _ledger = self.state.ledger();
         &self.state
     }
 
-    /// Takes the file whose text a source holds, of at most `limit` records, and joins the file's
-    /// state with the office's. Reads the source to its end, or up to the piece, of at most 65,536
-    /// bytes, that shows the first fault. A refusal, `File`, `Source` or `Memory`, leaves the
-    /// office as it was.
+    /// Takes the file whose text a source holds: joins the office's state with the file's. A file
+    /// with more than `limit` records is refused. The source is read in pieces of at most 65,536
+    /// bytes, to its end or to the piece that shows the first fault. A refusal, by `File`, `Source`
+    /// or `Memory`, leaves the office unchanged.
     pub fn take<S: Source>(&mut self, source: &mut S, limit: u32) -> Result<(), OfficeFault>
         requires failures { S.failures source.old < 2 ^ 64 - 1 }
         requires limit { limit ≤ MOST_RECORDS }
@@ -97,7 +97,7 @@ impl Office {
         self.join(taken)
     }
 
-    /// Joins the state with another. If memory runs out, the state stays as it was.
+    /// Joins the office's state with another. If memory runs out, the office is unchanged.
     fn join(&mut self, other: State) -> Result<(), OfficeFault>
         requires { IsValid other }
         ensures ok { IsOk result → IsJoin self.old other self.new }
@@ -117,8 +117,9 @@ impl Office {
         }
     }
 
-    /// Joins the state with the one whose text a source holds, of at most `limit` bytes. A refusal,
-    /// `State`, `Source` or `Memory`, leaves the office as it was.
+    /// Joins the office's state with the state whose text a source holds. A text with more than
+    /// `limit` bytes is refused. A refusal, by `State`, `Source` or `Memory`, leaves the office
+    /// unchanged.
     pub fn receive<S: Source>(&mut self, source: &mut S, limit: u64) -> Result<(), OfficeFault>
         requires { S.failures source.old < 2 ^ 64 - 1 }
         ensures reads { EndsReadingState S.left S.failures dks_2 limit
@@ -132,9 +133,9 @@ impl Office {
         Ok(())
     }
 
-    /// Replaces the state by the one whose text a source holds, of at most `limit` bytes. The
-    /// office forgets what it knew, unless the text holds it. A refusal, `State`, `Source` or
-    /// `Memory`, leaves the office as it was.
+    /// Replaces the office's state by the state whose text a source holds. The office forgets every
+    /// file that isn't in that state. A text with more than `limit` bytes is refused. A refusal, by
+    /// `State`, `Source` or `Memory`, leaves the office unchanged.
     pub fn reload<S: Source>(&mut self, source: &mut S, limit: u64) -> Result<(), OfficeFault>
         requires { S.failures source.old < 2 ^ 64 - 1 }
         ensures reads { EndsReadingState S.left S.failures dks_2 limit
@@ -148,10 +149,10 @@ impl Office {
         Ok(())
     }
 
-    /// Replaces the state by the one whose text a source holds, of at most `limit` bytes and with
-    /// the mark `DKS1`. Such a text has no horizon, so the new state has none. A text with the mark
-    /// `DKS2` is refused at offset 0. A refusal, `State`, `Source` or `Memory`, leaves the office
-    /// as it was.
+    /// Replaces the office's state by the state whose text a source holds. The text has the mark
+    /// `DKS1`, and so no horizon: the new state has none. A text with the mark `DKS2` is refused
+    /// with a fault at offset 0, and so is a text with more than `limit` bytes. A refusal, by
+    /// `State`, `Source` or `Memory`, leaves the office unchanged.
     pub fn migrate<S: Source>(&mut self, source: &mut S, limit: u64) -> Result<(), OfficeFault>
         requires { S.failures source.old < 2 ^ 64 - 1 }
         ensures reads { EndsReadingState S.left S.failures dks_1 limit
@@ -163,9 +164,9 @@ impl Office {
         Ok(())
     }
 
-    /// Sets a horizon: each entry that is put and ends before this day lapses. A day that is not
-    /// after the present horizon changes nothing. It is never refused. While it works it may use
-    /// one byte per row; if there is no memory for them, it takes longer.
+    /// Sets the horizon: each entry whose body ends before this day lapses. Setting a day that
+    /// isn't after the present horizon changes nothing. It never fails. It may use one byte of
+    /// memory per row while it works, and takes longer if there is no memory for them.
     pub fn set_horizon(&mut self, day: Day)
         ensures raised { self.new ≡ raise_horizon day self.old }
         ensures summary { (files : List (List (List ℕ))) (horizon : ℕ)
@@ -174,8 +175,8 @@ impl Office {
         self.state.set_horizon(day);
     }
 
-    /// Writes the text of the state, for another office to receive or reload. Takes no memory, so
-    /// it fails only with `Sink`. Then the sink has gained a proper prefix of the text.
+    /// Writes the text of the state, for another office to receive or reload. It allocates nothing,
+    /// so it fails only with `Sink`; the sink has then gained a proper prefix of the text.
     pub fn send<K: Sink>(&self, sink: &mut K) -> Result<(), OfficeFault>
         requires { K.failures sink.old < 2 ^ 64 - 1 }
         ensures whole { OnOk result
@@ -190,8 +191,9 @@ impl Office {
     }
 
     /// Prints the docker of a timing point and a day. The docker is made before its first byte is
-    /// written, so `Lapsed` and `Memory` write nothing. `Lapsed` means that the day is before the
-    /// horizon plus three days. With `Sink`, the sink has gained a proper prefix of the text.
+    /// written, so nothing is written on `Lapsed` or `Memory`. `Lapsed` if the state has a horizon
+    /// and the day is earlier than three days after it. On `Sink` the sink has gained a proper
+    /// prefix of the text.
     pub fn print<K: Sink>(&self, place: &Tiploc, day: Day, sink: &mut K) -> Result<(), OfficeFault>
         requires { K.failures sink.old < 2 ^ 64 - 1 }
         ensures ok { IsOk result
@@ -209,8 +211,8 @@ impl Office {
         write_docker(&docker, sink).map_err(|_| OfficeFault::Sink)
     }
 
-    /// Writes a line for each file that the office knows, in the ledger's order. Takes no memory,
-    /// so it fails only with `Sink`. Then the sink has gained a proper prefix of the text.
+    /// Writes a line for each file that the office knows, in the order of the ledger. It allocates
+    /// nothing, so it fails only with `Sink`; the sink has then gained a proper prefix of the text.
     pub fn files<K: Sink>(&self, sink: &mut K) -> Result<(), OfficeFault>
         requires { K.failures sink.old < 2 ^ 64 - 1 }
         ensures whole { OnOk result

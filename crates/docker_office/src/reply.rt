@@ -1,4 +1,4 @@
-//! Replies to events.
+//! Replies to the events of a run.
 use crate::fault::OfficeFault;
 use thiserror::Error;
 
@@ -20,7 +20,8 @@ pub enum RunFault {
     /// The office exists, but the message doesn't.
     #[error("no such message")]
     NoMessage,
-    /// The office refuses: for the file's fault, at a `Take`, or because it is out of memory.
+    /// The office refused the event: at a `Take` because of the file's fault, or because memory ran
+    /// out.
     #[error("{0}")]
     Office(OfficeFault),
 }

@@ -12,13 +12,14 @@ use std::alloc::Global;
 
 /// Runs the events in order at `offices` offices, which know nothing at first, and returns the
 /// result. Fails with `Memory` only before the first event, if there is no room for the offices,
-/// the messages or the replies. Afterwards each event has one reply. A refused event has no effect.
+/// the messages or the replies. Otherwise each event gets one reply. A refused event has no effect.
 ///
 /// Each reply is one that its event may have at that point. It is `NoOffice` if the office doesn't
-/// exist, and otherwise `NoMessage` if the message doesn't. Otherwise a Take is done, or refused
-/// for its text's fault or because memory ran out. A Send, a Deliver or a Reload is done, or memory
-/// ran out. A Horizon is done. Each office has the state of exactly the files and the horizon that
-/// it knows. Each message has what its office knew when it was sent.
+/// exist, and otherwise `NoMessage` if the message doesn't. Otherwise a `Take` is done, or refused
+/// for its text's fault or because memory ran out. A `Send`, a `Deliver` or a `Reload` is done, or
+/// refused because memory ran out. A `Horizon` is done. Each office has the state of exactly the
+/// files and the horizon that it knows. Each message has the state that its office had when it was
+/// sent.
 ///
 /// So the files and the horizon that an office knows determine its bytes and its dockers, whatever
 /// was lost, repeated or reordered. The laws of `headline` say this.

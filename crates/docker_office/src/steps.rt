@@ -1,4 +1,4 @@
-//! The steps of a run: one event each.
+//! The steps of a run, one for each event.
 ghost use Rattle.std.specs.Prelude.{◌≡◌, ◌≢◌, ◌+◌, ◌^◌, ◌<◌, ◌≤◌, [], All, length, vec_len, vec_capacity, IfSome, IfNone, IsOk, IsErr, IfOk, IfErr, Some, Err};
 ghost use Rattle.cif_file.specs.SourceRead.{RefusesText};
 ghost use Rattle.docker_bytes.specs.SourceRead.{JoinsState, ReadsState, RefusesState};
@@ -30,7 +30,8 @@ pub(crate) struct Holdings {
 impl Holdings {
     ghost use Rattle.docker_office.specs.RunSteps.{AreOf, MeetsEvent};
 
-    /// This many offices, which know nothing, and room for this many messages.
+    /// As many offices as asked for, which know nothing, and room for this many messages. `Memory`
+    /// if there is no room for both.
     pub(crate) fn new(alloc: Global, offices: usize, messages: usize) -> Result<Holdings, Memory>
         ensures offices { IfOk result (λ held. length held.offices.items ≡ offices) }
         ensures each { IfOk result (λ held. All (IsSummary [] 0) held.offices.items) }
@@ -48,7 +49,7 @@ impl Holdings {
         })
     }
 
-    /// Does or refuses an event. Returns its reply.
+    /// Does an event, or refuses it. Returns the reply.
     pub(crate) fn meet(&mut self, alloc: Global, event: &Event<'_>) -> Reply
         requires limit { HasGoodLimit (event_meant event.now) }
         requires room { vec_len self.old.messages < vec_capacity self.old.messages }
@@ -71,7 +72,8 @@ impl Holdings {
         }
     }
 
-    /// What doesn't exist: the office, or else the message. None if both exist.
+    /// Returns why an event can't be done: its office doesn't exist, or otherwise its message
+    /// doesn't. `None` if both exist.
     fn missing(&self, office: usize, message: usize) -> Option<RunFault>
         ensures some { IfSome result (IsMissing (length self.now.offices.items)
             (length self.now.messages.items) office message) }
@@ -100,7 +102,7 @@ impl Holdings {
         reply_to(take_text(&mut self.offices[office], text, limit))
     }
 
-    /// An office sends its state. If memory runs out, there is no new message.
+    /// An office sends its state. If memory runs out, no message is sent.
     fn send(&mut self, alloc: Global, office: usize) -> Reply
         requires { vec_len self.old.messages < vec_capacity self.old.messages }
         ensures met { (known : KnownSets) → AreOf known self.old
@@ -120,7 +122,7 @@ impl Holdings {
         }
     }
 
-    /// A message is delivered to an office.
+    /// An office receives a message.
     fn deliver(&mut self, office: usize, message: usize) -> Reply
         ensures met { (known : KnownSets) → AreOf known self.old
             → MeetsEvent known (deliver office message) result self.new }
@@ -135,7 +137,7 @@ impl Holdings {
         }
     }
 
-    /// An office goes back to a message's state.
+    /// An office replaces its state by the one in a message.
     fn reload(&mut self, office: usize, message: usize) -> Reply
         ensures met { (known : KnownSets) → AreOf known self.old
             → MeetsEvent known (reload office message) result self.new }
@@ -157,7 +159,7 @@ impl Holdings {
             → MeetsEvent known (horizon_event office day) result self.new }
         ensures messages { self.new.messages ≡ self.old.messages }
     {
-        // Called for its contract: the number of a day is at most 36524.
+        // This call is made only for its contract, which says that a day's number is at most 36524.
         let _number = day.number();
         if office >= self.offices.len() {
             return Reply::Refused(RunFault::NoOffice);
@@ -180,7 +182,7 @@ fn take_text(office: &mut Office, text: &[u8], limit: u32) -> Result<(), OfficeF
     office.take(&mut Bytes::new(text, PIECE), limit)
 }
 
-/// An office receives the state with this text, which is read to its end.
+/// An office receives the state with this text.
 fn receive_text(office: &mut Office, text: &[u8]) -> Result<(), OfficeFault>
     ensures ok { IsOk result
         → JoinsState dks_2 (length text.now) (Some text.now) office.old office.new }
@@ -193,7 +195,7 @@ fn receive_text(office: &mut Office, text: &[u8]) -> Result<(), OfficeFault>
     office.receive(&mut Bytes::new(text, PIECE), text.len() as u64)
 }
 
-/// An office goes back to the state with this text, which is read to its end.
+/// An office replaces its state by the one with this text.
 fn reload_text(office: &mut Office, text: &[u8]) -> Result<(), OfficeFault>
     ensures ok { IsOk result → ReadsState dks_2 (length text.now) (Some text.now) office.new }
     ensures unchanged { IsErr result → office.new ≡ office.old }
@@ -205,8 +207,9 @@ fn reload_text(office: &mut Office, text: &[u8]) -> Result<(), OfficeFault>
     office.reload(&mut Bytes::new(text, PIECE), text.len() as u64)
 }
 
-/// The message that an office sends: its whole text. Room for it is reserved before any byte is
-/// written. If no room can be that large, this is out of memory.
+/// The message that an office sends, which is the text of its state. Room for all of it is reserved
+/// before the first byte is written. `Memory` if there is no such room, or if the length doesn't
+/// fit in a `usize`.
 fn message_of(alloc: Global, office: &Office) -> Result<Kept, Memory>
     ensures { IfOk result (λ kept. kept.taken ≡ state_text dks_2 office.now) }
 {
@@ -214,7 +217,7 @@ fn message_of(alloc: Global, office: &Office) -> Result<Kept, Memory>
         return Err(Memory);
     };
     let mut message = Kept::new(alloc, room)?;
-    // A sink in memory fails only if it has no room left.
+    // A sink in memory fails only if its room is used up.
     match office.send(&mut message) {
         Ok(()) => Ok(message),
         Err(_) => Err(Memory),
@@ -230,7 +233,7 @@ fn text_at(messages: &[Kept], message: usize) -> &[u8]
     messages[message].bytes()
 }
 
-/// The reply to an event, by the office's result.
+/// The reply to an event, from the office's result.
 fn reply_to(answer: Result<(), OfficeFault>) -> Reply
     ensures { result ≡ reply_for answer }
 {

@@ -1,4 +1,4 @@
--- The entry of a live schedule, and its stamp.
+-- The entry of a live schedule, and the stamp of that entry.
 use Rattle.std.proofs.Common.{◌≡◌, ◌<◌, ap, sym, ◌∙◌, subst, Some, None}
 use Rattle.std.specs.Prelude.{option_and_then}
 use Rattle.std.proofs.lemmas.List.Elements.{All-contains}
@@ -13,13 +13,14 @@ use Rattle.state_laws.proofs.joins.StagedEntry.{entry_at_iff}
 use Rattle.train_choice.specs.Along.{IsLiveTrain}
 use Rattle.docker_train.specs.TrainText.{IsStampOf}
 
--- an op with a body is the put of this body
+-- an op that has a body puts that body
 put_of : (op : Op) (body : Body) → body_of op ≡ Some body → op ≡ put_with body
 put_of deleted body is = none_some body is
 put_of lapsed body is = none_some body is
 put_of (put_with own) body is = cc
 
--- the entry at a live schedule's key is the schedule's put, with its stamp
+-- the entry at a live schedule's key puts the schedule's lines, so the entry's stamp is the
+-- schedule's
 pub stamp_is : (state : State) (train : Train) (entry : Entry) → IsLiveTrain (live_table state) train
     → Some entry ≡ entry_at state (schedule_key train.key) → IsStampOf state train entry.stamp
 stamp_is state train entry live at = sym at ∙ (λ i. Some (record { stamp = entry.stamp; op = put i }))
@@ -32,7 +33,7 @@ pub entry_there : (state : State) (train : Train) → IsLiveTrain (live_table st
 entry_there state train live at =
     none_some (schedule_body train.lines) (ap (option_and_then (λ (e : Entry). body_of e.op)) at ∙ live)
 
--- the minute in an entry's stamp is below 1440
+-- the minute in an entry's stamp is below 1440, the number of minutes in a day
 pub minute_of_day : (state : State) (key : Key) (entry : Entry) → IsValid state → entry_at state key ≡ Some entry → entry.stamp.file.moment.minute < 1440
 minute_of_day state key entry valid at =
     let among = (entry_at_iff state valid.entries.1 key entry).0 at in

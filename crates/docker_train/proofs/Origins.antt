@@ -1,5 +1,5 @@
--- A UID and a day have one answer. Also the file from which an answer comes, and the trains of a
--- docker as answers.
+-- What is found for a UID and a day is unique. It came from one of the state's files, and it is the
+-- train of the lines on a docker.
 use Rattle.std.proofs.Common.{◌≡◌, ℕ, ◌+◌, ◌<◌, ◌≤◌, List, Bool, true, false, cond, refl, ap, sym, ◌∙◌, subst, inl, inr, ◌⊎◌, Some, None, Contains, arith}
 use Rattle.std.specs.Prelude.{Option, option_map, IsTrue, ◌&&◌, nat_le, nat_lt}
 use Rattle.std.proofs.lemmas.Bool.{cases_lt, leb-true}
@@ -31,7 +31,7 @@ use Rattle.docker_train.specs.TrainText.{Stamped, IsFoundFor, IsStampOf, IsTrain
 use Rattle.docker_train.specs.Origin.{CameFrom, IsFoundToRun, change_of}
 use Rattle.docker_train.proofs.Found.{stamp_is, entry_there}
 
--- ---- one answer
+-- ---- at most one schedule is found
 
 stamp_in : Stamp → Option Entry → Stamp
 stamp_in other None = other
@@ -45,7 +45,7 @@ one_stamp state train other stamp its same one two =
 some_same : {A : Type 0} (a b : A) → Some a ≡ Some b → a ≡ b
 some_same a b h = cc
 
--- a state has only one answer for a UID and a day
+-- in a state, at most one schedule with its stamp is found for a UID and a day
 pub one_found : (state : State) (uid : List ℕ) (day : ℕ) (a b : Option Stamped) → IsFoundFor state uid day a → IsFoundFor state uid day b → a ≡ b
 one_found state uid day None None one two = refl
 one_found state uid day None (Some b) one (two, stamp) = absurd (one b.schedule.key b.schedule.lines two.running)
@@ -55,12 +55,12 @@ one_found state uid day (Some a) (Some b) (one, stamp) (two, its) =
     let stamps = one_stamp state a.schedule b.schedule a.stamp b.stamp same stamp its in
     λ i. Some (record { schedule = same i; stamp = stamps i })
 
--- a state has only one text for a UID and a day
+-- a state has at most one text for a UID and a day
 pub one_text : (state : State) (uid : List ℕ) (day : ℕ) (text other : List ℕ) → IsTrainText state uid day text → IsTrainText state uid day other → text ≡ other
 one_text state uid day text other (found, is, text_is) (second, its, other_is) =
     text_is ∙ ap (train_text uid day) (one_found state uid day found second is its) ∙ sym other_is
 
--- ---- the file from which an answer comes
+-- ---- the extract that a schedule came from
 
 put_under : (horizon : ℕ) (op : Op) (body : Body) → lapse horizon op ≡ put_with body → op ≡ put_with body
 put_under horizon deleted body is = cc
@@ -75,7 +75,7 @@ act_of_put : (act : Act) (body : Body) → op_of act ≡ put_with body → act �
 act_of_put delete body is = cc
 act_of_put (put own) body is = cc
 
--- a schedule in a summary comes from one of the files
+-- a schedule that is found in the summary of some files came from one of them
 pub came_from : (files : List (List (List ℕ))) (horizon : ℕ) (state : State) (uid : List ℕ) (day : ℕ) (found : Stamped) → IsSummary files horizon state
     → IsFoundFor state uid day (Some found) → CameFrom files found
 came_from files horizon state uid day found is (chosen, at) =
@@ -129,7 +129,8 @@ still_runs horizon table uid day key lines bound from is = record {
   runs_then = is.runs_then;
 }
 
--- on a day from the horizon on, a schedule chosen in the lapsed table is chosen in the table
+-- on a day that isn't before the horizon, the schedule chosen in the lapsed table is also chosen in
+-- the table
 chosen_unlapsed : (horizon : ℕ) (table : Table) (uid : List ℕ) (day : ℕ) (found : Option Train) → horizon ≤ no_end_number → horizon ≤ day
     → IsChosenOn (lapse_table horizon table) uid day found → IsChosenOn table uid day found
 chosen_unlapsed horizon table uid day None bound from none = λ key lines runs. none key lines (still_runs horizon table uid day key lines bound from runs)
@@ -140,7 +141,7 @@ schedules_are : (state : State) (uid : List ℕ) (day : ℕ) (found : Option Sta
 schedules_are state uid day None is = is
 schedules_are state uid day (Some found) (is, stamp) = is
 
--- a summary gives the same schedule as the plain table
+-- the schedule found in the summary of some files is the one chosen in their plain table
 pub found_is_plain : (files : List (List (List ℕ))) (horizon : ℕ) (state : State) (table : Table) (uid : List ℕ) (day : ℕ) (found : Option Stamped)
     → IsSummary files horizon state → IsPlainTable files table → IsDay horizon → horizon ≤ day → IsFoundFor state uid day found
     → IsChosenOn table uid day (option_map (λ (it : Stamped). it.schedule) found)
@@ -177,7 +178,7 @@ found_to_run state start day key lines open_day near runs =
       runs = runs.no_cancellation;
     }
 
--- the train of an event is the train found for its UID on its start day
+-- the train of an event on a docker is the one found for its UID on its start day
 pub event_train : (state : State) (place : List ℕ) (day : ℕ) (line : DockerLine) → IsValid state → ¬ IsDayRefused state.horizon day
     → (made : IsEventLine (live_table state) place day line)
     → IsFoundToRun state line.uid line.start (record { key = made.key; lines = made.schedule })
@@ -186,7 +187,7 @@ event_train state place day line valid open_day made =
     subst (λ (l : DockerLine). IsFoundToRun state l.uid l.start (record { key = made.key; lines = made.schedule })) (sym made.is)
     (found_to_run state made.start day made.key made.schedule open_day near.1 made.train_runs)
 
--- the base train of an association is the train found for its UID on its start day
+-- the base train of an association on a docker is the one found for its UID on its start day
 pub base_train : (state : State) (place : List ℕ) (day : ℕ) (line : DockerLine) → IsValid state → ¬ IsDayRefused state.horizon day
     → (made : IsAssociationLine (live_table state) place day line)
     → IsFoundToRun state line.uid line.start (record { key = made.base_key; lines = made.base })

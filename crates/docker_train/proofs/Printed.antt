@@ -1,4 +1,4 @@
--- The text that is written is the train text in the definitions.
+-- The text that the code writes is the train text of the definitions.
 use Rattle.std.proofs.Common.{◌≡◌, ℕ, List, ◌∙◌}
 use Rattle.std.specs.Prelude.{Option}
 use Rattle.docker_model.specs.docker.DockerText.{ended}
@@ -6,7 +6,8 @@ use Rattle.docker_model.specs.state.State.{State}
 use Rattle.docker_train.specs.TrainText.{IsTrainText, Stamped, found_text, heading, heading_with, train_text}
 use Rattle.docker_train.specs.Answer.{Answer, IsAnswerOf, text_of}
 
--- the text written for a UID and a day is the train text of the schedule found in the state
+-- the text written for what is found in a state is the train text for the state, the UID and the
+-- day
 pub printed : (state : State) (uid : List ℕ) (day : ℕ) (answer : Answer) → IsAnswerOf state uid day answer → IsTrainText state uid day (text_of answer)
 printed state uid day answer is = (answer.found, is.is_found, λ i. train_text (is.uid_is i) (is.day_is i) answer.found)
 

@@ -1,5 +1,5 @@
--- Which schedule is chosen for a UID on a day, where it comes from, and the text that says so. Days
--- are from 0 to 36524.
+-- Which schedule is chosen for a UID on a day, which extract it came from, and the text that is
+-- printed for it. Days are numbered from 1960-01-01, which is 0, to 2059-12-31, which is 36524.
 use Rattle.std.specs.Prelude.{◌≡◌, ℕ, ◌-◌, if◌then◌else◌, List, [], ◌∷◌, ◌++◌, length, codes, decimal, Option, Some, None}
 use Rattle.std.specs.List.{flat_map}
 use Rattle.docker_model.specs.records.PrintedTime.{spaces, day_text, minute_text}
@@ -11,19 +11,19 @@ use Rattle.docker_model.specs.docker.Choice.{Train, IsChosenOn}
 use Rattle.docker_model.specs.docker.DockerText.{ended}
 use Rattle.train_choice.specs.Ranked.{is_cancellation}
 
--- a schedule, with the stamp of the change that put it: its file, and the number of its record
--- there
+-- a schedule with the stamp of the change that put it. The stamp has the extract's date, time and
+-- reference, and the number of the schedule's record there
 pub record Stamped : Type 0 where
   pub schedule : Train
   pub stamp : Stamp
 
--- the state's entry at the schedule's key has this stamp, and puts the schedule's lines
+-- says that the state's entry at the schedule's key has this stamp, and puts the schedule's lines
 abbrev pub IsStampOf : State → Train → Stamp → Type 0
 IsStampOf state schedule stamp =
     entry_at state (schedule_key schedule.key) ≡ Some (record { stamp = stamp; op = put_with (schedule_body schedule.lines) })
 
--- this is found: the schedule chosen for the UID on the day, with its stamp. None if no schedule
--- runs
+-- says that this is found: the schedule chosen for the UID on the day, with its stamp, or `None` if
+-- no schedule runs
 abbrev pub IsFoundFor : State → List ℕ → ℕ → Option Stamped → Type 0
 IsFoundFor state uid day None = IsChosenOn (live_table state) uid day None
 IsFoundFor state uid day (Some found) =
@@ -33,32 +33,34 @@ IsFoundFor state uid day (Some found) =
 abbrev pub number_text : ℕ → List ℕ
 number_text number = spaces (10 - length (decimal number)) ++ decimal number
 
--- the 34 columns of a stamp: date and time of extract, current file reference and record number
+-- the 34 columns of a stamp: date and time of the extract, its current file reference, and the
+-- record number
 unfoldable pub stamp_text : Stamp → List ℕ
 stamp_text stamp =
     day_text stamp.file.moment.day ++ spaces 1 ++ minute_text stamp.file.moment.minute ++ spaces 1 ++ stamp.file.reference ++ spaces 1
     ++ number_text stamp.number
 
--- the word that says whether a train runs by a schedule with this STP indicator: by a cancellation
--- it doesn't
+-- whether a train runs by a schedule with this STP indicator, as a word of nine columns. By a
+-- cancellation it doesn't run
 abbrev pub running_text : ℕ → List ℕ
 running_text indicator = if is_cancellation indicator then codes "CANCELLED" else codes "RUNS     "
 
--- columns 27 to 72 of the heading: STP indicator, whether the train runs, and the stamp
+-- columns 27 to 72 of the heading: the STP indicator, whether the train runs, and the stamp. If no
+-- schedule runs, they say `NONE`
 unfoldable pub found_text : Option Stamped → List ℕ
 found_text None = spaces 2 ++ codes "NONE" ++ spaces 40
 found_text (Some found) =
     found.schedule.key.indicator ∷ spaces 1 ++ running_text found.schedule.key.indicator ++ spaces 1 ++ stamp_text found.stamp
 
--- the 80 columns of a heading, with this text in columns 27 to 72
+-- the 80 columns of a heading, with the text `found` in columns 27 to 72
 unfoldable pub heading_with : List ℕ → ℕ → List ℕ → List ℕ
 heading_with uid day found = codes "TRAIN  " ++ uid ++ spaces 2 ++ day_text day ++ spaces 1 ++ found ++ spaces 8
 
--- the 80 columns of the heading
+-- the 80 columns of the heading for a UID, a day and what was found
 abbrev pub heading : List ℕ → ℕ → Option Stamped → List ℕ
 heading uid day found = heading_with uid day (found_text found)
 
--- the lines of the schedule found, each with 80 columns
+-- the lines of the schedule that was found, each with 80 columns. None if no schedule runs
 abbrev pub lines_of : Option Stamped → List (List ℕ)
 lines_of None = []
 lines_of (Some found) = found.schedule.lines
@@ -67,10 +69,10 @@ lines_of (Some found) = found.schedule.lines
 abbrev pub last_line : List ℕ
 last_line = codes "END" ++ spaces 77
 
--- the text for a UID, a day and what was found
+-- the text for a UID, a day and what was found: heading, lines and last line, each with a line feed
 abbrev pub train_text : List ℕ → ℕ → Option Stamped → List ℕ
 train_text uid day found = ended (heading uid day found) ++ flat_map ended (lines_of found) ++ ended last_line
 
--- this is the train text for a state, a UID and a day
+-- says that this is the train text for a state, a UID and a day
 abbrev pub IsTrainText : State → List ℕ → ℕ → List ℕ → Type 0
 IsTrainText state uid day text = (found : Option Stamped) × IsFoundFor state uid day found × (text ≡ train_text uid day found)

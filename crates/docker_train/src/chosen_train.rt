@@ -11,7 +11,7 @@ use docker_join::Stamp;
 use std::marker::Model;
 use train_choice::ScheduleView;
 
-/// A UID and a day, with the schedule chosen for them, if there is one.
+/// A UID and a day, with the schedule that is chosen for them, if one runs.
 #[derive(Debug, Drop)]
 pub struct ChosenTrain<'a> {
     uid: Uid,
@@ -32,7 +32,7 @@ impl<'a> Model for ChosenTrain<'a> {
 }
 
 impl<'a> ChosenTrain<'a> {
-    /// What was found for a UID and a day.
+    /// The UID and the day, with what was found for them.
     pub(crate) fn of(uid: Uid, day: Day, found: Option<Stamped<'a>>) -> ChosenTrain<'a>
         ensures { result ≡ record { uid = uid; day = day; found = found.entry } }
     {
@@ -53,8 +53,8 @@ impl<'a> ChosenTrain<'a> {
         self.day
     }
 
-    /// The chosen schedule, with its key and lines. It may be a cancellation. `None` if no schedule
-    /// runs.
+    /// The chosen schedule, with its key and its lines. It may be a cancellation. `None` if no
+    /// schedule runs.
     pub fn schedule(&self) -> Option<&ScheduleView<'a>>
         ensures { option_copied result
             ≡ option_map (λ (it : text.Stamped). it.schedule) self.now.found }
@@ -65,8 +65,8 @@ impl<'a> ChosenTrain<'a> {
         }
     }
 
-    /// Where the schedule comes from: the date, time and reference of its extract, and the number
-    /// of its record there. `None` if no schedule runs.
+    /// The stamp of the chosen schedule: the date, time and reference of the extract that it came
+    /// from, and the number of its record there. `None` if no schedule runs.
     pub fn stamp(&self) -> Option<&'a Stamp>
         ensures { option_map stamp_meant (option_copied result)
             ≡ option_map (λ (it : text.Stamped). it.stamp) self.now.found }
@@ -77,14 +77,14 @@ impl<'a> ChosenTrain<'a> {
         }
     }
 
-    /// What was found: the schedule and its stamp.
+    /// The chosen schedule with its stamp, if one runs.
     pub(crate) fn found(&self) -> Option<&Stamped<'a>>
         ensures { option_copied result ≡ self.now.found }
     {
         self.found.as_ref()
     }
 
-    /// The lines of the schedule; none if no schedule runs.
+    /// The lines of the chosen schedule. Empty if no schedule runs.
     pub(crate) fn lines(&self) -> &[Line]
         ensures { result.now ≡ lines_of self.now.found }
     {

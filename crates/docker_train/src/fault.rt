@@ -1,10 +1,10 @@
-//! Why a train isn't printed.
+//! Why the schedule of a UID on a day isn't printed.
 use thiserror::Error;
 
 /// Why the schedule chosen for a UID on a day isn't printed.
 #[derive(Clone, Copy, PartialEq, Eq, Debug, Error)]
 pub enum TrainFault {
-    /// The day is before the state's horizon, so schedules that ran on it may have lapsed.
+    /// The day is before the state's horizon. Schedules that ran on it may have lapsed.
     #[error("lapsed")]
     Lapsed,
     /// The sink failed.

@@ -11,8 +11,8 @@ use cif_line::{Day, Uid};
 use docker_day::{DockerFault, Key, State};
 use train_choice::{ScheduleView, chosen};
 
-/// The schedule chosen for a UID on a day, with the stamp of the change that put it. `Lapsed` if
-/// the day is before the horizon, as schedules that ran on it may have lapsed. It allocates
+/// Finds the schedule chosen for a UID on a day, with the stamp of the change that put it. `Lapsed`
+/// if the day is before the horizon, because schedules that ran on it may have lapsed. It allocates
 /// nothing, so it never returns `Memory`. It reads only the rows of the UID, which binary searches
 /// find.
 pub fn find_train<'a>(state: &'a State, uid: &Uid, day: Day) -> Result<ChosenTrain<'a>, DockerFault>
@@ -29,7 +29,7 @@ pub fn find_train<'a>(state: &'a State, uid: &Uid, day: Day) -> Result<ChosenTra
     }
 }
 
-/// A live schedule, with its stamp in the state.
+/// A live schedule with the stamp of its entry in the state.
 fn stamped<'a>(state: &'a State, schedule: ScheduleView<'a>) -> Stamped<'a>
     requires { IsLiveTrain (live_table state.now) schedule }
     ensures schedule { result.schedule ≡ schedule.entry }

@@ -1,4 +1,4 @@
-//! Which schedule is chosen for a UID on a day, and which file it comes from. It is printed as a
+//! Which schedule is chosen for a UID on a day, and which extract it came from. It is printed as a
 //! heading, the schedule's records and a last line.
 #![tactic(auto)]
 

@@ -1,5 +1,5 @@
-//! The text of a train: a heading, the records of its schedule and a last line, each of 80 columns
-//! and a line feed.
+//! The text for a UID and a day: a heading, the records of the chosen schedule and a last line.
+//! Each has 80 columns and a line feed.
 ghost use Rattle.std.specs.Prelude.{◌≡◌, ℕ, List, ◌-◌, ◌^◌, ◌<◌, ◌↔◌, IsOk, IsErr, Err, OnOk, OnErr, Some};
 ghost use Rattle.std.specs.List.{flat_map};
 ghost use Rattle.std.specs.Option.{option_copied};
@@ -26,9 +26,9 @@ use itoa::Buffer;
 /// How many bytes a line has: 80 columns and a line feed.
 const WIDTH: usize = 81;
 
-/// Prints the schedule chosen for a UID on a day, or that there is none. The schedule is found
-/// before the first byte is written. `Lapsed` means that the day is before the horizon; nothing is
-/// written then. With `Sink`, the sink has gained a proper prefix of the text. It allocates
+/// Prints the schedule chosen for a UID on a day, or that none runs. The schedule is found before
+/// the first byte is written. `Lapsed` if the day is before the horizon; nothing is written then.
+/// `Sink` if a write fails; the sink has then gained a proper prefix of the text. It allocates
 /// nothing.
 pub fn print_train<K: Sink>(
     state: &State,
@@ -52,8 +52,8 @@ pub fn print_train<K: Sink>(
     }
 }
 
-/// Writes what was found for a UID and a day. If a write fails, the sink has gained a proper prefix
-/// of the text.
+/// Writes the text for a UID and a day, with the schedule found for them. If a write fails, the
+/// sink has gained a proper prefix of the text.
 pub fn write_train<K: Sink>(train: &ChosenTrain<'_>, sink: &mut K) -> Result<(), Failed>
     requires { K.failures sink.old < 2 ^ 64 - 1 }
     ensures whole { OnOk result (Takes (K.taken sink.old) (text_of train.now) (K.taken sink.new)) }
@@ -85,7 +85,7 @@ fn write_lines<K: Sink>(sink: &mut K, lines: &[Line]) -> Result<(), Failed>
     Ok(())
 }
 
-/// The heading, with a line feed.
+/// The text of the heading, with a line feed.
 #[tactic(auto, unfolding(crate::specs::TrainText::heading_with))]
 fn heading(uid: &Uid, day: Day, found: &[u8; 46]) -> [u8; WIDTH]
     ensures { result ≡ ended (heading_with uid.now day found.now) }
@@ -102,7 +102,7 @@ fn heading(uid: &Uid, day: Day, found: &[u8; 46]) -> [u8; WIDTH]
     whole(text)
 }
 
-/// The columns of the heading that name the schedule found, or say that there is none.
+/// Columns 27 to 72 of the heading: what was found, or `NONE`.
 #[tactic(auto, unfolding(crate::specs::TrainText::found_text))]
 fn text_of_found(found: Option<&Stamped<'_>>) -> [u8; 46]
     ensures { result ≡ found_text (option_copied found.entry) }
@@ -113,7 +113,8 @@ fn text_of_found(found: Option<&Stamped<'_>>) -> [u8; 46]
     }
 }
 
-/// The columns of the heading that name the schedule found.
+/// Columns 27 to 72 of the heading for a schedule: its STP indicator, whether its train runs, and
+/// its stamp.
 #[tactic(auto, unfolding(crate::specs::TrainText::found_text))]
 fn text_of_stamped(stamped: &Stamped<'_>) -> [u8; 46]
     ensures { result ≡ found_text (Some stamped.now) }
@@ -127,7 +128,7 @@ fn text_of_stamped(stamped: &Stamped<'_>) -> [u8; 46]
     whole(text)
 }
 
-/// The word that says whether a train runs by a schedule with this STP indicator.
+/// Whether a train runs by a schedule with this STP indicator, as a word of nine columns.
 fn running(stp: Stp) -> &'static [u8; 9]
     ensures { result.now ≡ running_text (stp_letter stp) }
 {
@@ -137,7 +138,8 @@ fn running(stp: Stp) -> &'static [u8; 9]
     }
 }
 
-/// The columns of a stamp: date and time of extract, current file reference and record number.
+/// The 34 columns of a stamp: date and time of the extract, its current file reference, and the
+/// record number.
 #[tactic(auto, unfolding(crate::specs::TrainText::stamp_text))]
 fn text_of_stamp(stamp: &Stamp) -> [u8; 34]
     requires { stamp.now.file.minute < 1440 }
@@ -154,7 +156,7 @@ fn text_of_stamp(stamp: &Stamp) -> [u8; 34]
     whole(text)
 }
 
-/// A minute of the day as HHMM.
+/// The time of a minute of the day as HHMM.
 fn clock_text(minute: u16) -> [u8; 4]
     requires { minute < 1440 }
     ensures { result ≡ minute_text minute }
@@ -180,7 +182,7 @@ fn number_text(number: u32) -> [u8; 10]
     whole(text)
 }
 
-/// A record, with a line feed.
+/// The text of a record, with a line feed.
 fn text_of_line(line: &Line) -> [u8; WIDTH]
     ensures { result ≡ ended line.now }
 {
@@ -190,7 +192,7 @@ fn text_of_line(line: &Line) -> [u8; WIDTH]
     whole(text)
 }
 
-/// The last line, with a line feed.
+/// The text of the last line, with a line feed.
 fn last_line() -> [u8; WIDTH]
     ensures { result ≡ ended last_line }
 {

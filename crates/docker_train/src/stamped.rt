@@ -1,4 +1,4 @@
-//! A schedule, and where it comes from.
+//! A schedule with its stamp, which says which extract it came from.
 ghost use Rattle.std.specs.Prelude.{◌≡◌, ◌<◌};
 ghost use Rattle.docker_join.specs.Meaning.{stamp_meant};
 
@@ -29,7 +29,7 @@ impl<'a> Model for Stamped<'a> {
 }
 
 impl<'a> Stamped<'a> {
-    /// A schedule with its stamp.
+    /// The schedule with its stamp.
     pub(crate) fn of(schedule: ScheduleView<'a>, stamp: &'a Stamp) -> Stamped<'a>
         requires { stamp.now.file.minute < 1440 }
         ensures { result ≡ record {
@@ -47,8 +47,8 @@ impl<'a> Stamped<'a> {
         &self.schedule
     }
 
-    /// The stamp of the change that put it: the date, time and reference of its file, and the
-    /// number of its record there.
+    /// The stamp of the change that put the schedule: the date, time and reference of its extract,
+    /// and the number of its record there.
     pub(crate) fn stamp(&self) -> &'a Stamp
         ensures stamp { stamp_meant result.now ≡ self.now.stamp }
         ensures minute { result.now.file.minute < 1440 }

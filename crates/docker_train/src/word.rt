@@ -1,10 +1,10 @@
-//! The UID that a word names.
+//! Reads a UID from a word.
 ghost use Rattle.std.specs.Prelude.{◌≡◌, ◌↔◌, IsSome, IfSome};
 ghost use Rattle.docker_model.specs.records.Record.{IsTextOfLength};
 
 use cif_line::Uid;
 
-/// The UID that a word names: six bytes, each printable. `None` for any other word.
+/// The UID that a word names. `None` unless the word has six bytes, all printable.
 pub fn uid_of_word(word: &str) -> Option<Uid>
     ensures some { IsSome result ↔ IsTextOfLength 6 word.now }
     ensures value { IfSome result (λ uid. uid ≡ word.now) }

@@ -1,5 +1,5 @@
--- A valid state's one item and one entry, given to another state: the item itself, and a copy of
--- the entry.
+-- A state with one ledger item and one entry is given to another state: the item itself, and a copy
+-- of the entry.
 use Rattle.std.proofs.Common.{◌≡◌, List, [], ◌∷◌, ◌++◌, map, length, get_or, refl, ap, sym, ◌∙◌, subst, arith}
 use Rattle.docker_model.specs.state.Stamp as stamps
 use Rattle.docker_model.specs.state.State.{State, IsLedger, IsValid, IsGoodEntry}
@@ -11,19 +11,19 @@ use Rattle.docker_join.specs.Meaning.{entry_meant}
 use Rattle.docker_state.specs.declared.item.LedgerItem.{LedgerItem}
 use Rattle.docker_state.specs.Meaning.{item_meant, row_meant}
 
--- a list of length 1 has just its first element
+-- a list of length 1 has only its first element
 only_element : {A : Type 0} (xs : List A) (x d : A) → length xs ≡ 1 → x ≡ get_or xs 0 d → xs ≡ x ∷ []
 only_element [] x d one is = absurd (let bad : 0 ≡ 1 = one in omega arith)
 only_element (y ∷ []) x d one is = ap (λ v. v ∷ []) (sym is)
 only_element (y ∷ z ∷ xs) x d one is = absurd (omega arith)
 
--- a ledger of only this item is good
+-- a ledger that has only this item is valid
 pub good_item : (items : List LedgerItem) (item other : LedgerItem) → length items ≡ 1 → item ≡ get_or items 0 other
     → (state : State) → map item_meant items ≡ state.ledger → IsValid state → IsLedger (item_meant item ∷ [])
 good_item items item other one is state items_are valid =
     subst IsLedger (sym items_are ∙ ap (map item_meant) (only_element items item other one is)) valid.ledger
 
--- the entry is good in a ledger of only this item
+-- the entry is good under a ledger that has only this item
 good_row : (items : List LedgerItem) (item other : LedgerItem) → length items ≡ 1 → item ≡ get_or items 0 other
     → (rows : List (Key × Entry)) (row next : Key × Entry) → length rows ≡ 1 → row ≡ get_or rows 0 next
     → (state : State) → map item_meant items ≡ state.ledger → map row_meant rows ≡ state.entries → IsValid state
@@ -36,7 +36,7 @@ good_row items item other one is rows row next single is_row state items_are row
     let here : IsValid (record { horizon = state.horizon; ledger = item_meant item ∷ []; entries = row_meant row ∷ [] }) = subst IsValid whole valid in
     here.entries.0 0 (row_meant row) (omega arith)
 
--- a copy of the entry is good in a ledger of only this item
+-- a copy of the entry is good under a ledger that has only this item
 pub good_copy : (items : List LedgerItem) (item other : LedgerItem) → length items ≡ 1 → item ≡ get_or items 0 other
     → (rows : List (Key × Entry)) (row next : Key × Entry) → length rows ≡ 1 → row ≡ get_or rows 0 next
     → (state : State) → map item_meant items ≡ state.ledger → map row_meant rows ≡ state.entries → IsValid state
@@ -45,12 +45,12 @@ good_copy items item other one is rows row next single is_row state items_are ro
     subst (IsGoodEntry (item_meant item ∷ [])) (sym same)
     (good_row items item other one is rows row next single is_row state items_are rows_are valid)
 
--- if the item is pushed to an empty vector, the vector has just this item
+-- if the item is pushed to an empty vector, the vector has only this item
 pub pushed_item : (item : LedgerItem) (before after : List LedgerItem) → before ≡ [] → after ≡ before ++ item ∷ []
     → map item_meant after ≡ item_meant item ∷ []
 pushed_item item before after none pushed = ap (map item_meant) (pushed ∙ ap (λ (xs : List LedgerItem). xs ++ item ∷ []) none)
 
--- the copy may be given after the item
+-- the copy of the entry may be given after the item
 pub here_copy : (items : List LedgerItem) (item other : LedgerItem) → length items ≡ 1 → item ≡ get_or items 0 other
     → (rows : List (Key × Entry)) (row next : Key × Entry) → length rows ≡ 1 → row ≡ get_or rows 0 next
     → (state : State) → map item_meant items ≡ state.ledger → map row_meant rows ≡ state.entries → IsValid state

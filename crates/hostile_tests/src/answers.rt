@@ -1,22 +1,22 @@
-//! The outcome of a row of a table.
+//! The outcome of a call in a row of a table.
 
 use crate::desk::Desk;
 use docker_cmd::{Fault, fault_text};
 
-/// The outcome of a call.
+/// The outcome of a call of an office.
 #[derive(Clone, Copy, PartialEq, Eq)]
 pub(crate) enum Answer {
     /// The call was done, with the result that the row names.
     Done,
     /// The call was refused, and nothing changed.
     Refused(Fault),
-    /// The answer depends on the number of bytes per read.
+    /// The outcome depends on the number of bytes per read.
     Uneven,
     /// The call was refused, but the office's state changed.
     Changed,
     /// The call was done, but its result isn't the one that the row names.
     Unlike,
-    /// Once the devices were good, a second try ended differently.
+    /// After a device failed, a second try with a good device didn't end as it should.
     Stuck,
 }
 

@@ -14,7 +14,7 @@ pub(crate) enum Call {
     Receive,
     /// The office reloads a state.
     Reload,
-    /// The office reloads a state of the older format.
+    /// The office reloads a state from a text in the older format.
     Migrate,
 }
 
@@ -28,7 +28,7 @@ pub(crate) fn call_of(name: &str) -> Call {
     }
 }
 
-/// Makes this call at an office, under a limit on records or bytes.
+/// Makes this call of an office, with this limit on records or bytes.
 pub(crate) fn ask<S: Source>(
     call: Call,
     office: &mut Office,
@@ -45,7 +45,7 @@ pub(crate) fn ask<S: Source>(
     }
 }
 
-/// The limit as a number of records: at most the greatest that is possible.
+/// A limit as a number of records: `MOST_RECORDS` if it is greater.
 fn records_of(limit: u64) -> u32
     ensures { result < 2 ^ 32 - 1 }
 {

@@ -1,4 +1,4 @@
-//! Where a row is run: the texts that it names, and what is printed for it.
+//! What a row needs while it is run: the texts that it names, and the printing of what comes out.
 
 use crate::endings::Ending;
 use crate::records::lines_of;
@@ -7,7 +7,7 @@ use std::alloc::Global;
 use std::fs;
 use std::io::Write;
 
-/// A row, and the runtime that runs it.
+/// A row and the runtime in which it is run.
 #[derive(Drop)]
 pub(crate) struct Desk<'a> {
     rt: HostRuntime,
@@ -15,7 +15,7 @@ pub(crate) struct Desk<'a> {
 }
 
 impl<'a> Desk<'a> {
-    /// A desk for this row.
+    /// The desk for this row.
     pub(crate) fn of(rt: &HostRuntime, row: &'a str) -> Desk<'a> {
         Desk { rt: *rt, row }
     }
@@ -33,7 +33,8 @@ impl<'a> Desk<'a> {
         }
     }
 
-    /// The text with this name: made of records or of a docker's lines, or from the folder `data`.
+    /// The text with this name. It is made of records or of a docker's lines, or read from the
+    /// folder `data`.
     pub(crate) fn text(&self, name: &str) -> Vec<u8> {
         match self.found(name) {
             Some(text) => text,
@@ -44,7 +45,7 @@ impl<'a> Desk<'a> {
         }
     }
 
-    /// Like `text`. None if there is no such text.
+    /// Like `text`, but `None` if there is no such text.
     fn found(&self, name: &str) -> Option<Vec<u8>> {
         match lines_of(name) {
             Some(lines) => lines.text(self.alloc()).ok(),
@@ -52,13 +53,13 @@ impl<'a> Desk<'a> {
         }
     }
 
-    /// Prints bytes with one write.
+    /// Prints bytes in one write.
     pub(crate) fn print(&self, bytes: &[u8]) {
         let _ = self.rt.stdout().write_all(bytes);
     }
 
-    /// Prints the row with one write. Whatever allocates memory between this and the next write is
-    /// the row's call.
+    /// Prints the row in one write. Between this write and the next one, only the row's call
+    /// allocates memory.
     pub(crate) fn begin(&self) {
         let row = self.row;
         match format!(in self.alloc(); "{row}\n") {
@@ -67,12 +68,12 @@ impl<'a> Desk<'a> {
         }
     }
 
-    /// Prints how the call ended, without allocating memory.
+    /// Prints how the row's call ended. It allocates no memory.
     pub(crate) fn end(&self, ending: Ending) {
         self.print(ending.line());
     }
 
-    /// Prints a statement, with a mark if it doesn't hold.
+    /// Prints a statement. If the statement doesn't hold, `not so: ` comes before it.
     pub(crate) fn report(&self, holds: bool, what: &str) {
         let front = if holds { "" } else { "not so: " };
         let _ = println!(self.rt; "  {front}{what}");

@@ -1,5 +1,5 @@
-//! Devices that move one byte per call and fail at one call: at the first, then at the second, and
-//! so on.
+//! Devices that move one byte per call and fail at one call: first at the first call, then at the
+//! second, and so on.
 ghost use Rattle.std.specs.Prelude.{◌<◌, ◌^◌, ◌-◌};
 
 use crate::answers::Answer;
@@ -12,10 +12,10 @@ use cif_line::{Day, Fuse, Sink, Source, Tiploc};
 use docker_cmd::{Fault, job_line};
 use docker_office::{Office, OfficeFault};
 
-/// More calls than any row needs.
+/// More calls than any row makes.
 const MOST_CALLS: u64 = 5000;
 
-/// `CALL STATE TEXT STATE`: the office reads the text from a source that fails at a read.
+/// `CALL STATE TEXT STATE`: the office reads the text from sources that fail at one read.
 pub(crate) fn source(desk: &Desk, words: &[&str]) {
     let [call, own, name, wanted] = words else {
         return desk.trouble("CALL STATE TEXT STATE");
@@ -31,8 +31,8 @@ pub(crate) fn source(desk: &Desk, words: &[&str]) {
     sources(desk, asked, text.as_slice());
 }
 
-/// Prints the answer for each read that may fail, from the first on, up to a source that doesn't
-/// fail.
+/// Prints the answer for a source that fails at the first read, at the second, and so on, up to one
+/// that doesn't fail.
 fn sources(desk: &Desk, asked: Asked<'_>, text: &[u8]) {
     let good = asked.answer_to(desk, text);
     let mut spans = Spans::new();
@@ -46,8 +46,8 @@ fn sources(desk: &Desk, asked: Asked<'_>, text: &[u8]) {
     spans.report(desk);
 }
 
-/// The answer if the source fails at this call, and whether it did fail. After a failure the office
-/// is asked again, with a good source.
+/// The answer for a source that fails at this read, and whether it did fail. After a failure the
+/// same call is made with a good source.
 fn fused(desk: &Desk, asked: Asked<'_>, text: &[u8], call: u64, good: Answer) -> (Answer, bool)
     requires { 0 < call }
 {
@@ -85,7 +85,7 @@ fn write<K: Sink>(output: &Output, office: &Office, sink: &mut K) -> Result<(), 
     }
 }
 
-/// `STATE TIPLOC DATE DOCKER`: the office prints to a sink that fails at a write.
+/// `STATE TIPLOC DATE DOCKER`: the office prints the docker to sinks that fail at one write.
 pub(crate) fn print(desk: &Desk, words: &[&str]) {
     let [own, place, day, wanted] = words else {
         return desk.trouble("STATE TIPLOC DATE DOCKER");
@@ -95,7 +95,7 @@ pub(crate) fn print(desk: &Desk, words: &[&str]) {
     }
 }
 
-/// `STATE`: the office sends its state to a sink that fails at a write.
+/// `STATE`: the office sends its state to sinks that fail at one write.
 pub(crate) fn send(desk: &Desk, words: &[&str]) {
     let [own] = words else {
         return desk.trouble("STATE");
@@ -103,7 +103,7 @@ pub(crate) fn send(desk: &Desk, words: &[&str]) {
     sinks(desk, own, Output::State, own);
 }
 
-/// `STATE FILES`: the office lists its files to a sink that fails at a write.
+/// `STATE FILES`: the office lists its files to sinks that fail at one write.
 pub(crate) fn files(desk: &Desk, words: &[&str]) {
     let [own, wanted] = words else {
         return desk.trouble("STATE FILES");
@@ -111,8 +111,8 @@ pub(crate) fn files(desk: &Desk, words: &[&str]) {
     sinks(desk, own, Output::Files, wanted);
 }
 
-/// Lets an office write to sinks that fail at the first call, at the second, and so on, up to a
-/// sink that doesn't fail.
+/// Lets an office write to a sink that fails at the first write, at the second, and so on, up to
+/// one that doesn't fail.
 fn sinks(desk: &Desk, own: &str, output: Output, wanted: &str) {
     let (before, wanted) = (desk.text(own), desk.text(wanted));
     let office = office_of(desk, before.as_slice());
@@ -120,7 +120,7 @@ fn sinks(desk: &Desk, own: &str, output: Output, wanted: &str) {
     write_all(desk, &office, output, before.as_slice(), wanted.as_slice());
 }
 
-/// Prints the answer for each of these sinks. The office's state has to stay.
+/// Prints the answer for each of these sinks, and whether the office's state is unchanged.
 fn write_all(desk: &Desk, office: &Office, output: Output, before: &[u8], wanted: &[u8]) {
     let mut spans = Spans::new();
     for call in 1..=MOST_CALLS {
@@ -134,8 +134,8 @@ fn write_all(desk: &Desk, office: &Office, output: Output, before: &[u8], wanted
     spans.report(desk);
 }
 
-/// The answer if the sink fails at this call, and whether it did fail. The sink has the bytes of
-/// the earlier calls, and a good sink then gets the whole text.
+/// The answer for a sink that fails at this write, and whether it did fail. After a failure the
+/// sink has to have the bytes of the earlier writes, and a good sink has to get the whole text.
 fn written(
     desk: &Desk,
     office: &Office,
@@ -158,8 +158,8 @@ fn written(
     (if again { answer } else { Answer::Stuck }, true)
 }
 
-/// The answer for a sink with these bytes. They have to be the whole text, or the bytes of the
-/// calls before the failure.
+/// The answer for a sink that has these bytes. If it failed, they have to be the bytes of the
+/// earlier writes, and otherwise the whole text.
 fn written_answer(done: Result<(), OfficeFault>, bytes: &[u8], wanted: &[u8], call: u64) -> Answer {
     match done {
         Ok(()) => {
@@ -192,7 +192,7 @@ fn is_front(bytes: &[u8], wanted: &[u8], call: u64) -> bool {
     bytes.len() as u64 == call.saturating_sub(1) && wanted.starts_with(bytes)
 }
 
-/// `LINE`: the job of the line is read from a source that fails at a read.
+/// `LINE`: a job is read from the line, by sources that fail at one read.
 pub(crate) fn line(desk: &Desk, words: &[&str]) {
     let [name] = words else {
         return desk.trouble("LINE");
@@ -210,8 +210,8 @@ pub(crate) fn line(desk: &Desk, words: &[&str]) {
     spans.report(desk);
 }
 
-/// The answer if the source of the line fails at this call, and whether it did fail. A good source
-/// then has to give a job.
+/// The answer for a source of the line that fails at this read, and whether it did fail. After a
+/// failure a good source has to give a job.
 fn line_read(desk: &Desk, text: &[u8], call: u64) -> (Answer, bool)
     requires { 0 < call }
 {

@@ -1,4 +1,4 @@
-//! How a call ends while the allocator may refuse memory.
+//! How a call ends if the allocator may refuse memory.
 
 use cif_file::{FileCause, FileFault};
 use cif_line::Memory;
@@ -12,14 +12,14 @@ use docker_office::OfficeFault;
 pub(crate) enum Ending {
     /// The call was done.
     Done,
-    /// Memory ran out, and the fault says so.
+    /// Memory ran out, and the call's fault says so.
     Memory,
     /// The call was refused for another reason.
     Other,
 }
 
 impl Ending {
-    /// The line that is printed for the ending.
+    /// The line that is printed for this ending.
     pub(crate) fn line<'a>(self) -> &'a [u8] {
         match self {
             Ending::Done => b"  done\n",
@@ -29,9 +29,9 @@ impl Ending {
     }
 }
 
-/// A fault that may be out of memory.
+/// A fault that may say that memory ran out.
 pub(crate) trait MayWant {
-    /// Whether the fault is out of memory.
+    /// Whether the fault says that memory ran out.
     fn is_memory(&self) -> bool;
 }
 

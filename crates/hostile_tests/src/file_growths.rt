@@ -1,4 +1,4 @@
-//! Calls that allocate: the reader of files, and the state of a file.
+//! Calls that allocate memory: they read files, or make the state of a file.
 
 use crate::desk::Desk;
 use crate::endings::{Ending, ending_of};
@@ -6,12 +6,12 @@ use crate::texts::{MOST_RECORDS, STEP, compare_state, file_of};
 use cif_file::{CifFile, FileFault, FileParser, read_pieces};
 use docker_state::State;
 
-/// A parser for a file of any length.
+/// A parser for a file with the greatest limit.
 fn new_parser(desk: &Desk) -> FileParser {
     FileParser::new(desk.alloc(), MOST_RECORDS)
 }
 
-/// Feeds a text in pieces, up to the first fault.
+/// Feeds a text to a parser in pieces, up to the first fault.
 fn feed_all(parser: &mut FileParser, text: &[u8]) -> Result<(), FileFault> {
     for piece in text.chunks(STEP) {
         parser.feed(piece)?;
@@ -19,7 +19,7 @@ fn feed_all(parser: &mut FileParser, text: &[u8]) -> Result<(), FileFault> {
     Ok(())
 }
 
-/// Whether each later call of a parser gives the same fault again.
+/// Whether each later call of a parser returns the same fault again.
 fn repeats(mut parser: FileParser, fault: FileFault) -> bool {
     let fed = parser.feed(b"");
     let again = parser.feed(b"ZZ\n");
@@ -27,7 +27,7 @@ fn repeats(mut parser: FileParser, fault: FileFault) -> bool {
     fed == Err(fault) && again == Err(fault) && finished == Some(fault)
 }
 
-/// Compares the text of a file's state with this one.
+/// Prints whether a file's state has the text named `wanted`.
 fn compare(desk: &Desk, file: CifFile, wanted: &str) {
     match State::of_file(desk.alloc(), file) {
         Ok(state) => compare_state(desk, &state, wanted),
@@ -35,7 +35,7 @@ fn compare(desk: &Desk, file: CifFile, wanted: &str) {
     }
 }
 
-/// Compares the text of the state of the file that a parser returns.
+/// Prints whether the state of the file that a parser returns has the text named `wanted`.
 fn compare_fed(desk: &Desk, parser: FileParser, wanted: &str) {
     match parser.finish() {
         Ok(file) => compare(desk, file, wanted),
@@ -43,7 +43,7 @@ fn compare_fed(desk: &Desk, parser: FileParser, wanted: &str) {
     }
 }
 
-/// Feeds a text to a new parser.
+/// Feeds a text to a new parser, and prints whether the file's state has the text named `wanted`.
 fn feed_again(desk: &Desk, text: &[u8], wanted: &str) {
     let mut parser = new_parser(desk);
     match feed_all(&mut parser, text) {
@@ -52,7 +52,7 @@ fn feed_again(desk: &Desk, text: &[u8], wanted: &str) {
     }
 }
 
-/// `FILE STATE`: a parser is fed the file.
+/// `FILE STATE`: a parser is fed the file, which has to give the state.
 pub(crate) fn feed(desk: &Desk, words: &[&str]) {
     let [name, wanted] = words else {
         return desk.trouble("FILE STATE");
@@ -71,7 +71,7 @@ pub(crate) fn feed(desk: &Desk, words: &[&str]) {
     }
 }
 
-/// `FILE STATE`: a parser that has been fed the file is asked for it.
+/// `FILE STATE`: a parser that was fed the file finishes. The file has to give the state.
 pub(crate) fn finish(desk: &Desk, words: &[&str]) {
     let [name, wanted] = words else {
         return desk.trouble("FILE STATE");
@@ -90,7 +90,7 @@ pub(crate) fn finish(desk: &Desk, words: &[&str]) {
     }
 }
 
-/// The file of a parser that is fed these pieces.
+/// The file that a parser returns after it is fed these pieces.
 fn fed(desk: &Desk, pieces: &[&[u8]]) -> Result<CifFile, FileFault> {
     let mut parser = new_parser(desk);
     for piece in pieces {
@@ -99,8 +99,8 @@ fn fed(desk: &Desk, pieces: &[&[u8]]) -> Result<CifFile, FileFault> {
     parser.finish()
 }
 
-/// `FILE STATE`: the file is read from its pieces, by `read_pieces` or by a parser that is fed
-/// them. If memory runs out, both have to name the same record, which no clause says.
+/// `FILE STATE`: the file is read from pieces, by `read_pieces` or by a parser that is fed them. If
+/// memory runs out, both have to name the same record, which no clause says.
 pub(crate) fn read(desk: &Desk, call: &str, words: &[&str]) {
     let [name, wanted] = words else {
         return desk.trouble("FILE STATE");

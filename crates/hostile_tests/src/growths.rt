@@ -1,9 +1,9 @@
-//! The rows of calls that allocate, each under the name of its call.
+//! Finds the function for a row of a call that allocates memory, by the name of the call.
 
 use crate::desk::Desk;
 use crate::{file_growths, job_growths, office_growths, part_growths, run_growth, state_growths};
 
-/// Runs a call's row.
+/// Runs the row of a call.
 pub(crate) fn do_row(desk: &Desk, call: &str, words: &[&str]) {
     match call {
         "FileParser::feed" => file_growths::feed(desk, words),
@@ -17,7 +17,7 @@ pub(crate) fn do_row(desk: &Desk, call: &str, words: &[&str]) {
     }
 }
 
-/// Runs a row whose call is of a state.
+/// Runs the row of a call that is about a state.
 fn do_state_row(desk: &Desk, call: &str, words: &[&str]) {
     match call {
         "State::join" => state_growths::join(desk, words),
@@ -32,7 +32,7 @@ fn do_state_row(desk: &Desk, call: &str, words: &[&str]) {
     }
 }
 
-/// Runs a row whose call is of an office or a job.
+/// Runs the row of a call that is about an office or a job.
 fn do_office_row(desk: &Desk, call: &str, words: &[&str]) {
     match call {
         "Office::take" | "Office::receive" | "Office::reload" | "Office::migrate" => {

@@ -1,4 +1,4 @@
-//! Calls that allocate: jobs.
+//! Calls about jobs that allocate memory.
 
 use crate::desk::Desk;
 use crate::endings::ending_of;
@@ -29,7 +29,7 @@ fn are_same(one: &str, other: &str) -> bool {
     one == other
 }
 
-/// Whether a job has these words.
+/// Whether a job has these words: the first names the subcommand.
 fn is_of(job: &Job, words: &[&str]) -> bool {
     let Some((first, rest)) = words.split_first() else {
         return false;
@@ -46,7 +46,7 @@ fn is_of(job: &Job, words: &[&str]) -> bool {
     are_same(first, name_of(job.subcommand()))
 }
 
-/// Prints whether a fault has the status for out of memory.
+/// Prints whether the status of a fault is 3, for out of memory.
 fn report_status(desk: &Desk, fault: Fault) {
     desk.report(status(&fault) == 3, "status 3");
 }
@@ -59,7 +59,7 @@ fn report_job(desk: &Desk, named: Result<Job, JobFault>, words: &[&str]) {
     }
 }
 
-/// `WORDS`: the job that these words name.
+/// `WORDS`: the words are read as a job.
 pub(crate) fn words_of_job(desk: &Desk, words: &[&str]) {
     desk.begin();
     let named = job(desk.alloc(), words);
@@ -73,7 +73,7 @@ pub(crate) fn words_of_job(desk: &Desk, words: &[&str]) {
     }
 }
 
-/// The line of these words. None if memory runs out.
+/// The line that these words make. `None` if memory runs out.
 fn line_of(desk: &Desk, words: &[&str]) -> Option<Vec<u8>> {
     let mut line = Vec::new(desk.alloc());
     for word in words {
@@ -86,7 +86,7 @@ fn line_of(desk: &Desk, words: &[&str]) -> Option<Vec<u8>> {
     Some(line)
 }
 
-/// `WORDS`: the job that the line of these words names.
+/// `WORDS`: the line of these words is read as a job.
 pub(crate) fn line_of_job(desk: &Desk, words: &[&str]) {
     match line_of(desk, words) {
         Some(line) => job_of_line(desk, line.as_slice(), words),
@@ -94,7 +94,7 @@ pub(crate) fn line_of_job(desk: &Desk, words: &[&str]) {
     }
 }
 
-/// Reads the job from the line of these words.
+/// Reads a line as a job, and prints whether the job has these words.
 fn job_of_line(desk: &Desk, line: &[u8], words: &[&str]) {
     desk.begin();
     let named = job_line(desk.alloc(), &mut source_of(line));
@@ -108,7 +108,7 @@ fn job_of_line(desk: &Desk, line: &[u8], words: &[&str]) {
     }
 }
 
-/// What a job prepares from two texts.
+/// What a job prepares after it has read two texts.
 fn prepared<'a>(
     desk: &Desk,
     job: &'a Job,
@@ -123,8 +123,8 @@ fn prepared<'a>(
     )
 }
 
-/// Writes what a job has prepared, and compares it with this text. Returns the fault if the call is
-/// refused and nothing is written.
+/// Writes what a job has prepared, and prints whether it is this text. Returns the fault if the
+/// call is refused and nothing is written.
 fn has_written(
     desk: &Desk,
     prepared: &Prepared<'_>,
@@ -148,14 +148,14 @@ fn has_written(
     None
 }
 
-/// Writes what a job has prepared, while memory doesn't run out.
+/// Writes what a job has prepared, once memory no longer runs out.
 fn write_again(desk: &Desk, prepared: &Prepared<'_>, wanted: &str) {
     if has_written(desk, prepared, wanted, false).is_some() {
         desk.trouble("refused again");
     }
 }
 
-/// The job of these words. If there is none, a line says so.
+/// The job that these words name. Prints a line if there is none.
 fn job_of(desk: &Desk, words: &[&str]) -> Option<Job> {
     match job(desk.alloc(), words) {
         Ok(named) => Some(named),
@@ -166,7 +166,8 @@ fn job_of(desk: &Desk, words: &[&str]) -> Option<Job> {
     }
 }
 
-/// `FIRST SECOND TEXT WORDS`: the job of these words reads its sources, and then writes the text.
+/// `FIRST SECOND TEXT WORDS`: the job of these words reads the first two texts, and then has to
+/// write the third.
 pub(crate) fn read_for_job(desk: &Desk, words: &[&str]) {
     let [first, second, wanted, words @ ..] = words else {
         return desk.trouble("FIRST SECOND TEXT WORDS");
@@ -202,7 +203,8 @@ fn read_texts(desk: &Desk, named: &Job, texts: [&[u8]; 2], wanted: &str, words: 
     }
 }
 
-/// `FIRST SECOND TEXT WORDS`: the job of these words, which has read its sources, writes the text.
+/// `FIRST SECOND TEXT WORDS`: the job of these words, which has read the first two texts, has to
+/// write the third.
 pub(crate) fn write_for_job(desk: &Desk, words: &[&str]) {
     let [first, second, wanted, words @ ..] = words else {
         return desk.trouble("FIRST SECOND TEXT WORDS");
@@ -216,7 +218,7 @@ pub(crate) fn write_for_job(desk: &Desk, words: &[&str]) {
     }
 }
 
-/// Lets a job write what it has prepared.
+/// Lets a job write what it has prepared. If memory runs out, it writes a second time.
 fn write_prepared(desk: &Desk, prepared: &Prepared<'_>, wanted: &str) {
     if let Some(fault) = has_written(desk, prepared, wanted, true) {
         report_status(desk, Fault::Office(fault));

@@ -1,4 +1,4 @@
-//! What offices know after events, found from the replies.
+//! What offices know after the events of a run, worked out from the replies.
 
 use cif_file::{FileCause, FileFault};
 use docker_office::{OfficeFault, Reply, RunFault};
@@ -47,7 +47,7 @@ const NINTH: Known = Known {
 };
 
 impl Known {
-    /// The files that this one or the other knows.
+    /// The files that either of the two knows.
     fn with(self, other: Known) -> Known {
         Known {
             fifth: self.fifth | other.fifth,
@@ -56,7 +56,8 @@ impl Known {
         }
     }
 
-    /// The name of the text of these files' state. The full extract is the floor, if it is known.
+    /// The name of the text of these files' state. If the full extract is known, the update of 5
+    /// June is below the floor and doesn't count.
     pub(crate) fn state<'a>(self) -> &'a str {
         if self.seventh {
             return if self.ninth {
@@ -73,7 +74,7 @@ impl Known {
         }
     }
 
-    /// The name of these files' docker for Ashfeld on 10 June.
+    /// The name of the docker of these files, for Ashfeld on 10 June.
     pub(crate) fn docker<'a>(self) -> &'a str {
         match (self.seventh, self.ninth) {
             (false, true) => "ninth.docker",
@@ -130,21 +131,21 @@ pub(crate) const STEPS: [Step; 18] = [
 /// The reply to an event for which memory runs out.
 const OUT_OF_MEMORY: Reply = Reply::Refused(RunFault::Office(OfficeFault::Memory));
 
-/// What each office and each message knows so far.
+/// What each office and each message knows after the events up to some point.
 #[derive(Drop)]
 pub(crate) struct Book {
-    /// The offices.
+    /// What each office knows.
     pub(crate) offices: [Known; OFFICES],
-    /// The messages.
+    /// What each message knows.
     pub(crate) messages: Vec<Known>,
-    /// Whether each reply so far is one that its event may get.
+    /// Whether each reply was one that its event may get.
     pub(crate) fits: bool,
-    /// How many replies say out of memory.
+    /// How many replies said that memory ran out.
     pub(crate) wanting: u32,
 }
 
 impl Book {
-    /// No office knows anything, and no message has been sent.
+    /// The book before the first event: no office knows a file, and no message has been sent.
     pub(crate) fn new(alloc: Global) -> Book {
         Book {
             offices: [NONE; OFFICES],
@@ -154,7 +155,7 @@ impl Book {
         }
     }
 
-    /// Enters an event with its reply.
+    /// Enters an event and its reply.
     pub(crate) fn enter(&mut self, step: Step, reply: Reply) -> Result<(), AllocError> {
         let wanted = self.reply_to(step);
         if reply == OUT_OF_MEMORY {
@@ -169,7 +170,7 @@ impl Book {
         Ok(())
     }
 
-    /// The reply that an event should get if memory doesn't run out.
+    /// The reply that an event has to get unless memory runs out.
     fn reply_to(&self, step: Step) -> Reply {
         match step {
             Step::Take(_, _) | Step::Send(_) => Reply::Done,
@@ -189,7 +190,7 @@ impl Book {
         }
     }
 
-    /// Enters what an event that was done has changed.
+    /// Enters the effect of an event that was done.
     fn meet(&mut self, step: Step) -> Result<(), AllocError> {
         match step {
             Step::Take(office, file) => self.learn(office, file),
@@ -226,7 +227,7 @@ impl Book {
         self.set(office, all);
     }
 
-    /// Sets what an office knows to just these files.
+    /// Sets what an office knows to exactly these files.
     fn set(&mut self, office: usize, files: Known) {
         if let Some(known) = self.offices.get_mut(office) {
             *known = files;
@@ -234,12 +235,13 @@ impl Book {
     }
 }
 
-/// Whether a reply says out of memory.
+/// Whether a reply says that memory ran out.
 pub(crate) fn is_out_of_memory(reply: &Reply) -> bool {
     *reply == OUT_OF_MEMORY
 }
 
-/// Whether an event that should get this reply does any work, so that memory may run out.
+/// Whether memory may run out for an event that should get this reply. It may not if the office or
+/// the message doesn't exist.
 fn is_tried(reply: Reply) -> bool {
     match reply {
         Reply::Done => true,

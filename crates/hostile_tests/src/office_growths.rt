@@ -1,4 +1,4 @@
-//! Calls that allocate: offices.
+//! Calls of offices that allocate memory.
 
 use crate::asking::{ask, call_of};
 use crate::desk::Desk;
@@ -7,7 +7,8 @@ use crate::texts::{MOST_BYTES, compare_state, has_text, occasion_of, office_of, 
 use cif_line::{Day, Sink, Tiploc};
 use docker_office::{LedgerOffice, Office, OfficeFault, PlaceOffice};
 
-/// `STATE TEXT STATE`: an office with the first state reads the text, and then has the last state.
+/// `STATE TEXT STATE`: an office with the first state reads the text, and then has to have the last
+/// state.
 pub(crate) fn read(desk: &Desk, call: &str, words: &[&str]) {
     let [own, name, wanted] = words else {
         return desk.trouble("STATE TEXT STATE");
@@ -38,13 +39,13 @@ pub(crate) fn read(desk: &Desk, call: &str, words: &[&str]) {
     compare_state(desk, office.state(), wanted);
 }
 
-/// Prints whether the state of an office has this text.
+/// Prints whether the state of an office still has the text that it had before.
 fn report_same(desk: &Desk, office: &Office, before: &[u8]) {
     let same = has_text(desk, office.state(), before);
     desk.report(same, "the office is as it was");
 }
 
-/// `STATE TIPLOC DATE DOCKER`: an office with the state prints.
+/// `STATE TIPLOC DATE DOCKER`: an office with the state prints the docker.
 pub(crate) fn print(desk: &Desk, words: &[&str]) {
     let [own, place, day, wanted] = words else {
         return desk.trouble("STATE TIPLOC DATE DOCKER");
@@ -60,8 +61,9 @@ pub(crate) fn print(desk: &Desk, words: &[&str]) {
     }
 }
 
-/// Lets an office print, prints how the call ended, and compares the docker. Returns false if the
-/// call is refused and nothing is written.
+/// Lets an office print and prints whether the docker is the expected one. If this is the row's
+/// call, how it ended is printed first. Returns false if the call is refused and nothing is
+/// written.
 fn has_printed(desk: &Desk, office: &Office, words: [&str; 3], is_first: bool) -> bool {
     let [place, day, wanted] = words;
     let Some((place, day)) = occasion_of(desk, place, day) else {
@@ -84,12 +86,12 @@ fn has_printed(desk: &Desk, office: &Office, words: [&str; 3], is_first: bool) -
     true
 }
 
-/// An office at a timing point, for a day, that has read the state with this text.
+/// An office for the docker of a timing point and a day, which has read the state with this text.
 fn at_place(desk: &Desk, text: &[u8], place: Tiploc, day: Day) -> Result<PlaceOffice, OfficeFault> {
     PlaceOffice::read(desk.alloc(), place, day, &mut source_of(text), MOST_BYTES)
 }
 
-/// Compares the docker of an office at a timing point.
+/// Prints whether an office for one timing point prints this docker.
 fn compare_docker(desk: &Desk, office: &PlaceOffice, wanted: &str) {
     if let Some(mut kept) = sink(desk) {
         let done = office.print(&mut kept).is_ok();
@@ -97,8 +99,8 @@ fn compare_docker(desk: &Desk, office: &PlaceOffice, wanted: &str) {
     }
 }
 
-/// `STATE TIPLOC DATE DOCKER`: an office at the timing point, for the day, reads the state. Then it
-/// prints.
+/// `STATE TIPLOC DATE DOCKER`: an office for the timing point and the day reads the state, and then
+/// prints the docker.
 pub(crate) fn read_at_place(desk: &Desk, words: &[&str]) {
     let [name, place, day, wanted] = words else {
         return desk.trouble("STATE TIPLOC DATE DOCKER");
@@ -119,8 +121,8 @@ pub(crate) fn read_at_place(desk: &Desk, words: &[&str]) {
     }
 }
 
-/// `STATE TIPLOC DATE DOCKER`: an office at the timing point, for the day, which has read the
-/// state, prints.
+/// `STATE TIPLOC DATE DOCKER`: an office for the timing point and the day, which has read the
+/// state, prints the docker.
 pub(crate) fn print_at_place(desk: &Desk, words: &[&str]) {
     let [name, place, day, wanted] = words else {
         return desk.trouble("STATE TIPLOC DATE DOCKER");
@@ -135,7 +137,7 @@ pub(crate) fn print_at_place(desk: &Desk, words: &[&str]) {
     }
 }
 
-/// Lets an office at a timing point print, and once more if nothing is written.
+/// Lets an office for one timing point print, and a second time if nothing was written.
 fn print_there(desk: &Desk, office: &PlaceOffice, wanted: &str) {
     let Some(mut kept) = sink(desk) else {
         return;
@@ -155,7 +157,7 @@ fn with_ledger(desk: &Desk, text: &[u8]) -> Result<LedgerOffice, OfficeFault> {
     LedgerOffice::read(desk.alloc(), &mut source_of(text), MOST_BYTES)
 }
 
-/// Compares the files that an office with a ledger lists.
+/// Prints whether an office with a ledger lists these files.
 fn compare_files(desk: &Desk, office: &LedgerOffice, wanted: &str) {
     if let Some(mut kept) = sink(desk) {
         let done = office.files(&mut kept).is_ok();
@@ -163,7 +165,7 @@ fn compare_files(desk: &Desk, office: &LedgerOffice, wanted: &str) {
     }
 }
 
-/// `STATE FILES`: an office reads the ledger of the state. Then it lists the files.
+/// `STATE FILES`: an office reads the ledger of the state, and then lists the files.
 pub(crate) fn read_ledger(desk: &Desk, words: &[&str]) {
     let [name, wanted] = words else {
         return desk.trouble("STATE FILES");

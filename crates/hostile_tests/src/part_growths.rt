@@ -1,4 +1,4 @@
-//! Calls that allocate: building states from their parts, and receiving their parts.
+//! Calls that allocate memory: they build a state from its parts, or let a state receive parts.
 
 ghost use Rattle.std.specs.Prelude.{◌++◌};
 ghost use Rattle.docker_model.specs.state.Stamp.{IsFloor};
@@ -10,7 +10,7 @@ use crate::texts::{compare_state, has_text, state_of};
 use cif_line::Memory;
 use docker_state::{Parts, Staging, State};
 
-/// Which of several calls the row is about.
+/// The call that a row is about.
 #[derive(Clone, Copy, PartialEq, Eq)]
 enum At {
     Item,
@@ -32,21 +32,22 @@ fn call_of(call: &str) -> At {
     }
 }
 
-/// Prints the row, if it is about this call.
+/// Prints the row if it is about this call.
 fn begin(desk: &Desk, here: bool) {
     if here {
         desk.begin();
     }
 }
 
-/// Prints how the call ended, if the row is about it.
+/// Prints how a call ended if the row is about it.
 fn end<T>(desk: &Desk, here: bool, done: &Result<T, Memory>) {
     if here {
         desk.end(ending_of(done));
     }
 }
 
-/// The state of one item and one entry, built from its parts. Prints how the call `at` ended.
+/// The state of one ledger item and one entry, built from its parts. Prints how the call `at`
+/// ended.
 fn rebuilt(desk: &Desk, one: &State, at: At) -> Result<State, Memory> {
     let (items, rows) = (one.ledger(), one.entries());
     if items.len() != 1 {
@@ -95,7 +96,7 @@ pub(crate) fn parts(desk: &Desk, call: &str, words: &[&str]) {
     }
 }
 
-/// Lets a state receive a state of one item and one entry.
+/// Lets a state receive the parts of another, which has one ledger item and one entry.
 fn receive(desk: &Desk, own: &mut State, other: &State, at: At) -> Result<(), Memory> {
     let (items, rows) = (other.ledger(), other.entries());
     if items.len() != 1 {
@@ -134,7 +135,8 @@ fn commit(desk: &Desk, own: &mut State, staging: Staging, at: At) -> Result<(), 
     done
 }
 
-/// `STATE OTHER JOINED`: the first state receives the second, which has one file and one entry.
+/// `STATE OTHER JOINED`: the first state receives the second, which has one file and one entry. It
+/// then has to be the third.
 pub(crate) fn staging(desk: &Desk, call: &str, words: &[&str]) {
     let [own, other, wanted] = words else {
         return desk.trouble("STATE OTHER JOINED");

@@ -10,10 +10,10 @@ use test_records::{
     LT, LT_0935, LT_1030, LT_1100_PLAIN, LT_1130, LT_DUNMERE_1100, TA, TI, TI_BLANK, ZZ, text,
 };
 
-/// The file of C10001.
+/// The file with the train C10001.
 const TRAIN: &[&[u8]] = &[HD, BS, LO, LT, ZZ];
 
-/// The file in which C30002 divides from C30001.
+/// The file with the train C30001, from which C30002 divides.
 const DIVISION_FILE: &[&[u8]] = &[
     HD,
     BS_C30001,
@@ -40,8 +40,8 @@ const SEVENTH: &[&[u8]] = &[HD_7B, BS_C10002, LO_1000, LT_1030, ZZ];
 /// The update of 9 June.
 const NINTH: &[&[u8]] = &[HD_9C, BS, LO_1100, LT_1130, ZZ];
 
-/// The lines of a text, each with the same line end, and an open line after them. The open line may
-/// be empty.
+/// The lines of a text. Those in `ended` each end with `end`. The last line, `open`, has no line
+/// end, and may be empty.
 #[derive(Drop)]
 pub(crate) struct Lines<'a> {
     ended: &'a [&'a [u8]],
@@ -72,7 +72,7 @@ fn before<'a>(lines: &'a [&'a [u8]], open: &'a [u8]) -> Lines<'a> {
     }
 }
 
-/// The lines of the file or docker with this name. None if it isn't made here.
+/// The lines of the file or docker with this name. `None` if it isn't made of records.
 pub(crate) fn lines_of<'a>(name: &str) -> Option<Lines<'a>> {
     match name {
         "train.cif" => Some(fed(TRAIN)),
@@ -96,7 +96,7 @@ pub(crate) fn lines_of<'a>(name: &str) -> Option<Lines<'a>> {
     }
 }
 
-/// Like `lines_of`, for the files that lack a line end or a trailer.
+/// Like `lines_of`, for files that lack the last line end or the trailer.
 fn open_lines_of<'a>(name: &str) -> Option<Lines<'a>> {
     match name {
         "train-open.cif" => Some(before(&[HD, BS, LO, LT], ZZ)),
@@ -110,7 +110,7 @@ fn open_lines_of<'a>(name: &str) -> Option<Lines<'a>> {
     }
 }
 
-/// Like `lines_of`, for the dockers.
+/// Like `lines_of`, for dockers.
 fn docker_of<'a>(name: &str) -> Option<Lines<'a>> {
     match name {
         "none.docker" => Some(fed(NONE_AT_ASHFELD)),

@@ -1,4 +1,4 @@
-//! Calls that allocate: a run of three offices.
+//! Calls that allocate memory: a run of three offices.
 
 use crate::desk::Desk;
 use crate::endings::Ending;
@@ -8,7 +8,7 @@ use cif_line::Memory;
 use docker_office::{Event, Exchange, Office, Reply, RunFault, run};
 use std::alloc::Global;
 
-/// The texts of the files.
+/// The texts of the files that offices take.
 #[derive(Drop)]
 struct Files {
     fifth: Vec<u8>,
@@ -17,7 +17,7 @@ struct Files {
     open: Vec<u8>,
 }
 
-/// The event `Take` with this text.
+/// The event `Take` of an office, for this text.
 macro_rules! take {
     ($office:expr, $text:expr) => {
         Event::Take {
@@ -28,14 +28,14 @@ macro_rules! take {
     };
 }
 
-/// The event `Send`.
+/// The event `Send` of an office.
 macro_rules! send {
     ($office:expr) => {
         Event::Send { office: $office }
     };
 }
 
-/// The event `Deliver` with this message.
+/// The event `Deliver` of an office, for this message.
 macro_rules! deliver {
     ($office:expr, $message:expr) => {
         Event::Deliver {
@@ -45,7 +45,7 @@ macro_rules! deliver {
     };
 }
 
-/// What the run leaves.
+/// The result of the run of these events.
 fn left_by_run(alloc: Global, files: &Files) -> Result<Exchange, Memory> {
     run(
         alloc,
@@ -76,7 +76,7 @@ fn left_by_run(alloc: Global, files: &Files) -> Result<Exchange, Memory> {
     )
 }
 
-/// What is known after a run, by its replies.
+/// What offices and messages know after a run, worked out from its replies.
 fn book_of(desk: &Desk, left: &Exchange) -> Book {
     let mut book = Book::new(desk.alloc());
     for (step, reply) in STEPS.iter().zip(left.replies()) {
@@ -100,13 +100,13 @@ fn prints(desk: &Desk, office: &Office, name: &str) -> bool {
     }
 }
 
-/// Whether an office has the state and the docker of these files.
+/// Whether an office has the state of these files, and prints their docker.
 fn knows(desk: &Desk, office: &Office, known: Known) -> bool {
     let text = desk.text(known.state());
     has_text(desk, office.state(), text.as_slice()) && prints(desk, office, known.docker())
 }
 
-/// Whether offices and messages are left as the book says.
+/// Whether the offices and the messages are as the book says.
 fn is_left(desk: &Desk, left: &Exchange, book: &Book) -> bool {
     let mut same = book.fits
         && left.replies().len() == STEPS.len()
@@ -133,7 +133,8 @@ fn word_of<'a>(reply: &Reply) -> &'a str {
     }
 }
 
-/// Prints the replies, and the name of the state of each office and each message.
+/// Prints the replies, and whether each office and each message has the state that the replies lead
+/// to.
 fn report_left(desk: &Desk, left: &Exchange) {
     let book = book_of(desk, left);
     for reply in left.replies() {
@@ -148,7 +149,8 @@ fn report_left(desk: &Desk, left: &Exchange) {
     report_same(desk, left, &book, 0);
 }
 
-/// Prints whether `wanting` replies say out of memory, and everything else is as the replies say.
+/// Prints whether `wanting` replies say that memory ran out, and everything else is as the replies
+/// say.
 fn report_same(desk: &Desk, left: &Exchange, book: &Book, wanting: u32) {
     let same = book.wanting == wanting && is_left(desk, left, book);
     desk.report(
@@ -201,7 +203,7 @@ fn report_ended(desk: &Desk, left: &Exchange) {
     report_same(desk, left, &book, 1);
 }
 
-/// Whether a reply says out of memory.
+/// Whether some reply says that memory ran out.
 fn ran_out_of_memory(left: &Exchange) -> bool {
     left.replies().iter().any(is_out_of_memory)
 }

@@ -1,9 +1,10 @@
-//! Answers for consecutive numbers, printed as spans of equal answers.
+//! Prints equal answers for consecutive numbers as one span.
 
 use crate::answers::Answer;
 use crate::desk::Desk;
 
-/// The last span so far.
+/// The present span: from which number to which, and their answer. There is no answer before the
+/// first number.
 #[derive(Drop)]
 pub(crate) struct Spans {
     from: u64,
@@ -12,7 +13,7 @@ pub(crate) struct Spans {
 }
 
 impl Spans {
-    /// No span yet.
+    /// The spans before the first number is added.
     pub(crate) fn new() -> Spans {
         Spans {
             from: 0,
@@ -21,7 +22,8 @@ impl Spans {
         }
     }
 
-    /// Adds the answer for the next number.
+    /// Adds the answer for the next number. If it differs from the span's answer, the span is
+    /// printed and another begins.
     pub(crate) fn add(&mut self, desk: &Desk, number: u64, answer: Answer) {
         if self.answer != Some(answer) {
             self.report(desk);

@@ -1,5 +1,5 @@
-//! Calls that allocate: the join of states, the readers of their texts, dockers, and a sink in
-//! memory.
+//! Calls about states that allocate memory: they join states, read their texts, make dockers, or
+//! make a sink in memory.
 
 use crate::desk::Desk;
 use crate::endings::{Ending, ending_of};
@@ -12,7 +12,7 @@ use docker_day::{Docker, docker, write_docker};
 use docker_join::Merge;
 use docker_state::State;
 
-/// `STATE OTHER JOINED`: two states are joined.
+/// `STATE OTHER JOINED`: two states are joined, and have to give the third.
 pub(crate) fn join(desk: &Desk, words: &[&str]) {
     let [first, second, wanted] = words else {
         return desk.trouble("STATE OTHER JOINED");
@@ -29,7 +29,8 @@ pub(crate) fn join(desk: &Desk, words: &[&str]) {
     }
 }
 
-/// Joins two states, and compares the result. If memory runs out, it returns both.
+/// Joins two states, and prints whether the result is the expected one. If memory runs out, both
+/// states are returned.
 fn joined(desk: &Desk, one: State, other: State, wanted: &str) -> Result<(), (State, State)> {
     match one.join(desk.alloc(), other) {
         Ok(state) => {
@@ -44,7 +45,7 @@ fn joined(desk: &Desk, one: State, other: State, wanted: &str) -> Result<(), (St
     }
 }
 
-/// Joins states that were returned.
+/// Joins the two states that a first join returned.
 fn join_again(desk: &Desk, one: State, other: State, wanted: &str) {
     match one.join(desk.alloc(), other) {
         Ok(state) => compare_state(desk, &state, wanted),
@@ -52,12 +53,12 @@ fn join_again(desk: &Desk, one: State, other: State, wanted: &str) {
     }
 }
 
-/// A parser for a text of any length.
+/// A parser for a text with the greatest limit.
 fn new_parser(desk: &Desk) -> StateParser {
     StateParser::new(desk.alloc(), MOST_BYTES)
 }
 
-/// Feeds a text in pieces, up to the first fault.
+/// Feeds a text to a parser in pieces, up to the first fault.
 fn feed_all(parser: &mut StateParser, text: &[u8]) -> Result<(), StateFault> {
     for piece in text.chunks(STEP) {
         parser.feed(piece)?;
@@ -65,7 +66,7 @@ fn feed_all(parser: &mut StateParser, text: &[u8]) -> Result<(), StateFault> {
     Ok(())
 }
 
-/// Whether each later call of a parser gives the same fault again.
+/// Whether each later call of a parser returns the same fault again.
 fn repeats(mut parser: StateParser, fault: StateFault) -> bool {
     let fed = parser.feed(b"").err();
     let again = parser.feed(b"DKS2").err();
@@ -73,7 +74,7 @@ fn repeats(mut parser: StateParser, fault: StateFault) -> bool {
     fed == Some(fault) && again == Some(fault) && finished == Some(fault)
 }
 
-/// Compares the text of the state that a parser returns.
+/// Prints whether the state that a parser returns has the text named `wanted`.
 fn compare_fed(desk: &Desk, parser: StateParser, wanted: &str) {
     match parser.finish() {
         Ok(state) => compare_state(desk, &state, wanted),
@@ -81,7 +82,7 @@ fn compare_fed(desk: &Desk, parser: StateParser, wanted: &str) {
     }
 }
 
-/// Feeds a text to a new parser.
+/// Feeds a text to a new parser, and prints whether the state has the text named `wanted`.
 fn feed_again(desk: &Desk, text: &[u8], wanted: &str) {
     let mut parser = new_parser(desk);
     match feed_all(&mut parser, text) {
@@ -90,7 +91,7 @@ fn feed_again(desk: &Desk, text: &[u8], wanted: &str) {
     }
 }
 
-/// `STATE`: a parser is fed the text.
+/// `STATE`: a parser is fed the state's text.
 pub(crate) fn feed(desk: &Desk, words: &[&str]) {
     let [name] = words else {
         return desk.trouble("STATE");
@@ -109,7 +110,7 @@ pub(crate) fn feed(desk: &Desk, words: &[&str]) {
     }
 }
 
-/// `STATE`: a parser that has been fed the text is asked for its state.
+/// `STATE`: a parser that was fed the state's text finishes.
 pub(crate) fn finish(desk: &Desk, words: &[&str]) {
     let [name] = words else {
         return desk.trouble("STATE");
@@ -148,7 +149,8 @@ fn receive(desk: &Desk, state: &mut State, text: &[u8]) -> Result<(), ReadFault>
     join_state(desk.alloc(), state, &mut source_of(text), MOST_BYTES)
 }
 
-/// `STATE OTHER JOINED`: a state receives another from a source.
+/// `STATE OTHER JOINED`: the first state receives the second from a source, and then has to be the
+/// third.
 pub(crate) fn join_text(desk: &Desk, words: &[&str]) {
     let [own, other, wanted] = words else {
         return desk.trouble("STATE OTHER JOINED");
@@ -173,7 +175,7 @@ fn migrated(desk: &Desk, text: &[u8]) -> Result<State, ReadFault> {
     migrate(desk.alloc(), &mut source_of(text), MOST_BYTES)
 }
 
-/// `OLDER STATE`: the state is read from a source in the older format.
+/// `OLDER STATE`: a text in the older format is read from a source, and has to give the state.
 pub(crate) fn migrate_text(desk: &Desk, words: &[&str]) {
     let [name, wanted] = words else {
         return desk.trouble("OLDER STATE");
@@ -191,7 +193,7 @@ pub(crate) fn migrate_text(desk: &Desk, words: &[&str]) {
     }
 }
 
-/// Compares the text of a docker.
+/// Prints whether the text of a docker is the one named `wanted`.
 fn compare_docker(desk: &Desk, docker: &Docker<'_>, wanted: &str) {
     if let Some(mut kept) = sink(desk) {
         let whole = write_docker(docker, &mut kept).is_ok();
@@ -199,7 +201,7 @@ fn compare_docker(desk: &Desk, docker: &Docker<'_>, wanted: &str) {
     }
 }
 
-/// `STATE TIPLOC DATE DOCKER`: the docker for a place and a day is made.
+/// `STATE TIPLOC DATE DOCKER`: the docker of the state for a place and a day is made.
 pub(crate) fn make_docker(desk: &Desk, words: &[&str]) {
     let [name, place, day, wanted] = words else {
         return desk.trouble("STATE TIPLOC DATE DOCKER");
@@ -215,8 +217,8 @@ pub(crate) fn make_docker(desk: &Desk, words: &[&str]) {
     }
 }
 
-/// Makes a docker, prints how the first call ended, and compares the docker. Returns false if
-/// memory runs out.
+/// Makes a docker, and prints whether it is the expected one. If this is the row's call, how it
+/// ended is printed first. Returns false if memory runs out.
 fn has_made(desk: &Desk, state: &State, words: [&str; 3], is_first: bool) -> bool {
     let [place, day, wanted] = words;
     let Some((place, day)) = occasion_of(desk, place, day) else {
@@ -243,7 +245,7 @@ fn room_for(desk: &Desk, text: &[u8]) -> Result<Kept, Memory> {
     Kept::new(desk.alloc(), text.len())
 }
 
-/// Writes a text to a sink, and compares what the sink keeps.
+/// Writes a text to a sink, and prints whether the sink then has it.
 fn compare_kept(desk: &Desk, kept: Result<Kept, Memory>, text: &[u8], name: &str) {
     match kept {
         Ok(mut kept) => {
@@ -254,7 +256,7 @@ fn compare_kept(desk: &Desk, kept: Result<Kept, Memory>, text: &[u8], name: &str
     }
 }
 
-/// A text, this many times. None if that can't be made, which is printed.
+/// The text with this name, this many times. `None` if memory runs out, which is printed.
 fn repeated(desk: &Desk, name: &str, times: &str) -> Option<Vec<u8>> {
     let text = desk.text(name);
     let mut all = Vec::new(desk.alloc());
@@ -267,7 +269,8 @@ fn repeated(desk: &Desk, name: &str, times: &str) -> Option<Vec<u8>> {
     Some(all)
 }
 
-/// `TEXT TIMES`: a sink with room for the text this many times.
+/// `TEXT TIMES`: a sink is made that has room for the text this many times, and the text is written
+/// to it.
 pub(crate) fn keep(desk: &Desk, words: &[&str]) {
     let [name, times] = words else {
         return desk.trouble("TEXT TIMES");

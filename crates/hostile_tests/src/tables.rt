@@ -1,4 +1,5 @@
-//! The tables of rows: texts that are cut, limits, sources without end, and devices that fail.
+//! Rows that stand for many calls: texts that are cut, limits, sources without end, and devices
+//! that fail.
 ghost use Rattle.std.specs.Prelude.{◌<◌, length};
 
 use crate::answers::Answer;
@@ -11,25 +12,25 @@ use cif_line::{Bytes, Endless};
 use docker_cmd::Fault;
 use docker_office::{Office, OfficeFault};
 
-/// The numbers of bytes per read that are tried, besides 1.
+/// The numbers of bytes per read that are tried besides 1.
 const STEPS: [usize; 2] = [7, 4096];
 
-/// A call for an office with the state of one text, under a limit. After it the office has the
-/// state of another text.
+/// A call of an office, under a limit, with the states that the office has before and after it.
 #[derive(Clone, Copy, Drop)]
 pub(crate) struct Asked<'a> {
     /// The call to make.
     pub(crate) call: Call,
     /// The text of the office's state before the call.
     pub(crate) before: &'a [u8],
-    /// The text of its state after the call, if that is done.
+    /// The text of the office's state after the call, if the call is done.
     pub(crate) after: &'a [u8],
-    /// The most records or bytes.
+    /// The most records or bytes that the source may hold.
     pub(crate) limit: u64,
 }
 
 impl<'a> Asked<'a> {
-    /// The answer for an office after the call.
+    /// The answer for this result of the call. It depends also on the state that the office has
+    /// then.
     pub(crate) fn judge(
         &self,
         desk: &Desk,
@@ -54,7 +55,7 @@ impl<'a> Asked<'a> {
         }
     }
 
-    /// The answer if a source gives this text, at most `step` bytes per read.
+    /// The answer for a source that gives this text, at most `step` bytes per read.
     fn answer(&self, desk: &Desk, text: &[u8], step: usize) -> Answer
         requires { 0 < step }
     {
@@ -68,7 +69,8 @@ impl<'a> Asked<'a> {
         self.judge(desk, &office, done)
     }
 
-    /// The answer, if it doesn't depend on the number of bytes per read.
+    /// The answer for a source that gives this text. It is `Uneven` if it depends on the number of
+    /// bytes per read.
     pub(crate) fn answer_to(&self, desk: &Desk, text: &[u8]) -> Answer {
         let mut answer = self.answer(desk, text, 1);
         for step in STEPS {
@@ -79,7 +81,7 @@ impl<'a> Asked<'a> {
         answer
     }
 
-    /// The answer if a source gives one text, and then another over and over.
+    /// The answer for a source that gives `front` and then repeats `again` without end.
     fn answer_without_end(&self, desk: &Desk, front: &[u8], again: &[u8], step: usize) -> Answer
         requires step { 0 < step }
         requires again { 0 < length again.now }
@@ -104,7 +106,7 @@ impl<'a> Asked<'a> {
     }
 }
 
-/// Runs a table's row.
+/// Runs the row of a table.
 pub(crate) fn do_row(desk: &Desk, table: &str, words: &[&str]) {
     match table {
         "cut" => cut(desk, words),
@@ -119,7 +121,7 @@ pub(crate) fn do_row(desk: &Desk, table: &str, words: &[&str]) {
     }
 }
 
-/// `CALL STATE TEXT STATE`: the text is cut after each number of bytes.
+/// `CALL STATE TEXT STATE`: the call reads each prefix of the text.
 fn cut(desk: &Desk, words: &[&str]) {
     let [call, own, name, wanted] = words else {
         return desk.trouble("CALL STATE TEXT STATE");
@@ -144,12 +146,12 @@ fn cut_all(desk: &Desk, asked: Asked<'_>, text: &[u8]) {
     spans.report(desk);
 }
 
-/// A limit; 0 if the word isn't a number.
+/// The limit that a word names. It is 0 if the word isn't a number.
 fn limit_of(word: &str) -> u64 {
     word.parse::<u64>().unwrap_or(0)
 }
 
-/// `CALL STATE TEXT LIMIT`: the text is read under the limit, and refused.
+/// `CALL STATE TEXT LIMIT`: the call reads the text under the limit, and has to refuse it.
 fn limit(desk: &Desk, words: &[&str]) {
     let [call, own, name, limit] = words else {
         return desk.trouble("CALL STATE TEXT LIMIT");
@@ -166,7 +168,8 @@ fn limit(desk: &Desk, words: &[&str]) {
     asked.answer_to(desk, text.as_slice()).report(desk);
 }
 
-/// `CALL STATE FRONT AGAIN LIMIT`: a first text, and then another over and over, under a limit.
+/// `CALL STATE FRONT AGAIN LIMIT`: the call reads a source that gives the first text and then
+/// repeats the second without end, under the limit.
 fn endless(desk: &Desk, words: &[&str]) {
     let [call, own, front, again, limit] = words else {
         return desk.trouble("CALL STATE FRONT AGAIN LIMIT");

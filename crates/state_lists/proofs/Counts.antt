@@ -1,5 +1,4 @@
--- The schedules that call at a place are the live rows that pass a test, so both have the same
--- number.
+-- How many schedules call at a place is how many live rows pass the test `calls_at` for that place.
 use Rattle.std.proofs.Common.{◌≡◌, ℕ, List, [], ◌∷◌, length, refl, ap, sym, ◌∙◌, subst, inl, inr, ◌⊎◌, Bool, true, false, Contains, Some}
 use Rattle.std.specs.Prelude.{filter, ◌||◌}
 use Rattle.std.specs.List.{list_any}
@@ -30,7 +29,7 @@ use Rattle.state_lists.specs.Places.{calls_at, count_at}
 rows_total : IsTotalOrder (on (λ (row : Row). row.0) key_cmp)
 rows_total = on_total (λ (row : Row). row.0) key_total
 
--- a table has only one list of rows
+-- a table has only one list of all its rows in order
 pub one_rows : (live : Table) (rows others : List Row) → AreRowsOf live rows → AreRowsOf live others → rows ≡ others
 one_rows live rows others one two =
     same_list rows_total rows others one.ascending two.ascending
@@ -39,7 +38,7 @@ one_rows live rows others one two =
       λ among. (one.members row.0 row.1).1 ((two.members row.0 row.1).0 among),
     ))
 
--- a list that has a place passes the test for that place
+-- a list of places that has this one passes the test for it
 has_place : (place : List ℕ) (places : List (List ℕ)) → Contains places place → list_any (bytes_eq place) places ≡ true
 has_place place [] among = absurd (nil-Contains place among)
 has_place place (other ∷ places) among = by (has_place place places) (Contains-cons other places place among)
@@ -53,7 +52,7 @@ has_place place (other ∷ places) among = by (has_place place places) (Contains
     by rest (inl same) = ap (λ b. b || list_any (bytes_eq place) places) ((bytes_eq-Decides place other).1 (sym same))
     by rest (inr inside) = ap (λ b. bytes_eq place other || b) (rest inside) ∙ either (bytes_eq place other)
 
--- a live row passes the test if and only if it is a schedule that calls at the place
+-- a live row that passes the test is a schedule that calls at the place
 passes_back : (place : List ℕ) (key : Key) (body : Body) → calls_at place (key, body) ≡ true → Calls key (put_with body) place
 passes_back place key body passes =
     call_back key (put_with body) place
@@ -69,7 +68,7 @@ module _ (live : Table) (rows : List Row) (are : AreRowsOf live rows) (place : L
       (later_filter (IsBelow (on (λ (row : Row). row.0) key_cmp)) (calls_at place) rows
       (later_of (on (λ (row : Row). row.0) key_cmp) rows are.ascending))
 
-  -- the schedules that call at the place are the rows that pass
+  -- the schedules that call at the place are the rows that pass the test
   calling_are : (calling : List Row) → AreCalling live place calling → calling ≡ filter (calls_at place) rows
   calling_are calling is = same_list rows_total calling (filter (calls_at place) rows) is.ascending passing_ascend (λ row. (forth row, back row))
     where
@@ -98,14 +97,14 @@ module _ (live : Table) (rows : List Row) (are : AreRowsOf live rows) (place : L
             },
           )
 
--- the walk over a state's live keys has the rows of its live table
+-- the live rows of a state's entries are the rows of its live table
 pub rows_are : (state : State) → IsValid state → AreRowsOf (live_table state) (live_rows state.entries)
 rows_are state valid = record {
   ascending = live_ascends state valid (live_rows state.entries) refl;
   members = live_walks state valid (live_rows state.entries) refl;
 }
 
--- the count of the schedules that call at a place is the count of the live rows that pass
+-- the number of schedules that call at a place is the number of live rows that pass the test
 pub count_is : (state : State) → IsValid state → (place : List ℕ) (count : ℕ) → IsCallingCount (live_table state) place count
     → count ≡ count_at place (live_rows state.entries)
 count_is state valid place count counted =

@@ -1,4 +1,4 @@
--- The text that is written is the text of what a state knows.
+-- The text that the code writes is the text of what a state knows.
 use Rattle.std.proofs.Common.{◌≡◌, ℕ, ◌<◌, List, ◌++◌, ap, ◌∙◌, subst, Some, None}
 use Rattle.std.specs.Prelude.{Option, IfSome, codes, option_map}
 use Rattle.std.proofs.lemmas.List.Elements.{All-contains}
@@ -16,7 +16,7 @@ use Rattle.state_lists.specs.Tallies.{IsTallyOf, known_lines}
 use Rattle.state_lists.specs.declared.tally.Tally.{Tally}
 use Rattle.state_lists.proofs.Counts.{rows_are}
 
--- if a valid state knows a full extract, the newest one has a minute of the day
+-- the minute in the stamp of a valid state's newest full extract is below 1440
 pub minute_of_full : (state : State) → IsValid state → (full : Option stamps.FileStamp) → IsFloor state.ledger (option_map file_stamp_meant full)
     → IfSome full (λ stamp. stamp.minute < 1440)
 minute_of_full state valid None is = tt
@@ -42,10 +42,10 @@ module _ (state : State) (valid : IsValid state) (entries : List (model.Key × o
         ++ count_line (codes "ASSOCIATIONS") (of_all.associations i) ++ count_line (codes "PLACES      ") (of_all.places i));
   }
 
-  -- if the text of what is known is taken, the sink gains this text
+  -- a sink that takes all bytes written has gained the text of what the state knows
   pub known_taken : (old new : Option (List ℕ)) → Takes old bytes new → Gains (IsKnownText state) old new
   known_taken old new taken = record { text = bytes; is = is_known; gained = taken }
 
-  -- if a part of the text of what is known is taken, the sink gains this part
+  -- a sink that takes a proper prefix of the bytes written has gained a proper prefix of that text
   pub known_begun : (old new : Option (List ℕ)) → TakesPart old bytes new → GainsPart (IsKnownText state) old new
   known_begun old new taken = record { text = bytes; is = is_known; gained = taken }

@@ -1,4 +1,4 @@
--- The lines of a state's entries are the list of its timing points.
+-- The lines of all entries of a state, put together, are the list of its timing points.
 use Rattle.std.proofs.Common.{◌≡◌, List, ℕ, [], ◌∷◌, ◌++◌, map, refl, ap, sym, ◌∙◌}
 use Rattle.std.specs.Prelude.{Option}
 use Rattle.std.specs.List.{flat_map}
@@ -19,11 +19,11 @@ use Rattle.state_lists.specs.Places.{IsPlacesText, place_line, place_text, place
 use Rattle.state_lists.specs.RowLines.{line_by, row_line}
 use Rattle.state_lists.proofs.Counts.{count_is, rows_are}
 
--- the line of a row of the code, among these live rows
+-- the line of a row of the code. `rows` are all live rows
 abbrev pub kept_line : List Row → Kept × Held → List ℕ
 kept_line rows row = row_line rows (row_meant row)
 
--- the lines of entries are the lines of the live entries
+-- the lines of all entries are the lines of the live ones, because no other entry has a line
 lines_are : (rows : List Row) (entries : List (Key × Entry))
     → flat_map (row_line rows) entries ≡ flat_map (λ (row : Row). place_line rows row.0 row.1) (live_rows entries)
 lines_are rows [] = refl
@@ -45,17 +45,17 @@ module _ (state : State) (valid : IsValid state) (rows : List (Kept × Held)) (a
   is_text : IsPlacesText (live_table state) (flat_map (kept_line (live_rows state.entries)) rows)
   is_text = record { rows = live_rows state.entries; are = rows_are state valid; text_is = text_is }
 
-  -- if the lines of all entries are taken, the sink gains the list
+  -- a sink that takes the lines of all entries has gained the list
   pub list_taken : (old new : Option (List ℕ)) → Takes old (flat_map (kept_line (live_rows state.entries)) rows) new
       → Gains (IsPlacesText (live_table state)) old new
   list_taken old new taken = record { text = flat_map (kept_line (live_rows state.entries)) rows; is = is_text; gained = taken }
 
-  -- if a part of the lines is taken, the sink gains a part of the list
+  -- a sink that takes a proper prefix of these lines has gained a proper prefix of the list
   pub list_begun : (old new : Option (List ℕ)) → TakesPart old (flat_map (kept_line (live_rows state.entries)) rows) new
       → GainsPart (IsPlacesText (live_table state)) old new
   list_begun old new taken = record { text = flat_map (kept_line (live_rows state.entries)) rows; is = is_text; gained = taken }
 
--- a written line is the line of its key
+-- the line that is written for a timing point is the line of its key
 pub line_is : (state : State) → IsValid state → (key : Key) (body : Body) (code details : List ℕ) (count : ℕ) (bytes : List ℕ)
     → key ≡ tiploc_key code → body ≡ tiploc_body details → IsCallingCount (live_table state) code count
     → bytes ≡ ended (place_text code details count) → bytes ≡ place_line (live_rows state.entries) key body

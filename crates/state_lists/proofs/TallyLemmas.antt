@@ -1,4 +1,4 @@
--- Tallies, row by row.
+-- How a tally changes with each row of a walk.
 use Rattle.std.proofs.Common.{◌≡◌, ℕ, suc, ◌+◌, ◌^◌, ◌<◌, ◌≤◌, List, [], ◌∷◌, ◌++◌, length, take, map, get_or, refl, ap, sym, ◌∙◌}
 use Rattle.std.proofs.Common.{subst, inl, inr, ◌⊎◌, Bool, true, false, cond, Contains, Some, None, arith, append-nil, length-append}
 use Rattle.std.specs.Prelude.{Option, filter, ◌==◌}
@@ -22,11 +22,11 @@ use Rattle.state_lists.specs.declared.tally.Tally.{Tally}
 
 -- ---- one more row
 
--- 1 for a key that has the tag, 0 for another key
+-- 1 if the key has the tag, otherwise 0
 abbrev one_if : ℕ → Key → ℕ
 one_if tag key = cond (key_tag key == tag) 1 0
 
--- a list of just one row: a key with its body
+-- the list that has only this key with its body
 abbrev one_row : Key → Body → List Row
 one_row key body = (key, body) ∷ []
 
@@ -48,7 +48,7 @@ ends_more rows key body =
     by None = append-nil (ends_of rows)
     by (Some day) = refl
 
--- the tally of these rows and one more row
+-- a tally of these rows, before one more row is counted
 module _ (rows : List Row) (tally : Tally) (body : Body) (is : IsTallyOf rows tally) where
   same_count : (tag count : ℕ) (key : Key) → count ≡ count_of tag rows → ◌≡◌ {A = ℕ} (one_if tag key) 0 → count ≡ count_of tag (rows ++ (key, body) ∷ [])
   same_count tag count key told none = let more = count_more tag rows key body in omega arith
@@ -92,7 +92,7 @@ module _ (rows : List Row) (tally : Tally) (body : Body) (is : IsTallyOf rows ta
 
 -- ---- the greater of two days
 
--- the greatest of some days, compared with one more day
+-- some days with their greatest, `one`, before one more day, `other`, is looked at
 module _ (days : List ℕ) (one other : ℕ) (is : IsGreatest days (Some one)) where
   later_wins : one ≤ other → IsGreatest (days ++ other ∷ []) (Some other)
   later_wins below =
@@ -110,7 +110,7 @@ module _ (days : List ℕ) (one other : ℕ) (is : IsGreatest days (Some one)) w
       by day (inl inside) = is.1 day inside
       by day (inr last) = let same : other ≡ day = Contains-single other day last in omega arith
 
--- if the next day isn't earlier than the greatest so far, the next day is the greatest
+-- if one more day isn't earlier than the greatest before, it is the greatest
 pub other_later : (days : List ℕ) (first second : Option ℕ) (one other : ℕ) → first ≡ Some one → second ≡ Some other → one ≤ other
     → IsGreatest days first → IsGreatest (with_day days second) (Some other)
 other_later days first second one other first_is second_is below is =
@@ -126,7 +126,7 @@ pub one_alone : (days : List ℕ) (first second : Option ℕ) (one : ℕ) → fi
 one_alone days first second one first_is second_is is =
     subst (λ o. IsGreatest (with_day days o) (Some one)) (sym second_is) (subst (IsGreatest days) first_is is)
 
--- if there was no day yet, the next day is the greatest
+-- if there was no day before, one more day is the greatest
 pub first_day : (days : List ℕ) (first second : Option ℕ) → first ≡ None → IsGreatest days first → IsGreatest (with_day days second) second
 first_day days first second first_is is = by second (subst (IsGreatest days) first_is is)
   where
@@ -157,7 +157,7 @@ live_few (entry ∷ entries) = by entry.1.op (live_few entries)
     by lapsed rest = omega arith
     by (put_with body) rest = omega arith
 
--- the live rows among the first rows
+-- the live rows among the first `i` rows
 abbrev pub live_up_to : ℕ → List (Kept × Held) → List Row
 live_up_to i rows = live_rows (map row_meant (take i rows))
 
@@ -171,7 +171,7 @@ count_few tag i rows =
     let front = length-take i rows in
     omega arith
 
--- if there are fewer than 2^63 rows, each count of the rows so far is below 2^63
+-- if there are fewer than 2^63 rows, each count among the first `i` rows is below 2^63
 pub are_few : (i : ℕ) (rows : List (Kept × Held)) (tally : Tally) → IsTallyOf (live_up_to i rows) tally → length rows < 2 ^ 63 → AreFew tally
 are_few i rows tally is short = record {
   schedules = (let most = count_few 3 i rows in let told = is.schedules in omega arith);
@@ -179,7 +179,8 @@ are_few i rows tally is short = record {
   places = (let most = count_few 1 i rows in let told = is.places in omega arith);
 }
 
--- the live rows among the first rows and the next row are the live rows among one row more
+-- the live rows among one row more are those among the first `i` rows, and then the next row if it
+-- is live
 pub live_more : (rows : List (Kept × Held)) (i : ℕ) (row : Kept × Held) → i < length rows → row ≡ get_or rows i row
     → live_up_to (i + 1) rows ≡ live_up_to i rows ++ live_rows (row_meant row ∷ [])
 live_more rows i row below at =
@@ -189,7 +190,7 @@ live_more rows i row below at =
     ∙ live_append (map row_meant (take i rows)) (map row_meant (get_or rows i row ∷ []))
     ∙ ap (λ (it : Kept × Held). live_up_to i rows ++ live_rows (row_meant it ∷ [])) (sym at)
 
--- a row with this op changes the live rows as the op does
+-- if a tally is right after an op, it is right after the row that has this op
 pub with_op : (before : List Row) (row : Kept × Held) (op : Op) (tally : Tally) → op_meant row.1.op ≡ op
     → IsTallyOf (before ++ put_before (row_meant row).0 op []) tally → IsTallyOf (before ++ live_rows (row_meant row ∷ [])) tally
 with_op before row op tally is told =
@@ -198,7 +199,7 @@ with_op before row op tally is told =
 pub with_none : (before : List Row) (tally : Tally) → IsTallyOf before tally → IsTallyOf (before ++ []) tally
 with_none before tally told = subst (λ (all : List Row). IsTallyOf all tally) (sym (append-nil before)) told
 
--- after the last row the tally counts all rows
+-- after the last row, the tally counts all rows
 pub tally_all : (rows : List (Kept × Held)) (i : ℕ) (tally : Tally) → length rows ≤ i → IsTallyOf (live_up_to i rows) tally
     → IsTallyOf (live_rows (map row_meant rows)) tally
 tally_all rows i tally end is = subst (λ (all : List (Kept × Held)). IsTallyOf (live_rows (map row_meant all)) tally) all is
@@ -206,6 +207,6 @@ tally_all rows i tally end is = subst (λ (all : List (Kept × Held)). IsTallyOf
     all : take i rows ≡ rows
     all = sym (append-nil (take i rows)) ∙ ap (λ (rest : List (Kept × Held)). take i rows ++ rest) (sym (drop_of_length-le rows end)) ∙ take-append-drop i rows
 
--- before the first row the tally has counted nothing
+-- before the first row, the tally that has only zeros and no last day is right
 pub no_rows : (rows : List (Kept × Held)) → IsTallyOf (live_up_to 0 rows) (record { schedules = 0; associations = 0; places = 0; last = None })
 no_rows rows = record { schedules = refl; associations = refl; places = refl; last = refl }

@@ -1,5 +1,6 @@
--- What a state knows, in a few lines: its horizon, its newest full extract, its last day, and how
--- much is live. Days are from 0 to 36524.
+-- The text of what a state knows: its horizon, its newest full extract, the last day of its
+-- schedules, and how much is live. Days are numbered from 1960-01-01, which is 0, to 2059-12-31,
+-- which is 36524.
 use Rattle.std.specs.Prelude.{◌≡◌, ℕ, ◌≤◌, ◌==◌, nat_le, if◌then◌else◌, List, [], ◌++◌, length, filter, codes, decimal, Contains, Option, Some, None}
 use Rattle.std.specs.List.{filter_map}
 use Rattle.docker_model.specs.records.Date.{last_day}
@@ -11,15 +12,17 @@ use Rattle.docker_model.specs.state.State.{State, live_table}
 use Rattle.docker_model.specs.docker.DockerText.{ended}
 use Rattle.state_laws.specs.Row.{Row, AreRowsOf}
 
--- how many of these rows have a key of this tag: 1 for TIPLOCs, 2 for associations, 3 for schedules
+-- how many of these rows are of one kind, given by its tag: 1 for TIPLOCs, 2 for associations, 3
+-- for schedules
 abbrev pub count_of : ℕ → List Row → ℕ
 count_of tag rows = length (filter (λ (row : Row). key_tag row.0 == tag) rows)
 
--- an end number, if it is a day. The number that means no end isn't
+-- the day of an end number. `None` for the number that means no end, which is greater than any
+-- day's
 abbrev pub day_in : ℕ → Option ℕ
 day_in end = if nat_le end last_day then Some end else None
 
--- the last day of a schedule, if it has one
+-- the last day of a schedule. `None` if it has no end, and for any other kind of row
 abbrev pub end_of : Key → Body → Option ℕ
 end_of (schedule_key key) body = day_in (body_end body)
 end_of _ _ = None
@@ -28,7 +31,7 @@ end_of _ _ = None
 abbrev pub ends_of : List Row → List ℕ
 ends_of rows = filter_map (λ (row : Row). end_of row.0 row.1) rows
 
--- this is the greatest of the numbers, or there is no number
+-- says that this is the greatest of the numbers, or that there are no numbers
 abbrev pub IsGreatest : List ℕ → Option ℕ → Type 0
 IsGreatest numbers None = numbers ≡ []
 IsGreatest numbers (Some greatest) = Contains numbers greatest × ((number : ℕ) → Contains numbers number → number ≤ greatest)
@@ -37,7 +40,7 @@ IsGreatest numbers (Some greatest) = Contains numbers greatest × ((number : ℕ
 abbrev pub named_line : List ℕ → List ℕ → List ℕ
 named_line name value = ended (name ++ spaces 1 ++ value)
 
--- a horizon: a day number as a date, or 0 for none
+-- a horizon as a date. `NONE` for 0, which means that no horizon was set
 abbrev pub horizon_text : ℕ → List ℕ
 horizon_text horizon = if horizon == 0 then codes "NONE" else day_text horizon
 
@@ -45,14 +48,14 @@ horizon_text horizon = if horizon == 0 then codes "NONE" else day_text horizon
 unfoldable pub horizon_line : ℕ → List ℕ
 horizon_line horizon = named_line (codes "HORIZON     ") (horizon_text horizon)
 
--- the line of the newest full extract, if there is one: date, time and reference
+-- the line of the newest full extract: date, time and reference. Empty if there is none
 unfoldable pub full_line : Option FileStamp → List ℕ
 full_line None = []
 full_line (Some stamp) =
     named_line (codes "FULL        ")
     (day_text stamp.moment.day ++ spaces 1 ++ minute_text stamp.moment.minute ++ spaces 1 ++ stamp.reference)
 
--- the line of the greatest last day of a schedule, if there is one
+-- the line of the greatest last day of a schedule. Empty if there is none
 unfoldable pub last_line : Option ℕ → List ℕ
 last_line None = []
 last_line (Some day) = named_line (codes "LAST        ") (day_text day)
@@ -61,13 +64,14 @@ last_line (Some day) = named_line (codes "LAST        ") (day_text day)
 unfoldable pub count_line : List ℕ → ℕ → List ℕ
 count_line name count = named_line name (decimal count)
 
--- the text for a horizon, the newest full extract, the greatest last day, and all live rows
+-- the text of what a state knows, from its horizon, its newest full extract, the greatest last day,
+-- and all live rows
 abbrev pub known_text : ℕ → Option FileStamp → Option ℕ → List Row → List ℕ
 known_text horizon full last rows =
     horizon_line horizon ++ full_line full ++ last_line last ++ count_line (codes "SCHEDULES   ") (count_of 3 rows)
     ++ count_line (codes "ASSOCIATIONS") (count_of 2 rows) ++ count_line (codes "PLACES      ") (count_of 1 rows)
 
--- this is the text of what a state knows
+-- says that this is the text of what the state knows
 pub record IsKnownText (state : State) (text : List ℕ) : Type 0 where
   pub full : Option FileStamp
   pub is_full : IsFloor state.ledger full

@@ -11,36 +11,37 @@ use Rattle.docker_model.specs.docker.DockerText.{ended}
 use Rattle.cif_change.specs.NamedPlaces.{call_places}
 use Rattle.state_laws.specs.Row.{Row, AreRowsOf}
 
--- whether a live row is a schedule with a location record at the place
+-- whether a live row is a schedule that has a location record at the place
 abbrev pub calls_at : List ℕ → Row → Bool
 calls_at place row = list_any (bytes_eq place) (call_places row.0 (put_with row.1))
 
--- how many of these live rows are schedules with a location record at the place
+-- how many of these live rows are schedules that have a location record at the place
 abbrev pub count_at : List ℕ → List Row → ℕ
 count_at place rows = length (filter (calls_at place) rows)
 
--- a number in ten columns, padded with spaces on the left. A number of more digits has more columns
+-- a number in ten columns, padded with spaces on the left. A number with more than ten digits takes
+-- as many columns as it has digits
 abbrev pub number_text : ℕ → List ℕ
 number_text number = spaces (10 - length (decimal number)) ++ decimal number
 
--- the 55 columns of a timing point's line: TIPLOC, CRS, STANOX, TPS description and count. CRS is
--- in columns 54 to 56 of the record, STANOX in 45 to 49, and the description in 19 to 44. The body
--- holds columns 10 to 72
+-- the 55 columns of a timing point's line: TIPLOC, CRS, STANOX, TPS description and count. The body
+-- `bytes` is columns 10 to 72 of the TIPLOC record. In that record, CRS is in columns 54 to 56,
+-- STANOX in 45 to 49, and the description in 19 to 44
 unfoldable pub place_text : List ℕ → List ℕ → ℕ → List ℕ
 place_text code bytes count =
     code ++ spaces 1 ++ columns 45 47 bytes ++ spaces 1 ++ columns 36 40 bytes ++ spaces 1 ++ columns 10 35 bytes ++ spaces 1
     ++ number_text count
 
--- the line of a live key and its body among all live rows, if it is a timing point's
+-- the line of a live key. Empty unless the key is a timing point's. `rows` are all live rows
 abbrev pub place_line : List Row → Key → Body → List ℕ
 place_line rows (tiploc_key code) (tiploc_body bytes) = ended (place_text code bytes (count_at code rows))
 place_line _ _ _ = []
 
--- the list of the timing points among these live rows, in their order
+-- the lines of the timing points among these live rows, in the same order
 abbrev pub places_text : List Row → List ℕ
 places_text rows = flat_map (λ (row : Row). place_line rows row.0 row.1) rows
 
--- this is the list of the timing points of a live table, in the order of keys
+-- says that this is the list of the timing points of a live table, in the order of their codes
 pub record IsPlacesText (live : Table) (text : List ℕ) : Type 0 where
   pub rows : List Row
   pub are : AreRowsOf live rows

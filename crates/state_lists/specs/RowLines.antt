@@ -1,16 +1,16 @@
--- The lines of a state's entries in the list of timing points.
+-- The line of a state's entry in the list of timing points.
 use Rattle.std.specs.Prelude.{ℕ, List, []}
 use Rattle.docker_model.specs.file.Change.{Key}
 use Rattle.docker_model.specs.state.Op.{Op, deleted, lapsed, put_with, Entry}
 use Rattle.state_laws.specs.Row.{Row}
 use Rattle.state_lists.specs.Places.{place_line}
 
--- the line of a key and its op among these live rows, if it is a live timing point
+-- the line of a key with this op. Empty unless it is a live timing point. `rows` are all live rows
 abbrev pub line_by : List Row → Key → Op → List ℕ
 line_by rows key deleted = []
 line_by rows key lapsed = []
 line_by rows key (put_with body) = place_line rows key body
 
--- the line of an entry among these live rows, if it is a live timing point
+-- the line of an entry. Empty unless it is a live timing point. `rows` are all live rows
 abbrev pub row_line : List Row → Key × Entry → List ℕ
 row_line rows entry = line_by rows entry.0 entry.1.op

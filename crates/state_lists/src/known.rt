@@ -1,4 +1,5 @@
-//! What a state knows, in a few lines: a name in columns 1 to 12, and a value from column 14 on.
+//! Prints what a state knows. Each line has a name in columns 1 to 12 and a value from column 14
+//! on.
 ghost use Rattle.std.specs.Prelude.{◌≡◌, ◌-◌, ◌^◌, ◌<◌, IfSome, IsErr, OnOk, OnErr, option_map};
 ghost use Rattle.cif_device.specs.Device.{CountsFailure};
 ghost use Rattle.docker_model.specs.records.Date.{IsDay};
@@ -16,13 +17,13 @@ use docker_state::State;
 use fixed_text::put;
 use itoa::Buffer;
 
-/// The text. It has room for all lines, whatever the counts.
+/// The whole text. It has room for all lines, however great the counts are.
 type KnownText = ArrayVec<u8, 187>;
 
-/// Prints what a state knows. There is a line for its horizon, and lines for how many schedules,
-/// associations and timing points are live. The newest full extract and the greatest last day of a
-/// live schedule have a line if there is one. It allocates nothing. If the write fails, the sink
-/// has gained a proper prefix of the text.
+/// Prints what a state knows: its horizon, its newest full extract, the greatest last day of a live
+/// schedule, and how many schedules, associations and timing points are live. There is no line for
+/// the full extract if there was none, and none for the last day if no schedule has one. It
+/// allocates nothing. If the write fails, the sink has gained a proper prefix of the text.
 pub fn print_known<K: Sink>(state: &State, sink: &mut K) -> Result<(), Failed>
     requires { K.failures sink.old < 2 ^ 64 - 1 }
     ensures whole { OnOk result (Gains (IsKnownText state.now)
@@ -36,7 +37,7 @@ pub fn print_known<K: Sink>(state: &State, sink: &mut K) -> Result<(), Failed>
     write_all(sink, text.as_slice())
 }
 
-/// All lines. `full` is the newest full extract.
+/// The text of all lines. `full` is the newest full extract.
 fn lines_of(horizon: u16, full: Option<FileStamp>, tally: &Tally) -> KnownText
     requires day { IsDay horizon }
     requires minute { IfSome full (λ stamp. stamp.minute < 1440) }
@@ -61,7 +62,7 @@ fn lines_of(horizon: u16, full: Option<FileStamp>, tally: &Tally) -> KnownText
     text
 }
 
-/// The line of the horizon.
+/// The line of the horizon, with a line feed.
 #[tactic(auto, unfolding(crate::specs::Known::horizon_line))]
 fn horizon_line(horizon: u16) -> ArrayVec<u8, 24>
     requires { IsDay horizon }
@@ -74,7 +75,7 @@ fn horizon_line(horizon: u16) -> ArrayVec<u8, 24>
     text
 }
 
-/// A horizon: a day number as a date, or 0 for none.
+/// A horizon as a date. `NONE` for 0, which means that no horizon was set.
 fn horizon_text(horizon: u16) -> ArrayVec<u8, 10>
     requires { IsDay horizon }
     ensures { result.items ≡ horizon_text horizon }
@@ -88,7 +89,7 @@ fn horizon_text(horizon: u16) -> ArrayVec<u8, 10>
     text
 }
 
-/// The day of a day number.
+/// The day with this number.
 fn day_of(number: u16) -> Day
     requires { IsDay number }
     ensures { result ≡ number }
@@ -99,7 +100,8 @@ fn day_of(number: u16) -> Day
     }
 }
 
-/// The line of the newest full extract: date, time and reference. No byte if there is none.
+/// The line of the newest full extract: date, time and reference, with a line feed. Empty if there
+/// is none.
 #[tactic(auto, unfolding(crate::specs::Known::full_line))]
 fn full_line(full: Option<FileStamp>) -> ArrayVec<u8, 37>
     requires { IfSome full (λ stamp. stamp.minute < 1440) }
@@ -118,7 +120,7 @@ fn full_line(full: Option<FileStamp>) -> ArrayVec<u8, 37>
     text
 }
 
-/// The line of the greatest last day of a schedule. No byte if there is none.
+/// The line of the greatest last day of a schedule, with a line feed. Empty if there is none.
 #[tactic(auto, unfolding(crate::specs::Known::last_line))]
 fn last_line(last: Option<Day>) -> ArrayVec<u8, 24>
     ensures { result.items ≡ last_line last }
@@ -132,7 +134,7 @@ fn last_line(last: Option<Day>) -> ArrayVec<u8, 24>
     text
 }
 
-/// The line of a count.
+/// The line of a count, with a line feed.
 #[tactic(auto, unfolding(crate::specs::Known::count_line))]
 fn count_line(name: &[u8; 12], count: usize) -> ArrayVec<u8, 34>
     ensures { result.items ≡ count_line name.now count }
@@ -145,7 +147,7 @@ fn count_line(name: &[u8; 12], count: usize) -> ArrayVec<u8, 34>
     text
 }
 
-/// A minute of the day as hours and minutes, HHMM.
+/// The time of a minute of the day as HHMM.
 fn clock_text(minute: u16) -> [u8; 4]
     requires { minute < 1440 }
     ensures { result ≡ minute_text minute }

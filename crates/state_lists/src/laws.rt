@@ -1,18 +1,18 @@
-//! What holds of the lists. Each law is the contract of a function with an empty body, so it holds
-//! for all values of its variables.
+//! Laws of the lists. Each law is the contract of a function with an empty body, so it holds for
+//! all values of its variables.
 ghost use Rattle.std.specs.Prelude.{◌≡◌, ℕ, List};
 ghost use Rattle.docker_model.specs.state.State.{State};
 ghost use Rattle.docker_model.specs.state.Table.{Table};
 ghost use Rattle.state_lists.specs.Known.{IsKnownText};
 ghost use Rattle.state_lists.specs.Places.{IsPlacesText};
 
-/// A live table has one list of timing points.
+/// At most one text lists the timing points of a live table.
 pub fn one_places_text()
     ensures { (live : Table) (text other : List ℕ) → IsPlacesText live text
         → IsPlacesText live other → text ≡ other }
 {}
 
-/// A state has one text of what it knows.
+/// At most one text says what a state knows.
 pub fn one_known_text()
     ensures { (state : State) (text other : List ℕ) → IsKnownText state text
         → IsKnownText state other → text ≡ other }

@@ -1,5 +1,5 @@
-//! The lists of what a state knows: its timing points, with how many schedules call at each, and a
-//! few lines on all of it.
+//! Lists of what a state knows: its timing points, with how many schedules call at each, and a
+//! summary in a few lines.
 #![tactic(auto)]
 
 mod known;

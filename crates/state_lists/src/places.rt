@@ -1,4 +1,4 @@
-//! The list of timing points: a line of 55 columns and a line feed for each.
+//! Prints the list of timing points. Each has a line of 55 columns and a line feed.
 ghost use Rattle.std.specs.Prelude.{◌≡◌, ◌+◌, ◌-◌, ◌^◌, ◌<◌, IsErr, OnOk, OnErr};
 ghost use Rattle.cif_device.specs.Device.{CountsFailure, Takes, TakesPart};
 ghost use Rattle.docker_model.specs.state.State.{IsValid, live_table};
@@ -39,7 +39,7 @@ pub fn print_places<K: Sink>(state: &State, sink: &mut K) -> Result<(), Failed>
     Ok(())
 }
 
-/// Writes the line of a row, if it is a live timing point's.
+/// Writes the line of a row. Writes nothing unless the row is a live timing point.
 fn write_row<K: Sink>(state: &State, row: &(Key, Entry), sink: &mut K) -> Result<(), Failed>
     requires failures { K.failures sink.old < 2 ^ 64 - 1 }
     requires valid { IsValid state.now }
@@ -57,7 +57,7 @@ fn write_row<K: Sink>(state: &State, row: &(Key, Entry), sink: &mut K) -> Result
     }
 }
 
-/// Writes the line of a live key, if it is a timing point's.
+/// Writes the line of a live key. Writes nothing unless the key is a timing point's.
 fn write_live<K: Sink>(state: &State, key: &Key, body: &Body, sink: &mut K) -> Result<(), Failed>
     requires failures { K.failures sink.old < 2 ^ 64 - 1 }
     requires valid { IsValid state.now }
@@ -98,8 +98,8 @@ fn line_of(code: &Tiploc, details: &[u8; 63], count: usize) -> PlaceLine
     text
 }
 
-/// A number in ten columns, padded with spaces on the left. A number of more digits has more
-/// columns.
+/// A number in ten columns, padded with spaces on the left. A number with more than ten digits
+/// takes as many columns as it has digits.
 fn number_text(number: usize) -> ArrayVec<u8, 20>
     ensures { result.items ≡ number_text number }
 {

@@ -1,4 +1,4 @@
-//! How much is live, counted in one walk over the rows.
+//! Counts what is live in one walk over a state's rows.
 ghost use Rattle.std.specs.Prelude.{◌≡◌, ℕ, ◌++◌, ◌∷◌, [], List, map};
 ghost use Rattle.docker_model.specs.state.Op.{body_end};
 ghost use Rattle.cif_change.specs.Meaning.{body_meant, key_meant};
@@ -12,8 +12,8 @@ use cif_change::{Body, Key};
 use cif_line::Day;
 use docker_join::{Entry, Op};
 
-/// How many keys of each kind are live, and the greatest last day of a live schedule, if one has a
-/// last day.
+/// How many schedules, associations and timing points are live, and the greatest last day of a live
+/// schedule. `last` is `None` if no live schedule has a last day.
 #[derive(Clone, Copy, Debug)]
 pub(crate) struct Tally {
     pub(crate) schedules: usize,
@@ -22,7 +22,7 @@ pub(crate) struct Tally {
     pub(crate) last: Option<Day>,
 }
 
-/// The tally of these rows. Only the end date of each schedule is read.
+/// The tally of all these rows. Of each schedule, only the end date is read.
 pub(crate) fn tally_of(rows: &[(Key, Entry)]) -> Tally
     ensures { IsTallyOf (live_rows (map row_meant rows.now)) result }
 {
@@ -38,7 +38,7 @@ pub(crate) fn tally_of(rows: &[(Key, Entry)]) -> Tally
     tally
 }
 
-/// A tally with one more row, which counts if it is put.
+/// The tally with one more row. The row counts only if its op is a put.
 fn with_row(tally: Tally, row: &(Key, Entry)) -> Tally
     requires { AreFew tally }
     ensures { (rows : List Row) → IsTallyOf rows tally
@@ -51,7 +51,7 @@ fn with_row(tally: Tally, row: &(Key, Entry)) -> Tally
     }
 }
 
-/// A tally with one more live key.
+/// The tally with one more live key and its body.
 fn counted(tally: Tally, key: &Key, body: &Body) -> Tally
     requires { AreFew tally }
     ensures { (rows : List Row) → IsTallyOf rows tally
@@ -74,14 +74,14 @@ fn counted(tally: Tally, key: &Key, body: &Body) -> Tally
     }
 }
 
-/// The last day of a body, if it has one.
+/// The last day of a body. `None` if it has no end date, or one that means no end.
 fn last_day(body: &Body) -> Option<Day>
     ensures { result ≡ day_in (body_end (body_meant body.now)) }
 {
     Day::from_number(body.end_number())
 }
 
-/// The later of two days, if there is one.
+/// The later of two days. `None` only if there is neither.
 fn later_of(first: Option<Day>, second: Option<Day>) -> Option<Day>
     ensures { (days : List ℕ) → IsGreatest days first → IsGreatest (with_day days second) result }
 {

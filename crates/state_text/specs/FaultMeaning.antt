@@ -1,4 +1,5 @@
--- Causes of faults, translated to the definitions.
+-- Converts causes of faults from the code's type to the type of the definitions. Says also what a
+-- fault means for the part at which it occurs.
 use Rattle.std.specs.Prelude.{◌≢◌, ℕ, List, Option, Some, None, slice_index, ⊤}
 use Rattle.docker_model.specs.file.Change.{tiploc_key, association_key, schedule_key}
 use Rattle.docker_model.specs.state.StateText.{Format}
@@ -8,7 +9,8 @@ use Rattle.docker_model.specs.state.StateFault as model
 use Rattle.state_text.specs.declared.cause.StateCause.{StateCause}
 use Rattle.state_text.specs.declared.cause.StateCause.TheVariants as cause
 
--- a cause as the definitions have it. Out of memory is None, since it is no fault of a text
+-- a cause of the code, converted to the definitions' type. `None` for out of memory, which is never
+-- a fault of a text
 abbrev pub cause_meant : StateCause → Option model.StateCause
 cause_meant cause.Mark = Some bad_mark
 cause_meant cause.Item = Some bad_item
@@ -23,8 +25,8 @@ cause_meant cause.Long = Some too_long
 cause_meant cause.Memory = None
 cause_meant cause.Horizon = Some bad_horizon
 
--- this part of an entry needs memory: each line does, and the part that ends the entry. The op of a
--- put, which is 1, doesn't end it
+-- says that this part of an entry needs memory: a line of a schedule, or the part with which the
+-- entry ends. An op ends its entry unless it is 1, which is a put
 abbrev pub PartTakesMemory : EntryPart → List ℕ → Type 0
 PartTakesMemory before_tag bytes = ⊥
 PartTakesMemory (before_key tag) bytes = ⊥
@@ -35,18 +37,19 @@ PartTakesMemory (before_body (association_key key) stamp) bytes = ⊤
 PartTakesMemory (before_body (schedule_key key) stamp) bytes = ⊥
 PartTakesMemory (before_line key stamp count lines) bytes = ⊤
 
--- this part needs memory: each ledger item does, and some parts of an entry
+-- says that this part needs memory: a ledger item, or a part of an entry that needs it
 abbrev pub TakesMemory : Before → List ℕ → Type 0
 TakesMemory (before_item horizon count ledger) bytes = ⊤
 TakesMemory (in_entry count state part) bytes = PartTakesMemory part bytes
 TakesMemory _ bytes = ⊥
 
--- memory ran out for this part, which needs memory and isn't bad
+-- says that memory ran out for this part, which needs memory and isn't bad
 pub record IsWantingHere (format : Format) (before : Before) (bytes : List ℕ) : Type 0 where
   pub takes : TakesMemory before bytes
   pub not_bad : (cause : model.StateCause) → ¬ IsBadPart format before bytes cause
 
--- the part is bad for this cause. If the cause is None, memory ran out for the part
+-- says that the part is bad for this cause. `None` stands for out of memory: memory ran out for the
+-- part
 abbrev pub IsBadHere : Format → Before → List ℕ → Option model.StateCause → Type 0
 IsBadHere format before bytes None = IsWantingHere format before bytes
 IsBadHere format before bytes (Some cause) = IsBadPart format before bytes cause

@@ -1,4 +1,4 @@
--- How a part is judged.
+-- What is found when a part of a state's text is judged.
 use Rattle.std.specs.Prelude.{◌≡◌, ℕ, ◌≤◌, List, Option, Some, None, Result, Ok, Err}
 use Rattle.docker_model.specs.state.Stamp as stamps
 use Rattle.docker_model.specs.file.Change as model
@@ -21,50 +21,53 @@ use Rattle.state_text.specs.FaultMeaning.{cause_meant, IsBadHere}
 use Rattle.state_text.specs.declared.stage.Stage.{Stage}
 use Rattle.state_text.specs.Stage.{LeadsTo}
 
--- the result for a part: the stage that it leads to, or the cause for which it is bad or memory ran
--- out
+-- says what the result for a part means: the stage that the part leads to, or a cause. With a
+-- cause, the part is bad, or memory ran out for it
 abbrev pub Judges : Format → fault_statepart.Before → List ℕ → State → List (List ℕ) → Result Stage StateCause → Type 0
 Judges format before bytes state lines (Ok stage) = LeadsTo format before bytes stage state lines
 Judges format before bytes state lines (Err cause) = IsBadHere format before bytes (cause_meant cause)
 
--- this ledger item may come next
+-- says that this ledger item may come next in the ledger
 pub record MayFollow (ledger : List stamps.LedgerItem) (item : stamps.LedgerItem) : Type 0 where
   pub good : IsGoodItem item
   pub above : IsAboveItems ledger item
   pub keeps_floor : ¬ RaisesFloor ledger item
 
--- this ledger item is bad for this cause
+-- says that this ledger item is bad for this cause. `None` stands for out of memory, which is never
+-- such a cause
 abbrev pub IsItemCause : List stamps.LedgerItem → stamps.LedgerItem → Option fault.StateCause → Type 0
 IsItemCause ledger item None = ⊥
 IsItemCause ledger item (Some cause) = IsBadItem ledger item cause
 
--- the result for a ledger item: the item, if it may come next, or why it may not
+-- says what the result for a ledger item means: the item, which may come next, or the cause why it
+-- may not
 abbrev pub IsJudgedItem : List stamps.LedgerItem → stamps.LedgerItem → Result LedgerItem StateCause → Type 0
 IsJudgedItem ledger item (Ok told) = (item_meant told ≡ item) × MayFollow ledger item
 IsJudgedItem ledger item (Err cause) = IsItemCause ledger item (cause_meant cause)
 
--- this key is bad for this cause
+-- says that this key is bad for this cause. `None` stands for out of memory, which is never such a
+-- cause
 abbrev pub IsKeyCause : State → model.Key → Option fault.StateCause → Type 0
 IsKeyCause state key None = ⊥
 IsKeyCause state key (Some cause) = IsBadKey state key cause
 
--- the result for a key: the key, if it may come next, or why it may not
+-- says what the result for a key means: the key, which may come next, or the cause why it may not
 abbrev pub IsJudgedKey : State → model.Key → Result Key StateCause → Type 0
 IsJudgedKey state key (Ok told) = (key_meant told ≡ key) × IsGoodKey key × IsAboveEntries state key
 IsJudgedKey state key (Err cause) = IsKeyCause state key (cause_meant cause)
 
--- the line is an association with this key, and doesn't end before the horizon
+-- says that the line is an association with this key, and doesn't end before the horizon
 abbrev pub IsAssociationUnder : ℕ → model.AssociationKey → List ℕ → Type 0
 IsAssociationUnder horizon key line = IsAssociationOf key line × (horizon ≤ body_end (association_body line))
 
--- the line is new, names this key, and doesn't end before the horizon
+-- says that the line has the transaction `N`, names this key, and doesn't end before the horizon
 pub record IsOfKey (horizon : ℕ) (key : model.ScheduleKey) (line : List ℕ) : Type 0 where
   pub new : HasNewTransaction line
   pub key_is : schedule_named line ≡ schedule_key key
   pub stays : horizon ≤ readable_end (columns 16 21 line)
 
--- the line is a basic schedule with good fields. It is new, names this key, and doesn't end before
--- the horizon
+-- says that the line may begin a schedule with this key. It is a basic schedule with good fields
+-- and the transaction `N`, it names the key, and it doesn't end before the horizon
 pub record IsFirstOf (horizon : ℕ) (key : model.ScheduleKey) (line : List ℕ) : Type 0 where
   pub kind : HasKind basic_schedule line
   pub fields : HasGoodFields line

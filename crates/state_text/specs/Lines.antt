@@ -1,4 +1,4 @@
--- Why a line doesn't continue a schedule in a state's text.
+-- Why a line can't follow the other lines of a schedule in a state's text.
 use Rattle.std.specs.Prelude.{◌≡◌, ℕ, List, [], ◌∷◌, ◌++◌, length, Option, Some, None}
 use Rattle.docker_model.specs.file.Change as model
 use Rattle.docker_model.specs.file.File.{IsSchedule, BeginsSchedule}
@@ -6,19 +6,22 @@ use Rattle.docker_model.specs.state.State.{State}
 use Rattle.docker_model.specs.state.StateFault.{StateCause, bad_body}
 use Rattle.docker_model.specs.state.StatePart.{AreLinesOf, AreLinesUpTo, HaveNotToLapse}
 
--- some schedule begins with the lines, and if they are `count` they are a whole one
+-- says that some schedule begins with these lines. If there are `count` of them, they are a whole
+-- schedule
 pub record BeginUpTo (count : ℕ) (lines : List (List ℕ)) : Type 0 where
   pub begin : BeginsSchedule lines
   pub complete : length lines ≡ count → IsSchedule lines
 
--- why the line is refused: with it the lines aren't the first of a schedule's `count` lines. If the
--- cause is None, memory ran out for a line that continues them
+-- says why a line that comes after these lines is refused. For `bad_body`, the lines and this one
+-- aren't the first of any schedule of `count` lines. For `None`, they are, but memory ran out for
+-- the line
 abbrev pub IsLineRefusal : ℕ → List (List ℕ) → List ℕ → Option StateCause → Type 0
 IsLineRefusal count lines line None = BeginUpTo count (lines ++ line ∷ [])
 IsLineRefusal count lines line (Some bad_body) = ¬ BeginUpTo count (lines ++ line ∷ [])
 IsLineRefusal count lines line _ = ⊥
 
--- these are the first lines of a schedule with this key, which doesn't lapse in the state
+-- says that these are the first lines of a schedule with this key, and that the schedule doesn't
+-- lapse in the state
 abbrev pub AreLinesIn : State → model.ScheduleKey → List (List ℕ) → Type 0
 AreLinesIn state key lines = AreLinesOf key lines × HaveNotToLapse state lines
 
@@ -26,8 +29,9 @@ AreLinesIn state key lines = AreLinesOf key lines × HaveNotToLapse state lines
 abbrev pub AreLinesUpToIn : State → model.ScheduleKey → ℕ → List (List ℕ) → Type 0
 AreLinesUpToIn state key n lines = AreLinesUpTo key n lines × HaveNotToLapse state lines
 
--- why the line is refused as one of this key's n lines. If the cause is None, memory ran out for a
--- line that continues them
+-- says why a line is refused as one of the `n` lines of a schedule with this key. For `bad_body`,
+-- the lines and this one aren't the first of such a schedule. For `None`, they are, but memory ran
+-- out for the line
 abbrev pub IsUpToRefusal : State → model.ScheduleKey → ℕ → List (List ℕ) → List ℕ → Option StateCause → Type 0
 IsUpToRefusal state key n lines line None = AreLinesUpToIn state key n (lines ++ line ∷ [])
 IsUpToRefusal state key n lines line (Some bad_body) = ¬ AreLinesUpToIn state key n (lines ++ line ∷ [])

@@ -1,11 +1,11 @@
--- What was read of a text: a horizon, and a state without one.
+-- The parts of a text that were read: a horizon, and a state without one.
 use Rattle.std.specs.Prelude.{ℕ, List, [], ◌∷◌, ◌++◌, map, Option, Some, None}
 use Rattle.docker_model.specs.file.Change.{Key}
 use Rattle.docker_model.specs.state.Stamp.{LedgerItem, FileStamp}
 use Rattle.docker_model.specs.state.Op.{Entry}
 use Rattle.docker_model.specs.state.State.{State}
 
--- the horizon that was read, or 0 if there was none
+-- the horizon that was read, or 0 if the text has none
 abbrev pub horizon_meant : Option ℕ → ℕ
 horizon_meant None = 0
 horizon_meant (Some day) = day
@@ -18,7 +18,7 @@ file_stamps items = map (λ (item : LedgerItem). item.stamp) items
 abbrev pub under : ℕ → State → State
 under horizon state = record { horizon = horizon; ledger = state.ledger; entries = state.entries }
 
--- the state without entries, with one more ledger item
+-- the state with one more ledger item, and without entries
 abbrev pub with_item : State → LedgerItem → State
 with_item state item = record { horizon = state.horizon; ledger = state.ledger ++ item ∷ []; entries = [] }
 

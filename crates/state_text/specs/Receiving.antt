@@ -1,4 +1,4 @@
--- What a state has received of a text.
+-- What a state has received of another state's text.
 use Rattle.std.specs.Prelude.{◌≡◌, List, ◌++◌, [], length, map, Option, Some, None}
 use Rattle.std.specs.Option.{option_map}
 use Rattle.docker_model.specs.file.Change as model
@@ -14,26 +14,27 @@ use Rattle.docker_state.specs.Parts.{last_key}
 use Rattle.docker_state.specs.Staging.{Staging}
 use Rattle.state_text.specs.declared.receiving.Receiving.{Receiving}
 
--- ledger items and entries, without a horizon
+-- the state with these ledger items and entries, and without a horizon
 abbrev pub given_state : List stamps.LedgerItem → List (model.Key × ops.Entry) → State
 given_state items entries = record { horizon = 0; ledger = items; entries = entries }
 
--- the ledger items received; from the first entry on, they are with what is staged
+-- the ledger items that were received. Once the staging has begun, they are in it
 abbrev pub items_of : List LedgerItem → Option Staging → List stamps.LedgerItem
 items_of items None = map item_meant items
 items_of items (Some staging) = staging.items
 
--- the ledger items and entries that were given, as a state
+-- the state with the ledger items and entries that were given, and without a horizon
 abbrev pub given_of : {R : Type 0} → Receiving R → State
 given_of it = given_state (items_of it.items.items it.staging) it.given.entries
 
--- of the given entries exactly those are staged that this state has to take over, under the floor
--- of both ledgers
+-- says that the staging is right: of the given entries, it has exactly those that this state has to
+-- take over, under the floor of both ledgers
 pub record IsStagedOf (own : State) (staging : Staging) (entries : List (model.Key × ops.Entry)) : Type 0 where
   pub floor : IsFloor (own.ledger ++ staging.items) staging.floor
   pub staged : IsStaged own staging.floor entries staging.staged
 
--- the state is this one and valid, and what it has received agrees with what was given
+-- says that the receiving state is `own` and is valid, and that what it has received agrees with
+-- what was given
 pub record IsReceiving {R : Type 0} (own : State) (it : Receiving R) : Type 0 where
   pub own_is : it.own ≡ own
   pub valid : IsValid it.own

@@ -1,5 +1,6 @@
--- Stages of the code, translated to the definitions. A stage, with the state so far and the lines
--- of an open schedule, says what comes before the next part.
+-- Converts stages from the code's type to the type of the definitions. A stage says which part
+-- comes next. Together with the parts that were read and the lines of a schedule that isn't
+-- complete, it says what comes before that part.
 use Rattle.std.specs.Prelude.{◌≡◌, ℕ, ◌+◌, ◌≤◌, Bool, true, false, List, [], length, ⊤}
 use Rattle.docker_model.specs.file.Change.{schedule_key}
 use Rattle.docker_model.specs.file.Change as model
@@ -24,11 +25,11 @@ tag_meant tag.Tiploc = 1
 tag_meant tag.Assoc = 2
 tag_meant tag.Schedule = 3
 
--- a schedule key as the definitions have it
+-- a schedule's key of the code, converted to the definitions' type
 abbrev pub schedule_meant : ScheduleKey → model.ScheduleKey
 schedule_meant key = record { uid = key.uid; runs_from = key.runs_from; indicator = stp_letter key.stp }
 
--- an association key as the definitions have it
+-- an association's key of the code, converted to the definitions' type
 abbrev pub assoc_meant : AssocKey → model.AssociationKey
 assoc_meant key = record {
   base = key.base;
@@ -39,7 +40,8 @@ assoc_meant key = record {
   indicator = stp_letter key.stp;
 }
 
--- what comes before the next part, at this stage
+-- what comes before the next part, for this stage, the parts that were read, and the lines of a
+-- schedule that isn't complete
 abbrev pub stage_meant : Stage → State → List (List ℕ) → Before
 stage_meant stage.Mark state lines = before_mark
 stage_meant stage.Horizon state lines = before_horizon
@@ -54,17 +56,17 @@ stage_meant (stage.Body count key stamp) state lines = in_entry count state (bef
 stage_meant (stage.Line count key stamp n) state lines = in_entry count state (before_line (schedule_meant key) (stamp_meant stamp) n lines)
 stage_meant stage.End state lines = at_end state
 
--- the next part is the first of an entry
+-- whether the next part is the first of an entry
 abbrev pub begins_part : EntryPart → Bool
 begins_part before_tag = true
 begins_part _ = false
 
--- the next part isn't in the middle of an entry
+-- whether the next part is the first of an item, not in the middle of an entry
 abbrev pub begins_item : Before → Bool
 begins_item (in_entry count state part) = begins_part part
 begins_item _ = true
 
--- at this stage, the later parts of the state are still empty
+-- says that at this stage the later parts of the state are still empty
 abbrev pub IsFresh : Stage → State → Type 0
 IsFresh stage.Mark state = (state.ledger ≡ []) × (state.entries ≡ []) × (state.horizon ≡ 0)
 IsFresh stage.Horizon state = (state.ledger ≡ []) × (state.entries ≡ [])
@@ -73,17 +75,17 @@ IsFresh (stage.Item count) state = state.entries ≡ []
 IsFresh stage.EntryCount state = state.entries ≡ []
 IsFresh _ state = ⊤
 
--- the next part isn't a line with more lines after it
+-- says that the next part isn't a line, or is its schedule's last line
 abbrev pub IsLast : Stage → List (List ℕ) → Type 0
 IsLast (stage.Line count key stamp n) lines = n ≤ length lines + 1
 IsLast _ lines = ⊤
 
--- the parts up to this stage were good
+-- says that the parts before this stage are good, and that the later ones are still empty
 pub record IsReady (format : Format) (stage : Stage) (state : State) (lines : List (List ℕ)) : Type 0 where
   pub good : AreGood format (stage_meant stage state lines)
   pub fresh : IsFresh stage state
 
--- these bytes are a part that isn't bad, and after it comes this stage
+-- says that these bytes are a part that isn't bad, and that it leads to this stage
 pub record LeadsTo (format : Format) (before : Before) (bytes : List ℕ) (stage : Stage) (state : State) (lines : List (List ℕ)) : Type 0 where
   pub is : stage_meant stage state lines ≡ advance format before bytes
   pub not_bad : (cause : StateCause) → ¬ IsBadPart format before bytes cause

@@ -1,4 +1,4 @@
-//! A buffer in front of a sink, so that small pieces reach the device together.
+//! A buffer in front of a sink: small pieces are gathered and reach the sink together.
 ghost use Rattle.std.specs.Prelude.{◌≡◌, ◌+◌, ◌-◌, ◌^◌, ◌<◌, ◌≤◌, [], OnOk};
 ghost use Rattle.arrayvec.specs.ArrayVec.{array_vec_len};
 ghost use Rattle.state_text.specs.Written.{Gives, Flushes};
@@ -9,7 +9,7 @@ use cif_line::{Failed, Sink, write_all};
 /// The most bytes that are gathered before they are written.
 pub(crate) const ROOM: usize = 65_536;
 
-/// Bytes that will be written to a sink.
+/// Bytes that wait to be written to a sink.
 pub(crate) type Buffer = ArrayVec<u8, ROOM>;
 
 /// Writes the buffer's bytes to the sink, and empties the buffer.
@@ -23,7 +23,8 @@ pub(crate) fn flush<K: Sink>(sink: &mut K, buffer: &mut Buffer) -> Result<(), Fa
     Ok(())
 }
 
-/// Writes the buffer's bytes if it has no room for this many more.
+/// Makes room in the buffer for `more` bytes. If it has none, the bytes that it holds are written
+/// to the sink first.
 pub(crate) fn make_room<K: Sink>(
     sink: &mut K,
     buffer: &mut Buffer,

@@ -10,21 +10,20 @@ use std::fmt;
 /// The cause of a fault.
 #[derive(Clone, Copy, PartialEq, Eq, Debug)]
 pub enum StateCause {
-    /// The text doesn't begin with its mark.
+    /// The text doesn't begin with the mark of its format.
     Mark,
-    /// No file's header gives this ledger item.
+    /// No header of a file gives this ledger item.
     Item,
     /// The ledger item, or the entry's key, isn't above the one before it.
     Order,
-    /// The ledger item is a full extract above the first item, so that the first one wouldn't be
-    /// kept.
+    /// The ledger item is of a full extract and above the first item, which then wouldn't be kept.
     Floor,
     /// The tag isn't 1, 2 or 3.
     Tag,
     /// No file in the ledger has this stamp, or no change can have its record number.
     Stamp,
-    /// The key, the op or the body isn't well formed; or the body has another key, or ends before
-    /// the horizon.
+    /// The key, the op or the body isn't well formed; or the body doesn't fit its key, or ends
+    /// before the horizon.
     Body,
     /// The text ends before its state is complete.
     Short,
@@ -32,7 +31,7 @@ pub enum StateCause {
     Tail,
     /// The state's text is longer than the limit allows.
     Long,
-    /// Out of memory: the allocator refused to grow.
+    /// Out of memory: the allocator refused a request.
     Memory,
     /// The horizon isn't a day number: it is above 36524.
     Horizon,

@@ -1,4 +1,4 @@
-//! Adds ledger items, keys, stamps and ops as bytes to a buffer that has room for them.
+//! Encodes ledger items and entries: appends their bytes to a buffer that has room for them.
 ghost use Rattle.std.specs.Prelude.{◌≡◌, ◌+◌, ◌<◌, ◌≤◌, ◌^◌, ◌++◌, length};
 ghost use Rattle.arrayvec.specs.ArrayVec.{array_vec_len};
 ghost use Rattle.docker_model.specs.state.StateText.{item_bytes, file_stamp_bytes, stamp_bytes};
@@ -80,7 +80,7 @@ fn add_schedule_key(buffer: &mut Buffer, key: &ScheduleKey)
     put(buffer, &[key.stp.letter()]);
 }
 
-/// Adds a key with its tag. An association's key is the longest.
+/// Adds a key with its tag. It needs as much room as an association's key, which is the longest.
 fn add_key(buffer: &mut Buffer, key: &Key)
     requires { array_vec_len buffer.old + (TAG + ASSOC_KEY) ≤ ROOM }
     ensures items { buffer.new.items ≡ buffer.old.items ++ key_text (key_meant key.now) }
@@ -96,7 +96,8 @@ fn add_key(buffer: &mut Buffer, key: &Key)
     }
 }
 
-/// Adds an op without a schedule's lines. An association's op is the longest.
+/// Adds an op with its body, but without a schedule's lines. It needs as much room as an
+/// association's op, which is the longest.
 fn add_op(buffer: &mut Buffer, op: &Op)
     requires room { array_vec_len buffer.old + (OP + LINE) ≤ ROOM }
     requires few { length (op_lines (op_meant op.now)) < 2 ^ 32 }
@@ -116,7 +117,7 @@ fn add_op(buffer: &mut Buffer, op: &Op)
     }
 }
 
-/// Adds the head of an entry: all before a schedule's lines.
+/// Adds the head of an entry: all of it except a schedule's lines.
 pub(crate) fn add_entry_head(buffer: &mut Buffer, row: &(Key, Entry))
     requires room { array_vec_len buffer.old + ENTRY_HEAD ≤ ROOM }
     requires few { HasFewLines (row_meant row.now) }

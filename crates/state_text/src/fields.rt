@@ -1,4 +1,4 @@
-//! Fields within bytes: numbers and texts.
+//! Reads numbers and texts from bytes. Numbers are big-endian.
 ghost use Rattle.std.specs.Prelude.{◌≡◌, ◌+◌, ◌≤◌, ◌↔◌, ◌<◌, length, slice_range, IsTrue};
 ghost use Rattle.std.specs.List.{AllPass};
 ghost use Rattle.std.specs.Int.{w16, w32, w64, from_be_bytes};
@@ -6,7 +6,7 @@ ghost use Rattle.docker_model.specs.records.Record.{is_printable};
 
 use cif_line::is_printable;
 
-/// The `N` bytes from this index on.
+/// The `N` bytes that begin at this index.
 pub(crate) fn field<const N: usize>(bytes: &[u8], at: usize) -> &[u8; N]
     requires { at + N ≤ length bytes.now }
     ensures { result.now ≡ slice_range bytes.now at (at + N) }
@@ -17,7 +17,7 @@ pub(crate) fn field<const N: usize>(bytes: &[u8], at: usize) -> &[u8; N]
     }
 }
 
-/// The number in the two bytes from this index on.
+/// The number in the two bytes that begin at this index.
 pub(crate) fn number_16(bytes: &[u8], at: usize) -> u16
     requires { at + 2 ≤ length bytes.now }
     ensures { result ≡ from_be_bytes w16 (slice_range bytes.now at (at + 2)) }
@@ -25,7 +25,7 @@ pub(crate) fn number_16(bytes: &[u8], at: usize) -> u16
     u16::from_be_bytes(*field(bytes, at))
 }
 
-/// The number in the four bytes from this index on.
+/// The number in the four bytes that begin at this index.
 pub(crate) fn number_32(bytes: &[u8], at: usize) -> u32
     requires { at + 4 ≤ length bytes.now }
     ensures { result ≡ from_be_bytes w32 (slice_range bytes.now at (at + 4)) }
@@ -33,7 +33,7 @@ pub(crate) fn number_32(bytes: &[u8], at: usize) -> u32
     u32::from_be_bytes(*field(bytes, at))
 }
 
-/// The number in the eight bytes from this index on.
+/// The number in the eight bytes that begin at this index.
 pub(crate) fn number_64(bytes: &[u8], at: usize) -> u64
     requires { at + 8 ≤ length bytes.now }
     ensures { result ≡ from_be_bytes w64 (slice_range bytes.now at (at + 8)) }

@@ -1,12 +1,13 @@
-//! The formats of a state's text: their marks, how wide each part is, and where the fields of a
+//! The formats of a state's text: their marks, the width of each part, and where the fields of a
 //! part begin. Widths and offsets are in bytes.
 
-/// The formats, by their marks. `DKS1` has no horizon and no lapsed op.
+/// The formats, each named by its mark. In `DKS1` there is no horizon, and no op says that an entry
+/// has lapsed.
 #[derive(Clone, Copy, Debug)]
 pub enum Format {
     /// The older format.
     Dks1,
-    /// The format in which a state is written.
+    /// The present format, in which states are written.
     Dks2,
 }
 
@@ -46,14 +47,14 @@ pub const OP: usize = 1;
 /// The width of the body of a TIPLOC.
 pub const TIPLOC_BODY: usize = 63;
 
-/// The width of the number of a schedule's lines.
+/// The width of the count of a schedule's lines.
 pub const LINE_COUNT: usize = 4;
 
-/// The width of a line. The body of an association is a line. No part is wider.
+/// The width of a line. An association's body is a line. No part of the text is wider.
 pub const LINE: usize = 80;
 
-/// The most bytes of an entry before its lines: the tag and the key of an association, a stamp, an
-/// op and a line.
+/// The most bytes that an entry has before a schedule's lines: an association's key with its tag, a
+/// stamp, an op and a line.
 pub const ENTRY_HEAD: usize = 120;
 
 /// Where the minute of a file stamp begins.
@@ -62,10 +63,10 @@ pub const MINUTE_AT: usize = 2;
 /// Where the reference of a file stamp begins.
 pub const REFERENCE_AT: usize = 4;
 
-/// Where the extract indicator of a ledger item stands.
+/// Where a ledger item has its extract indicator.
 pub const INDICATOR_AT: usize = 11;
 
-/// Where the reference of the previous file begins, in a ledger item.
+/// Where a ledger item has the reference of the previous file.
 pub const LAST_REFERENCE_AT: usize = 12;
 
 /// Where the record number of a stamp begins.
@@ -80,16 +81,16 @@ pub const START_AT: usize = 12;
 /// Where the location of an association's key begins.
 pub const LOCATION_AT: usize = 14;
 
-/// Where the suffix of an association's key stands.
+/// Where an association's key has its suffix.
 pub const SUFFIX_AT: usize = 21;
 
-/// Where the STP indicator of an association's key stands.
+/// Where an association's key has its STP indicator.
 pub const ASSOC_STP_AT: usize = 22;
 
 /// Where the first day of a schedule's key begins.
 pub const RUNS_FROM_AT: usize = 6;
 
-/// Where the STP indicator of a schedule's key stands.
+/// Where a schedule's key has its STP indicator.
 pub const SCHEDULE_STP_AT: usize = 8;
 
 /// The tag of a TIPLOC.
@@ -107,5 +108,5 @@ pub const DELETED: u8 = 0;
 /// The op of a put.
 pub const PUT: u8 = 1;
 
-/// The op of what has lapsed.
+/// The op of an entry that has lapsed.
 pub const LAPSED: u8 = 2;

@@ -1,4 +1,4 @@
-//! What was given so far. It is only for proofs: it takes no memory, and its methods do nothing
+//! The entries that a keeper was given, for proofs. They take no memory, and the methods do nothing
 //! when they run.
 ghost use Rattle.std.specs.Prelude.{◌≡◌, List, [], ◌∷◌, ◌++◌};
 ghost use Rattle.std.specs.Borrow.{ftrue};
@@ -11,7 +11,7 @@ use cif_file::Key;
 use docker_join::Entry;
 use std::marker::Model;
 
-/// The entries given so far, each with its key.
+/// The entries that were given, each with its key.
 #[derive(Drop)]
 pub struct Given {
     pub ghost entries: { List (model.Key × ops.Entry) },
@@ -29,7 +29,7 @@ impl Given {
         Given {}
     }
 
-    /// The entries with one more.
+    /// The entries that were given before, and one more.
     pub fn with(_before: &Given, _key: &Key, _entry: &Entry) -> Given
         ensures { result.entries ≡ _before.now.entries
             ++ (key_meant _key.now, entry_meant _entry.now) ∷ [] }

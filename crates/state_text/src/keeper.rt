@@ -1,4 +1,4 @@
-//! Keepers, which receive the parts of a state's text.
+//! Keepers, to which a reader gives the parts of a state's text.
 ghost use Rattle.std.specs.Prelude.{◌≡◌, ◌-◌, ◌^◌, ◌<◌, [], ◌∷◌, ◌++◌, length, map, IsOk, IfOk};
 ghost use Rattle.std.specs.Option.{option_copied, option_map};
 ghost use Rattle.docker_model.specs.state.State.{State, IsLedger, IsOpOf, IsValid};
@@ -14,21 +14,23 @@ use cif_line::{Day, Memory};
 use docker_join::Entry;
 use docker_state::LedgerItem;
 
-/// Receives the parts of a state's text in order: first ledger items, then entries. It may keep
-/// all, some or none of them.
+/// A keeper is given the parts of a state's text in order: first the ledger items, then the
+/// entries. It may keep all, some or none of them.
 pub trait Keeper: Drop + Sized {
-    // all ledger items and entries that it was given, as a state without a horizon, whether it
-    // keeps them or not
+    // all ledger items and entries that it was given, whether kept or not, as a state without a
+    // horizon
     ghost given: { Self → State };
 
-    /// Takes the next ledger item. After `Memory` no clause says what it was given.
+    /// Takes the next ledger item. `Memory` if there is no room for it; no clause says what the
+    /// keeper has then.
     fn item(&mut self, item: LedgerItem) -> Result<(), Memory>
         requires before_entries { (given self.old).entries ≡ [] }
         requires ledger { IsLedger ((given self.old).ledger ++ item_meant item ∷ []) }
         ensures { IsOk result
             → given self.new ≡ with_item (given self.old) (item_meant item) };
 
-    /// Takes the next entry, with its key. After `Memory` no clause says what it was given.
+    /// Takes the next entry, with its key. `Memory` if there is no room for it; no clause says what
+    /// the keeper has then.
     fn entry(&mut self, key: Key, entry: Entry) -> Result<(), Memory>
         requires few { length (given self.old).entries < 2 ^ 64 - 1 }
         requires here { IsStampHere (given self.old) (key_meant key) (entry_meant entry).stamp }
@@ -40,26 +42,26 @@ pub trait Keeper: Drop + Sized {
     fn ledger(&self) -> &[LedgerItem]
         ensures { map item_meant result.now ≡ (given self.now).ledger };
 
-    /// How many entries were given.
+    /// How many entries were given, whether kept or not.
     fn len(&self) -> u64
         ensures { result ≡ length (given self.now).entries };
 
-    /// The key of the last entry. `None` if there is no entry yet.
+    /// The key of the last entry that was given. `None` if none was given.
     fn last(&self) -> Option<&Key>
         ensures { option_map key_meant (option_copied result)
             ≡ last_key (given self.now).entries };
 }
 
-/// A keeper that makes a value from the parts by itself.
+/// A keeper that makes a value of the parts.
 pub trait Maker: Keeper {
-    /// The value that it makes.
+    /// The type of the value that it makes.
     type Made: Drop;
 
-    // the value is made from this state
+    // says that a value is made from a state
     ghost makes: { Self.Made → State → Type 0 };
 
-    /// Makes the value from the parts, under the horizon that was read. If memory runs out, the
-    /// parts are dropped.
+    /// Makes the value of the parts, under the horizon that the text has, if any. If memory runs
+    /// out, the parts are dropped.
     fn finish(self, horizon: Option<Day>) -> Result<Self::Made, Memory>
         requires { IsValid (under (horizon_meant horizon) (Self.given self)) }
         ensures { IfOk result (λ made.

@@ -1,4 +1,4 @@
-//! A keeper for a state that receives the parts.
+//! A keeper that gives the parts to a state, which receives them.
 ghost use Rattle.std.specs.Prelude.{◌≡◌, [], IsOk, IsErr};
 ghost use Rattle.docker_model.specs.state.State.{State, IsValid, IsJoin};
 ghost use Rattle.state_text.specs.PartsSoFar.{horizon_meant, under};
@@ -12,7 +12,7 @@ use docker_state::{LedgerItem, State};
 use std::alloc::Global;
 use std::marker::Model;
 
-/// The parts so far, as a state receives them.
+/// The parts that a state has received.
 #[derive(Drop)]
 pub struct Received<R: Receiver> {
     receiving: Receiving<R>,
@@ -30,7 +30,7 @@ impl<R: Receiver> Model for Received<R> {
 }
 
 impl<R: Receiver> Received<R> {
-    /// No parts yet.
+    /// A keeper for the state `own`, which has received no part.
     pub fn new(alloc: Global, own: State) -> Received<R>
         requires valid { IsValid own }
         requires own { own ≡ R.own }
@@ -41,8 +41,8 @@ impl<R: Receiver> Received<R> {
         }
     }
 
-    /// The receiving state, joined with the parts, and then with the horizon that was read. If
-    /// memory runs out, the state is as it was.
+    /// Returns the receiving state, joined with the parts, under the later of its horizon and the
+    /// one that the text has. If memory runs out, the state is unchanged.
     pub(crate) fn join(self, horizon: Option<Day>) -> (State, Result<(), Memory>)
         requires { IsValid (under (horizon_meant horizon) self) }
         ensures ok { IsOk result.1
@@ -59,7 +59,7 @@ impl<R: Receiver> Received<R> {
         (joined, done)
     }
 
-    /// The receiving state, as it was.
+    /// Returns the receiving state unchanged.
     pub(crate) fn into_own(self) -> State
         ensures { result ≡ R.own }
     {

@@ -1,4 +1,5 @@
-//! What a state receives of a text. Only the entries that the state is to take over are staged.
+//! What a state has received of another state's text. Only the entries that the state will take
+//! over are staged.
 ghost use Rattle.std.specs.Prelude.{◌≡◌, ◌+◌, ◌-◌, ◌^◌, ◌<◌, ℕ, [], ◌∷◌, ◌++◌, length, map, IsOk, IsErr, IsSome, None};
 ghost use Rattle.std.specs.Option.{option_copied, option_map};
 ghost use Rattle.docker_model.specs.state.State.{IsLedger, IsOpOf, IsValid, IsJoin};
@@ -19,8 +20,8 @@ use std::alloc::Global;
 use std::marker::{Brand, PhantomData};
 use std::mem;
 
-/// Says, for clauses only, which state receives the parts of one text. It is part of the keeper's
-/// type, so no call can change it.
+/// Names the state that receives the parts of one text. It exists only for clauses: as it is part
+/// of the keeper's type, no call can change it.
 pub trait Receiver {
     ghost use Rattle.docker_model.specs.state.State as states;
 
@@ -33,8 +34,9 @@ impl Receiver for Brand {
     ghost own = { record { horizon = 0; ledger = []; entries = [] } };
 }
 
-/// A state, and what it has received so far: the ledger items, and from the first entry on what is
-/// staged. It also has the last key, and the number of the entries given, staged or not.
+/// A state that receives another state's text. It has the ledger items received, and after the
+/// first entry what is staged. It also has the last key and the number of the entries given,
+/// whether staged or not.
 #[derive(Drop)]
 pub(crate) struct Receiving<R> {
     alloc: Global,
@@ -47,7 +49,7 @@ pub(crate) struct Receiving<R> {
     of: PhantomData<R>,
 }
 
-/// Offers the next entry to the staging, after the entries before it.
+/// Offers the next entry to the staging. `given` are the entries before it, for proofs.
 fn offer(
     own: &State,
     staging: &mut Staging,
@@ -69,7 +71,7 @@ fn offer(
 }
 
 impl<R: Receiver> Receiving<R> {
-    /// Nothing received yet.
+    /// The state `own`, which has received nothing.
     pub(crate) fn new(alloc: Global, own: State) -> Receiving<R>
         requires valid { IsValid own }
         requires own { own ≡ R.own }
@@ -88,7 +90,7 @@ impl<R: Receiver> Receiving<R> {
         }
     }
 
-    /// Takes the next ledger item. No item comes after an entry.
+    /// Takes the next ledger item. No entry may have been given before.
     pub(crate) fn item(&mut self, item: LedgerItem) -> Result<(), Memory>
         requires receiving { IsReceiving R.own self.old }
         requires before_entries { self.old.given.entries ≡ [] }
@@ -104,7 +106,7 @@ impl<R: Receiver> Receiving<R> {
         Ok(())
     }
 
-    /// Begins to stage: the ledger is complete.
+    /// Begins the staging, once the ledger is complete.
     fn begin(&mut self) -> Result<(), Memory>
         requires receiving { IsReceiving R.own self.old }
         requires none { self.old.staging ≡ None }
@@ -142,7 +144,7 @@ impl<R: Receiver> Receiving<R> {
         Ok(())
     }
 
-    /// The ledger items so far, ascending.
+    /// The ledger items that were received, in ascending order.
     pub(crate) fn ledger(&self) -> &[LedgerItem]
         ensures { map item_meant result.now ≡ (given_of self.now).ledger }
     {
@@ -152,7 +154,7 @@ impl<R: Receiver> Receiving<R> {
         }
     }
 
-    /// How many entries were given.
+    /// How many entries were given, whether staged or not.
     pub(crate) fn len(&self) -> u64
         requires { IsReceiving R.own self.now }
         ensures { result ≡ length (given_of self.now).entries }
@@ -160,7 +162,7 @@ impl<R: Receiver> Receiving<R> {
         self.count
     }
 
-    /// The key of the last entry given. `None` if there is none yet.
+    /// The key of the last entry that was given. `None` if none was given.
     pub(crate) fn last(&self) -> Option<&Key>
         requires { IsReceiving R.own self.now }
         ensures { option_map key_meant (option_copied result)
@@ -169,7 +171,7 @@ impl<R: Receiver> Receiving<R> {
         self.last.as_ref()
     }
 
-    /// The state, joined with what was received. If memory runs out, the state is as it was.
+    /// Returns the state, joined with what it received. If memory runs out, the state is unchanged.
     pub(crate) fn finish(self) -> (State, Result<(), Memory>)
         requires { IsReceiving R.own self }
         ensures ok { IsOk result.1 → (horizon : ℕ) → IsValid (under horizon (given_of self))
@@ -197,7 +199,7 @@ impl<R: Receiver> Receiving<R> {
         (own, done)
     }
 
-    /// The state as it was.
+    /// Returns the state unchanged.
     pub(crate) fn into_own(self) -> State
         requires { IsReceiving R.own self }
         ensures { result ≡ R.own }

@@ -1,4 +1,4 @@
-//! Writes the text of a state.
+//! Writes the text of a state to a sink, through a buffer.
 ghost use Rattle.std.specs.Prelude.{◌≡◌, ◌+◌, ◌-◌, ◌^◌, ◌<◌, ◌≤◌, ◌++◌, map, All, IsErr, OnOk, OnErr};
 ghost use Rattle.std.specs.List.{concat, flat_map};
 ghost use Rattle.std.specs.Int.{w64, to_be_bytes};
@@ -19,7 +19,7 @@ use docker_join::Entry;
 use docker_state::{LedgerItem, State};
 use fixed_text::put;
 
-/// Gives the bytes of ledger items.
+/// Writes ledger items through the buffer.
 fn put_items<K: Sink>(sink: &mut K, buffer: &mut Buffer, items: &[LedgerItem]) -> Result<(), Failed>
     requires { K.failures sink.old < 2 ^ 64 - 1 }
     ensures { Gives K.taken K.failures sink.old buffer.old.items
@@ -32,7 +32,7 @@ fn put_items<K: Sink>(sink: &mut K, buffer: &mut Buffer, items: &[LedgerItem]) -
     Ok(())
 }
 
-/// Gives the bytes of lines.
+/// Writes the lines of a schedule through the buffer.
 fn put_lines<K: Sink>(sink: &mut K, buffer: &mut Buffer, lines: &[Line]) -> Result<(), Failed>
     requires { K.failures sink.old < 2 ^ 64 - 1 }
     ensures { Gives K.taken K.failures sink.old buffer.old.items (concat lines.now) result
@@ -45,7 +45,7 @@ fn put_lines<K: Sink>(sink: &mut K, buffer: &mut Buffer, lines: &[Line]) -> Resu
     Ok(())
 }
 
-/// Gives the bytes of an entry.
+/// Writes an entry through the buffer.
 fn put_row<K: Sink>(sink: &mut K, buffer: &mut Buffer, row: &(Key, Entry)) -> Result<(), Failed>
     requires failures { K.failures sink.old < 2 ^ 64 - 1 }
     requires few { HasFewLines (row_meant row.now) }
@@ -57,7 +57,7 @@ fn put_row<K: Sink>(sink: &mut K, buffer: &mut Buffer, row: &(Key, Entry)) -> Re
     put_lines(sink, buffer, lines_of(&row.1.op))
 }
 
-/// Gives the bytes of entries.
+/// Writes entries through the buffer.
 fn put_rows<K: Sink>(sink: &mut K, buffer: &mut Buffer, rows: &[(Key, Entry)]) -> Result<(), Failed>
     requires failures { K.failures sink.old < 2 ^ 64 - 1 }
     requires few { All HasFewLines (map row_meant rows.now) }
@@ -70,7 +70,7 @@ fn put_rows<K: Sink>(sink: &mut K, buffer: &mut Buffer, rows: &[(Key, Entry)]) -
     Ok(())
 }
 
-/// Gives a count.
+/// Writes a count through the buffer.
 fn put_count<K: Sink>(sink: &mut K, buffer: &mut Buffer, count: usize) -> Result<(), Failed>
     requires { K.failures sink.old < 2 ^ 64 - 1 }
     ensures { Gives K.taken K.failures sink.old buffer.old.items (to_be_bytes w64 count) result
@@ -81,7 +81,7 @@ fn put_count<K: Sink>(sink: &mut K, buffer: &mut Buffer, count: usize) -> Result
     Ok(())
 }
 
-/// Adds the mark, the horizon and the number of ledger items to a buffer that has room for them.
+/// Appends the mark, the horizon and the count of ledger items to a buffer that has room for them.
 fn add_head(buffer: &mut Buffer, horizon: u16, count: usize)
     requires { array_vec_len buffer.old + (MARK + HORIZON + COUNT) ≤ ROOM }
     ensures { buffer.new.items ≡ buffer.old.items
@@ -92,8 +92,8 @@ fn add_head(buffer: &mut Buffer, horizon: u16, count: usize)
     put(buffer, &(count as u64).to_be_bytes());
 }
 
-/// Gives the bytes of ledger items and entries, each list after its number. The number of ledger
-/// items is given already.
+/// Writes through the buffer all that follows the count of ledger items: the items, the count of
+/// entries, and the entries.
 fn put_body<K: Sink>(sink: &mut K, buffer: &mut Buffer, state: &State) -> Result<(), Failed>
     requires { K.failures sink.old < 2 ^ 64 - 1 }
     ensures { Gives K.taken K.failures sink.old buffer.old.items (body_text state.now) result
@@ -105,7 +105,8 @@ fn put_body<K: Sink>(sink: &mut K, buffer: &mut Buffer, state: &State) -> Result
     put_rows(sink, buffer, entries)
 }
 
-/// Gives the text of a state, and writes all of it.
+/// Writes the text of a state to a sink, through a buffer that is empty at the beginning and at the
+/// end.
 fn put_text<K: Sink>(sink: &mut K, state: &State) -> Result<(), Failed>
     requires { K.failures sink.old < 2 ^ 64 - 1 }
     ensures { Flushes K.taken K.failures sink.old (state_text dks_2 state.now) result sink.new }

@@ -1,4 +1,4 @@
--- The facts about the lines of a schedule or an association that fits its key.
+-- Facts about the lines of a schedule, and about the record of an association, that fit their key.
 use Rattle.std.proofs.Common.{◌≡◌, ℕ, ◌<◌, ◌≤◌, ◌^◌, true, false, List, ◌∷◌, ◌++◌, length, ap, sym, ◌∙◌, subst, inl, inr, ◌⊎◌, All, arith}
 use Rattle.std.specs.Prelude.{IsTrue, ◌==◌, ◌&&◌, nat_le}
 use Rattle.std.specs.List.{AllByRecursion}
@@ -18,7 +18,7 @@ use Rattle.docker_laws.proofs.dockers.KeptSchedules.{first_kind, first_good, fir
 use Rattle.train_choice.specs.Runs.{runs_until}
 use Rattle.train_choice.proofs.RunFields.{three_tests}
 
--- the number of lines fits in 32 bits
+-- the number of a schedule's lines fits in 32 bits
 pub lines_few : (key : ScheduleKey) (lines : List (List ℕ)) → IsScheduleOf key lines → length lines < 2 ^ 32
 lines_few key lines of = let few = of.few in omega arith
 
@@ -26,7 +26,7 @@ details_good : (extra : List (List ℕ)) → AreExtraDetails extra → AllByRecu
 details_good extra (inl none) = subst (AllByRecursion HasGoodFields) (sym none) tt
 details_good extra (inr (line, is, kind)) = subst (AllByRecursion HasGoodFields) (sym is) (fields_good extra_details line kind tt, tt)
 
--- the fields of each line are good
+-- each line of a schedule has good fields
 pub lines_good : (key : ScheduleKey) (lines : List (List ℕ)) → IsScheduleOf key lines → All HasGoodFields lines
 lines_good key lines of =
     subst (All HasGoodFields) (sym of.schedule.whole)
@@ -43,7 +43,7 @@ lines_good key lines of =
         let bad : true ≡ false = sym deletion ∙ stays in cc
     journey (inr sound) = recursion_from_All HasGoodFields of.schedule.journey sound.fields
 
--- the train passes midnight at most twice
+-- a train passes midnight at most twice before any event
 pub falls_few : (key : ScheduleKey) (lines : List (List ℕ)) (number : ℕ) → IsScheduleOf key lines → falls_to lines number ≤ 2
 falls_few key lines number of = let all = few_midnights key lines of in let some = falls_below lines number in omega arith
 
@@ -52,8 +52,8 @@ falls_few key lines number of = let all = few_midnights key lines of in let some
 same_key : (a b : ScheduleKey) → schedule_key a ≡ schedule_key b → a ≡ b
 same_key a b h = cc
 
--- the runs-from date in its key and two fields of its basic schedule say on which days a schedule
--- runs
+-- a schedule runs on a day from the runs-from date in its key to its last date, if its days-run
+-- field marks that weekday
 pub runs_by_key : (key : ScheduleKey) (lines : List (List ℕ)) (day : ℕ) → IsScheduleOf key lines
     → (nat_le key.runs_from day && runs_until (columns 16 21 (first_record lines)) (columns 22 28 (first_record lines)) day)
     ≡ schedule_runs (first_record lines) day

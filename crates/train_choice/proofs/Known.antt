@@ -1,4 +1,4 @@
--- The identities and associations kept are right, and still are after one more look-up.
+-- The kept identities and associations are right, and stay right after one more look-up.
 use Rattle.std.proofs.Common.{◌≡◌, ℕ, Bool, true, false, cond, List, refl, ap, sym, ◌∙◌, subst, Some}
 use Rattle.std.specs.Prelude.{Option, ◌&&◌, ◌==◌}
 use Rattle.std.specs.declared.cmp.Ordering.{Ordering}
@@ -66,7 +66,8 @@ regrouped true true false d = refl
 regrouped true false c d = refl
 regrouped false b c d = refl
 
--- a group equals an association's group if and only if the association is in this group
+-- the group of an association compares as equal to another group if and only if the association
+-- belongs to that group
 at_group : (key : AssociationKey) (group : Group) → is_eq (group_cmp (group_of key) group) ≡ is_of_group group key
 at_group key group =
     sym (tied_then (bytes_cmp key.base group.base) (ordering_then (bytes_cmp key.associated group.associated) rest))
@@ -95,7 +96,7 @@ module _ (day : ℕ) (link : Link) where
   abbrev by_key : Link → Link → Ordering
   by_key = on (λ (l : Link). l.key) association_choice_cmp
 
-  -- an association that doesn't run on the day changes nothing
+  -- an association that doesn't run on the day changes no group's best
   pub not_running : (before : GroupLinks) → association_runs link.line day ≡ false → HasOneMore day before link before
   not_running before idle = λ group. by (get group_cmp before group) (is_of_group group link.key)
     where
@@ -103,7 +104,7 @@ module _ (day : ℕ) (link : Link) where
       by found true = λ i. cond (sym idle i) (better by_key found link) found
       by found false = refl
 
-  -- an association that isn't better than the best of its group changes nothing
+  -- an association that isn't better than the best of its group changes no group's best
   pub better_there : (before : GroupLinks) → is_better by_key link (get group_cmp before (group_of link.key)) ≡ false → HasOneMore day before link before
   better_there before is = λ group. by group (is_of_group group link.key) refl
     where
@@ -119,7 +120,8 @@ module _ (day : ℕ) (link : Link) where
           (subst (λ (g : Group). is_better by_key link (get group_cmp before g) ≡ false) (own_group link.key group own) is))
       by group false other = refl
 
-  -- an association that runs on the day, and is better than its group's best, is the new best
+  -- an association that runs on the day, and is better than its group's best, becomes that group's
+  -- best
   pub best_of_group : (before after : GroupLinks) → association_runs link.line day ≡ true
       → is_better by_key link (get group_cmp before (group_of link.key)) ≡ true → Updates group_cmp before after (group_of link.key) (Some link)
       → HasOneMore day before link after

@@ -1,5 +1,5 @@
--- A train passes midnight before some event if and only if some time of its schedule is below the
--- time before.
+-- A train passes midnight before some event if and only if, somewhere in its schedule, a time is
+-- below the time before it.
 use Rattle.std.proofs.Common.{◌≡◌, ℕ, ◌+◌, ◌==◌, ◌<◌, Bool, true, false, cond, List, [], ◌∷◌, ◌++◌, refl, sym, ◌∙◌, subst, Some, None, All, arith}
 use Rattle.std.specs.Prelude.{Option, ◌||◌, not, nat_lt}
 use Rattle.std.proofs.lemmas.Bool.{ltb-true}
@@ -13,7 +13,7 @@ use Rattle.train_choice.specs.Midnights.{some_late, ascends, falls_after, falls_
 abbrev Times : Type 0
 Times = List (Occasion × ℕ)
 
--- the last time so far, or 0 before the first time
+-- the last time met, or 0 before the first time
 abbrev last_or_midnight : Option ℕ → ℕ
 last_or_midnight None = 0
 last_or_midnight (Some last) = last
@@ -29,8 +29,8 @@ fall_is (Some last) time = refl
 sum : (a b c : ℕ) → a ≡ 0 → b ≡ c → a + b ≡ c
 sum a b c none same = omega arith
 
--- the times say whether a midnight is passed: if they ascend, none is passed and the last time is
--- this one; if not, one is passed before some event
+-- says what the times of a line show about midnight. If they ascend, no midnight is passed, and the
+-- last time is the one given. If they don't, a midnight is passed before some event
 abbrev Told : Progress → List ℕ → Times → Option ℕ → Type 0
 Told p line times None = (rest : List Occurrence) → some_late (occurrences_at p line times ++ rest) ≡ true
 Told p line times (Some last) =
@@ -89,7 +89,7 @@ first_good lines rest line good is = (recursion_from_All HasGoodFields (line ∷
 pub rest_good : (lines rest : List (List ℕ)) (line : List ℕ) → All HasGoodFields lines → lines ≡ line ∷ rest → All HasGoodFields rest
 rest_good lines rest line good is = All-from_recursion HasGoodFields rest (recursion_from_All HasGoodFields (line ∷ rest) (subst (All HasGoodFields) is good)).1
 
--- if the times of the first line ascend, the other lines say whether a midnight is passed
+-- if the times of the first line ascend, whether midnight is passed depends only on the other lines
 pub goes_on : (last time : ℕ) (line : List ℕ) (rest lines : List (List ℕ)) → lines ≡ line ∷ rest → ascends last (times_of line) ≡ Some time
     → falls_along time rest ≡ falls_along last lines
 goes_on last time line rest lines is up =

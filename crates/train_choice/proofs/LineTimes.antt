@@ -1,4 +1,4 @@
--- The times in a line, by its kind.
+-- The times in a line: which columns have one, by the line's kind.
 use Rattle.std.proofs.Common.{◌≡◌, ℕ, List, ap, sym, ◌∙◌, Some, true}
 use Rattle.docker_model.specs.records.Record.{origin_location, intermediate_location, terminating_location, HasKind, columns}
 use Rattle.docker_model.specs.records.Clock.{half_minutes, is_present_time, is_scheduled_time}
@@ -41,5 +41,5 @@ terminus_time line is good =
     ap (timed arrival) (sym (time_there (columns 11 15 line) (terminus_arrival line is good)))
     ∙ (λ i. times_by_kind (sym is i) line)
 
--- all facts about the times in a line
+-- all facts about the times in a line, as one set of rules
 pub ruleset line_times = (origin_departure, call_arrival, call_departure, call_pass, terminus_arrival, origin_time, terminus_time)

@@ -18,7 +18,7 @@ Times = List (Occasion × ℕ)
 abbrev clock_times : Times → List ℕ
 clock_times times = map (λ (time : Occasion × ℕ). time.1) times
 
--- the walk has met these times
+-- says that the walk has met exactly these times
 pub record HasMet (times : List ℕ) (p : Progress) : Type 0 where
   pub number_is : p.number ≡ length times + 1
   pub falls_are : p.falls ≡ fall_count times
@@ -38,7 +38,8 @@ met_one_more times p time has = record {
   last_is = sym (last_behind times time.1);
 }
 
--- the events for the times of a line, which stands at this place in the schedule
+-- the walk's events for the times of one line are the schedule's events there. The line is given by
+-- its place in the schedule
 module _ (whole : List (List ℕ)) (place : ℕ) (line : List ℕ) (identity : List ℕ)
     (line_is : (event : Event) → event.place ≡ place → event_line whole event ≡ line)
     (identity_is : (event : Event) → event.place ≡ place → event_identity whole event ≡ identity) where
@@ -65,7 +66,7 @@ module _ (whole : List (List ℕ)) (place : ℕ) (line : List ℕ) (identity : L
         identity = (same ∙ sym (identity_is event refl)) i;
       }
 
--- what the walk carries after these times
+-- after a walk has passed more times of a line, it has met these times too
 times_passed : (before : List ℕ) (times : Times) (p : Progress) → HasMet before p → HasMet (before ++ clock_times times) (past_times p times)
 times_passed before [] p has = subst (λ (ts : List ℕ). HasMet ts p) (sym (append-nil before)) has
 times_passed before (time ∷ times) p has =
@@ -85,7 +86,8 @@ change_by_identity line is =
 change_has_no_times : (line : List ℕ) → has_identity (codes "CR") line ≡ true → times_of line ≡ []
 change_has_no_times line is = ap (λ (kind : Option Kind). times_by_kind kind line) (change_by_identity line is)
 
--- the train identity after a line
+-- the train identity that the walk carries after one more line is the one of the last change up to
+-- there
 identity_more : (basic front : List (List ℕ)) (line : List ℕ) (p : Progress) → p.identity ≡ changed_identity (last_change front) (first_record basic)
     → (turned p line).identity ≡ changed_identity (last_change (front ++ line ∷ [])) (first_record basic)
 identity_more basic front line p same =
@@ -95,7 +97,8 @@ identity_more basic front line p same =
     by true = refl
     by false = same
 
--- a walk over the lines after some first lines meets these lines' events
+-- if a walk has met the events of a schedule's first lines, it then meets the events of the other
+-- lines
 lines_met : (whole front rest : List (List ℕ)) (p : Progress) → whole ≡ front ++ rest → HasMet (times_along front) p
     → p.identity ≡ changed_identity (last_change front) (first_record whole)
     → occurrences_from p rest ≡ map (occurrence_of whole) (events_from p.number (length front) rest)
@@ -165,7 +168,8 @@ all_met lines =
     lines_met lines [] lines (before_all (first_record lines)) refl (record { number_is = refl; falls_are = refl; last_is = refl }) refl
     ∙ ap (map (occurrence_of lines)) (sym (events_walked lines))
 
--- a walk over equal lines meets the same events, if it begins with the identity in the first line
+-- if the walked lines are the schedule's, and the walk begins with the identity in the first line,
+-- it meets the schedule's events
 pub events_met : (lines walked : List (List ℕ)) (identity : List ℕ) (events : List Occurrence) → walked ≡ lines → identity ≡ columns 33 36 (first_record lines)
     → events ≡ occurrences_from (record { number = 1; falls = 0; last = None; identity = identity }) walked → events ≡ occurrences lines
 events_met lines walked identity events same named is =

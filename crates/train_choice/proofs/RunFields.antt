@@ -1,4 +1,5 @@
--- The fields that decide when a basic schedule or an association runs, if they are good.
+-- The fields that decide when a basic schedule or an association runs: each is well formed if the
+-- record has good fields.
 use Rattle.std.proofs.Common.{◌≡◌, ℕ, List, true, false, Bool, cond, [], ◌∷◌, ◌++◌, subst, refl}
 use Rattle.std.specs.Prelude.{ℕ, ◌&&◌}
 use Rattle.std.specs.List.{AllByRecursion}
@@ -8,14 +9,14 @@ use Rattle.docker_model.specs.records.Field.{CheckedField, checked, HasGoodField
 use Rattle.cif_laws.proofs.records.Columns.{good_fields, IsGoodIn}
 use Rattle.docker_laws.proofs.dockers.KeptSchedules.{schedule_first, schedule_last, schedule_days}
 
--- three tests give the same result if they are grouped from the left
+-- three tests give the same result however they are grouped
 pub three_tests : (a b c : Bool) → (a && (b && c)) ≡ ((a && b) && c)
 three_tests true b c = refl
 three_tests false b c = refl
 
 pub ruleset schedule_fields = (schedule_first, schedule_last, schedule_days, three_tests)
 
--- the first date of an association is good
+-- the first date of an association is a date
 pub association_first : (line : List ℕ) → HasKind association line → HasGoodFields line → is_date (columns 16 21 line) ≡ true
 association_first line is good = (good_fields association line is good).1.0
 
@@ -30,12 +31,12 @@ unfolding association_later
 association_behind line is good stays =
     subst (λ b. AllByRecursion (IsGoodIn line) (association_later b)) stays (good_fields association line is good).1.1
 
--- the last date of an association is good
+-- the last date of an association is a date that may end a period
 pub association_last : (line : List ℕ) → HasKind association line → HasGoodFields line → is_deletion line ≡ false → is_end_date (columns 22 27 line) ≡ true
 unfolding association_later
 association_last line is good stays = (association_behind line is good stays).0
 
--- the days run of an association are good
+-- the days-run field of an association is seven digits that are 0 or 1
 pub association_days : (line : List ℕ) → HasKind association line → HasGoodFields line → is_deletion line ≡ false → is_days (columns 28 34 line) ≡ true
 unfolding association_later
 association_days line is good stays = (association_behind line is good stays).1.0

@@ -8,7 +8,7 @@ use Rattle.docker_model.specs.state.State.{IsScheduleOf}
 use Rattle.train_choice.specs.UpTo.{names_place, before_named, up_to_last}
 use Rattle.train_choice.proofs.KeptLines.{lines_good, lines_few}
 
--- a line stays if a line after it stays
+-- a line isn't left out if a line after it stays
 kept : (named : Bool) (line last : List ℕ) (lines : List (List ℕ)) → before_named named line (lines ++ last ∷ []) ≡ (line ∷ lines) ++ last ∷ []
 kept named line last [] = refl
 kept named line last (next ∷ lines) = refl
@@ -38,7 +38,7 @@ all_before P place [] good = tt
 all_before P place (line ∷ lines) good =
     good_before P (names_place place line) line (up_to_last place lines) good.0 (all_before P place lines good.1)
 
--- a property of all lines is a property of the lines up to the last one at a place
+-- what holds for all lines holds for the lines up to the last one at a place
 pub all_up_to : (P : List ℕ → Type 0) (place : List ℕ) (lines : List (List ℕ)) → All P lines → All P (up_to_last place lines)
 all_up_to P place lines good =
     All-from_recursion P (up_to_last place lines) (all_before P place lines (recursion_from_All P lines good))
@@ -48,7 +48,7 @@ few_before true line [] n few = omega arith
 few_before false line [] n few = omega arith
 few_before named line (next ∷ lines) n few = omega arith
 
--- the lines up to the last one at a place are at most as many as all lines
+-- the lines up to the last one at a place are no more than all lines
 pub few_up_to : (place : List ℕ) (lines : List (List ℕ)) → length (up_to_last place lines) ≤ length lines
 few_up_to place [] = omega arith
 few_up_to place (line ∷ lines) =

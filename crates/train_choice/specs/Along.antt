@@ -1,5 +1,5 @@
--- The choice of a schedule or an association, made row by row. Rows that are live, and rows with
--- good bodies.
+-- The choice of a schedule or an association, made row by row. Also which rows are live, and which
+-- have good bodies.
 use Rattle.std.specs.Prelude.{◌≡◌, ℕ, List, [], ◌∷◌, Option, Some, ⊤}
 use Rattle.docker_model.specs.file.Change.{schedule_key, schedule_body, association_key, association_body}
 use Rattle.docker_model.specs.state.Table.{Table}
@@ -9,30 +9,31 @@ use Rattle.state_laws.specs.Row.{Row}
 use Rattle.docker_laws.specs.LiveRows.{Link}
 use Rattle.docker_laws.specs.ChoiceWalk.{next_chosen, next_link}
 
--- the best of the UID's schedules on the day, after all these rows
+-- the best schedule of a UID on a day among `found` and all these rows
 abbrev pub chosen_along : List ℕ → ℕ → Option Train → List Row → Option Train
 chosen_along uid day found [] = found
 chosen_along uid day found (row ∷ rows) = chosen_along uid day (next_chosen uid day found row.0 row.1) rows
 
--- the best of the group's associations on the base train's start day, after all these rows
+-- the best association of a group on a start day of its base train, among `found` and all these
+-- rows
 abbrev pub link_along : Group → ℕ → Option Link → List Row → Option Link
 link_along group day found [] = found
 link_along group day found (row ∷ rows) = link_along group day (next_link group day found row.0 row.1) rows
 
--- the body of each row is well formed and fits its key
+-- says that the body of each row is well formed and fits its key
 abbrev pub AreGoodRows : List Row → Type 0
 AreGoodRows [] = ⊤
 AreGoodRows (row ∷ rows) = IsBodyOf row.0 row.1 × AreGoodRows rows
 
--- each row is in the live table
+-- says that each row is in the live table
 abbrev pub AreLive : Table → List Row → Type 0
 AreLive live [] = ⊤
 AreLive live (row ∷ rows) = (live row.0 ≡ Some row.1) × AreLive live rows
 
--- the schedule is in the live table
+-- says that the schedule is in the live table
 abbrev pub IsLiveTrain : Table → Train → Type 0
 IsLiveTrain live train = live (schedule_key train.key) ≡ Some (schedule_body train.lines)
 
--- the association is in the live table
+-- says that the association is in the live table
 abbrev pub IsLiveLink : Table → Link → Type 0
 IsLiveLink live link = live (association_key link.key) ≡ Some (association_body link.line)

@@ -1,4 +1,4 @@
--- How far a walk over a schedule's lines has come, and which events are still to come.
+-- The state of a walk over a schedule's lines, and which events are still to come.
 use Rattle.std.specs.Prelude.{ℕ, ◌+◌, ◌*◌, ◌^◌, ◌≤◌, List, ◌++◌, length, All}
 use Rattle.docker_model.specs.records.Field.{HasGoodFields}
 use Rattle.train_choice.specs.Meaning.{occasion_meant, times_meant}
@@ -7,7 +7,7 @@ use Rattle.train_choice.specs.Occurrences.{Progress, occurrences_at, occurrences
 use Rattle.train_choice.specs.declared.walk.Occurrence.{Occurrence}
 use Rattle.train_choice.specs.declared.walk.EventWalk.{EventWalk}
 
--- an event of the code, as the definitions have it
+-- an event of the code, converted to the definitions' type
 abbrev pub occurrence_meant : Occurrence → model.Occurrence
 occurrence_meant event = record {
   number = event.number;
@@ -18,28 +18,30 @@ occurrence_meant event = record {
   identity = event.identity.now;
 }
 
--- what the walk carries from line to line
+-- what the walk carries from line to line, converted to the definitions' type
 abbrev pub progress_of : EventWalk → Progress
 progress_of walk = record { number = walk.number; falls = walk.falls; last = walk.last; identity = walk.identity.now }
 
--- the events of the line that are still to come
+-- the events of the current line that are still to come
 abbrev pub events_here : EventWalk → List model.Occurrence
 events_here walk = occurrences_at (progress_of walk) walk.line.now (times_meant walk.times)
 
--- what the walk will carry after the line
+-- what the walk will carry after the current line
 abbrev pub progress_after_line : EventWalk → Progress
 progress_after_line walk = past_times (progress_of walk) (times_meant walk.times)
 
--- the times of this line and `more` others can be numbered
+-- says that the remaining times of the current line and `more` others can be numbered without
+-- overflow
 pub record HasRoom (walk : EventWalk) (more : ℕ) : Type 0 where
   pub bound : walk.number + length (times_meant walk.times) + more ≤ 2 ^ 40
   pub few : walk.falls ≤ walk.number
 
--- the events that are still to come, in this line and in the lines after it
+-- all events that are still to come: in the current line and in the lines after it
 abbrev pub events_left : EventWalk → List (List ℕ) → List model.Occurrence
 events_left walk lines = events_here walk ++ occurrences_from (progress_after_line walk) lines
 
--- the walk can go on over these lines
+-- says that the walk can continue over these lines: their fields are good, and their events can be
+-- numbered
 pub record CanWalk (walk : EventWalk) (lines : List (List ℕ)) : Type 0 where
   pub good : All HasGoodFields lines
   pub room : HasRoom walk (3 * length lines)

@@ -1,14 +1,14 @@
--- Keys of the code, as the definitions have them.
+-- Converts keys from the code's types to the types of the definitions.
 use Rattle.docker_model.specs.file.Change as model
 use Rattle.cif_line.specs.Letter.{stp_letter}
 use Rattle.cif_change.specs.declared.key.ScheduleKey.{ScheduleKey}
 use Rattle.cif_change.specs.declared.key.AssocKey.{AssocKey}
 
--- a schedule's key, as the definitions have it
+-- a schedule's key of the code, converted to the definitions' type
 abbrev pub schedule_key_meant : ScheduleKey → model.ScheduleKey
 schedule_key_meant key = record { uid = key.uid; runs_from = key.runs_from; indicator = stp_letter key.stp }
 
--- an association's key, as the definitions have it
+-- an association's key of the code, converted to the definitions' type
 abbrev pub association_key_meant : AssocKey → model.AssociationKey
 association_key_meant key = record {
   base = key.base;

@@ -1,5 +1,5 @@
--- What is kept once it is looked up: trains, train identities, and the associations chosen at a
--- place.
+-- What is kept after it has been looked up: trains, train identities, and the associations chosen
+-- at a place.
 use Rattle.std.specs.Prelude.{◌≡◌, ℕ, List, Option, Some, None, ⊤}
 use Rattle.std.specs.BTreeMap.{BTreeMap, get}
 use Rattle.std.specs.declared.cmp.Ordering.{Ordering}
@@ -25,7 +25,7 @@ pub record PlaceDay : Type 0 where
   pub place : List ℕ
   pub day : ℕ
 
--- the kept train, if there is one, is its UID's train on the day
+-- says that the kept train, if there is one, is the train of its UID on the day
 abbrev pub IsKnownTrain : Table → ℕ → Option UidTrain → Type 0
 IsKnownTrain live day None = ⊤
 IsKnownTrain live day (Some known) = (rows : List Row) → AreRowsOf live rows → known.train ≡ train_in rows known.uid day
@@ -34,7 +34,7 @@ IsKnownTrain live day (Some known) = (rows : List Row) → AreRowsOf live rows �
 abbrev pub uid_day_cmp : List ℕ × ℕ → List ℕ × ℕ → Ordering
 uid_day_cmp a b = ordering_then (bytes_cmp a.0 b.0) (nat_cmp a.1 b.1)
 
--- each kept identity belongs to the train of the UID and day under which it is kept
+-- says that each kept identity belongs to the train of the UID and start day under which it is kept
 abbrev pub AreIdentities : Table → BTreeMap (List ℕ × ℕ) (List ℕ) → Type 0
 AreIdentities live known =
     (uid : List ℕ) (day : ℕ) (identity : List ℕ) → get uid_day_cmp known (uid, day) ≡ Some identity
@@ -46,17 +46,17 @@ group_cmp a b =
     ordering_then (bytes_cmp a.base b.base) (ordering_then (bytes_cmp a.associated b.associated)
     (ordering_then (bytes_cmp a.location b.location) (nat_cmp a.suffix b.suffix)))
 
--- associations that are kept, at most one for each group
+-- the best association of each group, if the group has one
 abbrev pub GroupLinks : Type 0
 GroupLinks = BTreeMap Group Link
 
--- for each group at the place, the kept association is the one chosen on the day
+-- says that for each group at the place, the kept association is the one chosen on the day
 abbrev pub AreDayLinks : Table → List ℕ → ℕ → GroupLinks → Type 0
 AreDayLinks live place day best =
     (group : Group) → group.location ≡ place → (rows : List Row) → AreRowsOf live rows → get group_cmp best group ≡ link_in rows group day
 
--- one more association was looked at: its group now has the better of it and the best so far, and
--- no other group changes
+-- says how one more association changes the kept ones. If it runs on the day, its group keeps the
+-- better of it and the one kept before. No other group changes
 abbrev pub HasOneMore : ℕ → GroupLinks → Link → GroupLinks → Type 0
 HasOneMore day before link after =
     (group : Group) → get group_cmp after group

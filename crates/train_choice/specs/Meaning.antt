@@ -1,4 +1,4 @@
--- Occasions and times of the code, as the definitions have them.
+-- Converts occasions and times from the code's types to the types of the definitions.
 use Rattle.std.specs.Prelude.{ℕ, List, ◌++◌}
 use Rattle.docker_model.specs.file.Journey.{timed}
 use Rattle.docker_model.specs.file.Journey as journey
@@ -6,7 +6,7 @@ use Rattle.train_choice.specs.declared.occasion.Occasion.{Occasion}
 use Rattle.train_choice.specs.declared.occasion.Occasion.TheVariants.{Arrival, Pass, Joining, Dividing, NextWorking, Departure}
 use Rattle.train_choice.specs.declared.times.EventTimes.{EventTimes}
 
--- an occasion of the code, as the definitions have it
+-- an occasion of the code, converted to the definitions' type
 abbrev pub occasion_meant : Occasion → journey.Occasion
 occasion_meant Arrival = journey.arrival
 occasion_meant Pass = journey.pass
@@ -15,6 +15,6 @@ occasion_meant Dividing = journey.dividing
 occasion_meant NextWorking = journey.next_working
 occasion_meant Departure = journey.departure
 
--- the times in a line, in order
+-- the times in a line, in order, each with its kind of event, converted to the definitions' types
 abbrev pub times_meant : EventTimes → List (journey.Occasion × ℕ)
 times_meant times = timed journey.arrival times.arrival ++ timed journey.pass times.pass ++ timed journey.departure times.departure

@@ -1,13 +1,14 @@
--- The events of a schedule as a walk over its lines meets them, with what the walk carries from
--- line to line.
+-- The events of a schedule in the order of its lines, with what a walk over the lines carries to
+-- find them.
 use Rattle.std.specs.Prelude.{ℕ, ◌+◌, if◌then◌else◌, List, [], ◌∷◌, ◌++◌, map, Option, Some, None, codes}
 use Rattle.docker_model.specs.records.Record.{columns}
 use Rattle.docker_model.specs.file.Journey.{Occasion, times_of}
 use Rattle.docker_model.specs.docker.Event.{Event, events_of, falls_to, event_line, event_identity, has_identity}
 use Rattle.docker_laws.specs.EventWalk.{fall_at}
 
--- an event: its number, what happens and when, the falls up to it, its line, and the train identity
--- there
+-- an event with what a walk knows about it. `number` counts the schedule's events from 1, `time` is
+-- in half minutes, `falls` is how often the train has passed midnight, and `identity` is the train
+-- identity there
 pub record Occurrence : Type 0 where
   pub number : ℕ
   pub occasion : Occasion
@@ -16,7 +17,7 @@ pub record Occurrence : Type 0 where
   pub line : List ℕ
   pub identity : List ℕ
 
--- an event of these lines, with all that a walk knows of it
+-- an event of these lines, with its line, the midnights before it, and the train identity there
 abbrev pub occurrence_of : List (List ℕ) → Event → Occurrence
 occurrence_of lines event = record {
   number = event.number;
@@ -31,19 +32,19 @@ occurrence_of lines event = record {
 abbrev pub occurrences : List (List ℕ) → List Occurrence
 occurrences lines = map (occurrence_of lines) (events_of lines)
 
--- what a walk carries: the number of the next event, the falls so far, the last time and the train
--- identity
+-- what a walk carries: the number of the next event, the midnights passed, the last time if there
+-- was one, and the train identity
 pub record Progress : Type 0 where
   pub number : ℕ
   pub falls : ℕ
   pub last : Option ℕ
   pub identity : List ℕ
 
--- what a walk carries before the first line, which is a basic schedule
+-- what a walk carries before the first line, which is the basic schedule
 abbrev pub before_all : List ℕ → Progress
 before_all basic = record { number = 1; falls = 0; last = None; identity = columns 33 36 basic }
 
--- the event for one time of a line
+-- the event for one time of a line, if the walk carries `p` before that time
 abbrev pub occurrence_at : Progress → List ℕ → Occasion × ℕ → Occurrence
 occurrence_at p line time = record {
   number = p.number;
@@ -54,7 +55,7 @@ occurrence_at p line time = record {
   identity = p.identity;
 }
 
--- what the walk carries after that time
+-- what the walk carries after one time of a line
 abbrev pub past_time : Progress → Occasion × ℕ → Progress
 past_time p time = record {
   number = p.number + 1;
@@ -63,22 +64,21 @@ past_time p time = record {
   identity = p.identity;
 }
 
--- the events for some times of a line
+-- the events for some times of a line, if the walk carries `p` before these times
 abbrev pub occurrences_at : Progress → List ℕ → List (Occasion × ℕ) → List Occurrence
 occurrences_at p line [] = []
 occurrences_at p line (time ∷ times) = occurrence_at p line time ∷ occurrences_at (past_time p time) line times
 
--- what the walk carries after those times
+-- what the walk carries after some times of a line
 abbrev pub past_times : Progress → List (Occasion × ℕ) → Progress
 past_times p [] = p
 past_times p (time ∷ times) = past_times (past_time p time) times
 
--- the train identity after a line: a change en route has a new one, and any other line changes
--- nothing
+-- the train identity after a line. A change en route brings a new one, and no other line changes it
 abbrev pub identity_after : List ℕ → List ℕ → List ℕ
 identity_after line identity = if has_identity (codes "CR") line then columns 13 16 line else identity
 
--- what the walk carries when it comes to a line
+-- what the walk carries when it reaches a line. A change en route has changed the train identity
 abbrev pub turned : Progress → List ℕ → Progress
 turned p line = record {
   number = p.number;
@@ -87,7 +87,7 @@ turned p line = record {
   identity = identity_after line p.identity;
 }
 
--- the events of some lines
+-- the events of some lines, if the walk carries `p` before these lines
 abbrev pub occurrences_from : Progress → List (List ℕ) → List Occurrence
 occurrences_from p [] = []
 occurrences_from p (line ∷ lines) =

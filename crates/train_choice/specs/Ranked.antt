@@ -1,4 +1,5 @@
--- The order of choice, from an STP indicator and a first date.
+-- The order in which schedules and associations are chosen: by STP indicator, and then by first
+-- date.
 use Rattle.std.specs.Prelude.{ℕ, Bool, true, ◌==◌, Option, Some, None}
 use Rattle.std.specs.declared.cmp.Ordering.{Ordering}
 use Rattle.std.specs.Ordering.{is_lt}
@@ -7,7 +8,8 @@ use Rattle.cif_line.specs.declared.letter.Stp.{Stp}
 use Rattle.cif_line.specs.declared.letter.Stp.TheVariants.{Cancellation}
 use Rattle.docker_model.specs.docker.Choice.{choice_cmp}
 
--- the order of choice, if each has an indicator's letter and a first date
+-- the order of choice for values that have an STP indicator's letter and a first date. `rank` gives
+-- both
 abbrev pub rank_cmp : {A : Type 0} → (A → ℕ × ℕ) → A → A → Ordering
 rank_cmp rank a b = choice_cmp (rank a).0 (rank a).1 (rank b).0 (rank b).1
 
@@ -15,11 +17,11 @@ rank_cmp rank a b = choice_cmp (rank a).0 (rank a).1 (rank b).0 (rank b).1
 abbrev pub rank_meant : Stp × ℕ → ℕ × ℕ
 rank_meant rank = (stp_letter rank.0, rank.1)
 
--- there is no best so far, or this one comes before it
+-- whether `more` comes before the best, or there is no best yet
 abbrev pub is_better : {A : Type 0} → (A → A → Ordering) → A → Option A → Bool
 is_better cmp more None = true
 is_better cmp more (Some best) = is_lt (cmp more best)
 
--- the indicator is of a cancellation
+-- whether the STP indicator is `C`, for a cancellation
 abbrev pub is_cancellation : ℕ → Bool
 is_cancellation indicator = indicator == stp_letter Cancellation

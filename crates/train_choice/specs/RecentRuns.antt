@@ -7,34 +7,37 @@ use Rattle.docker_model.specs.file.Change.{ScheduleKey}
 use Rattle.docker_model.specs.docker.Choice.{schedule_runs}
 use Rattle.train_choice.specs.declared.recent_runs.RecentRuns.{RecentRuns}
 
--- the three flags are `test 0`, `test 1` and `test 2`, where `test n` asks about n days earlier
+-- says that the three flags are `test 0`, `test 1` and `test 2`. `test n` is whether the schedule
+-- runs n days earlier
 pub record AreRecentRuns (test : ℕ → Bool) (recent : RecentRuns) : Type 0 where
   pub today_is : recent.today ≡ test 0
   pub day_before_is : recent.day_before ≡ test 1
   pub two_before_is : recent.two_before ≡ test 2
 
--- the schedule runs on the day `back` days before
+-- whether the schedule runs on the day `back` days before
 abbrev pub runs_back : List (List ℕ) → ℕ → ℕ → Bool
 runs_back lines day back = nat_le back day && schedule_runs (first_record lines) (day - back)
 
--- the day `back` days before exists, isn't before the first date, and has its weekday marked
+-- whether the day `back` days before exists, isn't before the first date, and falls on a weekday
+-- that the days-run field marks
 abbrev pub begun_back : List ℕ → ℕ → ℕ → ℕ → Bool
 begun_back days first day back = nat_le back day && (nat_le first (day - back) && runs_on_weekday days (weekday_of (day - back)))
 
--- the day `back` days before isn't after the last date
+-- whether the day `back` days before isn't after the last date
 abbrev pub lasts_back : ℕ → ℕ → ℕ → Bool
 lasts_back last day back = nat_le (day - back) last
 
--- the schedule runs on the day `back` days before, by the fields of its basic schedule
+-- whether the schedule runs on the day `back` days before, by its first date and the fields of its
+-- basic schedule
 abbrev pub runs_back_by_fields : List ℕ → ℕ → ℕ → ℕ → Bool
 runs_back_by_fields line first day back = begun_back (columns 22 28 line) first day back && lasts_back (end_number (columns 16 21 line)) day back
 
--- the day `back` days before exists, and has its weekday marked
+-- whether the day `back` days before exists and falls on a weekday that the days-run field marks
 abbrev pub marked_back : List ℕ → ℕ → ℕ → Bool
 marked_back days day back = nat_le back day && runs_on_weekday days (weekday_of (day - back))
 
--- the schedule has begun by the day, and one of three weekdays is marked: the day's and the two
--- before
+-- whether the schedule has begun by the day, and its days-run field marks the weekday of the day,
+-- of the day before or of two days before
 abbrev pub may_run_recently : ScheduleKey → List (List ℕ) → ℕ → Bool
 may_run_recently key lines day = not (nat_lt day key.runs_from)
     && (marked_back (columns 22 28 (first_record lines)) day 0 || marked_back (columns 22 28 (first_record lines)) day 1

@@ -5,21 +5,22 @@ use Rattle.docker_model.specs.records.Record.{columns}
 use Rattle.docker_model.specs.file.File.{first_record}
 use Rattle.train_choice.specs.Occurrences.{Occurrence, before_all, occurrences_from}
 
--- the line has the place in the columns in which location records have their TIPLOC
+-- whether the place is in columns 3 to 9, where a location record has its TIPLOC
 abbrev pub names_place : List ℕ → List ℕ → Bool
 names_place place line = bytes_eq (columns 3 9 line) place
 
--- a line and the lines after it. It is left out if it is the last and isn't at the place
+-- a line and the lines after it. The line is left out if no line follows it and it isn't at the
+-- place
 abbrev pub before_named : Bool → List ℕ → List (List ℕ) → List (List ℕ)
 before_named named line [] = if named then line ∷ [] else []
 before_named named line (next ∷ rest) = line ∷ next ∷ rest
 
--- the lines up to the last one at the place. Of lines at A, B, C, B and D, those up to the last one
--- at B are the first four
+-- the lines up to and including the last one at the place. For example, of lines at A, B, C, B and
+-- D, those up to the last one at B are the first four
 abbrev pub up_to_last : List ℕ → List (List ℕ) → List (List ℕ)
 up_to_last place [] = []
 up_to_last place (line ∷ lines) = before_named (names_place place line) line (up_to_last place lines)
 
--- the events of a schedule, up to its last line at the place
+-- the events of a schedule up to its last line at the place
 abbrev pub occurrences_to : List ℕ → List (List ℕ) → List Occurrence
 occurrences_to place lines = occurrences_from (before_all (first_record lines)) (up_to_last place lines)

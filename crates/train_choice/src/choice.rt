@@ -23,16 +23,16 @@ use cif_change::{Body, Key};
 use cif_line::{Day, Stp, Uid};
 use docker_state::{State, Timetable, UidSchedules};
 
-/// The schedule chosen for a UID on a day. Of the live schedules of the UID that run on the day, it
-/// has the lowest STP indicator; of several of these, it has the latest first date. It may be a
-/// cancellation. `None` if no schedule runs.
+/// The schedule chosen for a UID on a day: among the UID's live schedules that run on the day, the
+/// one with the lowest STP indicator. If several have that indicator, the one with the latest first
+/// date is chosen. It may be a cancellation. `None` if no schedule runs.
 pub fn chosen<'a>(state: &'a State, uid: &Uid, day: Day) -> Option<ScheduleView<'a>>
     ensures { IsChosenOn (live_table state.now) uid.now day result }
 {
     chosen_in(&Timetable::of(state), uid, day)
 }
 
-/// Like `chosen`, of the schedules that count in a timetable.
+/// Like `chosen`, among the schedules that count in a timetable.
 fn chosen_in<'a>(timetable: &Timetable<'a>, uid: &Uid, day: Day) -> Option<ScheduleView<'a>>
     ensures { IsChosenOn (live_in timetable.now) uid.now day result }
 {
@@ -40,8 +40,8 @@ fn chosen_in<'a>(timetable: &Timetable<'a>, uid: &Uid, day: Day) -> Option<Sched
     best_of(None, schedules_of(&from, uid), uid, day)
 }
 
-/// The train of a UID that starts on a day, in a timetable: the chosen schedule, unless it is a cancellation.
-/// `None` if the train doesn't run.
+/// The train of a UID that starts on a day: the schedule chosen in a timetable, unless it is a
+/// cancellation. `None` if the train doesn't run.
 pub fn train_on<'a>(timetable: &Timetable<'a>, uid: &Uid, day: Day) -> Option<ScheduleView<'a>>
     ensures { (rows : List Row) → AreRowsOf (live_in timetable.now) rows
         → result ≡ train_in rows uid.now day }
@@ -49,7 +49,7 @@ pub fn train_on<'a>(timetable: &Timetable<'a>, uid: &Uid, day: Day) -> Option<Sc
     unless_cancelled(chosen_in(timetable, uid, day))
 }
 
-/// The schedule, unless it is a cancellation.
+/// Returns the schedule that was found, unless it is a cancellation.
 fn unless_cancelled(found: Option<ScheduleView<'_>>) -> Option<ScheduleView<'_>>
     ensures { result ≡ unless_cancelled found.entry }
 {
@@ -61,15 +61,15 @@ fn unless_cancelled(found: Option<ScheduleView<'_>>) -> Option<ScheduleView<'_>>
     }
 }
 
-/// Whether the STP indicator is of a cancellation.
+/// Whether the STP indicator is `C`, for a cancellation.
 pub fn is_cancellation(stp: Stp) -> bool
     ensures { result ≡ is_cancellation (stp_letter stp) }
 {
     stp == Stp::Cancellation
 }
 
-/// Like `train_on`, for the UID of a schedule that runs on the day. That schedule is the best so
-/// far when the walk over the rows begins.
+/// Like `train_on`, for the UID of a schedule that is known to run on the day. The walk over the
+/// UID's schedules starts with that schedule as the best.
 pub(crate) fn train_from<'a>(
     from: &UidSearch<'a>,
     train: &ScheduleView<'a>,
@@ -84,7 +84,7 @@ pub(crate) fn train_from<'a>(
     unless_cancelled(best_of(Some(train.again()), schedules_of(from, uid), uid, day))
 }
 
-/// The best so far, after all these rows.
+/// Returns the best schedule of a UID on a day among `so_far` and all these rows.
 fn best_of<'a>(
     so_far: Option<ScheduleView<'a>>,
     rows: UidSchedules<'a>,
@@ -101,7 +101,7 @@ fn best_of<'a>(
     found
 }
 
-/// The best so far, after one more row.
+/// Returns the best schedule among `found` and the schedule in one row.
 fn with_row<'a>(
     found: Option<ScheduleView<'a>>,
     key: &'a Key,
@@ -119,8 +119,8 @@ fn with_row<'a>(
     }
 }
 
-/// The best so far, after one more schedule. Whether that schedule runs is checked only if it would
-/// be the best.
+/// Returns the better of `found` and one more schedule. Whether that schedule runs is checked only
+/// if it would be the better one.
 fn with_one<'a>(
     found: Option<ScheduleView<'a>>,
     view: ScheduleView<'a>,

@@ -25,9 +25,10 @@ use std::alloc::Global;
 use std::collections::BTreeMap;
 use std::marker::Model;
 
-/// The associations chosen at a place on a start day of their base trains, one for each group. Of
-/// the associations in a group that run on the day, it has the lowest STP indicator; of several of
-/// these, it has the latest first date. One walk over the associations at the place finds them all.
+/// The associations chosen at a place on a start day of their base trains, one for each group. Of a
+/// group's associations that run on the day, the one with the lowest STP indicator is chosen. If
+/// several have that indicator, the one with the latest first date is chosen. One walk over the
+/// associations at the place finds them all.
 #[derive(Debug, Drop)]
 pub struct DayLinks<'a> {
     timetable: Timetable<'a>,
@@ -53,7 +54,8 @@ impl<'a> Model for DayLinks<'a> {
 }
 
 impl<'a> DayLinks<'a> {
-    /// The associations chosen at a place on a start day. `Memory` if there is no room for them.
+    /// Finds the associations chosen at a place on a start day. Returns `Memory` if there is no
+    /// room for them.
     pub fn at(
         alloc: Global,
         timetable: &Timetable<'a>,
@@ -86,7 +88,7 @@ impl<'a> DayLinks<'a> {
     }
 }
 
-/// The best association of each group in these rows.
+/// Returns the best association of each group in these rows.
 fn best_of<'a>(
     alloc: Global,
     rows: TimetableRows<'a>,
@@ -103,7 +105,7 @@ fn best_of<'a>(
     Ok(best)
 }
 
-/// Updates the best associations after one more row.
+/// Updates the best associations with one more row.
 fn add_row<'a>(
     best: &mut BTreeMap<LinkGroup, LinkView<'a>>,
     key: &'a Key,
@@ -121,7 +123,7 @@ fn add_row<'a>(
     }
 }
 
-/// Updates the best associations after one more association.
+/// Updates the best associations with one more association.
 fn add<'a>(
     best: &mut BTreeMap<LinkGroup, LinkView<'a>>,
     link: LinkView<'a>,

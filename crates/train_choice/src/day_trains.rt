@@ -1,4 +1,4 @@
-//! The trains that start on a day. The last train that was looked up is kept.
+//! The trains that start on a day, with the last train that was looked up.
 ghost use Rattle.std.specs.Prelude.{◌≡◌, true, List, IfSome};
 ghost use Rattle.docker_model.specs.file.File.{first_record};
 ghost use Rattle.state_laws.specs.Row.{Row, AreRowsOf};
@@ -18,8 +18,8 @@ use cif_line::Day;
 use docker_state::Timetable;
 use std::marker::Model;
 
-/// The trains that start on a day. The train of the last UID that was looked up is kept. A walk
-/// meets all schedules of a UID one after the other, so a UID is searched for only once.
+/// The trains that start on a day. It keeps the train of the UID that was looked up last. A walk
+/// meets all schedules of a UID one after the other, so each UID is searched for only once.
 #[derive(Debug, Drop)]
 pub struct DayTrains<'a> {
     timetable: Timetable<'a>,
@@ -43,7 +43,7 @@ impl<'a> Model for DayTrains<'a> {
 }
 
 impl<'a> DayTrains<'a> {
-    /// The trains of a timetable that start on a day, before any is looked up.
+    /// The trains that start on a day in a timetable. None is kept yet.
     pub fn of(timetable: &Timetable<'a>, day: Day) -> DayTrains<'a>
         ensures { result ≡ record { timetable = timetable.entry.now; day = day } }
     {
@@ -54,10 +54,10 @@ impl<'a> DayTrains<'a> {
         }
     }
 
-    /// Whether the train of this schedule's UID that starts on the day runs by this schedule. The
-    /// schedule has to run on the day. The search for the UID's schedules begins at the row with
-    /// this index. The index is only a hint: a wrong one makes the search longer and changes no
-    /// answer.
+    /// Whether a train runs by this schedule: whether the schedule is the one chosen for its UID on
+    /// the start day, and isn't a cancellation. The schedule has to run on the day. `row` is a
+    /// hint: the row at which the search for the UID's schedules begins. A wrong hint makes the
+    /// search longer, and doesn't change the result.
     pub fn runs_by(&mut self, row: usize, train: &ScheduleView<'a>) -> bool
         requires live { IsLiveTrain (live_in self.old.timetable) train.now }
         requires runs { schedule_runs (first_record train.now.lines) self.old.day ≡ true }
@@ -71,7 +71,8 @@ impl<'a> DayTrains<'a> {
         }
     }
 
-    /// Whether the kept train runs by the schedule. `None` if no train is kept, or another UID's.
+    /// Whether the kept train runs by the schedule. `None` if no train is kept, or if the kept
+    /// train has another UID.
     fn known(&self, key: &ScheduleKey) -> Option<bool>
         ensures { IfSome result (λ answer. (rows : List Row)
             → AreRowsOf (live_in self.now.timetable) rows
@@ -84,7 +85,7 @@ impl<'a> DayTrains<'a> {
         }
     }
 
-    /// Like `runs_by`, by a walk over the schedules of the UID. It keeps the train that it finds.
+    /// Like `runs_by`, but always searches the schedules of the UID. Keeps the train that it finds.
     fn look_up(&mut self, row: usize, train: &ScheduleView<'a>) -> bool
         requires live { IsLiveTrain (live_in self.old.timetable) train.now }
         requires runs { schedule_runs (first_record train.now.lines) self.old.day ≡ true }

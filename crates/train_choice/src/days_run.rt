@@ -10,7 +10,7 @@ ghost use Rattle.train_choice.specs.Runs.{runs_until};
 use cif_line::{Day, Kind, Line, kind};
 
 /// Whether a basic schedule (BS) or an association (AA) runs on a day: the day is from its first
-/// date to its last, and the weekday is marked.
+/// date to its last, and its days-run field marks that weekday.
 pub fn runs(line: &Line, day: Day) -> bool
     requires kind { HasKind basic_schedule line.now ⊎ HasKind association line.now }
     requires good { HasGoodFields line.now }
@@ -35,7 +35,8 @@ fn schedule_runs(line: &Line, day: Day) -> bool
     (line.day(10).number() <= day.number()) & schedule_runs_on(line, day)
 }
 
-/// Whether a basic schedule runs on a day, if its first date isn't after that day.
+/// Whether a basic schedule runs on a day that isn't before its first date. The first date isn't
+/// read.
 #[tactic(auto, using(crate::proofs::RunFields::schedule_fields))]
 pub(crate) fn schedule_runs_on(line: &Line, day: Day) -> bool
     requires kind { HasKind basic_schedule line.now }
@@ -57,8 +58,8 @@ pub(crate) fn association_runs(line: &Line, day: Day) -> bool
     (line.day(16).number() <= day.number()) & runs_until(line, 22, 28, day)
 }
 
-/// Whether the day isn't after the last date, and its weekday is marked. `last` and `days` are the
-/// first columns of these two fields.
+/// Whether the day isn't after the last date, and the days-run field marks its weekday. `last` and
+/// `days` are the first columns of these two fields.
 fn runs_until(line: &Line, last: usize, days: usize, day: Day) -> bool
     requires last_from { 0 < last }
     requires last_within { last ≤ 75 }

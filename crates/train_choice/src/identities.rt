@@ -1,4 +1,4 @@
-//! Train identities. Each is kept once it is looked up.
+//! Train identities, each kept after it has been looked up.
 ghost use Rattle.std.specs.Prelude.{◌≡◌, List, IfOk};
 ghost use Rattle.state_laws.specs.Row.{Row, AreRowsOf};
 ghost use Rattle.docker_laws.specs.Gathering.{identity_of};
@@ -13,8 +13,8 @@ use std::alloc::Global;
 use std::collections::BTreeMap;
 use std::marker::Model;
 
-/// Train identities by UID and start day. Each is kept once it is looked up, so the schedules of a
-/// UID are searched only once for each day.
+/// Train identities by UID and start day. Each is kept after it has been looked up, so the
+/// schedules of a UID are searched only once for each day.
 #[derive(Debug, Drop)]
 pub struct Identities<'a> {
     timetable: Timetable<'a>,
@@ -35,7 +35,7 @@ impl<'a> Model for Identities<'a> {
 }
 
 impl<'a> Identities<'a> {
-    /// The train identities of a timetable, before any is looked up.
+    /// The train identities of a timetable. None is kept yet.
     pub fn of(alloc: Global, timetable: &Timetable<'a>) -> Identities<'a>
         ensures { result ≡ timetable.entry.now }
     {
@@ -45,8 +45,8 @@ impl<'a> Identities<'a> {
         }
     }
 
-    /// The train identity of a UID's train that starts on a day, from its basic schedule. Question
-    /// marks if the train doesn't run then. `Memory` if there is no room to keep the identity.
+    /// The identity of the train of a UID that starts on a day, from its basic schedule. Four
+    /// question marks if that train doesn't run. `Memory` if there is no room to keep the identity.
     pub fn identity(&mut self, uid: &Uid, day: Day) -> Result<[u8; 4], Memory>
         ensures same { self.new ≡ self.old }
         ensures identity { IfOk result (λ identity. (rows : List Row)
@@ -60,7 +60,7 @@ impl<'a> Identities<'a> {
         }
     }
 
-    /// Like `identity`, by a walk over the schedules of the UID. It keeps the identity that it
+    /// Like `identity`, but always searches the schedules of the UID. Keeps the identity that it
     /// finds.
     fn look_up(&mut self, uid: &Uid, day: Day) -> Result<[u8; 4], Memory>
         ensures same { self.new ≡ self.old }
@@ -74,7 +74,7 @@ impl<'a> Identities<'a> {
     }
 }
 
-/// The train identity in a train's basic schedule. Question marks if there is no train.
+/// The train identity in a train's basic schedule. Four question marks if there is no train.
 fn identity_of(train: Option<ScheduleView<'_>>) -> [u8; 4]
     ensures { result ≡ identity_of train.entry }
 {

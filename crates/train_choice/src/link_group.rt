@@ -1,4 +1,4 @@
-//! Groups of associations. One of each group is chosen for a day.
+//! Groups of associations: for a day, at most one association of a group is chosen.
 ghost use Rattle.std.specs.Prelude.{◌≡◌};
 ghost use Rattle.docker_model.specs.docker.Choice.{group_of};
 ghost use Rattle.train_choice.specs.Keys.{association_key_meant};
@@ -7,8 +7,8 @@ use cif_change::AssocKey;
 use cif_line::{Tiploc, Uid};
 use std::marker::Model;
 
-/// The group of an association: its two trains and where they meet. For each start day of the base
-/// train at most one association of a group is chosen.
+/// A group of associations: those with the same two trains, at the same place and with the same
+/// suffix. For each start day of the base train, at most one association of a group is chosen.
 #[derive(Clone, Copy, PartialEq, Eq, PartialOrd, Ord, Debug)]
 pub(crate) struct LinkGroup {
     base: Uid,

@@ -37,7 +37,7 @@ impl<'a> Model for LinkView<'a> {
 
 #[tactic(auto, using(crate::proofs::KeptLines::kept_line))]
 impl<'a> LinkView<'a> {
-    /// The association with this key and this record, which fit.
+    /// The association with this key and this record. The record has to fit the key.
     pub(crate) fn of(key: &'a AssocKey, line: &'a Line) -> LinkView<'a>
         requires { IsAssociationOf (association_key_meant key.now) line.now }
         ensures { result ≡ record {
@@ -55,7 +55,7 @@ impl<'a> LinkView<'a> {
         self.key
     }
 
-    /// The association's line.
+    /// The association's record.
     fn line(&self) -> &'a Line
         ensures line { result.now ≡ self.now.line }
         ensures kind { HasKind association result.now }
@@ -72,7 +72,7 @@ impl<'a> LinkView<'a> {
         association_runs(self.line(), start)
     }
 
-    /// A view of the association's record.
+    /// A typed view of the association's record.
     pub fn record(&self) -> Assoc<'a>
         ensures { result ≡ self.now.line }
     {

@@ -25,7 +25,8 @@ pub fn falls(view: &ScheduleView<'_>, event: u64) -> Option<u8>
     Some(falls as u8)
 }
 
-/// The falls up to the event with this number. `None` if it isn't among these events.
+/// How often midnight is passed before the event with this number. `None` if no event here has this
+/// number.
 fn falls_among(events: Events<'_>, event: u64) -> Option<u64>
     ensures { result ≡ falls_among event events.entry }
 {
@@ -37,15 +38,16 @@ fn falls_among(events: Events<'_>, event: u64) -> Option<u64>
     None
 }
 
-/// Whether a train passes midnight before some event, up to its last event at a place. Only the
-/// times of the lines are read, which costs less than a walk over the events.
+/// Whether a train passes midnight before some event, among the events up to its last line at a
+/// place. Reads only the times of the lines, which costs less than a walk over the events.
 pub fn passes_midnight(view: &ScheduleView<'_>, place: &Tiploc) -> bool
     ensures { result ≡ some_late (occurrences_to place.now view.now.lines) }
 {
     falls_along(view.lines_to(place))
 }
 
-/// Whether some time in these lines is below the time before it.
+/// Whether some time in these lines is below the time before it. Times are in half minutes from
+/// midnight, so the train passes midnight between the two.
 fn falls_along(lines: &[Line]) -> bool
     requires good { All HasGoodFields lines.now }
     ensures { result ≡ falls_along 0 lines.now }
@@ -62,8 +64,8 @@ fn falls_along(lines: &[Line]) -> bool
     false
 }
 
-/// The last time of the line in half minutes, or `before` if it has none. `None` if a time is below
-/// the one before it.
+/// The last time in the line, in half minutes. `before` if the line has no time. `None` if a time
+/// is below the one before it, where `before` comes before the first.
 fn ascending_to(line: &Line, before: u16) -> Option<u16>
     requires good { HasGoodFields line.now }
     ensures { result ≡ ascends before (times_of line.now) }

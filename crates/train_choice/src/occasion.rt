@@ -12,18 +12,18 @@ pub enum Occasion {
     Arrival,
     /// The train passes.
     Pass,
-    /// Another train joins it (category `JJ`).
+    /// Another train joins the train (category `JJ`).
     Joining,
-    /// Another train divides from it (category `VV`).
+    /// Another train divides from the train (category `VV`).
     Dividing,
-    /// The train works on as another train (category `NP`).
+    /// The train becomes another train, its next working (category `NP`).
     NextWorking,
     /// The train departs.
     Departure,
 }
 
 impl Occasion {
-    /// The letter that a docker has for it: `A`, `P`, `J`, `V`, `N` or `D`.
+    /// The occasion's letter in a docker: `A`, `P`, `J`, `V`, `N` or `D`.
     pub fn letter(&self) -> u8
         ensures { occasion_text (occasion_meant self.now) ≡ result ∷ [] }
     {
@@ -37,7 +37,7 @@ impl Occasion {
         }
     }
 
-    /// The rank of the line among lines with the same time.
+    /// The occasion's rank, which orders lines with the same time.
     pub fn rank(&self) -> u8
         ensures { result ≡ occasion_rank (occasion_meant self.now) }
     {

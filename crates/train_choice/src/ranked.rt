@@ -1,4 +1,4 @@
-//! The order of choice, for schedules of a UID and for associations of a group.
+//! The order in which the schedules of a UID, or the associations of a group, are chosen.
 ghost use Rattle.std.specs.Prelude.{◌≡◌, ℕ};
 ghost use Rattle.std.specs.Ordering.{is_lt};
 ghost use Rattle.std.specs.Option.{option_copied};
@@ -6,17 +6,17 @@ ghost use Rattle.train_choice.specs.Ranked.{is_better, rank_cmp, rank_meant};
 
 use cif_line::{Day, Stp};
 
-/// Whatever is chosen by its STP indicator and its first date.
+/// A schedule or an association, which is chosen by its STP indicator and its first date.
 pub(crate) trait Ranked {
-    // the letter of its STP indicator, and its first day
+    // the letter of the STP indicator, and the first date as a day number
     ghost rank: { Self → ℕ × ℕ };
 
-    /// Its STP indicator and its first date.
+    /// The STP indicator and the first date.
     fn rank(&self) -> (Stp, Day)
         ensures { rank_meant result ≡ rank self.now };
 }
 
-/// Whether one more is better than the best so far, or is the first.
+/// Whether `more` is better than the best found before it, or is the first.
 pub(crate) fn is_better<R: Ranked>(more: &R, best: Option<&R>) -> bool
     ensures { result ≡ is_better (rank_cmp R.rank) more.now (option_copied best.entry) }
 {
@@ -26,8 +26,8 @@ pub(crate) fn is_better<R: Ranked>(more: &R, best: Option<&R>) -> bool
     }
 }
 
-/// Whether one comes before the other in the order of choice: it has the lower STP indicator, or
-/// the same and a later first date.
+/// Whether `one` comes before `other` in the order of choice: it has the lower STP indicator, or
+/// the same indicator and a later first date.
 fn comes_before(one: (Stp, Day), other: (Stp, Day)) -> bool
     ensures { result ≡ is_lt (rank_cmp rank_meant one other) }
 {

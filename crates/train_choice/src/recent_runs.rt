@@ -1,5 +1,5 @@
 //! Whether a schedule runs on a day, on the day before and two days before. A train that starts on
-//! any of these can be somewhere on the day.
+//! one of these three days may still be under way on the day.
 ghost use Rattle.std.specs.Prelude.{◌≡◌, ◌≤◌, ◌||◌, ◌-◌, false};
 ghost use Rattle.std.specs.Option.{SomeIff};
 ghost use Rattle.docker_model.specs.records.Record.{HasKind, basic_schedule, columns};
@@ -11,16 +11,16 @@ use cif_line::{Day, Days, Line};
 /// Whether a schedule runs on a day, on the day before and two days before.
 #[derive(Clone, Copy, Debug)]
 pub struct RecentRuns {
-    /// Whether it runs on the day.
+    /// Whether the schedule runs on the day.
     pub today: bool,
-    /// Whether it runs on the day before.
+    /// Whether the schedule runs on the day before.
     pub day_before: bool,
-    /// Whether it runs two days before.
+    /// Whether the schedule runs two days before.
     pub two_before: bool,
 }
 
 impl RecentRuns {
-    /// The schedule doesn't run on any of the three days.
+    /// The result for a schedule that doesn't run on any of the three days.
     pub(crate) fn never() -> RecentRuns
         ensures { AreRecentRuns (λ back. false) result }
     {
@@ -31,7 +31,7 @@ impl RecentRuns {
         }
     }
 
-    /// Whether it runs on any of the three days.
+    /// Whether the schedule runs on any of the three days.
     pub fn is_some(&self) -> bool
         ensures { result ≡ (self.now.today || self.now.day_before || self.now.two_before) }
     {
@@ -39,7 +39,8 @@ impl RecentRuns {
     }
 }
 
-/// The day `back` days before. `None` if that is before day 0.
+/// The day `back` days before `day`. `None` if there is no such day, because days are numbered from
+/// 0.
 pub fn day_back(day: Day, back: u16) -> Option<Day>
     ensures { SomeIff result (back ≤ day) (day - back) }
 {
@@ -48,7 +49,8 @@ pub fn day_back(day: Day, back: u16) -> Option<Day>
 }
 
 /// Whether a schedule that begins on `first` runs on a day, on the day before and two days before.
-/// All but `first` is read from its basic schedule. The end date is read only if it can matter.
+/// The days-run field and the last date are read from its basic schedule, and the last date only if
+/// it can matter.
 #[tactic(auto, using(crate::proofs::RunFields::schedule_fields))]
 pub(crate) fn recent_runs_of(line: &Line, first: Day, day: Day) -> RecentRuns
     requires kind { HasKind basic_schedule line.now }
@@ -78,8 +80,8 @@ pub(crate) fn recent_runs_of(line: &Line, first: Day, day: Day) -> RecentRuns
     }
 }
 
-/// Whether the day `back` days before exists, isn't before the first date, and has its weekday
-/// marked.
+/// Whether the day `back` days before exists, isn't before the first date, and falls on a weekday
+/// that the days-run field marks.
 fn begun_back(days: &Days, first: Day, day: Day, back: u16) -> bool
     ensures { result ≡ begun_back days.now first day back }
 {
@@ -96,7 +98,8 @@ fn lasts_back(last: u16, day: Day, back: u16) -> bool
     day.number().saturating_sub(back) <= last
 }
 
-/// Whether a basic schedule marks one of three weekdays: the day's and the two before.
+/// Whether the days-run field of a basic schedule marks the weekday of the day, of the day before
+/// or of two days before.
 pub(crate) fn runs_on_recent_weekday(line: &Line, day: Day) -> bool
     ensures { result ≡ (marked_back (columns 22 28 line.now) day 0
         || marked_back (columns 22 28 line.now) day 1 || marked_back (columns 22 28 line.now) day 2) }
@@ -106,7 +109,7 @@ pub(crate) fn runs_on_recent_weekday(line: &Line, day: Day) -> bool
         | runs_on_weekday_back(line, day, 2)
 }
 
-/// Whether a basic schedule marks the weekday of the day `back` days before.
+/// Whether the days-run field of a basic schedule marks the weekday of the day `back` days before.
 fn runs_on_weekday_back(line: &Line, day: Day, back: u16) -> bool
     ensures { result ≡ marked_back (columns 22 28 line.now) day back }
 {

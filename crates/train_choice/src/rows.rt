@@ -1,4 +1,4 @@
-//! The schedule or the association in a row.
+//! Typed views of a row: its schedule or its association.
 ghost use Rattle.std.specs.Prelude.{◌≡◌};
 ghost use Rattle.cif_change.specs.Meaning.{key_meant, body_meant};
 ghost use Rattle.docker_model.specs.state.State.{IsBodyOf};

@@ -44,7 +44,7 @@ impl<'a> Model for ScheduleView<'a> {
 
 #[tactic(auto, using(crate::proofs::KeptLines::kept_lines))]
 impl<'a> ScheduleView<'a> {
-    /// The schedule with this key and these lines, which fit.
+    /// The schedule with this key and these lines. The lines have to fit the key.
     pub(crate) fn of(key: &'a ScheduleKey, lines: &'a Lines) -> ScheduleView<'a>
         requires { IsScheduleOf (schedule_key_meant key.now) lines.now }
         ensures { result ≡ record {
@@ -90,16 +90,16 @@ impl<'a> ScheduleView<'a> {
         }
     }
 
-    /// Whether the schedule runs on a day. If the day is before its runs-from date, its lines
-    /// aren't read.
+    /// Whether the schedule runs on a day. Doesn't read the lines if the day is before the
+    /// runs-from date in the key.
     pub fn runs_on(&self, day: Day) -> bool
         ensures { result ≡ schedule_runs (first_record self.now.lines) day }
     {
         (self.key.runs_from.number() <= day.number()) && schedule_runs_on(self.first(), day)
     }
 
-    /// Whether the schedule runs on a day, on the day before and two days before. If the day is
-    /// before its runs-from date, its lines aren't read.
+    /// Whether the schedule runs on a day, on the day before and two days before. Doesn't read the
+    /// lines if the day is before the runs-from date in the key.
     pub fn recent_runs(&self, day: Day) -> RecentRuns
         ensures { AreRecentRuns (runs_back self.now.lines day) result }
     {
@@ -109,9 +109,9 @@ impl<'a> ScheduleView<'a> {
         recent_runs_of(self.first(), self.key.runs_from, day)
     }
 
-    /// Whether the schedule has begun by a day, and marks that weekday or one of the two before. If
-    /// not, it doesn't run on any of these days. This reads the key and three flags, which costs
-    /// less than `recent_runs`.
+    /// Whether the schedule may run on a day or on one of the two days before. It may if it has
+    /// begun by the day, and if its days-run field marks one of the three weekdays. This reads only
+    /// the key and three digits, which costs less than `recent_runs`.
     pub fn may_run_recently(&self, day: Day) -> bool
         ensures { result ≡ may_run_recently self.now.key self.now.lines day }
     {
@@ -133,14 +133,14 @@ impl<'a> ScheduleView<'a> {
         Events::of(self.first(), self.identity(), self.lines.as_slice())
     }
 
-    /// The events up to the last one at a place, in order.
+    /// The events up to the last line at a place, in order.
     pub fn events_to(&self, place: &Tiploc) -> Events<'a>
         ensures { result ≡ occurrences_to place.now self.now.lines }
     {
         Events::of(self.first(), self.identity(), self.lines_to(place))
     }
 
-    /// The lines of the schedule, up to the last one at a place.
+    /// The lines of the schedule, up to and including the last one at a place.
     pub(crate) fn lines_to(&self, place: &Tiploc) -> &'a [Line]
         ensures lines { result.now ≡ up_to_last place.now self.now.lines }
         ensures good { All HasGoodFields result.now }

@@ -10,7 +10,7 @@ ghost use Rattle.train_choice.specs.Meaning.{occasion_meant, times_meant};
 use crate::occasion::Occasion;
 use cif_line::{Kind, Line, Time};
 
-/// The times in a line, in order: an arrival, a pass and a departure, each if the line has one.
+/// The times in a line, in order: an arrival, a pass and a departure. Each may be absent.
 #[derive(Clone, Copy, Debug)]
 pub(crate) struct EventTimes {
     arrival: Option<Time>,
@@ -19,7 +19,7 @@ pub(crate) struct EventTimes {
 }
 
 impl EventTimes {
-    /// No time.
+    /// The times of a line that has none.
     pub(crate) fn none() -> EventTimes
         ensures { times_meant result ≡ [] }
     {
@@ -30,7 +30,7 @@ impl EventTimes {
         }
     }
 
-    /// The times in a line of this kind.
+    /// The times in a line. `kind` has to be the line's kind.
     pub(crate) fn of(kind: Option<Kind>, line: &Line) -> EventTimes
         requires kind { option_map meaning kind ≡ kind_of line.now }
         requires good { HasGoodFields line.now }
@@ -79,7 +79,7 @@ fn origin_times(line: &Line) -> EventTimes
     }
 }
 
-/// The arrival, the pass and the departure at an intermediate location, each if there is one.
+/// The times at an intermediate location: an arrival, a pass and a departure, each if there is one.
 #[tactic(auto, using(crate::proofs::LineTimes::line_times))]
 fn call_times(line: &Line) -> EventTimes
     requires kind { HasKind intermediate_location line.now }

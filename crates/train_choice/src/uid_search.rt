@@ -1,4 +1,4 @@
-//! Where the schedules of a UID are looked for: a timetable, and one of its rows.
+//! A search for the schedules of a UID: a timetable, and the row at which the search begins.
 ghost use Rattle.std.specs.Prelude.{◌≡◌};
 ghost use Rattle.docker_laws.specs.CountedRows.{IsOfGoodRows};
 ghost use Rattle.state_laws.specs.Index.{AreOfUid};
@@ -8,8 +8,8 @@ use cif_line::Uid;
 use docker_state::{Timetable, UidSchedules};
 use std::marker::Model;
 
-/// A timetable, and the index of one of its rows. The search for the schedules of a UID begins at
-/// that row. The index is only a hint: a wrong one makes the search longer and changes no answer.
+/// A timetable, and the index of the row at which a search for a UID's schedules begins. The index
+/// is only a hint: a wrong one makes the search longer, and doesn't change the result.
 #[derive(Debug, Drop)]
 pub(crate) struct UidSearch<'a> {
     timetable: Timetable<'a>,
@@ -42,7 +42,7 @@ impl<'a> UidSearch<'a> {
         UidSearch::at_row(timetable, 0)
     }
 
-    /// The schedules of a UID, each with its lines, in key order.
+    /// The schedules of a UID, each with its lines, in the order of their keys.
     pub(crate) fn of_uid(&self, uid: &Uid) -> UidSchedules<'a>
         ensures rows { AreOfUid (live_in self.now) uid.now result }
         ensures good { IsOfGoodRows (live_in self.now) }

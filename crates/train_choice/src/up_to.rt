@@ -4,8 +4,8 @@ ghost use Rattle.train_choice.specs.UpTo.{names_place, up_to_last};
 
 use cif_line::{Line, Tiploc};
 
-/// The lines up to the last one at a place. A later line has no event there. The search begins at
-/// the end.
+/// The lines up to and including the last one at a place, which are all that can have an event
+/// there. The search begins at the end.
 pub(crate) fn up_to_last<'a>(lines: &'a [Line], place: &Tiploc) -> &'a [Line]
     ensures { result.now ≡ up_to_last place.now lines.entry.now }
 {
@@ -19,7 +19,7 @@ pub(crate) fn up_to_last<'a>(lines: &'a [Line], place: &Tiploc) -> &'a [Line]
     rest
 }
 
-/// Whether a line has the place in the columns in which location records have their TIPLOC.
+/// Whether the place is in columns 3 to 9, where a location record has its TIPLOC.
 fn names_place(line: &Line, place: &Tiploc) -> bool
     ensures { result ≡ names_place place.now line.now }
 {

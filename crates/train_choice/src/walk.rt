@@ -14,25 +14,26 @@ use crate::occasion::Occasion;
 use crate::times::EventTimes;
 use cif_line::{Kind, Line, Time, change, kind};
 
-/// An event of a schedule, as a walk over the lines meets it.
+/// An event of a schedule, with what a walk over the lines knows about it.
 #[derive(Clone, Copy, Debug)]
 pub struct Occurrence<'a> {
     /// The event's number in the schedule, from 1.
     pub number: u64,
-    /// What happens.
+    /// The kind of event.
     pub occasion: Occasion,
-    /// When it happens.
+    /// The event's time of day.
     pub time: Time,
     /// How often the train passes midnight between its start and the event.
     pub falls: u64,
     /// The event's line.
     pub line: &'a Line,
-    /// The train identity there.
+    /// The train identity at that line.
     pub identity: &'a [u8; 4],
 }
 
-/// A walk over the lines of a schedule: the line at which it is, the times of that line that are
-/// left, and what it carries from line to line.
+/// A walk over the lines of a schedule. It has the current line and the times of that line that are
+/// still to come. From line to line it carries the number of the next event, the midnights passed,
+/// the last time and the train identity.
 #[derive(Clone, Copy, Debug)]
 pub(crate) struct EventWalk<'a> {
     line: &'a Line,
@@ -44,7 +45,8 @@ pub(crate) struct EventWalk<'a> {
 }
 
 impl<'a> EventWalk<'a> {
-    /// A walk before the first line of a schedule, where the train has this identity.
+    /// A walk that hasn't reached a line yet. `basic` is the schedule's first line, and `identity`
+    /// is the train identity at the start.
     pub(crate) fn new(basic: &'a Line, identity: &'a [u8; 4]) -> EventWalk<'a>
         ensures times { times_meant result.times ≡ [] }
         ensures progress { progress_of result
@@ -60,7 +62,7 @@ impl<'a> EventWalk<'a> {
         }
     }
 
-    /// Goes on to the next line.
+    /// Moves to the next line.
     pub(crate) fn advance(&mut self, line: &'a Line)
         requires good { HasGoodFields line.now }
         ensures line { self.new.line ≡ line.entry }
@@ -98,7 +100,8 @@ impl<'a> EventWalk<'a> {
     }
 }
 
-/// 1 if a midnight lies between the last time and this one, which is then the lower. Otherwise 0.
+/// Returns 1 if the train passes midnight between the last time and this one, so that this one is
+/// lower. Otherwise 0.
 fn fall(last: Option<Time>, time: Time) -> u64
     ensures value { result ≡ fall_at last time }
     ensures few { result ≤ 1 }
@@ -109,8 +112,8 @@ fn fall(last: Option<Time>, time: Time) -> u64
     }
 }
 
-/// The train identity after a line of this kind. A change en route (CR) has a new one; any other
-/// line changes nothing.
+/// The train identity after a line of this kind. A change en route (CR) brings a new one. No other
+/// line changes it.
 fn identity_after<'a>(kind: Option<Kind>, line: &'a Line, identity: &'a [u8; 4]) -> &'a [u8; 4]
     requires { option_map meaning kind ≡ kind_of line.now }
     ensures { result.now ≡ identity_after line.entry.now identity.entry.now }

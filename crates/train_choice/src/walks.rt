@@ -10,7 +10,7 @@ use crate::uid_search::UidSearch;
 use cif_line::{Tiploc, Uid};
 use docker_state::{Timetable, TimetableRows, UidSchedules};
 
-/// The rows of the schedules of a UID, found by a search from here.
+/// The rows of the schedules of a UID, found by this search.
 pub(crate) fn schedules_of<'a>(from: &UidSearch<'a>, uid: &Uid) -> UidSchedules<'a>
     ensures has { HasSchedulesOf (live_in from.now) uid.now result }
     ensures good { AreGoodRows result }

@@ -1,4 +1,4 @@
-//! Worked texts of trains, from small states.
+//! Worked examples of the text for a UID and a day, from small states.
 mod choice;
 mod compare;
 mod files;
@@ -22,14 +22,14 @@ fn uid(rt: &impl Abort, word: &str) -> Uid {
     uid_of_word(word).expect(rt, "a UID")
 }
 
-/// The state of a file of these records, unless memory runs out.
+/// The state of a file with these records. `None` if memory runs out.
 fn state_of(alloc: Global, records: &[&[u8]]) -> Option<State> {
     let text = text(alloc, records, b"\n").ok()?;
     let file = read_pieces(alloc, &[text.as_slice()], 1000).ok()?;
     State::of_file(alloc, file).ok()
 }
 
-/// The state after these files are joined in this order.
+/// The state of these files, joined in this order.
 fn joined(rt: &impl Abort, alloc: Global, files: &[&[&[u8]]]) -> State {
     let mut joined = State::empty(alloc);
     for records in files {
@@ -39,7 +39,7 @@ fn joined(rt: &impl Abort, alloc: Global, files: &[&[&[u8]]]) -> State {
     joined
 }
 
-/// The text that a sink gets for a UID on a day.
+/// The text for a UID on a day, in a sink.
 fn printed(rt: &impl Abort, alloc: Global, state: &State, word: &str, on: &str) -> Kept {
     let train = find_train(state, &uid(rt, word), day(rt, on)).expect(rt, "an answer");
     let mut kept = Kept::new(alloc, 10_000).expect(rt, "room");

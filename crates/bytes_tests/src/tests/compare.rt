@@ -1,5 +1,5 @@
-//! Tests compare values with these functions, which end the test if the values differ. An assertion
-//! in its own function is proved once for all rows.
+//! Tests compare values by a call of these functions, which end the test if the values differ. The
+//! assertion is in a function of its own, so it is proved once for all rows.
 use std::fmt::Debug;
 use std::process::Abort;
 
@@ -8,7 +8,7 @@ pub(super) fn same<T: PartialEq + Debug + Drop>(rt: &impl Abort, got: T, wanted:
     assert_eq!(rt; got, wanted);
 }
 
-/// Asserts that two values are equal, in a row with this name.
+/// Asserts that two values are equal. If they differ, the name of the row is printed.
 pub(super) fn same_in<T: PartialEq + Debug + Drop>(rt: &impl Abort, name: &str, got: T, wanted: T) {
     assert_eq!(rt; got, wanted, "{name}");
 }

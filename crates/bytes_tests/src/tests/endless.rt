@@ -1,4 +1,4 @@
-//! Texts that are cut short, that never end, or that have huge counts, read in every way.
+//! Texts that are cut short, that never end, or that have huge counts. Each is read in every way.
 ghost use Rattle.std.specs.Prelude.{◌<◌, length};
 
 use super::compare::same;
@@ -15,24 +15,24 @@ use std::alloc::Global;
 use std::process::Abort;
 use test_records::{AA_JOIN, BS, HD, LO, LT, ZZ};
 
-/// The limit that a text has if the test sets none.
+/// The limit for a text if the test doesn't set one.
 const MOST_BYTES: u64 = 1_099_511_627_776;
 
-/// An entry of the schedule up to its lines, with the greatest number of lines.
+/// Like `HEAD`, with the greatest count of lines.
 const HEAD_OF_MOST: &[u8] =
     b"\x03C10001\x5b\xf1P\x5b\xf0\x04\xecDFROC1A\x00\x00\x00\x02\x01\xff\xff\xff\xfe";
 
-/// An entry of the schedule up to its lines, with one line more than the greatest number.
+/// Like `HEAD`, with a count of lines that is one above the greatest.
 const HEAD_ABOVE_MOST: &[u8] =
     b"\x03C10001\x5b\xf1P\x5b\xf0\x04\xecDFROC1A\x00\x00\x00\x02\x01\xff\xff\xff\xff";
 
-/// The mark, and the schedule's last day, 2024-06-14, as the horizon.
+/// The mark, and then as the horizon the last day of C10001's schedule, 2024-06-14.
 const UNDER_LAST: &[u8] = b"DKS2\x5b\xf5";
 
-/// The mark, and the day after the schedule's last day as the horizon.
+/// The mark, and then as the horizon the day after the last day of C10001's schedule.
 const UNDER_AFTER: &[u8] = b"DKS2\x5b\xf6";
 
-/// The mark, and a horizon after the last day of the calendar.
+/// The mark, and then as the horizon a number above the last day of the calendar.
 const UNDER_TOO_LATE: &[u8] = b"DKS2\x8e\xad";
 
 /// Asserts that a text is refused, both when it is read `step` bytes at a time and when a state
@@ -57,8 +57,8 @@ fn refused_by(
     text_is(rt, alloc, own, before);
 }
 
-/// Asserts that a text is refused in every way of reading it. A state that tries to receive it is
-/// unchanged.
+/// Asserts that a text is refused in every way of reading it. A state that tries to receive it
+/// stays unchanged.
 pub(super) fn refused_each_way(
     rt: &impl Abort,
     alloc: Global,
@@ -74,8 +74,8 @@ pub(super) fn refused_each_way(
     refused_by(rt, alloc, &mut own, before, text, limit, fault, 4096);
 }
 
-/// Asserts that a text which starts like this and never ends is refused, both when it is read
-/// `step` bytes at a time and when it is received.
+/// Asserts that a text that begins with `front` and then repeats `again` without end is refused. It
+/// is read `step` bytes at a time, and then received.
 fn refused_endless_by(
     rt: &impl Abort,
     alloc: Global,
@@ -98,7 +98,8 @@ fn refused_endless_by(
     text_is(rt, alloc, own, before);
 }
 
-/// Like `refused_each_way`, for a text that starts like this and never ends.
+/// Like `refused_each_way`, for a text that begins with `front` and then repeats `again` without
+/// end.
 fn refused_without_end(
     rt: &impl Abort,
     alloc: Global,
@@ -134,7 +135,7 @@ fn with_items(rt: &impl Abort, alloc: Global, front: &[&[u8]]) -> Vec<u8> {
     items
 }
 
-/// Asserts that the first `n` bytes of a text are too short.
+/// Asserts that the first `n` bytes of a text are refused because they are too short.
 fn refused_front(rt: &impl Abort, alloc: Global, text: &[u8], n: usize) {
     let fault = at(last_place(&BEGINNINGS, n), StateCause::Short);
     let front = text.get(..n).expect(rt, "a front");
@@ -157,7 +158,7 @@ fn texts_cut_short(rt: HostRuntime) {
     refused_each_way(&rt, alloc, known, 310, long);
 }
 
-/// The mark of a text, the head of its entry, and the fault that they give.
+/// The mark of a text, the head of its entry, and the offset and cause of its fault.
 type Changed = (&'static [u8], &'static [u8], u64, StateCause);
 
 const CHANGED: &[Changed] = &[
@@ -180,7 +181,7 @@ fn refused_change(rt: &impl Abort, alloc: Global, row: &Changed) {
     refused_each_way(rt, alloc, text.as_slice(), 1000, at(place, cause));
 }
 
-/// Asserts that a text that is read, `step` bytes at a time, is written again unchanged.
+/// Asserts that a text is read, `step` bytes at a time, and written again unchanged.
 fn is_kept(rt: &impl Abort, alloc: Global, text: &[u8], step: usize)
     requires { 0 < step }
 {
@@ -235,8 +236,8 @@ const HUGE: &[Row] = &[
     ),
 ];
 
-/// Asserts that a text of these pieces is refused in every way of reading it, and that no state
-/// receives it.
+/// Asserts that a text of these pieces is refused in every way of reading it, and that a state that
+/// tries to receive it is unchanged.
 fn refused_everywhere(
     rt: &impl Abort,
     alloc: Global,
@@ -260,7 +261,8 @@ fn huge_counts(rt: HostRuntime) {
     refused_everywhere(&rt, alloc, &[items.as_slice()], 1_002, long);
 }
 
-/// Asserts that a text in the older format which starts like this and never ends is refused.
+/// Asserts that migrating a text that begins with `front` and then repeats `again` without end is
+/// refused.
 fn refused_old_endless(
     rt: &impl Abort,
     alloc: Global,

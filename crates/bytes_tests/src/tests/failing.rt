@@ -1,4 +1,4 @@
-//! Devices that take or give one byte per call, and fail at each call in turn.
+//! Devices that move one byte per call, and fail at each call in turn.
 ghost use Rattle.std.specs.Prelude.{◌<◌};
 
 use super::compare::same;
@@ -14,7 +14,7 @@ use std::alloc::Global;
 use std::process::Abort;
 use test_records::{AA_JOIN, BS, HD, LO, LT, ZZ};
 
-/// Asserts the result of writing a state to a sink that fails at this write, and the bytes that the
+/// Asserts the result of writing a state to a sink that fails at one call, and the bytes that the
 /// sink has then.
 fn writes(
     rt: &impl Abort,
@@ -32,7 +32,7 @@ fn writes(
     same(rt, sink.device().bytes(), bytes);
 }
 
-/// Asserts that writing fails at this write, and that the sink has the bytes before it.
+/// Asserts that writing fails at this call, and that the sink has only the bytes before it.
 fn fails_to_write(rt: &impl Abort, alloc: Global, state: &State, known: &[u8], call: u64)
     requires { 0 < call }
 {
@@ -66,7 +66,7 @@ fn reads_not(rt: &impl Abort, alloc: Global, text: &[u8], call: u64, fault: Read
     same(rt, read, Some(fault));
 }
 
-/// Receives a text from a source that fails at this call.
+/// Lets a state receive a text from a source that fails at this call.
 fn received(alloc: Global, own: &mut State, text: &[u8], call: u64) -> Result<(), ReadFault>
     requires { 0 < call }
 {
@@ -93,7 +93,7 @@ fn fails_before(
 }
 
 /// Asserts that a text is neither read nor received from a source that fails at this call. The
-/// receiving state is unchanged, and then receives the text from a good source.
+/// receiving state is unchanged, and can then receive the text from a good source.
 fn fails_at(rt: &impl Abort, alloc: Global, text: &[u8], call: u64, joined: &[u8])
     requires { 0 < call }
 {
@@ -106,8 +106,7 @@ fn fails_at(rt: &impl Abort, alloc: Global, text: &[u8], call: u64, joined: &[u8
     text_is(rt, alloc, &own, joined);
 }
 
-/// Asserts that a text is read and received if its source fails only at the call after the last
-/// one.
+/// Asserts that a text is read and received if its source would fail only after the last call.
 fn passes(rt: &impl Abort, alloc: Global, text: &[u8], joined: &[u8]) {
     let mut source = Fuse::new(Bytes::new(text, 4096), 313);
     let state_read = read_state(alloc, &mut source, 1000).expect(rt, "a state");
@@ -131,7 +130,7 @@ fn a_source_that_fails_at_each_call(rt: HostRuntime) {
     passes(&rt, alloc, known, joined.as_slice());
 }
 
-/// The fault of a source in the wrong format that fails at this call.
+/// The fault of a source that fails at this call, and whose text has the wrong format.
 fn fault_at(call: u64) -> ReadFault {
     if call < 5 {
         ReadFault::Source
@@ -154,7 +153,7 @@ fn a_source_of_another_mark_that_fails(rt: HostRuntime) {
     }
 }
 
-/// Asserts that a text in the older format isn't read from a source that fails at this call.
+/// Asserts that a text in the older format can't be migrated from a source that fails at this call.
 fn migrates_not(rt: &impl Abort, alloc: Global, old: &[u8], call: u64)
     requires { 0 < call }
 {

@@ -13,14 +13,14 @@ use std::alloc::Global;
 use std::process::Abort;
 use test_records::{AA_JOIN, BODY_OF_TI, BS, BS_NO_END, HD, LO, LT, TI, ZZ};
 
-/// The text with one file and one entry of these parts, under a horizon.
+/// The text with one file, this horizon, and one entry of these parts.
 fn under(rt: &impl Abort, alloc: Global, horizon: &[u8], parts: &[&[u8]]) -> Vec<u8> {
     let entry = joined_text(rt, alloc, parts);
     let pieces = [b"DKS2", horizon, ONE, ITEM, ONE, entry.as_slice()];
     joined_text(rt, alloc, &pieces)
 }
 
-/// Asserts that a state with this horizon has this text, and that it is written again unchanged.
+/// Asserts that a text is read as a state with this horizon, and is written again unchanged.
 fn accepted(rt: &impl Abort, alloc: Global, text: &[u8], horizon: u16) {
     let state = read(rt, alloc, text, 4096, 1000);
     same(rt, state.horizon(), horizon);
@@ -28,13 +28,13 @@ fn accepted(rt: &impl Abort, alloc: Global, text: &[u8], horizon: u16) {
     goes_round(rt, alloc, &state, text.len(), 1);
 }
 
-/// Asserts that a text with one entry, under a horizon, is accepted.
+/// Asserts that a text with this horizon and one entry of these parts is accepted.
 fn accepted_under(rt: &impl Abort, alloc: Global, horizon: &[u8], parts: &[&[u8]], number: u16) {
     let text = under(rt, alloc, horizon, parts);
     accepted(rt, alloc, text.as_slice(), number);
 }
 
-/// Asserts that a text with one entry, under a horizon, is refused at this offset.
+/// Asserts that a text with this horizon and one entry of these parts is refused with this fault.
 fn refused_under(
     rt: &impl Abort,
     alloc: Global,
@@ -46,10 +46,10 @@ fn refused_under(
     refused(rt, alloc, &[text.as_slice()], 1000, fault);
 }
 
-/// The entry of the schedule.
+/// The entry of C10001's schedule.
 const SCHEDULE: &[&[u8]] = &[HEAD, BS, LO, LT];
 
-/// The entry of the association.
+/// The entry of the association between C10001 and C10002.
 const ASSOCIATION: &[&[u8]] = &[JOINS_HEAD, PUT, AA_JOIN];
 
 #[test]
@@ -87,7 +87,7 @@ fn puts_that_end_before_the_horizon(rt: HostRuntime) {
     );
 }
 
-/// Asserts that a lapsed entry is accepted under a horizon, in a text of `len` bytes.
+/// Asserts that a lapsed entry is accepted in a text of `len` bytes with this horizon.
 fn accepted_lapsed(
     rt: &impl Abort,
     alloc: Global,
@@ -101,7 +101,7 @@ fn accepted_lapsed(
     accepted(rt, alloc, text.as_slice(), number);
 }
 
-/// Asserts that a lapsed entry of each kind of key is accepted.
+/// Asserts that a lapsed entry of each kind of key is accepted in a text with this horizon.
 fn each_accepted_lapsed(rt: &impl Abort, alloc: Global, horizon: &[u8], number: u16) {
     accepted_lapsed(rt, alloc, horizon, number, ASHFELD_HEAD, 65);
     accepted_lapsed(rt, alloc, horizon, number, JOINS_HEAD, 81);
@@ -120,15 +120,15 @@ fn what_has_lapsed_has_no_body(rt: HostRuntime) {
     refused_under(&rt, alloc, AFTER, &[SCHEDULE_HEAD, b"\x03"], bad);
 }
 
-/// The state of the file with these records, under this day as its horizon.
+/// The state of a file with these records, with this day as its horizon.
 fn lapsed(rt: &impl Abort, alloc: Global, records: &[&[u8]], day: &str) -> State {
     let mut state = state(rt, alloc, records);
     state.set_horizon(Day::from_iso(day).expect(rt, "a day"));
     state
 }
 
-/// Asserts that the state with the schedule, under this day as its horizon, has a text of `len`
-/// bytes, with one entry of these parts.
+/// Asserts that the state of the file with C10001's schedule, with this day as its horizon, has a
+/// text of `len` bytes with one entry of these parts.
 fn has_under(
     rt: &impl Abort,
     alloc: Global,

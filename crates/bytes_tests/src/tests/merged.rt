@@ -1,4 +1,4 @@
-//! Texts of states with several files, joined and received in each order.
+//! Texts of the states of several files, which are joined and received in each order.
 ghost use Rattle.std.specs.Prelude.{◌<◌};
 
 use super::compare::{same, same_in};
@@ -26,7 +26,7 @@ fn merged(rt: &impl Abort, alloc: Global, files: &[&[&[u8]]]) -> State {
     all
 }
 
-/// Receives a text, read `step` bytes at a time.
+/// Lets a state receive a text, which is read `step` bytes at a time.
 fn receive(rt: &impl Abort, alloc: Global, all: &mut State, text: &[u8], step: usize)
     requires { 0 < step }
 {
@@ -34,7 +34,7 @@ fn receive(rt: &impl Abort, alloc: Global, all: &mut State, text: &[u8], step: u
     same(rt, answer, Ok(()));
 }
 
-/// Receives the text of a file's state.
+/// Lets a state receive the text of a file's state.
 fn receive_file(rt: &impl Abort, alloc: Global, all: &mut State, file: &[&[u8]], step: usize)
     requires { 0 < step }
 {
@@ -44,7 +44,7 @@ fn receive_file(rt: &impl Abort, alloc: Global, all: &mut State, file: &[&[u8]],
 }
 
 /// Asserts the text of a state that receives the states of these files in this order, read `step`
-/// bytes at a time. Receiving them again changes nothing.
+/// bytes at a time. Receiving their joined state then changes nothing.
 fn receives(rt: &impl Abort, alloc: Global, files: &[&[&[u8]]], wanted: &[u8], step: usize)
     requires { 0 < step }
 {
@@ -57,8 +57,8 @@ fn receives(rt: &impl Abort, alloc: Global, files: &[&[&[u8]]], wanted: &[u8], s
     text_is(rt, alloc, &all, wanted);
 }
 
-/// Asserts that the states of these files, joined in this order, have this text. So does a state
-/// that receives their texts.
+/// Asserts that the states of these files, joined in this order, have this text. A state that
+/// receives their texts has it too.
 fn merges_to(rt: &impl Abort, alloc: Global, files: &[&[&[u8]]], pieces: &[&[u8]], name: &str) {
     let all = merged(rt, alloc, files);
     let wanted = joined_text(rt, alloc, pieces);
@@ -78,16 +78,16 @@ fn len_is(rt: &impl Abort, alloc: Global, pieces: &[&[u8]], len: usize) {
 /// The records of a file.
 type Records = &'static [&'static [u8]];
 
-/// The file with the schedule.
+/// A file with the schedule of C10001.
 const PLAIN: Records = &[HD, BS, LO, LT, ZZ];
 
-/// The text of the state of the file with the schedule.
+/// The text of the state of `PLAIN`.
 const OF_PLAIN: Records = &[MARK, ONE, ITEM, ONE, HEAD, BS, LO, LT];
 
-/// The file with the schedule's revision, a day later.
+/// A file of the next day, which revises the schedule.
 const REVISION: Records = &[HD_10B, BS_REVISED, LO_0905, LT_0935, ZZ];
 
-/// The text of the state of the files with the schedule and with its revision.
+/// The text of the state of `PLAIN` and `REVISION`.
 const OF_REVISION: Records = &[
     MARK, TWO, ITEM, ITEM_10B, ONE, HEAD_10B, BS, LO_0905, LT_0935,
 ];
@@ -102,13 +102,13 @@ fn a_revision(rt: HostRuntime) {
     merges_to(&rt, alloc, &files, OF_REVISION, "new and old");
 }
 
-/// The file of an update of 5 June.
+/// An update of 5 June.
 const FIFTH: Records = &[HD_5A, BS_C10003, BS, LO, LT, ZZ];
 
-/// The file of a full extract of 7 June.
+/// A full extract of 7 June.
 const SEVENTH: Records = &[HD_7B, BS_C10002, LO_1000, LT_1030, ZZ];
 
-/// The file of an update of 9 June.
+/// An update of 9 June.
 const NINTH: Records = &[HD_9C, BS, LO_1100, LT_1130, ZZ];
 
 /// The text of the state of the three files.
@@ -128,7 +128,7 @@ const OF_LATE: Records = &[
     LT_1030,
 ];
 
-/// The three files in each order, and a name for the row.
+/// The three files in each order, with a name for each row.
 const ORDERS: &[(&[Records], &str)] = &[
     (&[FIFTH, SEVENTH, NINTH], "5, 7, 9"),
     (&[FIFTH, NINTH, SEVENTH], "5, 9, 7"),
@@ -147,21 +147,21 @@ fn a_late_full_extract(rt: HostRuntime) {
     }
 }
 
-/// The file with the schedule up to 21 June, ten minutes earlier.
+/// A file in which the schedule runs until 21 June and leaves ten minutes earlier.
 const LONGER: Records = &[HD, BS_LONGER, LO_0850, LT, ZZ];
 
-/// The file with the schedule five minutes later.
+/// A file in which the schedule leaves five minutes later.
 const LATER: Records = &[HD, BS, LO_0905, LT, ZZ];
 
-/// The file with the schedule's deletion.
+/// A file that deletes the schedule.
 const DELETION: Records = &[HD, BS_DELETED, ZZ];
 
-/// The texts of the states of these files.
+/// The text of the state of `LONGER`.
 const OF_LONGER: Records = &[MARK, ONE, ITEM, ONE, HEAD, BS_LONGER, LO_0850, LT];
 
 const OF_LATER: Records = &[MARK, ONE, ITEM, ONE, HEAD, BS, LO_0905, LT];
 
-/// Two files with one stamp, the text of their state, and a name for the row.
+/// Two files with equal stamps, the text of their state, and a name for the row.
 const TIES: &[(&[Records], Records, &str)] = &[
     (&[PLAIN, PLAIN], OF_PLAIN, "the same"),
     (&[PLAIN, LONGER], OF_LONGER, "longer"),

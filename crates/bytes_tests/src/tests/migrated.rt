@@ -13,15 +13,15 @@ use std::alloc::Global;
 use std::process::Abort;
 use test_records::{BS, BS_REVISED, LO, LT};
 
-/// The older text with the file of 9 June and its schedule: 309 bytes.
+/// The text in the older format with the file of 9 June and its schedule: 309 bytes.
 fn old_text(rt: &impl Abort, alloc: Global) -> Vec<u8> {
     joined_text(rt, alloc, &[OLD_MARK, ONE, ITEM, ONE, HEAD, BS, LO, LT])
 }
 
-/// The offsets at which the parts of the older text begin, for cutting it.
+/// The offsets at which the items of the older text begin, where the fault of a cut text is.
 const BEGINNINGS: [u64; 5] = [0, 4, 12, 31, 39];
 
-/// Asserts that a source is refused with this fault.
+/// Asserts that migrating from a source is refused with this fault.
 pub(super) fn refused_old_source<S: Source>(
     rt: &impl Abort,
     alloc: Global,
@@ -35,7 +35,7 @@ pub(super) fn refused_old_source<S: Source>(
     same(rt, read, Some(ReadFault::State(fault)));
 }
 
-/// Asserts that a text of these pieces is refused at this offset.
+/// Asserts that migrating a text of these pieces is refused with this fault.
 pub(super) fn refused_old(
     rt: &impl Abort,
     alloc: Global,
@@ -50,8 +50,8 @@ pub(super) fn refused_old(
     refused_old_source(rt, alloc, &mut Bytes::new(text, 4096), limit, fault);
 }
 
-/// Asserts that a text in the older format gives the state of this text in the newer one, read
-/// `step` bytes at a time.
+/// Asserts that a text in the older format, read `step` bytes at a time, gives a state with the
+/// text `known` in the present format.
 fn gives(rt: &impl Abort, alloc: Global, old: &[u8], known: &[u8], step: usize)
     requires { 0 < step }
 {
@@ -71,7 +71,7 @@ fn an_old_text_gives_its_state(rt: HostRuntime) {
     gives(&rt, alloc, old.as_slice(), known.as_slice(), 4096);
 }
 
-/// Asserts that each proper prefix of a text is too short.
+/// Asserts that migrating each proper prefix of a text is refused because the prefix is too short.
 fn refused_fronts(rt: &impl Abort, alloc: Global, text: &[u8]) {
     for (n, _) in text.iter().enumerate() {
         let fault = at(last_place(&BEGINNINGS, n), StateCause::Short);

@@ -1,4 +1,4 @@
-//! Each kind of part at its bounds: keys, record numbers, bodies, numbers of lines, and last lines.
+//! Each kind of part at its bounds: keys, record numbers, bodies, counts of lines, and last lines.
 
 use super::pieces::{ASHFELD, C10001, CENTRAL, DELETED, FILE, ITEM, JOINS, MARK, ONE, PUT, SECOND};
 use super::{at, goes_round, joined_text, read, refused, text_is};
@@ -7,13 +7,14 @@ use std::alloc::Global;
 use std::process::Abort;
 use test_records::{AA_JOIN, BS, BS_DELETED, LO, LT};
 
-/// The parts of an entry, after a ledger with one file.
+/// The text with a ledger of one file and one entry, which has these parts.
 fn with_entry(rt: &impl Abort, alloc: Global, parts: &[&[u8]]) -> Vec<u8> {
     let entry = joined_text(rt, alloc, parts);
     joined_text(rt, alloc, &[MARK, ONE, ITEM, ONE, entry.as_slice()])
 }
 
-/// Asserts that a text with one entry of these parts is read, and written again unchanged.
+/// Asserts that a text with one entry of these parts is read, is written again unchanged, and has
+/// `len` bytes.
 fn accepted(rt: &impl Abort, alloc: Global, parts: &[&[u8]], len: usize) {
     let text = with_entry(rt, alloc, parts);
     let state = read(rt, alloc, text.as_slice(), 4096, 1000);
@@ -21,23 +22,25 @@ fn accepted(rt: &impl Abort, alloc: Global, parts: &[&[u8]], len: usize) {
     goes_round(rt, alloc, &state, len, 1);
 }
 
-/// Asserts that a text with one entry of these parts is refused for this cause, at the entry.
+/// Asserts that a text with one entry of these parts is refused for this cause, at the entry's
+/// offset.
 fn refused_entry(rt: &impl Abort, alloc: Global, parts: &[&[u8]], cause: StateCause) {
     let text = with_entry(rt, alloc, parts);
     refused(rt, alloc, &[text.as_slice()], 1000, at(41, cause));
 }
 
-/// Asserts that the deletion of this key by the record with this number is accepted.
+/// Asserts that an entry is accepted: the deletion of this key, by the record with this number.
 fn accepted_deletion(rt: &impl Abort, alloc: Global, key: &[u8], number: &[u8]) {
     accepted(rt, alloc, &[key, FILE, number, DELETED], 67);
 }
 
-/// Asserts that the deletion of this key by the record with this number is refused for this cause.
+/// Asserts that an entry is refused for this cause: the deletion of this key, by the record with
+/// this number.
 fn refused_deletion(rt: &impl Abort, alloc: Global, key: &[u8], number: &[u8], cause: StateCause) {
     refused_entry(rt, alloc, &[key, FILE, number, DELETED], cause);
 }
 
-/// Asserts that this body is refused at this key.
+/// Asserts that an entry with this key is refused for its body.
 fn refused_body(rt: &impl Abort, alloc: Global, key: &[u8], body: &[u8]) {
     let parts = [key, FILE, SECOND, PUT, body];
     refused_entry(rt, alloc, &parts, StateCause::Body);
@@ -89,13 +92,13 @@ fn record_numbers_of_no_change(rt: HostRuntime) {
     refused_deletion(&rt, alloc, C10001, b"\xff\xff\xff\xff", stamp);
 }
 
-/// Bodies that no TIPLOC can have.
+/// Bodies that aren't valid for a TIPLOC.
 const BAD_DESCRIPTIONS: &[&[u8]] = &[
     b"\x1f        ASHFIELD CENTRAL                                     ~",
     b"         ASHFIELD CENTRAL                                     \x7f",
 ];
 
-/// Lines that the association can't have.
+/// Lines that aren't valid as the body of this association.
 const BAD_LINES: &[&[u8]] = &[
     b"AARC10001C100022406102406141111100JJSASHFELD  TP                               P",
     b"AANC10003C100022406102406141111100JJSASHFELD  TP                               P",
@@ -115,7 +118,8 @@ fn bad_bodies(rt: HostRuntime) {
     }
 }
 
-/// Asserts that a schedule with this number of lines and these lines is refused.
+/// Asserts that an entry of a schedule is refused for its body: this count of lines, and these
+/// lines.
 fn refused_schedule(rt: &impl Abort, alloc: Global, count: &[u8; 4], lines: &[&[u8]]) {
     let lines = joined_text(rt, alloc, lines);
     let parts = [C10001, FILE, SECOND, PUT, count, lines.as_slice()];

@@ -1,4 +1,4 @@
-//! Parts of texts, from which the examples are made.
+//! Parts of texts, from which the texts of the examples are put together.
 
 /// The beginning of a text: the mark, and the horizon 0.
 pub(super) const MARK: &[u8] = b"DKS2\0\0";
@@ -18,7 +18,7 @@ pub(super) const MOST: &[u8] = b"\xff\xff\xff\xff\xff\xff\xff\xff";
 /// The ledger item of the file of 9 June.
 pub(super) const ITEM: &[u8] = b"\x5b\xf0\x04\xecDFROC1AUDFROC1Z";
 
-/// The ledger item of the file of 9 June, with a day after the last one.
+/// Like `ITEM`, with a day number above the greatest.
 pub(super) const ITEM_LATE: &[u8] = b"\x8e\xad\x04\xecDFROC1AUDFROC1Z";
 
 /// The ledger item of an update of 5 June.
@@ -27,7 +27,7 @@ pub(super) const ITEM_5A: &[u8] = b"\x5b\xec\x04\xecDFROC1AUDFROC1Z";
 /// The ledger item of a full extract of 7 June.
 pub(super) const ITEM_7B: &[u8] = b"\x5b\xee\x04\xecDFROC1BFDFROC1A";
 
-/// An entry of the schedule, up to its lines.
+/// The head of the entry for C10001's schedule: all of it before the lines.
 pub(super) const HEAD: &[u8] =
     b"\x03C10001\x5b\xf1P\x5b\xf0\x04\xecDFROC1A\x00\x00\x00\x02\x01\x00\x00\x00\x03";
 
@@ -70,20 +70,21 @@ pub(super) const DELETED: &[u8] = b"\x00";
 /// The op of a put.
 pub(super) const PUT: &[u8] = b"\x01";
 
-/// The body of a TIPLOC: 63 printable bytes, the least and the greatest among them.
+/// The body of a TIPLOC: 63 printable bytes. Among them are the least and the greatest printable
+/// byte.
 pub(super) const CENTRAL: &[u8] =
     b"         ASHFIELD CENTRAL                                     ~";
 
-/// The last day of the schedule, 2024-06-14.
+/// The last day of C10001's schedule, 2024-06-14.
 pub(super) const LAST: &[u8] = b"\x5b\xf5";
 
-/// The day after the last day of the schedule.
+/// The day after the last day of C10001's schedule.
 pub(super) const AFTER: &[u8] = b"\x5b\xf6";
 
 /// The last day of the calendar, 2059-12-31.
 pub(super) const GREATEST: &[u8] = b"\x8e\xac";
 
-/// The number after the last day's.
+/// The number after the greatest day number.
 pub(super) const TOO_LATE: &[u8] = b"\x8e\xad";
 
 /// Two counts of 0.
@@ -103,18 +104,18 @@ pub(super) const ASHFELD_HEAD: &[u8] = b"\x01ASHFELD\x5b\xf0\x04\xecDFROC1A\x00\
 /// The op of a lapsed entry.
 pub(super) const LAPSED: &[u8] = b"\x02";
 
-/// The head of the schedule's entry, with a tag that isn't valid.
+/// Like `HEAD`, with a tag that isn't valid.
 pub(super) const HEAD_OF_NO_TAG: &[u8] =
     b"\x04C10001\x5b\xf1P\x5b\xf0\x04\xecDFROC1A\x00\x00\x00\x02\x01\x00\x00\x00\x03";
 
-/// The head of the schedule's entry, with the stamp of a file that isn't in the ledger.
+/// Like `HEAD`, with the stamp of a file that isn't in the ledger.
 pub(super) const HEAD_OF_NO_FILE: &[u8] =
     b"\x03C10001\x5b\xf1P\x5b\xf0\x04\xecDFROC1B\x00\x00\x00\x02\x01\x00\x00\x00\x03";
 
-/// The head of the schedule's entry, with an op that isn't valid.
+/// Like `HEAD`, with an op that isn't valid.
 pub(super) const HEAD_OF_NO_OP: &[u8] =
     b"\x03C10001\x5b\xf1P\x5b\xf0\x04\xecDFROC1A\x00\x00\x00\x02\x03\x00\x00\x00\x03";
 
-/// The head of the schedule's entry, with the op of a lapsed entry.
+/// Like `HEAD`, with the op of a lapsed entry.
 pub(super) const HEAD_LAPSED: &[u8] =
     b"\x03C10001\x5b\xf1P\x5b\xf0\x04\xecDFROC1A\x00\x00\x00\x02\x02\x00\x00\x00\x03";

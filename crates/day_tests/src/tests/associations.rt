@@ -41,7 +41,8 @@ fn suffixes(rt: HostRuntime) {
     shows(&rt, rt.alloc(), &[file], "COLWELL", "2024-06-10", lines);
 }
 
-/// The associated train would start on the day after the last one, which doesn't exist.
+/// An associated train that would start on the day after the last day of the calendar has the
+/// identity `????`.
 #[test]
 fn last_day_of_the_calendar(rt: HostRuntime) {
     let file: &[&[u8]] = &[HD, BS_C40001_LAST, LO_2300, LT_COLWELL_2350, AA_LAST, ZZ];
@@ -49,8 +50,8 @@ fn last_day_of_the_calendar(rt: HostRuntime) {
     shows(&rt, rt.alloc(), &[file], "COLWELL", "2059-12-31", lines);
 }
 
-/// Asserts the lines at Colwell with one of two trains cancelled. The trains are C40001 and C40002,
-/// which is the next working of C40001, a day later.
+/// Asserts the lines at Colwell when this record cancels one of two trains. The trains are C40001
+/// and C40002, which is the next working of C40001 a day later.
 fn without(rt: &impl Abort, alloc: Global, cancellation: &[u8], lines: &[&[u8]]) {
     let file: &[&[u8]] = &[
         HD,
@@ -67,20 +68,21 @@ fn without(rt: &impl Abort, alloc: Global, cancellation: &[u8], lines: &[&[u8]])
     shows(rt, alloc, &[file], "COLWELL", "2024-06-10", lines);
 }
 
-/// The next working is cancelled: its train identity is `????`.
+/// If the next working is cancelled, its train identity is `????`.
 #[test]
 fn cancelled_partner(rt: HostRuntime) {
     let lines: &[&[u8]] = &[COMES_2350, WORKS_ON_UNKNOWN];
     without(&rt, rt.alloc(), BS_C40002_CANCELLED, lines);
 }
 
-/// The base train is cancelled: there is no line.
+/// If the base train is cancelled, the association has no line.
 #[test]
 fn cancelled_base(rt: HostRuntime) {
     without(&rt, rt.alloc(), BS_C40001_CANCELLED, &[]);
 }
 
-/// Asserts the lines at Colwell on 10 June, with C40001, this association, and C40002 on 11 June.
+/// Asserts the lines at Colwell on 10 June. The file has C40001, this association, and C40002 on 11
+/// June.
 fn works_on(rt: &impl Abort, alloc: Global, association: &[u8], lines: &[&[u8]]) {
     let file: &[&[u8]] = &[
         HD,
@@ -96,7 +98,8 @@ fn works_on(rt: &impl Abort, alloc: Global, association: &[u8], lines: &[&[u8]])
     shows(rt, alloc, &[file], "COLWELL", "2024-06-10", lines);
 }
 
-/// Each date indicator, an unknown date indicator, and an unknown category.
+/// Each date indicator, an unknown date indicator, and an unknown category. The last two give no
+/// line.
 #[test]
 fn date_indicators(rt: HostRuntime) {
     let only: &[&[u8]] = &[COMES_2350];

@@ -11,7 +11,7 @@ use test_records::{
     BS, BS_CANCELLED, BS_OVERLAY, BS_WEEK, BS_WEEKEND, HD, LO, LO_0910, LO_0915, LT, ZZ,
 };
 
-/// A permanent schedule with its overlay and its cancellation.
+/// A permanent schedule, its overlay and its cancellation: which one is chosen on each day.
 #[test]
 fn choice(rt: HostRuntime) {
     let alloc = rt.alloc();
@@ -35,7 +35,7 @@ fn choice(rt: HostRuntime) {
     shows(&rt, alloc, files, "ASHFELD", "2024-06-16", &[LEAVES_0900]);
 }
 
-/// The same file, with a fourth schedule that begins later.
+/// The same file with a fourth schedule, which begins later than the permanent one.
 #[test]
 fn choice_with_a_later_schedule(rt: HostRuntime) {
     let alloc = rt.alloc();
@@ -72,7 +72,7 @@ fn chosen_is(rt: &impl Abort, state: &State, on: &str, wanted: Option<Stp>) {
     same(rt, stp, wanted);
 }
 
-/// The schedule chosen may be a cancellation.
+/// The schedule that is chosen may be a cancellation.
 #[test]
 fn chosen_cancellation(rt: HostRuntime) {
     let state = state(&rt, rt.alloc(), &[HD, BS_WEEK, LO, LT, BS_CANCELLED, ZZ]);

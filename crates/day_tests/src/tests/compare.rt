@@ -1,5 +1,5 @@
-//! Tests compare values with this function, which ends the test if the values differ. An assertion
-//! in its own function is proved once for all rows.
+//! Tests compare values by a call of this function, which ends the test if they differ. The
+//! assertion is in a function of its own, so it is proved once for all rows.
 use std::fmt::Debug;
 use std::process::Abort;
 

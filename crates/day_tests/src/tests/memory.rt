@@ -1,5 +1,5 @@
-//! Dockers while memory runs out: the state doesn't change, and a second call gives the docker. The
-//! test run decides which allocation fails. Each call is tried at most twice.
+//! Dockers while memory runs out. The state doesn't change, and a second call gives the docker. The
+//! test run decides which allocation is refused. Each call is made at most twice.
 
 use super::compare::same;
 use super::{day, place, state_of, written};
@@ -14,7 +14,7 @@ use test_records::{
     LT_1100_PLAIN, LT_DUNMERE_1100, ZZ, text,
 };
 
-/// A file with a train that calls twice at Colwell, and one that divides from it there.
+/// A file with a train that calls twice at Colwell, and with another that divides from it there.
 const DIVIDED: &[&[u8]] = &[
     HD,
     BS_C30001,
@@ -29,7 +29,7 @@ const DIVIDED: &[&[u8]] = &[
     ZZ,
 ];
 
-/// The state of the file with the train that divides.
+/// The state of the file `DIVIDED`. It is made a second time if memory runs out.
 fn divided(rt: &impl Abort, alloc: Global) -> State {
     match state_of(alloc, DIVIDED) {
         Some(state) => state,
@@ -48,7 +48,7 @@ fn counts_are(rt: &impl Abort, state: &State, items: usize, entries: usize, rows
     same(rt, live, rows);
 }
 
-/// The text that a sink gets of a docker. If memory runs out, the docker is written a second time.
+/// The text of a docker in a sink. If memory runs out, the docker is written a second time.
 fn taken(rt: &impl Abort, alloc: Global, docker: &Docker<'_>) -> Kept {
     match written(alloc, docker) {
         Some(kept) => kept,
@@ -70,7 +70,7 @@ fn made(rt: &impl Abort, alloc: Global, state: &State) -> Kept {
     }
 }
 
-/// The expected text. The docker's list of lines grows more than once.
+/// The expected text of the docker, whose list of lines grows more than once.
 fn wanted(rt: &impl Abort, alloc: Global) -> Vec<u8> {
     match text(alloc, DIVISION, b"\n") {
         Ok(wanted) => wanted,

@@ -14,7 +14,7 @@ use test_records::{BS_NIGHT, HD, LI_0000, LI_0005, LI_0010, LO_2355, LT_0006_PLA
 /// A file with a train that passes midnight twice.
 const TWO_NIGHTS: &[&[u8]] = &[HD, BS_NIGHT, LO_2355, LI_0010, LI_0005, LT_0006_PLAIN, ZZ];
 
-/// Events half a minute after midnight and later.
+/// Events just after midnight are on the day after the start.
 #[test]
 fn midnight(rt: HostRuntime) {
     let alloc = rt.alloc();
@@ -26,7 +26,7 @@ fn midnight(rt: HostRuntime) {
     shows(&rt, alloc, files, "DUNMERE", "2024-06-11", &[NIGHT_PASSES]);
 }
 
-/// Events after a second midnight.
+/// Events after a second midnight are two days after the start.
 #[test]
 fn two_midnights(rt: HostRuntime) {
     let alloc = rt.alloc();
@@ -47,8 +47,8 @@ fn midnights_are(rt: &impl Abort, state: &State, event: u64, wanted: Option<u8>)
     same(rt, falls(&view, event), wanted);
 }
 
-/// How often C20001 passes midnight before each event. For an event that doesn't exist there is no
-/// answer.
+/// How often C20001 passes midnight before each event. There is no number for an event that doesn't
+/// exist.
 #[test]
 fn midnights_up_to_events(rt: HostRuntime) {
     let state = state(&rt, rt.alloc(), TWO_NIGHTS);

@@ -1,4 +1,4 @@
-//! Permanent dockers, beside the dockers of the same files.
+//! Permanent dockers, compared with the dockers of the same files.
 
 use super::compare::same;
 use super::{day, joined, joined_back, place, shows, state, written};
@@ -48,7 +48,8 @@ fn printed(rt: &impl Abort, alloc: Global, state: &State, at: &str, on: &str) ->
     written(alloc, &docker).expect(rt, "a text")
 }
 
-/// Asserts that a permanent docker has exactly these lines between its heading and its last line.
+/// Asserts that the permanent docker of a state has exactly these lines between its heading and its
+/// last line.
 fn lines_are(rt: &impl Abort, alloc: Global, state: &State, at: &str, on: &str, wanted: &[&[u8]]) {
     let kept = printed(rt, alloc, state, at, on);
     let bytes = kept.bytes();
@@ -59,13 +60,15 @@ fn lines_are(rt: &impl Abort, alloc: Global, state: &State, at: &str, on: &str, 
     same(rt, lines, wanted.as_slice());
 }
 
-/// Asserts that a permanent docker of these files, joined in either order, has exactly these lines.
+/// Asserts that the permanent docker of these files, joined in either order, has exactly these
+/// lines.
 fn keeps(rt: &impl Abort, alloc: Global, files: &[&[&[u8]]], at: &str, on: &str, wanted: &[&[u8]]) {
     lines_are(rt, alloc, &joined(rt, alloc, files), at, on, wanted);
     lines_are(rt, alloc, &joined_back(rt, alloc, files), at, on, wanted);
 }
 
-/// A permanent schedule runs on each of its days, whether it is overlaid or cancelled.
+/// A permanent schedule is on the docker of each of its days, even if it is overlaid or cancelled
+/// on that day.
 #[test]
 fn overlaid_and_cancelled(rt: HostRuntime) {
     let alloc = rt.alloc();
@@ -88,7 +91,8 @@ fn overlaid_and_cancelled(rt: HostRuntime) {
     keeps(&rt, alloc, files, "ASHFELD", "2024-06-17", &[]);
 }
 
-/// A new short-term train isn't there, with or without a permanent schedule beside it.
+/// A new short-term train isn't on the permanent docker, whether its UID also has a permanent
+/// schedule or not.
 #[test]
 fn new_trains_left_out(rt: HostRuntime) {
     let alloc = rt.alloc();
@@ -107,7 +111,7 @@ fn new_trains_left_out(rt: HostRuntime) {
     keeps(&rt, alloc, beside, "ASHFELD", "2024-06-15", &[LEAVES_0910]);
 }
 
-/// An overlay moves a train away: it stays where its permanent schedule has it.
+/// If an overlay moves a train to other places, its permanent schedule stays on the docker.
 #[test]
 fn train_moved_away(rt: HostRuntime) {
     let alloc = rt.alloc();
@@ -128,7 +132,7 @@ fn train_moved_away(rt: HostRuntime) {
     keeps(&rt, alloc, files, "COLWELL", "2024-06-11", &[]);
 }
 
-/// Of two permanent schedules that both run on a day, the one that begins later counts.
+/// Of two permanent schedules that both run on a day, the one that begins later is chosen.
 #[test]
 fn two_permanent_schedules(rt: HostRuntime) {
     let alloc = rt.alloc();
@@ -138,7 +142,7 @@ fn two_permanent_schedules(rt: HostRuntime) {
     shows(&rt, alloc, files, "ASHFELD", "2024-06-15", &[LEAVES_0910]);
 }
 
-/// A cancelled train that passes midnight is there on the day after its start.
+/// A cancelled train that passes midnight is on the docker of the day after its start.
 #[test]
 fn cancelled_night_train(rt: HostRuntime) {
     let alloc = rt.alloc();
@@ -157,7 +161,7 @@ fn cancelled_night_train(rt: HostRuntime) {
     keeps(&rt, alloc, files, "COLWELL", "2024-06-10", &[]);
 }
 
-/// A permanent association has its line, though it is cancelled for the day.
+/// A permanent association has its line on a day on which it is cancelled.
 #[test]
 fn cancelled_association(rt: HostRuntime) {
     let alloc = rt.alloc();
@@ -194,8 +198,8 @@ fn cancelled_association(rt: HostRuntime) {
     keeps(&rt, alloc, files, "COLWELL", "2024-06-10", otherwise);
 }
 
-/// Asserts the permanent lines at Colwell on 10 June, with C40001, this association, C40002 on the
-/// day after, and the cancellation of C40002.
+/// Asserts the permanent lines at Colwell on 10 June. The file has C40001, this association, C40002
+/// on the day after, and the cancellation of C40002.
 fn works_on(rt: &impl Abort, alloc: Global, association: &[u8], now: &[u8], wanted: &[&[u8]]) {
     let file: &[&[u8]] = &[
         HD,
@@ -220,8 +224,8 @@ fn works_on(rt: &impl Abort, alloc: Global, association: &[u8], now: &[u8], want
     keeps(rt, alloc, &[file], "COLWELL", "2024-06-10", wanted);
 }
 
-/// The associated train has its identity, though it is cancelled. A short-term association has no
-/// line.
+/// A cancelled associated train has its identity on the permanent docker. A short-term association
+/// has no line there.
 #[test]
 fn identity_of_a_cancelled_partner(rt: HostRuntime) {
     let unknown = WORKS_ON_UNKNOWN;
@@ -229,7 +233,7 @@ fn identity_of_a_cancelled_partner(rt: HostRuntime) {
     works_on(&rt, rt.alloc(), AA_NEW, WORKS_ON_AS_NEW, &[COMES_2350]);
 }
 
-/// The heading has the description of the place.
+/// The heading of a permanent docker has the description of the place.
 #[test]
 fn permanent_heading(rt: HostRuntime) {
     let alloc = rt.alloc();

@@ -1,4 +1,4 @@
-//! Which of several files counts.
+//! Which file's change counts at a key that several files change.
 
 use super::shows;
 use std::alloc::Global;
@@ -23,7 +23,7 @@ fn revision(rt: HostRuntime) {
     at_ashfeld(&rt, rt.alloc(), &[first, second], &[LEAVES_0905]);
 }
 
-/// Anything older than the full extract is dropped.
+/// Files older than the full extract don't count, whether they are joined before it or after it.
 #[test]
 fn late_full_extract(rt: HostRuntime) {
     let first: &[&[u8]] = &[HD_5A, BS_C10003_PLAIN, BS, LO, LT, ZZ];
@@ -37,7 +37,7 @@ fn late_full_extract(rt: HostRuntime) {
     );
 }
 
-/// A later file deletes a schedule.
+/// The deletion in the newer file counts, whichever file is joined first.
 #[test]
 fn deletion_first(rt: HostRuntime) {
     let alloc = rt.alloc();

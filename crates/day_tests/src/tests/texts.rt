@@ -18,7 +18,7 @@ fn prints(rt: &impl Abort, alloc: Global, files: &[&[&[u8]]], at: &str, wanted: 
     same(rt, kept.bytes(), wanted.as_slice());
 }
 
-/// A whole docker.
+/// The docker of a place that a train leaves.
 #[test]
 fn whole_text(rt: HostRuntime) {
     let files: &[&[&[u8]]] = &[&[HD, BS, LO, LT, ZZ]];
@@ -40,7 +40,7 @@ fn headings(rt: HostRuntime) {
     prints(&rt, rt.alloc(), files, "ASHFELD", NONE_AT_ASHFELD);
 }
 
-/// Asserts whether a sink with this room can take the docker of Ashfeld on 10 June.
+/// Asserts whether the docker of Ashfeld on 10 June fits in a sink with this room.
 fn fits(rt: &impl Abort, alloc: Global, state: &State, room: usize, wanted: bool) {
     let docker = docker(alloc, state, &place(rt, "ASHFELD"), day(rt, "2024-06-10")).expect(
         rt, "a docker",
@@ -49,7 +49,7 @@ fn fits(rt: &impl Abort, alloc: Global, state: &State, room: usize, wanted: bool
     same(rt, write_docker(&docker, &mut kept).is_ok(), wanted);
 }
 
-/// A sink that lacks room for the last byte, and one with room for all.
+/// A sink that lacks room for the last byte fails, and one with room for all bytes doesn't.
 #[test]
 fn full_sink(rt: HostRuntime) {
     let state = state(&rt, rt.alloc(), &[HD, BS, LO, LT, ZZ]);

@@ -9,7 +9,8 @@ use test_records::{
     LT_1230, ZZ,
 };
 
-/// A weekday and a Saturday, at both ends of the journey and elsewhere.
+/// A train runs on weekdays: it has a line at each end of its journey on a Monday, and none on a
+/// Saturday or at another place.
 #[test]
 fn one_schedule(rt: HostRuntime) {
     let alloc = rt.alloc();
@@ -21,7 +22,7 @@ fn one_schedule(rt: HostRuntime) {
     shows(&rt, alloc, files, "ELM", "2024-06-10", &[]);
 }
 
-/// A call without times has no line.
+/// A call without times has no line, and the train's other calls have theirs.
 #[test]
 fn no_line_without_a_time(rt: HostRuntime) {
     let alloc = rt.alloc();
@@ -30,7 +31,7 @@ fn no_line_without_a_time(rt: HostRuntime) {
     shows(&rt, alloc, files, "BRAYTON", "2024-06-10", &[COMES_0930]);
 }
 
-/// A train changes its identity on the way.
+/// A train has another identity after a change en route.
 #[test]
 fn identity(rt: HostRuntime) {
     let alloc = rt.alloc();

@@ -1,4 +1,4 @@
-//! Which schedule is chosen, and its records.
+//! Which schedule is chosen for each day, and the records that are printed for it.
 
 use super::texts::{END, NONE_ON_17_JUNE};
 use super::{joined, says};
@@ -33,44 +33,44 @@ const TRAINS: &[&[u8]] = &[
     ZZ,
 ];
 
-/// C10001 runs by its permanent schedule, record 5 of the file.
+/// The heading if C10001 runs by its permanent schedule, record 5 of the file.
 const PERMANENT: &[u8] =
     b"TRAIN  C10001  2024-06-10 P RUNS      2024-06-09 2100 DFROC1A          5        ";
 
-/// C10001 runs by the overlay, record 8.
+/// The heading if C10001 runs by its overlay, record 8.
 const OVERLAY: &[u8] =
     b"TRAIN  C10001  2024-06-11 O RUNS      2024-06-09 2100 DFROC1A          8        ";
 
-/// C10001 runs by the new schedule, record 12, which is chosen before the overlay.
+/// The heading if C10001 runs by the new schedule, record 12, which is chosen before an overlay.
 const NEW: &[u8] =
     b"TRAIN  C10001  2024-06-13 N RUNS      2024-06-09 2100 DFROC1A         12        ";
 
-/// C10001 is cancelled by record 11.
+/// The heading if C10001 is cancelled, by record 11.
 const CANCELLED: &[u8] =
     b"TRAIN  C10001  2024-06-14 C CANCELLED 2024-06-09 2100 DFROC1A         11        ";
 
-/// C10001 runs by the permanent schedule that begins on that day, record 15.
+/// The heading if C10001 runs by the permanent schedule that begins on that day, record 15.
 const SUNDAY: &[u8] =
     b"TRAIN  C10001  2024-06-16 P RUNS      2024-06-09 2100 DFROC1A         15        ";
 
-/// C10002 runs by record 2.
+/// The heading if C10002 runs, by record 2.
 const OTHER: &[u8] =
     b"TRAIN  C10002  2024-06-14 P RUNS      2024-06-09 2100 DFROC1A          2        ";
 
-/// No schedule of C10001 runs before 10 June.
+/// The heading for a day before C10001's first schedule begins.
 const NONE_BEFORE: &[u8] =
     b"TRAIN  C10001  2024-06-09   NONE                                                ";
 
-/// C10003 isn't in the file.
+/// The heading for C10003, which isn't in the file.
 const NOBODY: &[u8] =
     b"TRAIN  C10003  2024-06-10   NONE                                                ";
 
-/// The state of that file.
+/// The state of the file `TRAINS`.
 fn trains(rt: &impl Abort, alloc: Global) -> State {
     joined(rt, alloc, &[TRAINS])
 }
 
-/// A permanent schedule and its overlay.
+/// Days on which the permanent schedule is chosen, and one on which its overlay is.
 #[test]
 fn permanent_and_overlay(rt: HostRuntime) {
     let state = trains(&rt, rt.alloc());
@@ -80,7 +80,7 @@ fn permanent_and_overlay(rt: HostRuntime) {
     says(&rt, rt.alloc(), &state, "C10001", "2024-06-11", overlay);
 }
 
-/// A cancellation is chosen like any other schedule, and cancels the train.
+/// A cancellation is chosen like any other schedule, and its own record is printed.
 #[test]
 fn cancellation(rt: HostRuntime) {
     let state = trains(&rt, rt.alloc());
@@ -90,7 +90,8 @@ fn cancellation(rt: HostRuntime) {
     says(&rt, rt.alloc(), &state, "C10002", "2024-06-14", other);
 }
 
-/// A new schedule is chosen before an overlay. Of two permanent schedules the later one is chosen.
+/// A new schedule is chosen before an overlay. Of two permanent schedules, the one that begins
+/// later is chosen.
 #[test]
 fn new_and_later(rt: HostRuntime) {
     let state = trains(&rt, rt.alloc());

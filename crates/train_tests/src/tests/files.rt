@@ -1,4 +1,4 @@
-//! Which of two files a schedule comes from.
+//! Which of two files the chosen schedule came from.
 
 use super::texts::END;
 use super::{joined, says};
@@ -9,7 +9,7 @@ use test_records::{
     BS_SHORTER, BS_WEEK, HD, HD_10B_0605, LO, LO_0915, LO_0920, LT, ZZ,
 };
 
-/// A permanent schedule, its overlay and its cancellation.
+/// The first file, with a permanent schedule, its overlay and its cancellation.
 const FIRST: &[&[u8]] = &[
     HD,
     BS_WEEK,
@@ -31,23 +31,23 @@ const RESTORES: &[&[u8]] = &[HD_10B_0605, BS_CANCELLED_DELETED, ZZ];
 /// A later file that revises the permanent schedule.
 const REVISES: &[&[u8]] = &[HD_10B_0605, BS_REVISED_SHORTER, LO_0920, LT, ZZ];
 
-/// C10001 runs by the overlay, record 5 of the first file.
+/// The heading if C10001 runs by the overlay, record 5 of the first file.
 const OVERLAY: &[u8] =
     b"TRAIN  C10001  2024-06-11 O RUNS      2024-06-09 2100 DFROC1A          5        ";
 
-/// C10001 runs by the permanent schedule, record 2 of the first file.
+/// The heading if C10001 runs by the permanent schedule, record 2 of the first file.
 const RESTORED: &[u8] =
     b"TRAIN  C10001  2024-06-14 P RUNS      2024-06-09 2100 DFROC1A          2        ";
 
-/// C10001 runs by the revision, record 2 of the second file.
+/// The heading if C10001 runs by the revision, record 2 of the second file.
 const REVISED: &[u8] =
     b"TRAIN  C10001  2024-06-12 P RUNS      2024-06-10 0605 DFROC1B          2        ";
 
-/// No schedule of C10001 runs on 12 June.
+/// The heading if no schedule of C10001 runs on 12 June.
 const NONE: &[u8] =
     b"TRAIN  C10001  2024-06-12   NONE                                                ";
 
-/// No schedule of C10001 runs on 15 June: the revision ends on 13 June.
+/// The heading if no schedule of C10001 runs on 15 June. The revision ends on 13 June.
 const NONE_AFTER: &[u8] =
     b"TRAIN  C10001  2024-06-15   NONE                                                ";
 
@@ -57,7 +57,7 @@ fn files_say(rt: &impl Abort, alloc: Global, files: &[&[&[u8]]], on: &str, wante
     says(rt, alloc, &state, "C10001", on, wanted);
 }
 
-/// A later file deletes a schedule. Its overlay stays.
+/// A later file deletes the permanent schedule, and the overlay stays.
 #[test]
 fn deleted(rt: HostRuntime) {
     let overlay: &[&[u8]] = &[OVERLAY, BS_OVERLAY, LO_0915, LT, END];
@@ -81,7 +81,7 @@ fn restored(rt: HostRuntime) {
     files_say(&rt, rt.alloc(), &[RESTORES, FIRST], "2024-06-14", restored);
 }
 
-/// A revision replaces the schedule. It is kept with the transaction `N`.
+/// A later file revises the schedule. The revision is kept with the transaction `N`.
 #[test]
 fn revised(rt: HostRuntime) {
     let revised: &[&[u8]] = &[REVISED, BS_SHORTER, LO_0920, LT, END];

@@ -1,4 +1,4 @@
-//! What is refused: days before the horizon, words that name no UID, and a full sink.
+//! What is refused: a day before the horizon, a word that names no UID, and a sink without room.
 
 use super::compare::same;
 use super::texts::{END, NONE_ON_17_JUNE};
@@ -21,7 +21,7 @@ const THURSDAY: &[u8] =
 const MONDAY: &[u8] =
     b"TRAIN  C10001  2024-06-10 P RUNS      2024-06-09 2100 DFROC1A          2        ";
 
-/// Asserts that a day is refused for C10001, and nothing is written.
+/// Asserts that a day is refused for C10001, and that nothing is written then.
 fn is_refused(rt: &impl Abort, alloc: Global, state: &State, on: &str) {
     let mut kept = Kept::new(alloc, 1000).expect(rt, "room");
     let (uid, day) = (uid(rt, "C10001"), day(rt, on));
@@ -63,7 +63,8 @@ fn lapsed(rt: HostRuntime) {
     );
 }
 
-/// Prints C10001 on 10 June to a sink with this room, and asserts the fault.
+/// Prints C10001 on 10 June to a sink with this room, and asserts the fault and the bytes that the
+/// sink has.
 fn takes(rt: &impl Abort, alloc: Global, state: &State, room: usize, wanted: Option<TrainFault>) {
     let mut kept = Kept::new(alloc, room).expect(rt, "room");
     let all = text(alloc, &[MONDAY, BS_WEEK, LO, LT, END], b"\n").expect(rt, "a text");
@@ -76,7 +77,8 @@ fn takes(rt: &impl Abort, alloc: Global, state: &State, room: usize, wanted: Opt
     );
 }
 
-/// Five lines of 81 bytes are 405 bytes. A sink with less room gets only the first of them.
+/// Five lines of 81 bytes are 405 bytes. A sink with less room gets as many of the first bytes as
+/// fit.
 #[test]
 fn full_sink(rt: HostRuntime) {
     let state = joined(&rt, rt.alloc(), &[WEEK]);

@@ -1,4 +1,4 @@
-//! Lines that several of the worked texts have.
+//! Lines that occur in several of the worked texts.
 
 /// The heading of 17 June, on which no schedule of C10001 runs.
 pub(crate) const NONE_ON_17_JUNE: &[u8] =

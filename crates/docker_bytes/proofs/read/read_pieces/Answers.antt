@@ -1,4 +1,4 @@
--- The parser was fed what the source gave.
+-- The parser was fed the bytes that the source gave.
 use Rattle.std.proofs.Common.{[], ap, inl, subst, Err}
 use Rattle.cif_device.specs.FeedEnds.{EndsFeeding}
 use Rattle.docker_bytes.specs.StateTaken.{RefusesPart, TakesState}

@@ -1,4 +1,4 @@
--- The parser takes the pieces that it reads.
+-- A piece that the parser reads without a fault was taken by it.
 use Rattle.docker_bytes.proofs.ReadLemmas.{takes_more, refuses_more}
 use Rattle.docker_bytes.proofs.read.ParserTaker.take.Goals as goal
 

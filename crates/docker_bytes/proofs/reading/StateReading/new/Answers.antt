@@ -1,4 +1,5 @@
--- `auto` proves these goals too. Written out, they let a wrong body fail without a long search.
+-- The tactic `auto` proves these goals too. They are written out so that a wrong body is refused
+-- without a long search.
 use Rattle.std.proofs.Common.{rules}
 use Rattle.docker_bytes.proofs.reading.StateReading.new.Goals as goal
 

@@ -1,5 +1,5 @@
--- The bytes before the rest were read, and a line comes next. The rest and the limit have room for
--- the lines still to be taken, and the schedule's last line isn't among them.
+-- The bytes before the rest were read, and the next part is a line. The lines still to be taken lie
+-- whole in the rest and within the limit, and the schedule's last line isn't among them.
 use Rattle.std.proofs.Common.{◌≡◌, ◌+◌, ◌-◌, ◌*◌, ◌≤◌, [], ◌++◌, length}
 use Rattle.docker_bytes.specs.StateReading.{ReadsOn, IsLineOf}
 use Rattle.docker_bytes.proofs.ReadingLemmas.{before_rest}
