@@ -48,12 +48,11 @@ may_matter place (tiploc_key code) = bytes_eq code place
 may_matter place (association_key key) = bytes_eq key.location place
 may_matter place (schedule_key key) = true
 
--- what thinning for the place and the day leaves of a body, or `None` if the body can't count on
--- the day
+-- a body, thinned for the place and the day, or `None` if the body can't count on the day
 abbrev pub thin_body : List ℕ → ℕ → Body → Option Body
 thin_body place day body = if may_count day (put_with body) then Some (body_for place body) else None
 
--- what thinning for the place and the day leaves of a table
+-- a table, thinned for the place and the day
 abbrev pub thinned : List ℕ → ℕ → Table → Table
 thinned place day live key = if may_matter place key then option_and_then (thin_body place day) (live key) else None
 
@@ -76,8 +75,8 @@ thin_changes place day changes = map (thin_change place day) (filter (λ (change
 abbrev pub table_of : List Change → Table
 table_of changes = fold after_change empty_table changes
 
--- the kept changes are enough for the place and the day: they leave the table that thinning makes
--- of the table after all changes
+-- the kept changes are enough for the place and the day: applied to the empty table, they give the
+-- table after all changes, thinned
 abbrev pub AreEnough : List ℕ → ℕ → List Change → List Change → Type 0
 AreEnough place day changes kept = (key : Key) → table_of kept key ≡ thinned place day (table_of changes) key
 

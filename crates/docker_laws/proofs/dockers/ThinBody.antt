@@ -1,5 +1,5 @@
--- What thinning leaves of a body belongs to the same key as the body. The thin records of a
--- schedule don't call at a place unless the schedule does.
+-- A thinned body belongs to the same key as the whole body. The thin records of a schedule don't
+-- call at a place unless the schedule does.
 use Rattle.std.proofs.Common.{◌≡◌, ℕ, suc, ◌+◌, ◌≤◌, List, [], ◌∷◌, ◌++◌, length, subst, inl, inr, ◌⊎◌, refl, ap, sym}
 use Rattle.std.proofs.Common.{◌∙◌, Bool, true, false, cond, Some, None, Contains, map, All, arith, append-nil}
 use Rattle.std.specs.Prelude.{Option, filter, nat_lt, IsTrue, ◌||◌, ◌&&◌}

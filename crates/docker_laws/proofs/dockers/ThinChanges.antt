@@ -1,5 +1,5 @@
--- The changes kept for a place and a day leave the table that thinning makes of the table after all
--- changes.
+-- The changes kept for a place and a day, applied to the empty table, give the table after all
+-- changes, thinned.
 use Rattle.std.proofs.Common.{arith, append-nil, append_assoc, ◌≡◌, ℕ, List, [], ◌∷◌, ◌++◌, subst, inl, inr}
 use Rattle.std.proofs.Common.{◌⊎◌, refl, ap, sym, ◌∙◌, Bool, true, false, cond, Some, None, Contains, map}
 use Rattle.std.specs.Prelude.{Option, option_and_then, filter, fold, not}
@@ -37,7 +37,7 @@ left_by act = body_of (op_of act)
 
 -- ---- one change
 
--- the thin form of an act leaves what thinning makes of the body that the act leaves
+-- the thin form of an act leaves the body that the act leaves, thinned
 thin_left : (place : List ℕ) (day : ℕ) (act : Act) → left_by (thin_act place day act) ≡ option_and_then (thin_body place day) (left_by act)
 thin_left place day delete = refl
 thin_left place day (put body) = by (may_count day (put_with body))

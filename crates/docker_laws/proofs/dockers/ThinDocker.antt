@@ -1,5 +1,4 @@
--- A table and what thinning leaves of it for a place and a day have the same docker of the place on
--- the day.
+-- A table and the table thinned for a place and a day have the same docker of the place on the day.
 use Rattle.std.proofs.Common.{◌≡◌, ℕ, ◌+◌, ◌≤◌, List, subst, inl, inr, ◌⊎◌, refl, ap, sym, ◌∙◌, Bool, true, false, cond, Some, None, arith}
 use Rattle.std.specs.Prelude.{Option, ◌↔◌, option_and_then}
 use Rattle.std.proofs.lemmas.Slice.Eq.{bytes_eq-Decides}
@@ -254,7 +253,7 @@ module _ (place : List ℕ) (day : ℕ) (live part : Table) (stands : StandsFor 
     λ told. (told.0, (stand_in_list_iff few few_part told.0).1 told.1, told.2 ∙ stand_in_text_same told.0),
   )
 
--- ---- a table and what thinning leaves of it
+-- ---- a table and the thinned table
 
 module _ (place : List ℕ) (day : ℕ) (live : Table) where
   -- a live schedule that runs near the day is in the thinned table, with the records that the place

@@ -97,7 +97,7 @@ module _ (place : List ℕ) (day : ℕ) (file : List (List ℕ)) (kept : List Ch
   was_change change among =
       Contains-map (thin_change place day) (changes file) change (sublist_member kept (map (thin_change place day) (changes file)) change is.some among)
 
-  -- the live table is what thinning leaves of the file's table
+  -- the live table is the table of the file, thinned
   pub thin_live : (state : State) → IsStateOfChanges file kept state → (key : Key) → live_table state key ≡ thinned place day (after_file empty_table file) key
   thin_live state of key = live_is_made file kept state of kept_apart key ∙ is.enough key
 
