@@ -23,9 +23,8 @@ ghost use Rattle.docker_laws.specs.Thinning.{is_end, thin_lines, lines_for, body
 ghost use Rattle.docker_laws.specs.Thinning.{thin_changes, table_of, IsThinning, HasNoChangeOf, AreAtMost, without, IsStateOfChanges};
 ghost use Rattle.docker_laws.specs.FileSummary.{summary_of};
 
-/// A table and the table thinned for a place and a day have the same docker of the place on the
-/// day, if all bodies of the table are well formed. The bodies of the thinned table are well formed
-/// too.
+/// A table with well-formed bodies has the same docker of a place on a day as the table thinned for
+/// that place and day. The bodies of the thinned table are well formed too.
 pub fn thinned_table_has_one_docker()
     ensures list { (place : List ℕ) (day : ℕ) (live : Table) (lines : List DockerLine)
         → HasGoodBodies live → IsDockerList live place day lines

@@ -1,5 +1,5 @@
--- Three kinds of fault in a text are also faults in each longer text that begins with it: a bad
--- part, a byte needed past the limit, and a byte after the state.
+-- Three kinds of fault remain when a text is continued: a bad part, a byte needed past the limit,
+-- and a byte after the state.
 use Rattle.std.proofs.Common.{ℕ, List, ◌∷◌, ◌++◌, ◌∙◌, arith, append_assoc, length-append}
 use Rattle.docker_model.specs.state.StateText.{Format, state_text}
 use Rattle.docker_model.specs.state.StatePart.{text_before}
