@@ -30,7 +30,8 @@ Takes old bytes new = new ≡ option_map (λ taken. taken ++ bytes) old
 abbrev pub TakesPart : Option (List ℕ) → List ℕ → Option (List ℕ) → Type 0
 TakesPart old piece new = (n : ℕ) × (n < length piece) × Takes old (take n piece) new
 
--- the number of failures, before and after, rises by one if `failed` holds, and otherwise stays
+-- the number of failures rises by one, from `before` to `after`, if `failed` holds, and otherwise
+-- stays the same
 abbrev pub CountsFailure : Type 0 → ℕ → ℕ → Type 0
 CountsFailure failed before after = (failed ↔ (after ≡ before + 1)) × (¬ failed → after ≡ before)
 

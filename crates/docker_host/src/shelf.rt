@@ -22,21 +22,21 @@ pub struct Place {
 /// The calls at which a shelf fails.
 #[derive(Clone, Copy, PartialEq, Eq, Debug)]
 pub enum Fails {
-    /// No calls.
+    /// No call.
     Never,
-    /// Each opening of a file.
+    /// Opening a file.
     AtOpen,
-    /// Each opening of a file, because memory runs out.
+    /// Opening a file, because memory runs out.
     AtOpenForMemory,
-    /// Each read of an opened file that has given this many bytes.
+    /// Reading an opened file that has given this many bytes.
     AfterReading(usize),
-    /// Each making of a draft.
+    /// Making a draft.
     AtCreate,
-    /// Each making of a draft, because memory runs out.
+    /// Making a draft, because memory runs out.
     AtCreateForMemory,
-    /// Each write to a draft that has taken this many bytes.
+    /// Writing to a draft that has taken this many bytes.
     AfterWriting(usize),
-    /// Each time that a draft is to take the place of its file.
+    /// Putting a draft in the place of its file.
     AtComplete,
 }
 

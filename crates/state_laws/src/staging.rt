@@ -10,10 +10,10 @@ ghost use Rattle.std.specs.declared.cmp.Ordering.TheVariants.{Less};
 ghost use Rattle.state_laws.specs.Staging.{IsGreaterThan, IsToStage, IsStaged, IsCommit, staged_state};
 ghost use Rattle.state_laws.specs.LawTerms.{HoldsOnceCommitted};
 
-/// To stage all entries of a received state, commit, and then set the received horizon, is to join
-/// the received state. After the commit, before the horizon is set, the state is the join with the
-/// received state without its horizon. A commit does the same as a join with the received items and
-/// the staged entries.
+/// A state is received in three steps: all its entries are offered for staging, the staged ones are
+/// committed, and then its horizon is set. The result is the join with the received state. The
+/// commit by itself leaves the join with the received state without its horizon. It is also the
+/// join with the received items and the staged entries.
 pub fn staging_and_commit_is_join()
     ensures join { (own received : State) (floor : Option FileStamp) (staged : List (Key × Entry))
         (after : State)

@@ -24,8 +24,8 @@ one_before R (x ∷ xs) a b later in_a in_b = by (one_before R xs a b later.1) (
     by rest (inr here) (inl f) = inr (inr (subst (λ v. R v a) f (below_by_recursion (R x) xs a later.0 here)))
     by rest (inr here) (inr there) = rest here there
 
--- if the relation implies another for the members of the list, each member is in the other one to
--- each later member
+-- if the relation implies another one for the members of the list, the other one relates each
+-- member to each later one
 pub later_weaker : {A : Type 0} (R S : A → A → Type 0) (xs : List A) → ((a b : A) → Contains xs a → Contains xs b → R a b → S a b) → AllLater R xs
     → AllLater S xs
 later_weaker R S [] to later = tt
@@ -94,7 +94,8 @@ pub later_append_all : {A : Type 0} (R : A → A → Type 0) (xs ys : List A) �
 later_append_all R [] ys left right across = right
 later_append_all R (x ∷ xs) ys left right across = (all_append (R x) xs ys left.0 across.0, later_append_all R xs ys left.1 right across.1)
 
--- if the relation of members implies another relation of their images, the images are in that one
+-- if the relation of members implies another relation of their images, that one relates each image
+-- to each later one
 pub later_map_weaker : {A B : Type 0} (f : A → B) (R : A → A → Type 0) (S : B → B → Type 0) → ((x y : A) → R x y → S (f x) (f y))
     → (xs : List A) → AllLater R xs
     → AllLater S (map f xs)
@@ -102,8 +103,8 @@ later_map_weaker f R S keeps [] all = tt
 later_map_weaker f R S keeps (x ∷ xs) all =
     (all_map f (S (f x)) xs (all_weaker (R x) (λ y. S (f x) (f y)) (λ y r. keeps x y r) xs all.0), later_map_weaker f R S keeps xs all.1)
 
--- if the relation implies another for all values, each member is in the other one to each later
--- member
+-- if the relation implies another one for all values, the other one relates each member to each
+-- later one
 pub later_weaker_always : {A : Type 0} (R S : A → A → Type 0) → ((x y : A) → R x y → S x y) → (xs : List A) → AllLater R xs → AllLater S xs
 later_weaker_always R S weaker [] all = tt
 later_weaker_always R S weaker (x ∷ xs) all = (all_weaker (R x) (S x) (weaker x) xs all.0, later_weaker_always R S weaker xs all.1)

@@ -152,7 +152,7 @@ excerpt_refuses place state part day is =
 -- ---- the entries whose keys pass a test
 
 module _ (test : Key → Bool) where
-  -- an entry whose key passes the test is found after the others are left out
+  -- a search for a key that passes the test finds the same entry among the entries that pass
   find_kept : (key : Key) → test key ≡ true → (xs : List Keyed) → find (λ entry. is_eq (key_cmp entry.0 key)) (filter (λ entry. test entry.0) xs)
       ≡ find (λ entry. is_eq (key_cmp entry.0 key)) xs
   find_kept key passes [] = refl
@@ -168,7 +168,7 @@ module _ (test : Key → Bool) where
       by false true h g rest = absurd (let bad : false ≡ true = sym h ∙ ap test (same_key x.0 key g) ∙ passes in cc)
       by false false h g rest = rest
 
-  -- an entry whose key fails the test isn't found after it is left out
+  -- a search for a key that fails the test finds nothing among the entries that pass
   find_dropped : (key : Key) → test key ≡ false → (xs : List Keyed)
       → find (λ entry. is_eq (key_cmp entry.0 key)) (filter (λ entry. test entry.0) xs) ≡ None
   find_dropped key fails xs = by (find (λ entry. is_eq (key_cmp entry.0 key)) (filter (λ entry. test entry.0) xs)) refl

@@ -45,7 +45,8 @@ not_itself a less = let tied = tied_itself key_total a in cc
 
 -- ---- one more entry
 
--- an entry of the longer list is one of the old entries, or the new entry if no old one has its key
+-- after an older entry is added, each entry in the list was there before, or is the added one,
+-- whose key no other has
 member_forth : (entry : Keyed) (entries : List Keyed) → AreAscending entries → (z : Keyed) → Contains (with_earlier entry entries) z
     → Contains entries z ⊎ ((entry ≡ z) × NoEntry entries entry.0)
 member_forth entry [] up z among = inr (Contains-single entry z among, λ other inside. nil-Contains (entry.0, other) inside)
@@ -87,7 +88,7 @@ member_forth entry (first ∷ entries) up z among = by (key_cmp entry.0 first.0)
     by Equal h rest inside = inl inside
     by Greater h rest inside = after h rest (Contains-cons first (with_earlier entry entries) z inside)
 
--- each old entry is in the longer list
+-- each entry that was there before is still there
 member_still : (entry : Keyed) (entries : List Keyed) (z : Keyed) → Contains entries z → Contains (with_earlier entry entries) z
 member_still entry [] z among = absurd (nil-Contains z among)
 member_still entry (first ∷ entries) z among =
@@ -100,7 +101,7 @@ member_still entry (first ∷ entries) z among =
     by Greater rest (inl same) = subst (Contains (first ∷ with_earlier entry entries)) same (cons-Contains-first first (with_earlier entry entries))
     by Greater rest (inr inside) = cons-Contains first (with_earlier entry entries) z (rest inside)
 
--- the new entry is in the longer list if no old entry has its key
+-- the older entry is added if no entry in the list has its key
 member_new : (entry : Keyed) (entries : List Keyed) → NoEntry entries entry.0 → Contains (with_earlier entry entries) entry
 member_new entry [] none = cons-Contains-first entry []
 member_new entry (first ∷ entries) none =
@@ -114,18 +115,18 @@ member_new entry (first ∷ entries) none =
         absurd (none first.1 (subst (Contains (first ∷ entries)) (λ i. (sym same i, first.1)) (cons-Contains-first first entries)))
     by Greater h rest = cons-Contains first (with_earlier entry entries) entry rest
 
--- the longer list is in key order
+-- the list is in key order after an older entry is added
 still_ascends : (entry : Keyed) (entries : List Keyed) → AreAscending entries → AreAscending (with_earlier entry entries)
 still_ascends entry [] up = (tt, tt)
 still_ascends entry (first ∷ entries) up = by (key_cmp entry.0 first.0) refl (still_ascends entry entries up.1)
   where
-    -- a new entry with a key below the first is below all entries
+    -- an added entry with a key below the first is below all entries of the list
     below_all : key_cmp entry.0 first.0 ≡ Less → (z : Keyed) → (first ≡ z) ⊎ Contains entries z → key_cmp entry.0 z.0 ≡ Less
     below_all less z (inl same) = subst (λ (later : Keyed). key_cmp entry.0 later.0 ≡ Less) same less
     below_all less z (inr inside) =
         key_total.trans entry.0 first.0 z.0 less (below_by_recursion (λ (later : Keyed). key_cmp first.0 later.0 ≡ Less) entries z up.0 inside)
 
-    -- if the new key is above the first, the first entry is below all that follow it
+    -- if the added entry is above the first, the first entry is below all that follow it
     above_first : key_cmp entry.0 first.0 ≡ Greater → (z : Keyed) → Contains entries z ⊎ ((entry ≡ z) × NoEntry entries entry.0) → key_cmp first.0 z.0 ≡ Less
     above_first greater z (inl inside) = below_by_recursion (λ (later : Keyed). key_cmp first.0 later.0 ≡ Less) entries z up.0 inside
     above_first greater z (inr new) =

@@ -59,9 +59,9 @@ pub record IsRunning (live : Table) (uid : List ℕ) (day : ℕ) (key : Schedule
   pub is_live : live (schedule_key key) ≡ Some (schedule_body lines)
   pub runs_then : IsTrue (schedule_runs (first_record lines) day)
 
--- this is the chosen schedule of the UID on the day: of all its schedules that run then, it comes
--- first in the order of choice. For example, an overlay is chosen before a permanent schedule, and
--- a cancellation before both
+-- this is the chosen schedule of the UID on the day: of all schedules of the UID that run then, it
+-- comes first in the order of choice. For example, an overlay is chosen before a permanent
+-- schedule, and a cancellation before both
 pub record IsChosen (live : Table) (uid : List ℕ) (day : ℕ) (key : ScheduleKey) (lines : List (List ℕ)) : Type 0 where
   pub running : IsRunning live uid day key lines
   pub first : (other : ScheduleKey) (others : List (List ℕ)) → IsRunning live uid day other others → IsAtMost schedule_choice_cmp key other
@@ -91,8 +91,8 @@ pub record IsAssociated (live : Table) (group : Group) (day : ℕ) (key : Associ
   pub is_live : live (association_key key) ≡ Some (association_body line)
   pub runs_then : IsTrue (association_runs line day)
 
--- this is the chosen association of the group on the day: of all its associations that run then, it
--- comes first in the order of choice
+-- this is the chosen association of the group on the day: of all associations of the group that run
+-- then, it comes first in the order of choice
 pub record IsChosenAssociation (live : Table) (group : Group) (day : ℕ) (key : AssociationKey) (line : List ℕ) : Type 0 where
   pub associated : IsAssociated live group day key line
   pub first : (other : AssociationKey) (others : List ℕ) → IsAssociated live group day other others → IsAtMost association_choice_cmp key other

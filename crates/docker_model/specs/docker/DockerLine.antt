@@ -15,9 +15,8 @@ pub data Detail : Type 0 where
   ends : (origin destination : List ℕ) → Detail
   partner : (uid identity : List ℕ) → Detail
 
--- one line of a docker. The time is in half minutes, and the other fields are the bytes that are
--- printed. The start day of the train and the number of its event aren't printed: they only decide
--- the order of lines
+-- one line of a docker: what is printed, with the time in half minutes. The start day of the train
+-- and the number of its event aren't printed: they only decide the order of lines
 pub record DockerLine : Type 0 where
   pub time : ℕ
   pub occasion : Occasion

@@ -77,8 +77,7 @@ body_cmp a b =
     ordering_then (nat_cmp (body_end a) (body_end b))
     (ordering_then (bytes_cmp (body_bytes a) (body_bytes b)) (nat_cmp (body_tag a) (body_tag b)))
 
--- what an entry says of its key: it is deleted; or a body was put there and has lapsed; or a body
--- is put there
+-- what an entry says of its key: the key is deleted, its body has lapsed, or it has a body
 pub data Op : Type 0 where
   deleted : Op
   lapsed : Op
@@ -89,7 +88,7 @@ abbrev pub op_of : Act → Op
 op_of delete = deleted
 op_of (put body) = put_with body
 
--- the body of a put. The other ops have none
+-- the body that an op puts, or `None` if the op is `deleted` or `lapsed`
 abbrev pub body_of : Op → Option Body
 body_of deleted = None
 body_of lapsed = None

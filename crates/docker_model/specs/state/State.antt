@@ -135,7 +135,7 @@ live_table state key = option_and_then (λ (entry : Entry). body_of entry.op) (e
 abbrev pub HasGoodBodies : Table → Type 0
 HasGoodBodies live = (key : Key) (body : Body) → live key ≡ Some body → IsBodyOf key body
 
--- the state with this horizon in place of its own, after the lapse of its entries under it
+-- the state with this horizon in place of the old one. Its entries have lapsed under this horizon
 abbrev pub lapse_state : ℕ → State → State
 lapse_state horizon state = record { horizon = horizon; ledger = state.ledger; entries = lapse_entries horizon state.entries }
 
