@@ -54,8 +54,8 @@ IsPartnerIdentity live uid (Some day) identity = IsIdentityOn live uid identity 
 
 -- this is a docker line of an association, for the place and the day. The association is the chosen
 -- one of its group on the base train's start day. It isn't a cancellation, and its category and
--- date indicator give a line. The base train has its first event with the association's TIPLOC and
--- suffix at the place, on the day
+-- date indicator give a line. The base train's first event with the association's TIPLOC and suffix
+-- is at the place, on the day
 pub record IsAssociationLine (live : Table) (place : List ℕ) (day : ℕ) (line : DockerLine) : Type 0 where
   pub start : ℕ
   pub key : AssociationKey

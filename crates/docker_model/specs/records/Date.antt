@@ -1,5 +1,6 @@
--- Dates. A day is a number, and 1 January 1960 is day 0. The calendar is that in the crate `jiff`.
--- Each definition says how wide its field is; past the end of a shorter field, bytes read as 0.
+-- Dates. A day is a number, and 1 January 1960 is day 0. The calendar is the one of the crate
+-- `jiff`. Each definition says how wide its field is; past the end of a shorter field, bytes read
+-- as 0.
 use Rattle.std.specs.Prelude.{ℕ, ◌+◌, ◌-◌, ◌*◌, List, slice_index, nat_le, if◌then◌else◌, Bool, ◌&&◌}
 use Rattle.std.specs.Prelude.{pos, ◌+ℤ◌, unsigned_abs, ◌≤◌, codes, ◌||◌, ◌==◌, ◌%◌, count_by}
 use Rattle.std.specs.List.{list_all, range_with_len}

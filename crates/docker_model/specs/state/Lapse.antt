@@ -39,7 +39,7 @@ unlapsed horizon body = if nat_lt (body_end body) horizon then None else Some bo
 abbrev pub lapse_table : ℕ → Table → Table
 lapse_table horizon table key = option_and_then (unlapsed horizon) (table key)
 
--- under this horizon no docker is made for the day: there is a horizon, and the day is less than
+-- under this horizon no docker is made for the day: there is a horizon, and the day is earlier than
 -- three days after it. For example, under horizon 100 the first day allowed is 103
 abbrev pub IsDayRefused : ℕ → ℕ → Type 0
 IsDayRefused horizon day = (0 < horizon) × (day < horizon + 3)

@@ -154,9 +154,9 @@ pub record IsGreatestAmong (entries : List (Key × Entry)) (key : Key) (entry : 
   pub among : Contains entries (key, entry)
   pub greatest : (other : Entry) → Contains entries (key, other) → IsAtMost entry_cmp other entry
 
--- this is the join of two states, which merging one of them into the other leaves. Its ledger is
--- the union of both ledgers, and each key has the greater of its entries. Ledger items and entries
--- below the floor of the union are left out. The greater horizon counts, and entries lapse under it
+-- this is the join of two states: the result of merging one into the other. Its ledger is the union
+-- of both ledgers, and each key has the greater of its entries. Ledger items and entries below the
+-- floor of the union are left out. The greater horizon counts, and entries lapse under it
 pub record IsJoin (first second joined : State) : Type 0 where
   pub horizon : joined.horizon ≡ max first.horizon second.horizon
   pub floor : Option FileStamp

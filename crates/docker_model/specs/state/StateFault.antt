@@ -13,8 +13,8 @@ use Rattle.docker_model.specs.state.StatePart.{before_stamp, EntryPart, before_o
 use Rattle.docker_model.specs.state.StatePart.{HaveNotToLapse, Before, before_entry_count, before_horizon, at_end, in_entry, before_item}
 use Rattle.docker_model.specs.state.StatePart.{before_mark, before_ledger_count, AreGood, text_before, items_before, width}
 
--- why a text isn't a state's. The cause `bad_horizon` occurs only in DKS2, since DKS1 has no
--- horizon
+-- why a text isn't the text of a state. The cause `bad_horizon` occurs only in DKS2, since DKS1 has
+-- no horizon
 pub data StateCause : Type 0 where
   bad_mark : StateCause
   bad_item : StateCause
@@ -28,7 +28,7 @@ pub data StateCause : Type 0 where
   too_long : StateCause
   bad_horizon : StateCause
 
--- why a text isn't a state's: an offset in bytes from 0, and the cause
+-- why a text isn't the text of a state: an offset in bytes, counted from 0, and the cause
 pub record StateFault : Type 0 where
   pub at : ℕ
   pub cause : StateCause
@@ -76,8 +76,8 @@ IsBadPart format (before_entry_count horizon ledger) bytes cause = ⊥
 IsBadPart format (in_entry count state part) bytes cause = IsBadEntryPart format state part bytes cause
 IsBadPart format (at_end state) bytes cause = ⊥
 
--- this is the fault of a bad part, all of which lies below the limit. The offset is the first byte
--- of the item that the part belongs to
+-- this is the fault of a bad part, all of which lies below the limit. The offset is where the item
+-- of this part begins
 pub record HasBadPart (format : Format) (limit : ℕ) (text : List ℕ) (fault : StateFault) : Type 0 where
   pub before : Before
   pub good : AreGood format before
@@ -102,8 +102,8 @@ pub record IsLong (format : Format) (limit : ℕ) (text : List ℕ) (fault : Sta
   pub cause : fault.cause ≡ too_long
   pub limit_at : fault.at ≡ limit
 
--- this is the fault `too_short`: the text ends before the next part is complete. The offset is the
--- first byte of the item that the part belongs to
+-- this is the fault `too_short`: the text ends before the next part is complete. The offset is
+-- where the item of this part begins
 pub record IsShort (format : Format) (limit : ℕ) (text : List ℕ) (fault : StateFault) : Type 0 where
   pub before : Before
   pub good : AreGood format before
@@ -114,7 +114,7 @@ pub record IsShort (format : Format) (limit : ℕ) (text : List ℕ) (fault : St
   pub cause : fault.cause ≡ too_short
   pub item_at : fault.at ≡ length (items_before format before)
 
--- this is the fault `has_tail`: more bytes follow a whole state. The offset is the first of them
+-- this is the fault `has_tail`: more bytes follow a complete state. The offset is where they begin
 pub record HasTail (format : Format) (limit : ℕ) (text : List ℕ) (fault : StateFault) : Type 0 where
   pub state : State
   pub valid : AreGood format (at_end state)
