@@ -1,5 +1,5 @@
 -- What a read takes from the bytes left in a source, and what a write adds to the bytes that a sink
--- has taken. For a device that can't name its bytes, `None` stands in their place.
+-- has taken. For a device that can't name its bytes, they are `None`.
 use Rattle.std.specs.Prelude.{◌≡◌, ℕ, ◌+◌, ◌-◌, ◌<◌, ◌↔◌, min, Bool, true, false, List, [], ◌++◌, length, take, replicate, ⊤, Option, None, Some, option_map}
 use Rattle.std.specs.List.{concat}
 

@@ -1,5 +1,5 @@
--- The changes of a file, unit by unit. A unit is what stands between header and trailer: a single
--- record, or the records of a schedule.
+-- The changes of a file, unit by unit. A unit is a single record, or the records of a schedule,
+-- between header and trailer.
 use Rattle.std.specs.Prelude.{ℕ, ◌+◌, if◌then◌else◌, List, [], ◌∷◌, ◌++◌, length}
 use Rattle.docker_model.specs.records.Field.{is_deletion, as_new}
 use Rattle.docker_model.specs.file.Change.{schedule_body, delete, put, Change, schedule_named, changes_of_record}

@@ -1,6 +1,6 @@
-//! Drafts of real files. A regular file is written as a draft beside it, which is then renamed over
-//! it. So the file is whole at any time: it has the old text or the new one. A pipe or a device is
-//! written directly.
+//! Drafts of real files. A regular file is written as a draft next to it, which is then renamed
+//! over it. So the file is complete at any time: it has the old text or the new one. A pipe or a
+//! device is written directly.
 ghost use Rattle.std.specs.Prelude.{◌≡◌, None, IfOk};
 
 use crate::draft_place::DraftPlace;
@@ -41,8 +41,8 @@ impl Model for DraftFile {
 
 impl DraftFile {
     /// Makes an empty draft for the named file, if what is under the name is still what was seen. A
-    /// file that doesn't exist yet has its draft beside its future place. But if the name is a link
-    /// that leads nowhere, the file that the link names is made and written directly.
+    /// file that doesn't exist yet has its draft next to its future place. But if the name is a
+    /// link that leads nowhere, the file that the link names is made and written directly.
     pub(crate) fn make(
         rt: &HostRuntime,
         name: &str,
@@ -125,7 +125,7 @@ fn open_draft(
     }
 }
 
-/// Opens a draft beside the file with this path, if what is under the name is still what was seen.
+/// Opens a draft next to the file with this path, if what is under the name is still what was seen.
 fn open_beside(
     rt: &HostRuntime,
     name: &str,

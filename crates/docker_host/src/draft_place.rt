@@ -1,4 +1,4 @@
-//! Drafts beside the files whose places they will take. A draft is locked while its command runs,
+//! Drafts next to the files whose places they will take. A draft is locked while its command runs,
 //! and marked until it has taken the place of its file. So a marked draft without a lock was left
 //! over by a command that was stopped, and the next command removes it.
 use crate::folder::OpenFault;
@@ -26,7 +26,7 @@ pub(crate) struct DraftPlace {
 }
 
 impl DraftPlace {
-    /// Makes an empty draft beside the file with this path, and locks it. If there is an old file,
+    /// Makes an empty draft next to the file with this path, and locks it. If there is an old file,
     /// the draft gets its permissions. If that isn't possible, the draft is removed; if the removal
     /// fails too, the fault is `Failed`.
     pub(crate) fn make(
@@ -76,7 +76,7 @@ impl DraftPlace {
     }
 }
 
-/// The mark of a draft beside the file with this path. A file whose name ends like the name of a
+/// The mark of a draft next to the file with this path. A file whose name ends like the name of a
 /// draft gets an unmarked draft. Otherwise the file, once it is replaced, might look like a draft
 /// left over from another file.
 fn mark_for(file: &str) -> u32 {

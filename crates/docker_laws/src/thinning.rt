@@ -156,8 +156,8 @@ pub fn thinning_change_by_change()
         → IsThinning place day all (thin_changes place day all) }
 {}
 
-/// If a key is above the keys of all kept changes, no change of it is kept. So with the greatest
-/// kept key at hand, a deletion of a higher key may be dropped without a search.
+/// If a key is above the keys of all kept changes, no change of it is kept. So whoever knows the
+/// greatest kept key may drop a deletion of a higher key without a search.
 pub fn nothing_kept_of_a_key_above()
     ensures none { (highest key : Key) (kept : List Change)
         → AreAtMost highest kept → IsBelow key_cmp highest key → HasNoChangeOf key kept }

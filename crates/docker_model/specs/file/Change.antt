@@ -31,7 +31,7 @@ pub data Key : Type 0 where
   association_key : (key : AssociationKey) → Key
   schedule_key : (key : ScheduleKey) → Key
 
--- a body, which is what is put at a key: columns 10 to 72 of a TIPLOC record, the whole record of
+-- a body, which a put leaves at its key: columns 10 to 72 of a TIPLOC record, the whole record of
 -- an association, or the records of a schedule
 pub data Body : Type 0 where
   tiploc_body : (bytes : List ℕ) → Body

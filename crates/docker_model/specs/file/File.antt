@@ -68,12 +68,13 @@ pub record IsSchedule (lines : List (List ℕ)) : Type 0 where
 abbrev pub IsSingleKind : List ℕ → Type 0
 IsSingleKind line = HasKind tiploc_insert line ⊎ HasKind tiploc_amend line ⊎ HasKind tiploc_delete line ⊎ HasKind association line
 
--- the unit is one record of such a kind, with good fields
+-- the unit is a single record with good fields: a TIPLOC insert, amendment or deletion, or an
+-- association
 abbrev pub IsSingle : List (List ℕ) → Type 0
 IsSingle unit = (line : List ℕ) × (unit ≡ line ∷ []) × IsRecord line × IsSingleKind line × HasGoodFields line
 
--- these records are a unit, which is what stands between the header and the trailer: a single
--- record or a whole schedule
+-- these records are a unit: a single record or a whole schedule. A file has units between its
+-- header and its trailer
 abbrev pub IsUnit : List (List ℕ) → Type 0
 IsUnit unit = IsSingle unit ⊎ IsSchedule unit
 

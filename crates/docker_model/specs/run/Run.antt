@@ -65,10 +65,10 @@ message_known known message = slice_index_or known.messages message nothing
 abbrev pub with_office : KnownSets → ℕ → Known → KnownSets
 with_office known office now = record { offices = slice_set known.offices office now; messages = known.messages }
 
--- what is known after an event that was done. To take a file adds the file to what the office
--- knows. To send a state makes a message that knows what the office knows. To deliver a message
--- adds what it knows to what the office knows. To reload a message replaces what the office knows.
--- To set a horizon raises the office's horizon to it, unless that is already greater
+-- what is known after an event that was done. Taking a file adds it to what the office knows.
+-- Sending a state makes a message that knows what the office knows. Delivering a message adds what
+-- the message knows to what the office knows, and reloading it replaces what the office knows.
+-- Setting a horizon raises the office's horizon, unless that is already greater
 abbrev pub after_done : KnownSets → RunEvent → KnownSets
 after_done known (take_file office text limit) =
     with_office known office (united (record { files = lines_of text ∷ []; horizon = 0 }) (office_known known office))

@@ -73,7 +73,8 @@ IsBodyOf (association_key key) (association_body line) = IsAssociationOf key lin
 IsBodyOf (schedule_key key) (schedule_body lines) = IsScheduleOf key lines
 IsBodyOf _ _ = ⊥
 
--- the op may stand at this key: if it is a put, the body is well formed and belongs to the key
+-- an entry with this key may have this op: if the op is a put, its body is well formed and belongs
+-- to the key
 abbrev pub IsOpOf : Key → Op → Type 0
 IsOpOf key deleted = ⊤
 IsOpOf key lapsed = ⊤

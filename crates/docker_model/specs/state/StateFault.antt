@@ -76,8 +76,8 @@ IsBadPart format (before_entry_count horizon ledger) bytes cause = ⊥
 IsBadPart format (in_entry count state part) bytes cause = IsBadEntryPart format state part bytes cause
 IsBadPart format (at_end state) bytes cause = ⊥
 
--- this is the fault of a bad part, all of which lies below the limit. The offset is where the item
--- of this part begins
+-- this is the fault of a bad part that doesn't go past the limit. The offset is where the item of
+-- this part begins
 pub record HasBadPart (format : Format) (limit : ℕ) (text : List ℕ) (fault : StateFault) : Type 0 where
   pub before : Before
   pub good : AreGood format before
@@ -125,8 +125,7 @@ pub record HasTail (format : Format) (limit : ℕ) (text : List ℕ) (fault : St
   pub cause : fault.cause ≡ has_tail
   pub end_at : fault.at ≡ length (state_text format state)
 
--- this is the fault of a text, read as a state in this format, of which at most `limit` bytes may
--- be read
+-- this is the fault of a text, read as a state in this format under a limit on its bytes
 abbrev pub IsStateFault : Format → ℕ → List ℕ → StateFault → Type 0
 IsStateFault format limit text fault =
     HasBadPart format limit text fault ⊎ IsLong format limit text fault ⊎ IsShort format limit text fault ⊎ HasTail format limit text fault

@@ -16,7 +16,7 @@ Table = Key → Option Body
 abbrev pub empty_table : Table
 empty_table key = None
 
--- the table after a change. The change puts a body at its key or removes the one there, and all
+-- the table after a change. The change puts a body at its key or removes the body there, and all
 -- other keys stay
 abbrev pub after_change : Table → Change → Table
 after_change table change key = if is_eq (key_cmp change.key key) then body_of (op_of change.act) else table key
