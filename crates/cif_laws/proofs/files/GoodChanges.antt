@@ -243,8 +243,8 @@ new_is_schedule lines schedule kept =
     sound (inl deletion) = let bad : false ≡ true = sym kept ∙ deletion in cc
     sound (inr good) = inr good
 
--- a schedule before these records ends there: they are none, or the first of them can't follow a
--- basic schedule
+-- a schedule that comes before these records ends where they begin: there are no records, or the
+-- first can't follow a basic schedule
 abbrev pub StopsHere : List (List ℕ) → Type 0
 StopsHere [] = ⊤
 StopsHere (line ∷ lines) = follows_basic (kind_of line) ≡ false

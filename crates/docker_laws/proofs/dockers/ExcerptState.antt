@@ -185,13 +185,14 @@ module _ (test : Key → Bool) where
   abbrev pub with_passing : State → State
   with_passing state = record { horizon = state.horizon; ledger = state.ledger; entries = filter (λ (entry : Keyed). test entry.0) state.entries }
 
-  -- at a key that passes, the state with only those entries has the same body as the whole state
+  -- at a key that passes the test, the state with only the passing entries has the same body as the
+  -- whole state
   pub live_kept : (state : State) (key : Key) → test key ≡ true → live_table (with_passing state) key ≡ live_table state key
   live_kept state key passes =
       ap (λ (found : Option Keyed).
       option_and_then (λ (entry : Entry). body_of entry.op) (option_and_then (λ (pair : Keyed). Some pair.1) found)) (find_kept key passes state.entries)
 
-  -- at a key that fails, the state with only the passing entries has no body
+  -- at a key that fails the test, the state with only the passing entries has no body
   pub live_dropped : (state : State) (key : Key) → test key ≡ false → live_table (with_passing state) key ≡ None
   live_dropped state key fails = live_none (with_passing state) key (find_dropped key fails state.entries)
 

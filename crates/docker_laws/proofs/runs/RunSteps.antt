@@ -26,7 +26,7 @@ module _ (format : Format) (known : KnownSets) (states : List State) (messages :
   pub office_is : (office : ℕ) → IsOffice known office → IsStateOf (office_known known office) (office_state states office)
   office_is office there = zip_at IsStateOf known.offices states office nothing (record { horizon = 0; ledger = []; entries = [] }) holds.states_are there
 
-  -- the bytes of a message are the text of the summary of the files that it knows
+  -- the bytes of a message are the text of the summary of the files that the message knows
   pub message_is : (message : ℕ) → IsMessage known message → IsMessageOf format (message_known known message) (message_text messages message)
   message_is message there = zip_at (IsMessageOf format) known.messages messages message nothing [] holds.messages_are there
 
@@ -47,7 +47,7 @@ module _ (format : Format) (known : KnownSets) (states : List State) (messages :
   office_told office there = summary_told format (office_known known office) (office_state states office) (office_good office there) (office_is office there)
 
   -- a message can be read with a limit equal to its length: it is the text of the summary of the
-  -- files that it knows
+  -- files that the message knows
   pub message_reads : (message : ℕ) → IsMessage known message → length (message_text messages message) < 2 ^ 64
       → (state : State) × IsStateOf (message_known known message) state × IsStateText format (length (message_text messages message))
       (message_text messages message) state
@@ -63,7 +63,7 @@ module _ (format : Format) (known : KnownSets) (states : List State) (messages :
         },
       )
 
-  -- the state that is read from a message is the summary of the files that it knows
+  -- the state that is read from a message is the summary of the files that the message knows
   pub what_is_read : (message : ℕ) → IsMessage known message → length (message_text messages message) < 2 ^ 64 → (limit : ℕ) (state : State)
       → IsStateText format limit (message_text messages message) state → IsStateOf (message_known known message) state
   what_is_read message there short limit state is =

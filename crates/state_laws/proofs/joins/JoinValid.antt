@@ -20,7 +20,7 @@ use Rattle.state_laws.proofs.states.Lapse.{below_or, put_lapses, put_stays, has_
 use Rattle.state_laws.proofs.states.LapsedGreatest.{lapsed_from}
 use Rattle.state_laws.proofs.states.KeptEntries.{lapse_ascends}
 
--- the items that aren't below the floor of some items have the same floor
+-- items keep their floor when the items below it are left out
 pub kept_floor : (items ledger : List LedgerItem) (floor : Option FileStamp) → IsFloor items floor
     → ((item : LedgerItem) → Contains ledger item → Contains items item) → ((item : LedgerItem) → Contains items item → IsKept floor item.stamp
     → Contains ledger item)

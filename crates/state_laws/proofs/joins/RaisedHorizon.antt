@@ -19,7 +19,7 @@ use Rattle.state_laws.proofs.states.KeptEntries.{lapse_ascends, entries_stay}
 
 -- ---- when nothing lapses
 
--- if no put ended before a horizon, setting the horizon changes nothing else
+-- if no body ended before a horizon, the lapse under it changes only the horizon
 pub lapsed_already : (horizon : ℕ) (state : State) → HaveLapsed horizon state.entries
     → lapse_state horizon state ≡ record { horizon = horizon; ledger = state.ledger; entries = state.entries }
 lapsed_already horizon state all = λ i. record {

@@ -129,7 +129,7 @@ stop_of_long format limit text fault is = record {
   stops = λ after more later whole within. (let size = later_size format is.before after later in let needs = is.needs in omega arith);
 }
 
--- a reader stops before a part that the text ends in
+-- a reader stops before a part in which the text ends
 pub stop_of_short : (format : Format) → (limit : ℕ) (text : List ℕ) (fault : StateFault) (is : IsShort format limit text fault)
     → IsStopped format limit text is.before
 stop_of_short format limit text fault is =
