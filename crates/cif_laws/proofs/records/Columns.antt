@@ -70,23 +70,23 @@ drop_set i zero (x ∷ xs) y below = absurd (omega arith)
 drop_set zero (suc k) (x ∷ xs) y below = refl
 drop_set (suc i) (suc k) (x ∷ xs) y below = drop_set i k xs y (omega arith)
 
--- the columns after the transaction stay the same
+-- the columns after the transaction stay the same when it is set to N
 pub new_columns : (line : List ℕ) (first last : ℕ) → 3 < first → columns first last (as_new line) ≡ columns first last line
 new_columns line first last behind = ap (λ rest. take (last - (first - 1)) rest) (drop_set 2 (first - 1) line 78 (omega arith))
 
--- each column after the transaction stays the same
+-- each column after the transaction stays the same when it is set to N
 pub new_column : (line : List ℕ) (n : ℕ) → 3 < n → column n (as_new line) ≡ column n line
 new_column line n behind = get_or-set_other line 2 (n - 1) 78 0 (omega arith)
 
--- the kind of a record stays the same
+-- a record keeps its kind when its transaction is set to N
 pub new_kind : (line : List ℕ) → kind_of (as_new line) ≡ kind_of line
 new_kind line =
     ap (λ field. option_map (λ (pair : List ℕ × Kind). pair.1) (find (λ (pair : List ℕ × Kind). bytes_eq pair.0 field) identities)) (take-set line 2 78)
 
--- a record is still a record
+-- a record whose transaction is set to N is a record
 pub new_record : (line : List ℕ) → IsRecord line → IsRecord (as_new line)
 new_record line is = (length-set line 2 78 ∙ is.0, All-set (λ b. is_printable b ≡ true) line 2 78 refl is.1)
 
--- the transaction of the record is then N
+-- a record whose transaction is set to N has the transaction N
 pub is_new : (line : List ℕ) → IsRecord line → HasNewTransaction (as_new line)
 is_new line is = let size = is.0 in get_or-set_same line 2 78 0 (omega arith)

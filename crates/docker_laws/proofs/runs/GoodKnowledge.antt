@@ -30,7 +30,7 @@ none_good dks_2 = omega arith
 no_files_good : AreFiles []
 no_files_good = (All-nil IsFile, All-nil (λ file. length file ≤ most_records))
 
--- it is good to know nothing
+-- the knowledge of no file and no horizon is good
 pub nothing_good : (format : Format) → IsGoodKnown format nothing
 nothing_good format = (no_files_good, none_good format)
 
