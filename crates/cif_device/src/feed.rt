@@ -42,7 +42,8 @@ pub trait Taker {
         ensures refused { IfErr result (λ fault. BehindEach takes self.old (λ terms text.
             refuses self.new terms text piece.now fault)) };
 
-    // Each text that it can take is shorter than this. So it refuses a piece of an endless source.
+    // Each text that it can take has fewer than 2^64 bytes. So it refuses a piece of an endless
+    // source.
     ghost bounded: { (taker : Self) (terms : Terms) (text : List ℕ) → takes taker terms text
         → length text < 2 ^ 64 };
 }

@@ -1,6 +1,6 @@
-//! Drafts of real files. A regular file is written as a draft next to it, which is then renamed
-//! over it. So the file is complete at any time: it has the old text or the new one. A pipe or a
-//! device is written directly.
+//! Drafts of real files. The new text of a regular file goes to a draft next to it, which is then
+//! renamed over it. So the file is complete at any time: it has the old text or the new one. A pipe
+//! or a device is written directly.
 ghost use Rattle.std.specs.Prelude.{◌≡◌, None, IfOk};
 
 use crate::draft_place::DraftPlace;
@@ -60,7 +60,7 @@ impl DraftFile {
         })
     }
 
-    /// Puts the draft in the place of its file. Returns the draft as the next look is to see it.
+    /// Puts the draft in the place of its file. Returns the draft as the next look will see it.
     /// Returns `None` if that can't be known, as for a file that was written directly. If the draft
     /// can't be put there, removes it as far as possible and returns `Failed`.
     pub(crate) fn place(self, rt: &HostRuntime) -> Result<Option<Placed>, Failed> {

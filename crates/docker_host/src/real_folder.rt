@@ -55,7 +55,7 @@ impl RealFolder {
         }
     }
 
-    /// The draft that took the place of the named file, as the next look is to see it. `None` if
+    /// The draft that took the place of the named file, as the next look will see it. `None` if
     /// there was no such draft, or a look has seen it already.
     fn take_placed(&mut self, name: &str) -> Option<Version>
         ensures { self.new ≡ self.old }
