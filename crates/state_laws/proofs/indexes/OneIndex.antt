@@ -49,7 +49,7 @@ one_linked_index live a b one two = same_list linked_total a b one.ascending two
 pub one_calling : (live : Table) (place : List ℕ) (a b : List Row) → AreCalling live place a → AreCalling live place b → a ≡ b
 one_calling live place a b one two = same_list rows_total a b one.ascending two.ascending (λ row. through (one.members row.0 row.1) (two.members row.0 row.1))
 
--- a place has only one list of rows linked there
+-- a place has only one list of the associations there
 pub one_linked : (live : Table) (place : List ℕ) (a b : List Row) → AreLinked live place a → AreLinked live place b → a ≡ b
 one_linked live place a b one two = same_list rows_total a b one.ascending two.ascending (λ row. through (one.members row.0 row.1) (two.members row.0 row.1))
 
