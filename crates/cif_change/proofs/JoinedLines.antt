@@ -18,7 +18,7 @@ behind_same line other lines others same =
     ap (λ l. bytes_cmp (line ++ concat lines) (l ++ concat others)) (sym same) ∙ behind_front line (concat lines) (concat others)
 
 -- equal first lines of two lists don't change the order of the rest
-pub behind_first : (lines others rest left : List (List ℕ)) (line other : List ℕ) → lines ≡ line ∷ rest → others ≡ other ∷ left → line ≡ other
+pub after_first_record : (lines others rest left : List (List ℕ)) (line other : List ℕ) → lines ≡ line ∷ rest → others ≡ other ∷ left → line ≡ other
     → bytes_cmp (concat rest) (concat left) ≡ bytes_cmp (concat lines) (concat others)
-behind_first lines others rest left line other one two same =
+after_first_record lines others rest left line other one two same =
     sym ((λ i. bytes_cmp (concat (one i)) (concat (two i))) ∙ behind_same line other rest left same)

@@ -101,7 +101,7 @@ impl Progress {
         ensures err { IfErr result (λ cause. cause_meant cause ≡ Some (first_line_cause line.now)) }
         ensures unchanged { IsErr result → self.new ≡ self.old }
     {
-        match behind_first(kind, line) {
+        match after_first_record(kind, line) {
             Ok(first) => {
                 *self = first;
                 Ok(())
@@ -148,7 +148,7 @@ impl Progress {
 }
 
 /// The progress after the first line, if that is a basic schedule with good fields.
-fn behind_first(kind: Kind, line: &Line) -> Result<Progress, FileCause>
+fn after_first_record(kind: Kind, line: &Line) -> Result<Progress, FileCause>
     requires record { IsRecord line.now }
     requires kind { HasKind (meaning kind) line.now }
     ensures ok { IsOk result ↔ (is_first_line line.now ≡ true) }

@@ -142,5 +142,5 @@ pub refusal_told : {Fault : Type 0} (fault : Fault) → ¬ (◌≡◌ {A = Resul
 refusal_told fault is = cc
 
 -- out of memory isn't the error `Source`
-pub memory_told : {Fault : Type 0} → ¬ (◌≡◌ {A = Result ℕ (FeedFault Fault)} (Err feed.Memory) (Err feed.Source))
-memory_told is = cc
+pub memory_answer : {Fault : Type 0} → ¬ (◌≡◌ {A = Result ℕ (FeedFault Fault)} (Err feed.Memory) (Err feed.Source))
+memory_answer is = cc

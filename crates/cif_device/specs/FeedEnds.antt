@@ -1,7 +1,7 @@
 -- How feeding a taker from a source ends.
 use Rattle.std.specs.Prelude.{◌≡◌, ℕ, List, Option, Result, Ok, Err}
 use Rattle.cif_device.specs.Device.{IsEnd}
-use Rattle.cif_device.specs.Taken.{BehindEach, HasFed, HasRefused, Refusing, Taking}
+use Rattle.cif_device.specs.Taken.{AfterEach, HasFed, HasRefused, Refusing, Taking}
 use Rattle.cif_device.specs.declared.feed.FeedFault.{FeedFault}
 use Rattle.cif_device.specs.declared.feed.FeedFault.TheVariants as feed
 
@@ -16,9 +16,9 @@ most_at_once = 65536
 abbrev pub EndsFeeding : {T Terms Fault : Type 0} → Taking T Terms → Refusing T Terms Fault → T → T → Option (List ℕ) → Option (List ℕ)
     → Result ℕ (FeedFault Fault) → Type 0
 EndsFeeding takes refuses taker after left left_now (Ok count) =
-    BehindEach takes taker (λ terms text. HasFed takes count terms text left left_now after) × IsEnd left_now
+    AfterEach takes taker (λ terms text. HasFed takes count terms text left left_now after) × IsEnd left_now
 EndsFeeding takes refuses taker after left left_now (Err feed.Source) =
-    BehindEach takes taker (λ terms text. (count : ℕ) × HasFed takes count terms text left left_now after)
+    AfterEach takes taker (λ terms text. (count : ℕ) × HasFed takes count terms text left left_now after)
 EndsFeeding takes refuses taker after left left_now (Err feed.Memory) = (left_now ≡ left) × (after ≡ taker)
 EndsFeeding takes refuses taker after left left_now (Err (feed.Refused fault)) =
-    BehindEach takes taker (λ terms text. HasRefused takes refuses most_at_once terms text left left_now after fault)
+    AfterEach takes taker (λ terms text. HasRefused takes refuses most_at_once terms text left left_now after fault)

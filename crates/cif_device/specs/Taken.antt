@@ -20,8 +20,8 @@ pub record IsTaking {T Terms : Type 0} (takes : Taking T Terms) (taker : T) : Ty
   pub taken : takes taker terms text
 
 -- whatever text the taker has taken, and under whatever terms, this holds for them
-abbrev pub BehindEach : {T Terms : Type 0} → Taking T Terms → T → (Terms → List ℕ → Type 0) → Type 0
-BehindEach {Terms = Terms} takes taker holds = (terms : Terms) (text : List ℕ) → takes taker terms text → holds terms text
+abbrev pub AfterEach : {T Terms : Type 0} → Taking T Terms → T → (Terms → List ℕ → Type 0) → Type 0
+AfterEach {Terms = Terms} takes taker holds = (terms : Terms) (text : List ℕ) → takes taker terms text → holds terms text
 
 -- the source gave this number of bytes, and the taker has taken them after the text
 pub record HasFed {T Terms : Type 0} (takes : Taking T Terms) (count : ℕ) (terms : Terms) (text : List ℕ) (old new : Option (List ℕ)) (taker : T) : Type 0 where

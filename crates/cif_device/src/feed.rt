@@ -2,7 +2,7 @@
 ghost use Rattle.std.specs.Prelude.{◌≡◌, ℕ, ◌-◌, ◌^◌, ◌<◌, ◌++◌, true, false, List, length, IfErr, OnOk, OnErr, Err};
 ghost use Rattle.cif_device.specs.Device.{CountsFailure};
 ghost use Rattle.cif_device.specs.FeedEnds.{EndsFeeding, most_at_once};
-ghost use Rattle.cif_device.specs.Taken.{BehindEach, IsTaking, LosesOnePieceMore};
+ghost use Rattle.cif_device.specs.Taken.{AfterEach, IsTaking, LosesOnePieceMore};
 
 use crate::device::Source;
 use std::alloc::Global;
@@ -37,9 +37,9 @@ pub trait Taker {
 
     /// Takes the next bytes of the text.
     fn take(&mut self, piece: &[u8]) -> Result<(), Self::Fault>
-        ensures taken { OnOk result (BehindEach takes self.old (λ terms text.
+        ensures taken { OnOk result (AfterEach takes self.old (λ terms text.
             takes self.new terms (text ++ piece.now))) }
-        ensures refused { IfErr result (λ fault. BehindEach takes self.old (λ terms text.
+        ensures refused { IfErr result (λ fault. AfterEach takes self.old (λ terms text.
             refuses self.new terms text piece.now fault)) };
 
     // Each text that it can take has fewer than 2^64 bytes. So it refuses a piece of an endless
@@ -61,7 +61,7 @@ pub fn feed_all<S: Source, T: Taker>(
     requires taking { IsTaking T.takes taker.old }
     ensures ends { EndsFeeding T.takes T.refuses taker.old taker.new
         (S.left source.old) (S.left source.new) result }
-    ensures no_further { BehindEach T.takes taker.old (λ terms text.
+    ensures no_further { AfterEach T.takes taker.old (λ terms text.
         LosesOnePieceMore T.takes most_at_once terms text (S.left source.old) (S.left source.new)) }
     ensures failures { CountsFailure (result ≡ Err FeedFault.Source)
         (S.failures source.old) (S.failures source.new) }

@@ -12,18 +12,18 @@ use Rattle.std.proofs.lemmas.List.Quantifiers.{position-Some}
 use Rattle.docker_model.specs.records.Record.{IsRecord}
 use Rattle.docker_model.specs.file.Text.{lines_of}
 use Rattle.docker_model.specs.file.File.{IsFile, BeginsFile}
-use Rattle.docker_model.specs.file.FaultSoFar.{IsFaultSoFar, lines_told}
+use Rattle.docker_model.specs.file.FaultSoFar.{IsFaultSoFar, sure_lines}
 use Rattle.docker_model.specs.file.FileFault.{IsFileFault, IsUnended, too_many, after_trailer, bad_byte, bad_length, no_end}
 use Rattle.docker_model.specs.file.FileFault as model
 use Rattle.cif_laws.specs.RecordTest.{is_record, has_good_fields}
 use Rattle.cif_laws.specs.FileStage.{Place, after_end, place_at, next_place}
 use Rattle.cif_laws.proofs.files.FileStages.{next_by_test, file_iff_place, begins_iff_place}
 use Rattle.cif_laws.specs.RecordCause.{end_cause, length_cause, is_after_end, cause_of_long}
-use Rattle.cif_laws.specs.LinesTold.{HasNoFeed, told_lines, open_line, line_left}
-use Rattle.cif_laws.proofs.files.ToldLines.{lines_of_told, lines_of_ended, lines_of_open, told_lines_plain, open_line_plain}
-use Rattle.cif_laws.proofs.files.ToldLines.{told_lines_ended, open_line_ended, told_lines_stay, lines_told_grow}
-use Rattle.cif_laws.proofs.files.ToldFaults.{cause_of_length, not_80, no_next_place, lines_told_short, length_at_end}
-use Rattle.cif_laws.proofs.files.ToldFaults.{fault_at_feed, fault_at_long, fault_at_end, fault_stays, no_fault_told}
+use Rattle.cif_laws.specs.CompleteLines.{HasNoFeed, complete_lines, open_line, line_left}
+use Rattle.cif_laws.proofs.files.CompleteLines.{lines_of_told, lines_of_ended, lines_of_open, complete_lines_plain, open_line_plain}
+use Rattle.cif_laws.proofs.files.CompleteLines.{complete_lines_ended, open_line_ended, complete_lines_stay, sure_lines_grow}
+use Rattle.cif_laws.proofs.files.ReportedFaults.{cause_of_length, not_80, no_next_place, sure_lines_short, length_at_end}
+use Rattle.cif_laws.proofs.files.ReportedFaults.{fault_at_feed, fault_at_long, fault_at_end, fault_stays, no_fault_told}
 use Rattle.cif_change.specs.declared.cause.FileCause.{FileCause}
 use Rattle.cif_change.specs.declared.cause.FileCause.TheVariants.{Memory}
 use Rattle.cif_file.specs.declared.fault.FileFault.{FileFault}
@@ -37,9 +37,9 @@ use Rattle.cif_file.proofs.TextLemmas.{record_cut}
 use Rattle.cif_change.specs.Cause.{cause_meant}
 use Rattle.cif_file.specs.KeeperRead.{Keeps, KeepsAll}
 use Rattle.cif_file.specs.RecordsRead.{HasRecords, GoesOnWith, IsNoNextCause}
-use Rattle.cif_file.specs.ParserRead.{IsEndedText, ParserState, HasRead, IsReadingOrFault, HasCounted, IsCauseNext, IsCauseBehind}
+use Rattle.cif_file.specs.ParserRead.{IsEndedText, ParserState, HasRead, IsReadingOrFault, HasCounted, IsCauseNext, IsCauseAfter}
 use Rattle.cif_file.specs.ParserRead.{IsFaultNext, IsNoEndOf, FaultsNext, EndsCounted, EndsUnended, IsLongNext, IsReading, WantsMemoryAt}
-use Rattle.cif_file.specs.ParserRead.{IsToldSoFar, IsFaultTold, IsCauseOf, IsRefused, HasNotFailed, IsLater, NamesLater, IsLast}
+use Rattle.cif_file.specs.ParserRead.{IsCauseSoFar, IsFaultReported, IsCauseOf, IsRefused, HasNotFailed, IsLater, NamesLater, IsLast}
 use Rattle.cif_file.specs.ParserRead.{NamesLast, GoesOn, TakesUpTo, TellsFault, refusal, IsRefusedNext, CountsNext}
 
 abbrev Lines : Type 0
@@ -61,10 +61,10 @@ above most n many = by (nat_le n most) refl
 -- ---- out of memory
 
 -- memory may run out at a line if some file begins with the records and that line
-memory_told : (limit : ℕ) (records : Lines) (line : List ℕ) (number : ℕ) (all : Lines) → length records < limit → GoesOnWith records line
+memory_answer : (limit : ℕ) (records : Lines) (line : List ℕ) (number : ℕ) (all : Lines) → length records < limit → GoesOnWith records line
     → number ≡ length records + 1 → all ≡ records ++ line ∷ []
     → WantsMemoryAt limit all number
-memory_told limit records line number all under goes_on counted whole =
+memory_answer limit records line number all under goes_on counted whole =
     let size : length all ≡ length records + 1 = ap (λ (l : Lines). length l) whole ∙ length-append records (line ∷ []) in
     record {
       some = omega arith;
@@ -125,7 +125,7 @@ pub refused_line : (wants : Type 0) (limit : ℕ) (records : Lines) (line : List
 refused_line wants limit records line cause fault next bad told = record {
   number = next.number;
   cause =
-      subst (IsCauseBehind wants limit records line) (sym (next.is
+      subst (IsCauseAfter wants limit records line) (sym (next.is
       ∙ ap (refusal limit (length records) next.place) (told next.place)
       ∙ some_cause (nat_le limit (length records)) (is_after_end next.place) too_many after_trailer (length_cause next.place line)))
       (record { place = next.place; at = next.at; here = inr (no_next next.place line bad); is = refl });
@@ -143,10 +143,10 @@ refused_long limit records fault next = record {
 -- within the limit, the cause of a record that can't come next is the cause of the next line
 pub front_cause : (wants : Type 0) (limit : ℕ) (records : Lines) (line : List ℕ) (cause : FileCause) → length records < limit
     → IsNoNextCause wants records line (cause_meant cause)
-    → IsCauseBehind wants limit records line (cause_meant cause)
+    → IsCauseAfter wants limit records line (cause_meant cause)
 front_cause wants limit records line cause under told = by (cause_meant cause) told
   where
-    by : (meant : Option model.FileCause) → IsNoNextCause wants records line meant → IsCauseBehind wants limit records line meant
+    by : (meant : Option model.FileCause) → IsNoNextCause wants records line meant → IsCauseAfter wants limit records line meant
     by None goes_on = (goes_on.0, under, goes_on.1)
     by (Some c) told_no = record { place = told_no.place; at = told_no.at; here = inr told_no.nowhere; is = told_no.is limit under }
 
@@ -155,10 +155,10 @@ front_cause wants limit records line cause under told = by (cause_meant cause) t
 -- if the line that ends here was taken with its earlier bytes, the reading has read the text up to
 -- here
 pub ended_read : {K : Type 0} (keeps : Keeps K) (old new : FileReading K) (limit : ℕ) (text front : List ℕ) → IsReading keeps old limit text → HasNoFeed front
-    → HasCounted keeps new.records limit (told_lines text ++ strip_carriage_return (open_line text ++ front) ∷ []) → new.partial.items ≡ []
+    → HasCounted keeps new.records limit (complete_lines text ++ strip_carriage_return (open_line text ++ front) ∷ []) → new.partial.items ≡ []
     → IsReading keeps new limit (text ++ (front ++ 10 ∷ []))
 ended_read keeps old new limit text front reading plain counted none = record {
-  counted = subst (HasCounted keeps new.records limit) (sym (told_lines_ended text front plain)) counted;
+  counted = subst (HasCounted keeps new.records limit) (sym (complete_lines_ended text front plain)) counted;
   partial_is = none ∙ sym (open_line_ended text front plain);
   short = let size = ap (λ (l : List ℕ). length l) (open_line_ended text front plain) in omega arith;
 }
@@ -166,14 +166,14 @@ ended_read keeps old new limit text front reading plain counted none = record {
 -- the fault of the line that ends here is the fault that is returned for the text
 pub ended_fault : {K : Type 0} (keeps : Keeps K) (wants : Type 0) (old : FileReading K) (limit : ℕ) (text front : List ℕ) (fault : FileFault)
     → IsReading keeps old limit text → HasNoFeed front
-    → IsFaultNext wants limit (told_lines text) (strip_carriage_return (open_line text ++ front)) fault → IsFaultTold limit (text ++ (front ++ 10 ∷ [])) fault
+    → IsFaultNext wants limit (complete_lines text) (strip_carriage_return (open_line text ++ front)) fault → IsFaultReported limit (text ++ (front ++ 10 ∷ [])) fault
 ended_fault keeps wants old limit text front fault reading plain next = by (cause_meant fault.cause) next.cause
   where
-    by : (meant : Option model.FileCause) → IsCauseBehind wants limit (told_lines text) (strip_carriage_return (open_line text ++ front)) meant
-        → IsToldSoFar limit (text ++ (front ++ 10 ∷ [])) fault.number meant
+    by : (meant : Option model.FileCause) → IsCauseAfter wants limit (complete_lines text) (strip_carriage_return (open_line text ++ front)) meant
+        → IsCauseSoFar limit (text ++ (front ++ 10 ∷ [])) fault.number meant
     by None told =
-        memory_told limit (told_lines text) (strip_carriage_return (open_line text ++ front)) fault.number
-        (told_lines (text ++ (front ++ 10 ∷ []))) told.1 told.2 next.number (told_lines_ended text front plain)
+        memory_answer limit (complete_lines text) (strip_carriage_return (open_line text ++ front)) fault.number
+        (complete_lines (text ++ (front ++ 10 ∷ []))) told.1 told.2 next.number (complete_lines_ended text front plain)
     by (Some cause) told =
         subst (λ f. IsFaultSoFar limit (text ++ (front ++ 10 ∷ [])) f) (λ i. record { number = sym next.number i; cause = told.is i })
         (fault_at_feed limit text front [] told.place plain told.at reading.counted.within told.here)
@@ -182,14 +182,14 @@ ended_fault keeps wants old limit text front fault reading plain next = by (caus
 pub ended_long : {K : Type 0} (keeps : Keeps K) (old : FileReading K) (limit : ℕ) (text front : List ℕ) (fault : FileFault) → IsReading keeps old limit text
     → HasNoFeed front
     → 82 ≤ length (open_line text ++ front)
-    → IsLongNext limit (told_lines text) fault → IsFaultTold limit (text ++ (front ++ 10 ∷ [])) fault
+    → IsLongNext limit (complete_lines text) fault → IsFaultReported limit (text ++ (front ++ 10 ∷ [])) fault
 ended_long keeps old limit text front fault reading plain many next =
     let bad = not_80 (open_line text ++ front) many in
-    subst (IsToldSoFar limit (text ++ (front ++ 10 ∷ [])) fault.number) (sym next.cause)
+    subst (IsCauseSoFar limit (text ++ (front ++ 10 ∷ [])) fault.number) (sym next.cause)
     (subst (λ f. IsFaultSoFar limit (text ++ (front ++ 10 ∷ [])) f) (λ i. record {
       number = sym next.number i;
       cause = cause_of_length limit
-          (length (told_lines text)) next.place (strip_carriage_return (open_line text ++ front)) bad i;
+          (length (complete_lines text)) next.place (strip_carriage_return (open_line text ++ front)) bad i;
     })
     (fault_at_feed limit text front [] next.place plain next.at reading.counted.within
     (inr (no_next_place next.place (strip_carriage_return (open_line text ++ front)) bad))))
@@ -202,8 +202,8 @@ pub kept_read : {K : Type 0} (keeps : Keeps K) (old new : FileReading K) (limit 
     → new.partial.items ≡ old.partial.items ++ more → IsReading keeps new limit (text ++ more)
 kept_read keeps old new limit text more reading plain few records kept = record {
   counted =
-      subst (λ r. HasCounted keeps r limit (told_lines (text ++ more))) (sym records)
-      (subst (HasCounted keeps old.records limit) (sym (told_lines_plain text more plain)) reading.counted);
+      subst (λ r. HasCounted keeps r limit (complete_lines (text ++ more))) (sym records)
+      (subst (HasCounted keeps old.records limit) (sym (complete_lines_plain text more plain)) reading.counted);
   partial_is = kept ∙ (λ i. reading.partial_is i ++ more) ∙ sym (open_line_plain text more plain);
   short =
       let size = ap (λ (l : List ℕ). length l) (open_line_plain text more plain) ∙ length-append (open_line text) more in
@@ -214,14 +214,14 @@ kept_read keeps old new limit text more reading plain few records kept = record 
 pub kept_long : {K : Type 0} (keeps : Keeps K) (old : FileReading K) (limit : ℕ) (text more : List ℕ) (fault : FileFault) → IsReading keeps old limit text
     → HasNoFeed more
     → ¬ (length old.partial.items + length more ≤ 81)
-    → IsLongNext limit (told_lines text) fault → IsFaultTold limit (text ++ more) fault
+    → IsLongNext limit (complete_lines text) fault → IsFaultReported limit (text ++ more) fault
 kept_long keeps old limit text more fault reading plain many next =
     let size = ap (λ (l : List ℕ). length l) (open_line_plain text more plain) ∙ length-append (open_line text) more in
     let same = ap (λ (l : List ℕ). length l) reading.partial_is in
-    let told = told_lines_plain text more plain in
+    let told = complete_lines_plain text more plain in
     let count = ap (λ (l : Lines). length l) told in
     let within = reading.counted.within in
-    subst (IsToldSoFar limit (text ++ more) fault.number) (sym next.cause)
+    subst (IsCauseSoFar limit (text ++ more) fault.number) (sym next.cause)
     (subst (λ f. IsFaultSoFar limit (text ++ more) f) (λ i. record {
       number = (ap (λ n. n + 1) count ∙ sym next.number) i;
       cause = cause_of_long limit
@@ -233,19 +233,19 @@ kept_long keeps old limit text more fault reading plain many next =
 -- ---- a fault that was returned stays
 
 -- a fault of a text is also a fault of each longer text
-pub told_stays : (limit : ℕ) (text more : List ℕ) (fault : FileFault) → IsFaultTold limit text fault → IsFaultTold limit (text ++ more) fault
+pub told_stays : (limit : ℕ) (text more : List ℕ) (fault : FileFault) → IsFaultReported limit text fault → IsFaultReported limit (text ++ more) fault
 told_stays limit text more fault told = by (cause_meant fault.cause) told
   where
-    by : (meant : Option model.FileCause) → IsToldSoFar limit text fault.number meant → IsToldSoFar limit (text ++ more) fault.number meant
+    by : (meant : Option model.FileCause) → IsCauseSoFar limit text fault.number meant → IsCauseSoFar limit (text ++ more) fault.number meant
     by None here =
-        let stay = told_lines_stay text more in subst (λ (l : Lines). WantsMemoryAt limit l fault.number) (sym stay.1)
-        (memory_more limit (told_lines text) stay.0 fault.number here)
+        let stay = complete_lines_stay text more in subst (λ (l : Lines). WantsMemoryAt limit l fault.number) (sym stay.1)
+        (memory_more limit (complete_lines text) stay.0 fault.number here)
     by (Some cause) here = fault_stays limit text more (record { number = fault.number; cause = cause }) here
 
 -- ---- the end
 
 counted_open : {K : Type 0} (keeps : Keeps K) (records : Records K) (limit : ℕ) (text : List ℕ) → 0 < length (open_line text)
-    → HasCounted keeps records limit (told_lines text ++ strip_carriage_return (open_line text) ∷ []) → HasCounted keeps records limit (lines_of text)
+    → HasCounted keeps records limit (complete_lines text ++ strip_carriage_return (open_line text) ∷ []) → HasCounted keeps records limit (lines_of text)
 counted_open keeps records limit text some counted = subst (HasCounted keeps records limit) (sym (lines_of_open text some)) counted
 
 -- if no line is open, all lines are complete
@@ -258,13 +258,13 @@ counted_ended keeps reading limit text is none =
 -- a fault of the line that is open at the end is a fault of the text
 pub end_fault : {K : Type 0} (keeps : Keeps K) (wants : Type 0) (reading : FileReading K) (limit : ℕ) (text : List ℕ) (fault : FileFault)
     → IsReading keeps reading limit text → 0 < length (open_line text)
-    → IsFaultNext wants limit (told_lines text) (strip_carriage_return (open_line text)) fault → IsRefused limit text fault
+    → IsFaultNext wants limit (complete_lines text) (strip_carriage_return (open_line text)) fault → IsRefused limit text fault
 end_fault keeps wants reading limit text fault is some next = by (cause_meant fault.cause) next.cause
   where
-    by : (meant : Option model.FileCause) → IsCauseBehind wants limit (told_lines text) (strip_carriage_return (open_line text)) meant
+    by : (meant : Option model.FileCause) → IsCauseAfter wants limit (complete_lines text) (strip_carriage_return (open_line text)) meant
         → IsCauseOf limit text fault.number meant
     by None told =
-        memory_told limit (told_lines text) (strip_carriage_return (open_line text)) fault.number (lines_of text) told.1 told.2 next.number
+        memory_answer limit (complete_lines text) (strip_carriage_return (open_line text)) fault.number (lines_of text) told.1 told.2 next.number
         (lines_of_open text some)
     by (Some cause) told =
         subst (λ f. IsFileFault limit text f) (λ i. record { number = sym next.number i; cause = told.is i })
@@ -297,13 +297,13 @@ pub reading_tells_none : {K : Type 0} (keeps : Keeps K) (reading : FileReading K
 reading_tells_none keeps reading limit text is = no_fault_told limit text is.counted.has.place is.counted.has.at is.counted.within is.short
 
 -- a fault that was returned earlier is the fault of the whole text
-pub told_refused : (limit : ℕ) (text : List ℕ) (fault : FileFault) → IsFaultTold limit text fault → IsRefused limit text fault
+pub told_refused : (limit : ℕ) (text : List ℕ) (fault : FileFault) → IsFaultReported limit text fault → IsRefused limit text fault
 told_refused limit text fault told = by (cause_meant fault.cause) told
   where
-    by : (meant : Option model.FileCause) → IsToldSoFar limit text fault.number meant → IsCauseOf limit text fault.number meant
+    by : (meant : Option model.FileCause) → IsCauseSoFar limit text fault.number meant → IsCauseOf limit text fault.number meant
     by None here =
         subst (λ (l : Lines). WantsMemoryAt limit l fault.number) (sym (lines_of_told text))
-        (memory_more limit (told_lines text) (line_left (open_line text)) fault.number here)
+        (memory_more limit (complete_lines text) (line_left (open_line text)) fault.number here)
     by (Some cause) here = inl here.is
 
 -- ---- a line that isn't a record
@@ -374,18 +374,18 @@ taken_is keeps old limit text front raw line reading whole strip = strip ∙ ap 
 pub ended_ok : {K : Type 0} (keeps : Keeps K) (old new : FileReading K) (limit : ℕ) (text front line : List ℕ)
     → IsReading keeps old limit text → HasNoFeed front
     → line ≡ strip_carriage_return (open_line text ++ front)
-    → HasCounted keeps new.records limit (told_lines text ++ line ∷ []) → new.partial.items ≡ [] → IsReading keeps new limit (text ++ (front ++ 10 ∷ []))
+    → HasCounted keeps new.records limit (complete_lines text ++ line ∷ []) → new.partial.items ≡ [] → IsReading keeps new limit (text ++ (front ++ 10 ∷ []))
 ended_ok keeps old new limit text front line reading plain same counted none =
-    ended_read keeps old new limit text front reading plain (subst (λ l. HasCounted keeps new.records limit (told_lines text ++ l ∷ [])) same counted) none
+    ended_read keeps old new limit text front reading plain (subst (λ l. HasCounted keeps new.records limit (complete_lines text ++ l ∷ [])) same counted) none
 
 -- a fault of the line that ends here is a fault of the text
 pub ended_err : {K : Type 0} (keeps : Keeps K) (wants : Type 0) (old : FileReading K) (limit : ℕ) (text front line : List ℕ) (fault : FileFault)
     → IsReading keeps old limit text → HasNoFeed front
     → line ≡ strip_carriage_return (open_line text ++ front) → FaultsNext keeps wants old.records line fault
-    → IsFaultTold limit (text ++ (front ++ 10 ∷ [])) fault
+    → IsFaultReported limit (text ++ (front ++ 10 ∷ [])) fault
 ended_err keeps wants old limit text front line fault reading plain same told =
     ended_fault keeps wants old limit text front fault reading plain
-    (subst (λ l. IsFaultNext wants limit (told_lines text) l fault) same (told limit (told_lines text) reading.counted))
+    (subst (λ l. IsFaultNext wants limit (complete_lines text) l fault) same (told limit (complete_lines text) reading.counted))
 
 -- if no bytes are kept, the line has no earlier bytes
 pub empty_is : {K : Type 0} (old : FileReading K) → true ≡ (length old.partial.items == 0) → old.partial.items ≡ []
@@ -408,10 +408,10 @@ some_is_open keeps old limit text reading some =
 pub counted_last : {K : Type 0} (keeps : Keeps K) (old : FileReading K) (records : Records K) (limit : ℕ) (text raw line : List ℕ)
     → IsReading keeps old limit text
     → false ≡ (length old.partial.items == 0) → raw ≡ old.partial.items
-    → line ≡ strip_carriage_return raw → HasCounted keeps records limit (told_lines text ++ line ∷ []) → HasCounted keeps records limit (lines_of text)
+    → line ≡ strip_carriage_return raw → HasCounted keeps records limit (complete_lines text ++ line ∷ []) → HasCounted keeps records limit (lines_of text)
 counted_last keeps old records limit text raw line reading some same strip counted =
     counted_open keeps records limit text (some_is_open keeps old limit text reading some)
-    (subst (λ l. HasCounted keeps records limit (told_lines text ++ l ∷ [])) (strip ∙ ap strip_carriage_return (same ∙ reading.partial_is)) counted)
+    (subst (λ l. HasCounted keeps records limit (complete_lines text ++ l ∷ [])) (strip ∙ ap strip_carriage_return (same ∙ reading.partial_is)) counted)
 
 -- ---- bytes cut at a line feed
 
@@ -524,26 +524,26 @@ takes_whole before middle after text rest up_to on = λ limit told is.
 pub fault_of_rest : (before middle : Told) (text rest : List ℕ) (fault : FileFault) → TakesUpTo before text rest middle → TellsFault middle rest fault
     → TellsFault before text fault
 fault_of_rest before middle text rest fault up_to tells = λ limit told is.
-    subst (λ t. IsFaultTold limit t fault) (append_assoc told (before_rest text rest) rest ∙ ap (λ l. told ++ l) up_to.whole)
+    subst (λ t. IsFaultReported limit t fault) (append_assoc told (before_rest text rest) rest ∙ ap (λ l. told ++ l) up_to.whole)
     (tells limit (told ++ before_rest text rest) (up_to.read limit told is))
 
 -- a fault of the first part of a text is a fault of the text
 pub fault_of_front : (before : Told) (text front behind : List ℕ) (fault : FileFault) → text ≡ front ++ behind → TellsFault before front fault
     → TellsFault before text fault
 fault_of_front before text front behind fault cut tells = λ limit told is.
-    subst (λ t. IsFaultTold limit t fault) (append_assoc told front behind ∙ ap (λ l. told ++ l) (sym cut))
+    subst (λ t. IsFaultReported limit t fault) (append_assoc told front behind ∙ ap (λ l. told ++ l) (sym cut))
     (told_stays limit (told ++ front) behind fault (tells limit told is))
 
 -- ---- a parser with a fault, and without one
 
 -- if a parser has returned a fault, it may have been fed any text with that fault
-pub read_at_fault : (parser : ParserState) (limit : ℕ) (text : List ℕ) (fault : FileFault) → parser.fault ≡ Some fault → IsFaultTold limit text fault
+pub read_at_fault : (parser : ParserState) (limit : ℕ) (text : List ℕ) (fault : FileFault) → parser.fault ≡ Some fault → IsFaultReported limit text fault
     → HasRead parser limit text
 read_at_fault parser limit text fault at told = subst (IsReadingOrFault parser.reading limit text) (sym at) told
 
 -- if a parser has returned a fault, each text that it may have been fed has the fault
 pub fault_at_read : (parser : ParserState) (limit : ℕ) (text : List ℕ) (fault : FileFault) → parser.fault ≡ Some fault → HasRead parser limit text
-    → IsFaultTold limit text fault
+    → IsFaultReported limit text fault
 fault_at_read parser limit text fault at has = subst (IsReadingOrFault parser.reading limit text) at has
 
 -- if a parser has no fault, its reading has read whatever the parser was fed
@@ -568,14 +568,14 @@ had_failed parser fault at none = none fault at
 -- ---- faults after all complete lines
 
 later_than : {K : Type 0} (keeps : Keeps K) (reading : FileReading K) (limit : ℕ) (text : List ℕ) (fault : FileFault) → IsReading keeps reading limit text
-    → fault.number ≡ length (told_lines text) + 1
-    → lines_told text < fault.number
-later_than keeps reading limit text fault is number = let same = lines_told_short text is.short in omega arith
+    → fault.number ≡ length (complete_lines text) + 1
+    → sure_lines text < fault.number
+later_than keeps reading limit text fault is number = let same = sure_lines_short text is.short in omega arith
 
 -- if the cause of a fault is `Memory`, the line may need memory
 wants_of : (wants : Type 0) (limit : ℕ) (records : Lines) (line : List ℕ) (fault : FileFault) → IsFaultNext wants limit records line fault
     → fault.cause ≡ Memory → wants
-wants_of wants limit records line fault next memory = (subst (λ cause. IsCauseBehind wants limit records line (cause_meant cause)) memory next.cause).0
+wants_of wants limit records line fault next memory = (subst (λ cause. IsCauseAfter wants limit records line (cause_meant cause)) memory next.cause).0
 
 -- a fault with another cause isn't out of memory
 no_want : (wants : Type 0) (fault : FileFault) (cause : model.FileCause) → cause_meant fault.cause ≡ Some cause → fault.cause ≡ Memory → wants
@@ -585,19 +585,19 @@ no_want wants fault cause told memory = let bad : ◌≡◌ {A = Option model.Fi
 pub later_next : {K : Type 0} (keeps : Keeps K) (wants : Type 0) (reading : FileReading K) (line : List ℕ) (fault : FileFault)
     → FaultsNext keeps wants reading.records line fault → IsLater keeps wants reading fault
 later_next keeps wants reading line fault told = λ limit text is.
-    let next = told limit (told_lines text) is.counted in
-    (later_than keeps reading limit text fault is next.number, wants_of wants limit (told_lines text) line fault next)
+    let next = told limit (complete_lines text) is.counted in
+    (later_than keeps reading limit text fault is next.number, wants_of wants limit (complete_lines text) line fault next)
 
 -- the fault of a line that is too long is later than any of the text's complete lines
 pub later_long : {K : Type 0} (keeps : Keeps K) (wants : Type 0) (reading : FileReading K) (fault : FileFault)
-    → ((limit : ℕ) (text : List ℕ) → IsReading keeps reading limit text → IsLongNext limit (told_lines text) fault) → IsLater keeps wants reading fault
+    → ((limit : ℕ) (text : List ℕ) → IsReading keeps reading limit text → IsLongNext limit (complete_lines text) fault) → IsLater keeps wants reading fault
 later_long keeps wants reading fault told = λ limit text is.
     let next = told limit text is in
-    (later_than keeps reading limit text fault is next.number, no_want wants fault (cause_of_long limit (length (told_lines text)) next.place) next.cause)
+    (later_than keeps reading limit text fault is next.number, no_want wants fault (cause_of_long limit (length (complete_lines text)) next.place) next.cause)
 
 -- a fault beyond a longer text is also beyond its first part
-later_front : (text more : List ℕ) (fault : FileFault) → lines_told (text ++ more) < fault.number → lines_told text < fault.number
-later_front text more fault later = let grown = lines_told_grow text more in omega arith
+later_front : (text more : List ℕ) (fault : FileFault) → sure_lines (text ++ more) < fault.number → sure_lines text < fault.number
+later_front text more fault later = let grown = sure_lines_grow text more in omega arith
 
 -- a fault beyond all that was read is also beyond what was read earlier
 pub later_piece : {K : Type 0} (keeps : Keeps K) (wants : Type 0) (old new : FileReading K) (front : List ℕ) (fault : FileFault)
@@ -611,8 +611,8 @@ pub later_end : {K : Type 0} (keeps : Keeps K) (wants : Type 0) (reading : FileR
     → ((limit : ℕ) (text : List ℕ) → IsReading keeps reading limit text → IsNoEndOf (lines_of text) fault)
     → IsLater keeps wants reading fault
 later_end keeps wants reading fault told = λ limit text is.
-    let same = lines_told_short text is.short in
-    let size = ap (λ (l : Lines). length l) (lines_of_told text) ∙ length-append (told_lines text) (line_left (open_line text)) in
+    let same = sure_lines_short text is.short in
+    let size = ap (λ (l : Lines). length l) (lines_of_told text) ∙ length-append (complete_lines text) (line_left (open_line text)) in
     let number = (told limit text is).0 in
     (omega arith, no_want wants fault no_end (told limit text is).1)
 
@@ -628,7 +628,7 @@ pub last_open : {K : Type 0} (keeps : Keeps K) (wants : Type 0) (reading : FileR
     → false ≡ (length reading.partial.items == 0) → FaultsNext keeps wants reading.records line fault
     → IsLast keeps reading fault
 last_open keeps wants reading line fault some told =
-    λ _ limit text is. (told limit (told_lines text) is.counted).number ∙ sym (length_at_end text (some_is_open keeps reading limit text is some))
+    λ _ limit text is. (told limit (complete_lines text) is.counted).number ∙ sym (length_at_end text (some_is_open keeps reading limit text is some))
 
 -- a fault beyond what the reading has read is beyond what the parser was fed
 pub names_later : (parser : ParserState) (reading : FileReading FileSoFar) (fault : FileFault) → parser.fault ≡ None → parser.reading ≡ reading
@@ -656,7 +656,7 @@ record_read keeps before old new text rest front line behind up_to begins same i
     takes_line before (IsReading keeps old) (IsReading keeps new) text rest at.front behind up_to at.cut
     (λ limit told reading. ended_ok keeps old new limit told at.front line reading at.cut.plain
     (taken_is keeps old limit told at.front at.front line reading (ap (λ l. l ++ at.front) (sym none)) (same ∙ at.line_is))
-    (taken limit (told_lines told) reading.counted) after)
+    (taken limit (complete_lines told) reading.counted) after)
 
 -- a fault of the record at the start of the rest is a fault of the rest
 pub record_fault : {K : Type 0} (keeps : Keeps K) (wants : Type 0) (old : FileReading K) (rest front line behind : List ℕ) (fault : FileFault)

@@ -4,7 +4,7 @@ use Rattle.std.specs.List.{concat}
 use Rattle.std.proofs.lemmas.List.{map_more, map-append, take-append-drop, take_all}
 use Rattle.std.proofs.lemmas.List.Folds.{concat-append}
 use Rattle.cif_file.specs.declared.fault.FileFault.{FileFault}
-use Rattle.cif_file.specs.ParserRead.{ParserState, HasRead, IsFaultTold, IsRefused}
+use Rattle.cif_file.specs.ParserRead.{ParserState, HasRead, IsFaultReported, IsRefused}
 use Rattle.cif_file.proofs.ParserLemmas.{told_stays, told_refused}
 
 module _ {X : Type 0} (f : X → List ℕ) where
@@ -28,7 +28,7 @@ module _ {X : Type 0} (f : X → List ℕ) where
 
   -- a fault of the first pieces is a fault of all pieces
   pub refused_front : (limit : ℕ) (pieces : List X) (i : ℕ) (d : X) (fault : FileFault) → i < length pieces
-      → IsFaultTold limit (concat (map f (take i pieces)) ++ f (get_or pieces i d)) fault
+      → IsFaultReported limit (concat (map f (take i pieces)) ++ f (get_or pieces i d)) fault
       → IsRefused limit (concat (map f pieces)) fault
   refused_front limit pieces i d fault below told =
       let whole : concat (map f (take (i + 1) pieces)) ++ concat (map f (drop (i + 1) pieces)) ≡ concat (map f pieces) =
@@ -36,6 +36,6 @@ module _ {X : Type 0} (f : X → List ℕ) where
       ∙ ap concat (sym (map-append f (take (i + 1) pieces) (drop (i + 1) pieces)))
       ∙ ap (λ all. concat (map f all)) (take-append-drop (i + 1) pieces) in
       told_refused limit (concat (map f pieces)) fault
-      (subst (λ text. IsFaultTold limit text fault) whole
+      (subst (λ text. IsFaultReported limit text fault) whole
       (told_stays limit (concat (map f (take (i + 1) pieces))) (concat (map f (drop (i + 1) pieces))) fault
-      (subst (λ text. IsFaultTold limit text fault) (sym (joined_more pieces i d below)) told)))
+      (subst (λ text. IsFaultReported limit text fault) (sym (joined_more pieces i d below)) told)))

@@ -4,9 +4,9 @@ use Rattle.std.specs.Prelude.{Option, Ok, OnOk, IfOk, IfErr}
 use Rattle.docker_model.specs.file.Text.{lines_of}
 use Rattle.docker_model.specs.file.FaultSoFar.{IsFaultSoFar}
 use Rattle.docker_model.specs.file.FileFault as model
-use Rattle.cif_laws.proofs.files.ToldFaults.{fault_in_the_end}
-use Rattle.cif_line.specs.Device.{Reads, IsEnd}
-use Rattle.cif_line.specs.Taken.{BehindEach, HasFed, HasRefused, LosesOnePieceMore}
+use Rattle.cif_laws.proofs.files.ReportedFaults.{fault_in_the_end}
+use Rattle.cif_device.specs.Device.{Reads, IsEnd}
+use Rattle.cif_device.specs.Taken.{AfterEach, HasFed, HasRefused, LosesOnePieceMore}
 use Rattle.cif_change.specs.declared.cause.FileCause.{FileCause}
 use Rattle.cif_change.specs.declared.cause.FileCause.TheVariants.{Length, Byte, Kind, Place, Field, Midnights, NoEnd, After, TooMany, Memory}
 use Rattle.cif_file.specs.declared.fault.FileFault.{FileFault}
@@ -18,7 +18,7 @@ use Rattle.cif_file.specs.declared.parser.FileReading.{FileReading}
 use Rattle.cif_file.specs.KeeperRead.{Keeps}
 use Rattle.cif_file.specs.FileTaken.{TakesFile, RefusesPiece}
 use Rattle.cif_file.proofs.ParserLemmas.{reading_tells_none}
-use Rattle.cif_file.specs.ParserRead.{EndsBy, GoesOn, TellsFault, IsReading, IsLater, IsLast, WantsMemoryAt, IsToldSoFar, IsFaultTold, IsCauseOf, IsRefused}
+use Rattle.cif_file.specs.ParserRead.{EndsBy, GoesOn, TellsFault, IsReading, IsLater, IsLast, WantsMemoryAt, IsCauseSoFar, IsFaultReported, IsCauseOf, IsRefused}
 use Rattle.cif_file.specs.SourceRead.{Held, IsFaultOf, ReadsEnded, RefusesText, ReadsNoFurther, WantsMemory, WantsMemoryBy}
 
 -- ---- pieces
@@ -35,7 +35,7 @@ at_start keeps limit reading has few = record { read = has; few = few; sound = s
 -- a piece that was read is taken after the text before it
 pub takes_more : {K : Type 0} (keeps : Keeps K) (before after : FileReading K) (piece : List ℕ) {A : Type 0} (result : Result A FileFault)
     → OnOk result (GoesOn (IsReading keeps before) piece (IsReading keeps after))
-    → OnOk result (BehindEach (TakesFile keeps) before (λ limit text. TakesFile keeps after limit (text ++ piece)))
+    → OnOk result (AfterEach (TakesFile keeps) before (λ limit text. TakesFile keeps after limit (text ++ piece)))
 takes_more keeps before after piece (Ok done) read = λ limit text has.
     let more = read limit text has.read in
     record { read = more; few = has.few; sound = reading_tells_none keeps after limit (text ++ piece) more }
@@ -44,7 +44,7 @@ takes_more keeps before after piece (Err fault) read = tt
 -- the fault that is returned for a piece is the fault of the text up to and including the piece
 pub refuses_more : {K : Type 0} (keeps : Keeps K) (wants : Type 0) (before : FileReading K) (piece : List ℕ) {A : Type 0} (result : Result A FileFault)
     → IfErr result (TellsFault (IsReading keeps before) piece) → IfErr result (IsLater keeps wants before)
-    → IfErr result (λ fault. BehindEach (TakesFile keeps) before (λ limit text. RefusesPiece wants limit text piece fault))
+    → IfErr result (λ fault. AfterEach (TakesFile keeps) before (λ limit text. RefusesPiece wants limit text piece fault))
 refuses_more keeps wants before piece (Ok done) told later = tt
 refuses_more keeps wants before piece (Err fault) told later = λ limit text has.
     let new = later limit text has.read in
@@ -91,10 +91,10 @@ memory_meant Memory none = refl
 
 -- a fault that was returned before the end is the fault of each longer text, unless it is out of
 -- memory
-told_of : (limit : ℕ) (text more : List ℕ) (fault : FileFault) → IsFaultTold limit text fault → fault.cause ≢ Memory → IsFaultOf limit (text ++ more) fault
+told_of : (limit : ℕ) (text more : List ℕ) (fault : FileFault) → IsFaultReported limit text fault → fault.cause ≢ Memory → IsFaultOf limit (text ++ more) fault
 told_of limit text more fault told other = by (cause_meant fault.cause) refl told
   where
-    by : (cause : Option model.FileCause) → cause_meant fault.cause ≡ cause → IsToldSoFar limit text fault.number cause → IsFaultOf limit (text ++ more) fault
+    by : (cause : Option model.FileCause) → cause_meant fault.cause ≡ cause → IsCauseSoFar limit text fault.number cause → IsFaultOf limit (text ++ more) fault
     by None h so_far = absurd (other (memory_meant fault.cause h))
     by (Some cause) h so_far =
         record { cause = cause; cause_is = h; is = fault_in_the_end limit text more (record { number = fault.number; cause = cause }) so_far }
@@ -216,7 +216,7 @@ wants_before keeps wants limit initial next reading fault result has file is =
         at_once = more.few;
         number = fault.number;
         first = refused.later;
-        wanting = subst (λ cause. IsToldSoFar limit (more.bytes ++ more.piece) fault.number (cause_meant cause)) wanting refused.told;
+        wanting = subst (λ cause. IsCauseSoFar limit (more.bytes ++ more.piece) fault.number (cause_meant cause)) wanting refused.told;
       }),
     )
 

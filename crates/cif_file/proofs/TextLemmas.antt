@@ -10,7 +10,7 @@ use Rattle.std.proofs.lemmas.List.{take-append-drop, length-take-le}
 use Rattle.std.proofs.lemmas.List.Elements.{All-append, All-from_recursion}
 use Rattle.std.proofs.Math.Seq.{drop-append_seam}
 use Rattle.docker_model.specs.records.Record.{IsRecord, is_printable}
-use Rattle.cif_laws.specs.LinesTold.{HasNoFeed}
+use Rattle.cif_laws.specs.CompleteLines.{HasNoFeed}
 use Rattle.cif_file.specs.Cut.{IsCut, BeginsWithEnd, BeginsWithEighty}
 
 no_feed : (b : ℕ) → is_printable b ≡ true → (b == 10) ≡ false

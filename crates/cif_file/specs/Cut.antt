@@ -1,6 +1,6 @@
 -- Texts that are cut at a line end.
 use Rattle.std.specs.Prelude.{◌≡◌, ℕ, ◌-◌, ◌⊎◌, List, ◌∷◌, ◌++◌, length, take}
-use Rattle.cif_laws.specs.LinesTold.{HasNoFeed}
+use Rattle.cif_laws.specs.CompleteLines.{HasNoFeed}
 
 -- the text is a front without a line feed, then a line feed, then the rest
 pub record IsCut (text front rest : List ℕ) : Type 0 where

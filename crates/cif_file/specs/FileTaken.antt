@@ -2,14 +2,14 @@
 use Rattle.std.specs.Prelude.{◌≡◌, ℕ, ◌^◌, ◌<◌, ◌≤◌, List, ◌++◌, length}
 use Rattle.std.proofs.Common.{arith}
 use Rattle.docker_model.specs.file.File.{most_records}
-use Rattle.docker_model.specs.file.FaultSoFar.{IsFaultSoFar, lines_told}
+use Rattle.docker_model.specs.file.FaultSoFar.{IsFaultSoFar, sure_lines}
 use Rattle.docker_model.specs.file.FileFault as model
-use Rattle.cif_laws.proofs.files.ToldBound.{text_without_fault_is_bounded}
+use Rattle.cif_laws.proofs.files.ReportedBound.{text_without_fault_is_bounded}
 use Rattle.cif_change.specs.declared.cause.FileCause.TheVariants.{Memory}
 use Rattle.cif_file.specs.declared.fault.FileFault.{FileFault}
 use Rattle.cif_file.specs.declared.parser.FileReading.{FileReading}
 use Rattle.cif_file.specs.KeeperRead.{Keeps}
-use Rattle.cif_file.specs.ParserRead.{IsReading, IsFaultTold}
+use Rattle.cif_file.specs.ParserRead.{IsReading, IsFaultReported}
 
 -- the reading has read this text, which has no fault so far, under this limit on records
 pub record TakesFile {K : Type 0} (keeps : Keeps K) (reading : FileReading K) (limit : ℕ) (text : List ℕ) : Type 0 where
@@ -29,6 +29,6 @@ taken_is_bounded keeps reading limit text has =
 -- the fault belongs to the text followed by the piece, at a record that the text without the piece
 -- doesn't complete. Memory ran out only if it may
 pub record RefusesPiece (wants : Type 0) (limit : ℕ) (text piece : List ℕ) (fault : FileFault) : Type 0 where
-  pub told : IsFaultTold limit (text ++ piece) fault
-  pub later : lines_told text < fault.number
+  pub told : IsFaultReported limit (text ++ piece) fault
+  pub later : sure_lines text < fault.number
   pub wanted : fault.cause ≡ Memory → wants

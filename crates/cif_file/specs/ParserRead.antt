@@ -2,14 +2,14 @@
 use Rattle.std.specs.Prelude.{◌≡◌, ℕ, ◌+◌, ◌<◌, ◌≤◌, ◌⊎◌, List, [], ◌∷◌, ◌++◌, length, take, Option, Some, None, nat_le}
 use Rattle.std.proofs.Common.{cond}
 use Rattle.docker_model.specs.file.Text.{lines_of}
-use Rattle.docker_model.specs.file.FaultSoFar.{IsFaultSoFar, lines_told}
+use Rattle.docker_model.specs.file.FaultSoFar.{IsFaultSoFar, sure_lines}
 use Rattle.docker_model.specs.file.File.{IsFile, BeginsFile}
 use Rattle.docker_model.specs.file.FileFault.{no_end, after_trailer, too_many, IsFileFault, IsFileText}
 use Rattle.docker_model.specs.file.FileFault as model
 use Rattle.cif_laws.specs.FileStage.{next_place, IsPlaceOf}
 use Rattle.cif_laws.specs.FileStage as law
 use Rattle.cif_laws.specs.RecordCause.{cause_of, cause_of_long, is_after_end}
-use Rattle.cif_laws.specs.LinesTold.{told_lines, open_line}
+use Rattle.cif_laws.specs.CompleteLines.{complete_lines, open_line}
 use Rattle.cif_file.specs.declared.fault.FileFault.{FileFault}
 use Rattle.cif_change.specs.declared.cause.FileCause.{FileCause}
 use Rattle.cif_change.specs.declared.cause.FileCause.TheVariants.{Memory}
@@ -44,14 +44,14 @@ pub record IsCauseNext (limit : ℕ) (records : Lines) (line : List ℕ) (cause 
 
 -- the reader has refused the line after these records for this cause. It is None for out of memory:
 -- memory ran out only if it may, and at a line that may come next
-abbrev pub IsCauseBehind : Type 0 → ℕ → Lines → List ℕ → Option model.FileCause → Type 0
-IsCauseBehind wants limit records line None = wants × (length records < limit) × GoesOnWith records line
-IsCauseBehind wants limit records line (Some cause) = IsCauseNext limit records line cause
+abbrev pub IsCauseAfter : Type 0 → ℕ → Lines → List ℕ → Option model.FileCause → Type 0
+IsCauseAfter wants limit records line None = wants × (length records < limit) × GoesOnWith records line
+IsCauseAfter wants limit records line (Some cause) = IsCauseNext limit records line cause
 
 -- the reader has returned this fault for the line after these records
 pub record IsFaultNext (wants : Type 0) (limit : ℕ) (records : Lines) (line : List ℕ) (fault : FileFault) : Type 0 where
   pub number : fault.number ≡ length records + 1
-  pub cause : IsCauseBehind wants limit records line (cause_meant fault.cause)
+  pub cause : IsCauseAfter wants limit records line (cause_meant fault.cause)
 
 -- the reader has returned this fault for a line of more than 81 bytes after these records
 pub record IsLongNext (limit : ℕ) (records : Lines) (fault : FileFault) : Type 0 where
@@ -80,7 +80,7 @@ IsNoEndOf records fault = (fault.number ≡ length records + 1) × (cause_meant 
 -- the reader has refused a line within the limit, for this cause
 abbrev pub RefusesWithin : {K : Type 0} → Keeps K → Type 0 → Front K → List ℕ → FileCause → Type 0
 RefusesWithin keeps wants front line cause =
-    (limit : ℕ) (records : Lines) → HasRecords keeps front records → length records < limit → IsCauseBehind wants limit records line (cause_meant cause)
+    (limit : ℕ) (records : Lines) → HasRecords keeps front records → length records < limit → IsCauseAfter wants limit records line (cause_meant cause)
 
 -- the reader has taken and counted the line
 abbrev pub CountsNext : {K : Type 0} → Keeps K → Records K → List ℕ → Records K → Type 0
@@ -101,7 +101,7 @@ EndsUnended keeps state fault = (limit : ℕ) (records : Lines) → HasCounted k
 -- without a fault: all complete lines of the text were taken, and the bytes after them are kept as
 -- an open line
 pub record IsReading {K : Type 0} (keeps : Keeps K) (reading : FileReading K) (limit : ℕ) (text : List ℕ) : Type 0 where
-  pub counted : HasCounted keeps reading.records limit (told_lines text)
+  pub counted : HasCounted keeps reading.records limit (complete_lines text)
   pub partial_is : reading.partial.items ≡ open_line text
   pub short : length (open_line text) ≤ 81
 
@@ -125,13 +125,13 @@ pub record WantsMemoryAt (limit : ℕ) (records : Lines) (number : ℕ) : Type 0
 
 -- this is the cause of the first complete record at fault, and that record's number. If the cause
 -- is None, memory ran out at a complete record, and no record up to it is at fault
-abbrev pub IsToldSoFar : ℕ → List ℕ → ℕ → Option model.FileCause → Type 0
-IsToldSoFar limit text number None = WantsMemoryAt limit (told_lines text) number
-IsToldSoFar limit text number (Some cause) = IsFaultSoFar limit text (record { number = number; cause = cause })
+abbrev pub IsCauseSoFar : ℕ → List ℕ → ℕ → Option model.FileCause → Type 0
+IsCauseSoFar limit text number None = WantsMemoryAt limit (complete_lines text) number
+IsCauseSoFar limit text number (Some cause) = IsFaultSoFar limit text (record { number = number; cause = cause })
 
--- like `IsToldSoFar`, for a fault that a call returns
-abbrev pub IsFaultTold : ℕ → List ℕ → FileFault → Type 0
-IsFaultTold limit text fault = IsToldSoFar limit text fault.number (cause_meant fault.cause)
+-- like `IsCauseSoFar`, for a fault that a call returns
+abbrev pub IsFaultReported : ℕ → List ℕ → FileFault → Type 0
+IsFaultReported limit text fault = IsCauseSoFar limit text fault.number (cause_meant fault.cause)
 
 -- this is the cause of the text's fault, and its record's number. If the cause is None, memory ran
 -- out at one of its records, and no record up to it is at fault
@@ -151,7 +151,7 @@ pub record ParserState : Type 0 where
 -- the reading has read this text, or has returned this fault of it
 abbrev pub IsReadingOrFault : FileReading FileSoFar → ℕ → List ℕ → Option FileFault → Type 0
 IsReadingOrFault reading limit text None = IsReading KeepsAll reading limit text
-IsReadingOrFault reading limit text (Some fault) = IsFaultTold limit text fault
+IsReadingOrFault reading limit text (Some fault) = IsFaultReported limit text fault
 
 -- the parser may have been fed this text, under this limit on records
 abbrev pub HasRead : ParserState → ℕ → List ℕ → Type 0
@@ -186,12 +186,12 @@ HasNotFailed parser = (fault : FileFault) → ¬ HasFailed parser fault
 -- no text that was read before completes the record at fault. Memory ran out only if it may
 abbrev pub IsLater : {K : Type 0} → Keeps K → Type 0 → FileReading K → FileFault → Type 0
 IsLater keeps wants reading fault =
-    (limit : ℕ) (text : List ℕ) → IsReading keeps reading limit text → (lines_told text < fault.number) × (fault.cause ≡ Memory → wants)
+    (limit : ℕ) (text : List ℕ) → IsReading keeps reading limit text → (sure_lines text < fault.number) × (fault.cause ≡ Memory → wants)
 
 -- for a parser that has returned no fault: no text that it was fed before this call completes the
 -- record at fault
 abbrev pub NamesLater : ParserState → FileFault → Type 0
-NamesLater parser fault = HasNotFailed parser → (limit : ℕ) (text : List ℕ) → HasRead parser limit text → lines_told text < fault.number
+NamesLater parser fault = HasNotFailed parser → (limit : ℕ) (text : List ℕ) → HasRead parser limit text → sure_lines text < fault.number
 
 -- if memory ran out, it was at the last record of the text that was read
 abbrev pub IsLast : {K : Type 0} → Keeps K → FileReading K → FileFault → Type 0
@@ -215,7 +215,7 @@ pub record TakesUpTo (before : ℕ → List ℕ → Type 0) (text rest : List �
 
 -- the text that was read before, followed by these bytes, has this fault
 abbrev pub TellsFault : (ℕ → List ℕ → Type 0) → List ℕ → FileFault → Type 0
-TellsFault before bytes fault = (limit : ℕ) (text : List ℕ) → before limit text → IsFaultTold limit (text ++ bytes) fault
+TellsFault before bytes fault = (limit : ℕ) (text : List ℕ) → before limit text → IsFaultReported limit (text ++ bytes) fault
 
 -- the text that was read before, followed by these bytes, has no fault
 abbrev pub TellsNoFault : (ℕ → List ℕ → Type 0) → List ℕ → Type 0

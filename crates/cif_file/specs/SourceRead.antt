@@ -1,11 +1,11 @@
 -- What a source held.
 use Rattle.std.specs.Prelude.{◌≡◌, ℕ, ◌<◌, ◌≤◌, ◌⊎◌, List, [], ◌++◌, length, Option, Some, None, ⊤}
 use Rattle.docker_model.specs.file.Text.{lines_of}
-use Rattle.docker_model.specs.file.FaultSoFar.{IsFaultSoFar, lines_told}
+use Rattle.docker_model.specs.file.FaultSoFar.{IsFaultSoFar, sure_lines}
 use Rattle.docker_model.specs.file.FileFault.{FileCause, IsFileFault}
 use Rattle.docker_model.specs.file.FileFault as model
-use Rattle.cif_laws.specs.LinesTold.{told_lines}
-use Rattle.cif_line.specs.Device.{Reads}
+use Rattle.cif_laws.specs.CompleteLines.{complete_lines}
+use Rattle.cif_device.specs.Device.{Reads}
 use Rattle.cif_file.specs.declared.ended.Ended.{Ended}
 use Rattle.cif_file.specs.declared.fault.FileFault.{FileFault}
 use Rattle.cif_change.specs.Cause.{cause_meant}
@@ -73,8 +73,8 @@ pub record WantsRecord (most limit : ℕ) (old new : Option (List ℕ)) : Type 0
   pub read : Reads old (before ++ piece) new
   pub at_once : length piece ≤ most
   pub number : ℕ
-  pub first : lines_told before < number
-  pub wanting : WantsMemoryAt limit (told_lines (before ++ piece)) number
+  pub first : sure_lines before < number
+  pub wanting : WantsMemoryAt limit (complete_lines (before ++ piece)) number
 
 -- memory ran out for the last record of a text that the source held, and no record of the text is
 -- at fault

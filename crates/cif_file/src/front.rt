@@ -151,7 +151,7 @@ impl<K: Keeper> Front<K> {
         match self.stage {
             FileStage::BeforeHeader => self.take_header(kind, line),
             FileStage::BetweenUnits => self.take_unit(number, kind, line),
-            FileStage::InSchedule(opened) => self.take_behind(number, opened, kind, line),
+            FileStage::InSchedule(opened) => self.take_after(number, opened, kind, line),
             FileStage::AfterEnd => Err(FileCause::After),
         }
     }
@@ -187,7 +187,7 @@ impl<K: Keeper> Front<K> {
     }
 
     /// Takes a record after lines of a schedule.
-    fn take_behind(
+    fn take_after(
         &mut self,
         number: u32,
         opened: Opened,

@@ -1,6 +1,6 @@
 //! Reads the file that a source holds, and only counts it.
 ghost use Rattle.std.specs.Prelude.{◌≡◌, ◌-◌, ◌^◌, ◌<◌, ◌≤◌, [], IfOk, IsOk, Err};
-ghost use Rattle.cif_line.specs.Device.{CountsFailure, IsEnd, Reads};
+ghost use Rattle.cif_device.specs.Device.{CountsFailure, IsEnd, Reads};
 ghost use Rattle.cif_file.specs.SourceRead.{CountsText, RefusesText, ReadsNoFurther};
 
 use crate::count::FileCount;

@@ -21,11 +21,11 @@ pub fn runs_near(line: &Line, day: Day) -> bool
         Some(last) => last.number(),
         None => unreachable!(),
     };
-    let marks: &[u8; 7] = line.field(22);
+    let flags: &[u8; 7] = line.field(22);
     let starts = near_starts(day);
     starts
         .iter()
-        .any(|start| runs_within(first, last, marks, *start))
+        .any(|start| runs_within(first, last, flags, *start))
 }
 
 /// The start days near a day: the day after it, the day, and the three days before it.
@@ -44,11 +44,11 @@ fn near_starts(day: Day) -> [u16; 5]
 
 /// Whether a start day is not before the first day and not after the last, and its weekday is
 /// marked.
-fn runs_within(first: u16, last: u16, marks: &[u8; 7], start: u16) -> bool
+fn runs_within(first: u16, last: u16, flags: &[u8; 7], start: u16) -> bool
     ensures { result ≡ (nat_le first start && nat_le start last
-        && runs_on_weekday marks.now (weekday_of start)) }
+        && runs_on_weekday flags.now (weekday_of start)) }
 {
-    (first <= start) && (start <= last) && marks[((start as u32 + 4) % 7) as usize] == b'1'
+    (first <= start) && (start <= last) && flags[((start as u32 + 4) % 7) as usize] == b'1'
 }
 
 /// Whether a basic schedule that is no deletion runs near a day.

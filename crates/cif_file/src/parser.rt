@@ -1,6 +1,6 @@
 //! A parser that is fed a file piece by piece.
 ghost use Rattle.std.specs.Prelude.{◌≡◌, ◌+◌, ◌≤◌, ◌↔◌, length, IsTrue, [], ◌∷◌, ◌++◌, IsOk, IfOk, IfErr, OnOk, Err};
-ghost use Rattle.cif_laws.specs.LinesTold.{HasNoFeed};
+ghost use Rattle.cif_laws.specs.CompleteLines.{HasNoFeed};
 ghost use Rattle.cif_file.specs.ParserRead.{HasRead, HasFailed, HasNotFailed, IsReading, EndsBy, IsLater, NamesLater, IsLast};
 ghost use Rattle.cif_file.specs.ParserRead.{NamesLast, GoesOn, TakesUpTo, TellsFault, TellsNoFault, EndsAs, EndsInFault};
 

@@ -1,7 +1,7 @@
 //! The file that a source holds.
 ghost use Rattle.std.specs.Prelude.{◌≡◌, ◌≢◌, ℕ, ◌-◌, ◌^◌, ◌<◌, ◌≤◌, List, [], length, IfOk, IsOk, Err};
 ghost use Rattle.docker_model.specs.file.Text.{lines_of};
-ghost use Rattle.cif_line.specs.Device.{CountsFailure, IsEnd};
+ghost use Rattle.cif_device.specs.Device.{CountsFailure, IsEnd};
 ghost use Rattle.cif_file.specs.ParserRead.{IsReading, WantsMemoryAt, EndsBy};
 ghost use Rattle.cif_file.specs.SourceRead.{IsFaultOf, ReadsEnded, ReadsText, ReadsThin, RefusesText, ReadsNoFurther, WantsMemory, WantsMemoryBy};
 

@@ -1,6 +1,6 @@
 //! Line ends.
 ghost use Rattle.std.specs.Prelude.{◌≡◌, ◌==◌, ◌<◌, IfSome, List, ℕ, length, position, MatchOption};
-ghost use Rattle.cif_laws.specs.LinesTold.{HasNoFeed};
+ghost use Rattle.cif_laws.specs.CompleteLines.{HasNoFeed};
 ghost use Rattle.cif_file.specs.Cut.{IsCut, BeginsWithEnd, BeginsWithEighty};
 ghost use Rattle.std.specs.Str.Lines.{strip_carriage_return};
 

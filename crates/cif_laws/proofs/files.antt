@@ -5,7 +5,7 @@ pub mod ChangeOrder
 pub mod UnitChanges
 pub mod FileStages
 pub mod FileCauses
-pub mod ToldLines
-pub mod ToldFaults
-pub mod ToldBound
+pub mod CompleteLines
+pub mod ReportedFaults
+pub mod ReportedBound
 pub mod FileChanges

@@ -4,6 +4,6 @@ pub mod ScheduleStage
 pub mod ScheduleFault
 pub mod FileStage
 pub mod RecordCause
-pub mod LinesTold
+pub mod CompleteLines
 pub mod LawTerms
 pub mod UnitChange

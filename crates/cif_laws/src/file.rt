@@ -91,7 +91,7 @@ pub fn schedule_goes_on_or_fault()
 
 /// A fault that the first bytes of a text show is the fault of the whole text. Bytes show at most
 /// one fault.
-pub fn told_fault_stays()
+pub fn reported_fault_stays()
     ensures so_far { (limit : ℕ) (text more : List ℕ) (fault : FileFault)
         → IsFaultSoFar limit text fault → IsFaultSoFar limit (text ++ more) fault }
     ensures in_the_end { (limit : ℕ) (text more : List ℕ) (fault : FileFault)
@@ -102,7 +102,7 @@ pub fn told_fault_stays()
 
 /// Bytes either show a fault or may still become a file, never both. They may if their complete
 /// lines begin some file and are within the limit, and at most 81 bytes follow the last line feed.
-pub fn no_fault_among_told()
+pub fn no_fault_in_complete_lines()
     ensures either { (limit : ℕ) (text : List ℕ)
         → ((fault : FileFault) × IsFaultSoFar limit text fault) ⊎ BeginsWithin limit text }
     ensures none { (limit : ℕ) (text : List ℕ) (fault : FileFault)

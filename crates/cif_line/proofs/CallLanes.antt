@@ -9,7 +9,7 @@ use lib.Lanes.{chunk, top, mask_l}
 use Rattle.docker_model.specs.records.Record.{columns}
 use Rattle.docker_model.specs.records.Clock.{is_clock, is_present_time, is_scheduled_time, is_public_time, half_minutes}
 use Rattle.cif_laws.proofs.lists.BoolsAndOptions.{both}
-use Rattle.cif_line.specs.CallRead.{half_minutes_told}
+use Rattle.cif_line.specs.CallRead.{half_minutes_or_none}
 
 -- ---- masks
 
@@ -198,13 +198,13 @@ module _ (a b c d e : ℕ) (la : a < 256) (lb : b < 256) (lc : c < 256) (ld : d 
       summed hour minute false lh lm = omega arith
 
   -- a lane gives the half minutes of its field
-  pub lane_told : cond (top 15 (time_mask a b c d e)) (lane_half_minutes a b c d e) 65535 ≡ half_minutes_told (a ∷ b ∷ c ∷ d ∷ e ∷ [])
+  pub lane_told : cond (top 15 (time_mask a b c d e)) (lane_half_minutes a b c d e) 65535 ≡ half_minutes_or_none (a ∷ b ∷ c ∷ d ∷ e ∷ [])
   lane_told =
       (λ i. cond ((ap (top 15) (time_masked a b c d e) ∙ mask_set (time_test a b c d e) ∙ time_is) i) (lane_half_minutes a b c d e) 65535)
       ∙ by (is_present_time (a ∷ b ∷ c ∷ d ∷ e ∷ [])) refl
     where
       by : (present : Bool) → is_present_time (a ∷ b ∷ c ∷ d ∷ e ∷ []) ≡ present
-          → cond (is_present_time (a ∷ b ∷ c ∷ d ∷ e ∷ [])) (lane_half_minutes a b c d e) 65535 ≡ half_minutes_told (a ∷ b ∷ c ∷ d ∷ e ∷ [])
+          → cond (is_present_time (a ∷ b ∷ c ∷ d ∷ e ∷ [])) (lane_half_minutes a b c d e) 65535 ≡ half_minutes_or_none (a ∷ b ∷ c ∷ d ∷ e ∷ [])
       by true is = (λ i. cond (is_present_time (a ∷ b ∷ c ∷ d ∷ e ∷ [])) (value_is is i) 65535)
       by false is = (λ i. cond (is i) (lane_half_minutes a b c d e) 65535) ∙ (λ i. cond (sym is i) (half_minutes (a ∷ b ∷ c ∷ d ∷ e ∷ [])) 65535)
 
@@ -311,19 +311,19 @@ module _ (line : List ℕ) (size : length line ≡ 80) (bytes : AreBytes line) w
   in_cells : AreBytes (cells 80 line)
   in_cells = subst AreBytes (sym (cells_are 80 line size)) bytes
 
-  pub arrival_told : tells line 0 1 2 3 4 ≡ half_minutes_told (columns 11 15 line)
+  pub arrival_told : tells line 0 1 2 3 4 ≡ half_minutes_or_none (columns 11 15 line)
   arrival_told =
-      subst (λ l. tells l 0 1 2 3 4 ≡ half_minutes_told (columns 11 15 l)) (cells_are 80 line size)
+      subst (λ l. tells l 0 1 2 3 4 ≡ half_minutes_or_none (columns 11 15 l)) (cells_are 80 line size)
       (lane_told _ _ _ _ _ (in_cells 10).fits (in_cells 11).fits (in_cells 12).fits (in_cells 13).fits (in_cells 14).fits)
 
-  pub departure_told : tells line 5 6 7 8 9 ≡ half_minutes_told (columns 16 20 line)
+  pub departure_told : tells line 5 6 7 8 9 ≡ half_minutes_or_none (columns 16 20 line)
   departure_told =
-      subst (λ l. tells l 5 6 7 8 9 ≡ half_minutes_told (columns 16 20 l)) (cells_are 80 line size)
+      subst (λ l. tells l 5 6 7 8 9 ≡ half_minutes_or_none (columns 16 20 l)) (cells_are 80 line size)
       (lane_told _ _ _ _ _ (in_cells 15).fits (in_cells 16).fits (in_cells 17).fits (in_cells 18).fits (in_cells 19).fits)
 
-  pub pass_told : tells line 10 11 12 13 14 ≡ half_minutes_told (columns 21 25 line)
+  pub pass_told : tells line 10 11 12 13 14 ≡ half_minutes_or_none (columns 21 25 line)
   pass_told =
-      subst (λ l. tells l 10 11 12 13 14 ≡ half_minutes_told (columns 21 25 l)) (cells_are 80 line size)
+      subst (λ l. tells l 10 11 12 13 14 ≡ half_minutes_or_none (columns 21 25 l)) (cells_are 80 line size)
       (lane_told _ _ _ _ _ (in_cells 20).fits (in_cells 21).fits (in_cells 22).fits (in_cells 23).fits (in_cells 24).fits)
 
   arrival_good : set_lane line 0 1 2 3 4 ≡ is_scheduled_time (columns 11 15 line)

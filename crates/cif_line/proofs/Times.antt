@@ -12,7 +12,7 @@ use Rattle.cif_laws.proofs.lists.BoolsAndOptions.{both}
 use Rattle.cif_laws.proofs.records.ScheduledTimes.{present_not_blank}
 use Rattle.cif_line.specs.declared.time_field.TimeField.{TimeField}
 use Rattle.cif_line.specs.TimeRead.{ReadsTime}
-use Rattle.cif_line.specs.CallRead.{half_minutes_told}
+use Rattle.cif_line.specs.CallRead.{half_minutes_or_none}
 
 -- a field of four bytes is blank if and only if it is four spaces
 pub four_spaces : (field : List ℕ) → length field ≡ 4 → bytes_eq field (codes "    ") ≡ is_blank field
@@ -73,7 +73,7 @@ half_minutes_bound field is = by (slice_index field 4 == 72) (hour_bound field c
     by false hour minute = omega arith
 
 -- the time that is read from a good field is the field's scheduled time
-pub told_read : (field : List ℕ) (told : ℕ) (time : Option ℕ) → is_scheduled_time field ≡ true → told ≡ half_minutes_told field
+pub told_read : (field : List ℕ) (told : ℕ) (time : Option ℕ) → is_scheduled_time field ≡ true → told ≡ half_minutes_or_none field
     → time ≡ cond (nat_lt told 2880) (Some told) None → time ≡ scheduled_time field
 told_read field told time good is read = read ∙ by (is_present_time field) refl
   where

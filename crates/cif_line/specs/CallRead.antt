@@ -11,5 +11,5 @@ pub record AreTimesOf (line : List ℕ) (times : CallTimes) : Type 0 where
   pub pass : times.pass ≡ scheduled_time (columns 21 25 line)
 
 -- the half minutes that are read from a field, or 65535 if it isn't a time
-abbrev pub half_minutes_told : List ℕ → ℕ
-half_minutes_told field = if is_present_time field then half_minutes field else 65535
+abbrev pub half_minutes_or_none : List ℕ → ℕ
+half_minutes_or_none field = if is_present_time field then half_minutes field else 65535

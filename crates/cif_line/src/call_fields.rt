@@ -3,7 +3,7 @@
 ghost use Rattle.std.specs.Prelude.{◌≡◌, ◌&&◌, length};
 ghost use Rattle.docker_model.specs.records.Record.{columns};
 ghost use Rattle.docker_model.specs.records.Clock.{is_scheduled_time, is_public_time};
-ghost use Rattle.cif_line.specs.CallRead.{half_minutes_told};
+ghost use Rattle.cif_line.specs.CallRead.{half_minutes_or_none};
 
 use std::simd::prelude::*;
 
@@ -42,9 +42,9 @@ impl CallFields {
             && is_scheduled_time (columns 16 20 line.now))
             && is_scheduled_time (columns 21 25 line.now))
             && is_public_time (columns 26 29 line.now)) && is_public_time (columns 30 33 line.now)) }
-        ensures arrival { result.arrival ≡ half_minutes_told (columns 11 15 line.now) }
-        ensures departure { result.departure ≡ half_minutes_told (columns 16 20 line.now) }
-        ensures pass { result.pass ≡ half_minutes_told (columns 21 25 line.now) }
+        ensures arrival { result.arrival ≡ half_minutes_or_none (columns 11 15 line.now) }
+        ensures departure { result.departure ≡ half_minutes_or_none (columns 16 20 line.now) }
+        ensures pass { result.pass ≡ half_minutes_or_none (columns 21 25 line.now) }
     {
         let times = u8x16::from_slice(&line[10..]);
         let public_times = u8x16::from_slice(&line[25..]);

@@ -36,7 +36,7 @@ pub(crate) fn is_end_date(field: &[u8; 6]) -> bool
     Until::from_field(field).is_some()
 }
 
-/// Whether a field is seven marks, each `0` or `1`.
+/// Whether a field is seven flags, each `0` or `1`.
 pub(crate) fn is_days(field: &[u8; 7]) -> bool
     ensures { result ≡ is_days field.now }
 {

@@ -4,11 +4,11 @@ ghost use Rattle.docker_model.specs.records.Date.{is_days, runs_on_weekday};
 
 use std::marker::Model;
 
-/// The weekdays on which a schedule or an association runs: seven marks, Monday first. A mark is
+/// The weekdays on which a schedule or an association runs: seven flags, Monday first. A flag is
 /// `1` if it runs on that day, and otherwise `0`.
 #[derive(Clone, Copy, PartialEq, Eq, Debug)]
 pub struct Days {
-    marks: [u8; 7],
+    flags: [u8; 7],
 }
 
 impl Model for Days {
@@ -17,21 +17,21 @@ impl Model for Days {
 
     ghost Value = { List ℕ };
 
-    ghost view = { λ days. days.marks };
+    ghost view = { λ days. days.flags };
 
-    ghost inverse = { λ marks. record { marks = marks } };
+    ghost inverse = { λ flags. record { flags = flags } };
 
-    ghost invariant = { λ days. IsTrue (is_days days.marks) };
+    ghost invariant = { λ days. IsTrue (is_days days.flags) };
 }
 
 impl Days {
-    /// The weekdays that seven marks give. None if a byte is neither `0` nor `1`.
+    /// The weekdays that seven flags give. None if a byte is neither `0` nor `1`.
     pub fn from_field(field: &[u8; 7]) -> Option<Days>
         ensures some { IsSome result ↔ IsTrue (is_days field.now) }
         ensures value { IfSome result (λ days. days ≡ field.now) }
     {
-        if are_marks(field) {
-            Some(Days { marks: *field })
+        if are_flags(field) {
+            Some(Days { flags: *field })
         } else {
             None
         }
@@ -42,12 +42,12 @@ impl Days {
         requires { weekday < 7 }
         ensures { result ≡ runs_on_weekday self.now weekday }
     {
-        self.marks[weekday as usize] == b'1'
+        self.flags[weekday as usize] == b'1'
     }
 }
 
 /// Whether each byte is `0` or `1`.
-fn are_marks(field: &[u8; 7]) -> bool
+fn are_flags(field: &[u8; 7]) -> bool
     ensures { result ≡ is_days field.now }
 {
     field.iter().all(|b| *b == b'0' || *b == b'1')

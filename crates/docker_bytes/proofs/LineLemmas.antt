@@ -12,7 +12,7 @@ use Rattle.docker_model.specs.state.StateFault as model
 use Rattle.state_laws.specs.TextStage.{advance}
 use Rattle.state_laws.proofs.texts.TextsBefore.{more_lines}
 use Rattle.state_text.specs.ScheduleKey as code
-use Rattle.state_text.specs.Meaning.{stamp_meant}
+use Rattle.docker_join.specs.Meaning.{stamp_meant}
 use Rattle.state_text.specs.Stamp as stamps
 use Rattle.state_text.specs.declared.stage.Stage.{Stage}
 use Rattle.state_text.specs.declared.stage.Stage.TheVariants as stage

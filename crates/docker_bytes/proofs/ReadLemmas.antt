@@ -2,8 +2,8 @@
 use Rattle.std.proofs.Common.{◌≡◌, ◌≢◌, ℕ, ◌<◌, List, [], ◌∷◌, ◌++◌, length, take, drop, refl, ap, sym, ◌∙◌, subst, inl, inr, ◌⊎◌, arith, append_assoc, append-nil, length-drop, Some, None, Err, Result}
 use Rattle.std.specs.Prelude.{Option, Ok, IfErr, IsOk, OnOk, ◌^◌}
 use Rattle.std.proofs.lemmas.List.{take-append-drop}
-use Rattle.cif_line.specs.Device.{Reads, IsEnd}
-use Rattle.cif_line.specs.Taken.{BehindEach, HasFed, HasRefused, LosesOnePieceMore}
+use Rattle.cif_device.specs.Device.{Reads, IsEnd}
+use Rattle.cif_device.specs.Taken.{AfterEach, HasFed, HasRefused, LosesOnePieceMore}
 use Rattle.docker_model.specs.state.State.{State}
 use Rattle.docker_model.specs.state.StateText.{Format}
 use Rattle.docker_model.specs.state.StateFault.{has_tail, IsStateText, HasTail}
@@ -17,7 +17,7 @@ use Rattle.docker_bytes.specs.declared.fault.Step.TheVariants.{Done, More}
 use Rattle.docker_bytes.specs.declared.read.ReadFault.{ReadFault}
 use Rattle.docker_bytes.specs.declared.read.ReadFault.TheVariants as fault
 use Rattle.state_text.specs.FaultMeaning.{cause_meant}
-use Rattle.docker_bytes.specs.StateReading.{format_of, IsToldSoFar, IsFaultTold, IsToldAtEnd, IsUnended, IsWhole, IsWanting, IsMadeOf, IsStep, JoinsText}
+use Rattle.docker_bytes.specs.StateReading.{format_of, IsCauseSoFar, IsFaultReported, IsCauseAtEnd, IsUnended, IsWhole, IsWanting, IsMadeOf, IsStep, JoinsText}
 use Rattle.docker_bytes.specs.ParserRead.{ParserState, HasRead, IsUnread}
 use Rattle.docker_bytes.specs.StateTaken.{RefusesPart, StateTerms, TakesState}
 use Rattle.docker_bytes.specs.SourceRead.{Held, ReadsState, ReadsMade, IsCauseOf, IsFaultOf, RefusesState, ReadsOnePieceMore, ReadsAll, WantsSoFar, WantsMemory, JoinsState}
@@ -65,26 +65,26 @@ not_memory found told result memory state is = by (memory_or_not found.cause)
     by (inr other) = (let from = state other in cc, other)
 
 told_so_far : (format : Format) (limit : ℕ) (text piece rest : List ℕ) (at : ℕ) (c : StateCause) → c ≢ cause.Memory
-    → IsToldSoFar format limit text piece at (cause_meant c)
+    → IsCauseSoFar format limit text piece at (cause_meant c)
     → IsCauseOf format limit ((text ++ piece) ++ rest) at (cause_meant c)
 told_so_far format limit text piece rest at c other = by (cause_meant c) refl
   where
-    by : (o : Option model.StateCause) → cause_meant c ≡ o → IsToldSoFar format limit text piece at o → IsCauseOf format limit ((text ++ piece) ++ rest) at o
+    by : (o : Option model.StateCause) → cause_meant c ≡ o → IsCauseSoFar format limit text piece at o → IsCauseOf format limit ((text ++ piece) ++ rest) at o
     by None is told = other (none_is_memory c is)
     by (Some k) is (inl bad) = inl (bad_part_stays format limit (text ++ piece) rest (record { at = at; cause = k }) bad)
     by (Some k) is (inr long) = inr (inl (long_stays format limit (text ++ piece) rest (record { at = at; cause = k }) long))
 
-told_at_end : (format : Format) (limit : ℕ) (text : List ℕ) (at : ℕ) (c : StateCause) → c ≢ cause.Memory → IsToldAtEnd format limit text at (cause_meant c)
+told_at_end : (format : Format) (limit : ℕ) (text : List ℕ) (at : ℕ) (c : StateCause) → c ≢ cause.Memory → IsCauseAtEnd format limit text at (cause_meant c)
     → IsCauseOf format limit text at (cause_meant c)
 told_at_end format limit text at c other = by (cause_meant c) refl
   where
-    by : (o : Option model.StateCause) → cause_meant c ≡ o → IsToldAtEnd format limit text at o → IsCauseOf format limit text at o
+    by : (o : Option model.StateCause) → cause_meant c ≡ o → IsCauseAtEnd format limit text at o → IsCauseOf format limit text at o
     by None is told = other (none_is_memory c is)
     by (Some k) is short = inr (inr (inl short))
 
 -- a fault returned for a piece is the fault of all texts that begin with the bytes up to its end
 pub told_as_state : {A : Type 0} (format : Format) (limit : ℕ) (text piece rest : List ℕ) (found told : StateFault) (result : ReadFault)
-    → IsFaultTold format limit text piece found → (found.cause ≡ cause.Memory → result ≡ fault.Memory)
+    → IsFaultReported format limit text piece found → (found.cause ≡ cause.Memory → result ≡ fault.Memory)
     → (found.cause ≢ cause.Memory → result ≡ fault.State found) → ◌≡◌ {A = Result A ReadFault} (Err result) (Err (fault.State told))
     → IsFaultOf format limit ((text ++ piece) ++ rest) told
 told_as_state format limit text piece rest found told result so_far memory state is =
@@ -101,7 +101,7 @@ ended_for format limit text IsMade found result at_end memory state = by (memory
     by : (found.cause ≡ cause.Memory) ⊎ (found.cause ≢ cause.Memory) → EndsText format limit text IsMade (Err result)
     by (inl wanting) =
         subst (λ (told : ReadFault). EndsText format limit text IsMade (Err told)) (sym (memory wanting))
-        (subst (λ c. IsToldAtEnd format limit text found.at (cause_meant c)) wanting at_end).0
+        (subst (λ c. IsCauseAtEnd format limit text found.at (cause_meant c)) wanting at_end).0
     by (inr other) =
         subst (λ (told : ReadFault). EndsText format limit text IsMade (Err told)) (sym (state other))
         (told_at_end format limit text found.at found.cause other at_end)
@@ -118,11 +118,11 @@ is_memory found result state is = by (memory_or_not found.cause)
 
 -- if out of memory is returned for a piece, memory ran out for one of its parts
 pub told_as_memory : {A : Type 0} (format : Format) (limit : ℕ) (text piece : List ℕ) (found : StateFault) (result : ReadFault)
-    → IsFaultTold format limit text piece found
+    → IsFaultReported format limit text piece found
     → (found.cause ≢ cause.Memory → result ≡ fault.State found) → ◌≡◌ {A = Result A ReadFault} (Err result) (Err fault.Memory)
     → (at : ℕ) × IsWanting format limit text piece at
 told_as_memory format limit text piece found result so_far state is =
-    (found.at, subst (λ c. IsToldSoFar format limit text piece found.at (cause_meant c)) (is_memory found result state is) so_far)
+    (found.at, subst (λ c. IsCauseSoFar format limit text piece found.at (cause_meant c)) (is_memory found result state is) so_far)
 
 -- ---- bytes after the state
 
@@ -170,7 +170,7 @@ at_start parser unread small = record { read = unread; small = small }
 -- if a parser has read a piece, it has taken the piece
 pub takes_more : {K : Type 0} (before after : ParserState K) (piece : List ℕ) {A : Type 0} (result : Result A ReadFault)
     → ((format : Format) (limit : ℕ) (text : List ℕ) → HasRead before format limit text → IsOk result → HasRead after format limit (text ++ piece))
-    → OnOk result (BehindEach TakesState before (λ terms text. TakesState after terms (text ++ piece)))
+    → OnOk result (AfterEach TakesState before (λ terms text. TakesState after terms (text ++ piece)))
 takes_more before after piece (Ok done) read = λ terms text has.
     record { read = read terms.format terms.limit text has.read refl; small = has.small }
 takes_more before after piece (Err told) read = tt
@@ -182,7 +182,7 @@ pub refuses_more : {K : Type 0} (before after : ParserState K) (piece : List ℕ
     → ((format : Format) (limit : ℕ) (text : List ℕ) → HasRead before format limit text → result ≡ Err fault.Memory
     → (at : ℕ) × IsWanting format limit text piece at)
     → result ≢ Err fault.Source
-    → IfErr result (λ told. BehindEach TakesState before (λ terms text. RefusesPart after terms text piece told))
+    → IfErr result (λ told. AfterEach TakesState before (λ terms text. RefusesPart after terms text piece told))
 refuses_more before after piece (Ok done) state memory source = tt
 refuses_more before after piece (Err told) state memory source = λ terms text has. record {
   state = λ found is. state terms.format terms.limit text has.read found (ap Err is);

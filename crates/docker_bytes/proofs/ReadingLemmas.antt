@@ -17,7 +17,7 @@ use Rattle.state_laws.proofs.texts.PartJudged.{Judged, Good, judge}
 use Rattle.docker_bytes.specs.declared.reading.StateReading.{StateReading}
 use Rattle.state_text.specs.FaultMeaning.{IsBadHere}
 use Rattle.state_text.specs.Stage.{begins_item, LeadsTo}
-use Rattle.docker_bytes.specs.StateReading.{format_of, before_of, text_of, IsReading, ReadsOn, IsToldSoFar, IsOpen}
+use Rattle.docker_bytes.specs.StateReading.{format_of, before_of, text_of, IsReading, ReadsOn, IsCauseSoFar, IsOpen}
 
 -- the bytes of a piece before a rest of it
 abbrev pub before_rest : List ℕ → List ℕ → List ℕ
@@ -187,7 +187,7 @@ part_read old new bytes is none wide some small fits leads empty reached same ke
 pub part_refused : {K : Type 0} (old : StateReading K) (front bytes : List ℕ) (at : ℕ) (cause : Option StateCause) → IsReading old → bytes ≡ old.partial.items ++ front
     → length bytes ≡ width (before_of old)
     → 0 < length front → old.reached + length bytes ≤ old.limit → at ≡ old.item_at → IsBadHere (format_of old) (before_of old) bytes cause
-    → IsToldSoFar (format_of old) old.limit (text_of old) front at cause
+    → IsCauseSoFar (format_of old) old.limit (text_of old) front at cause
 part_refused old front bytes at cause is split wide some fits same bad = by cause bad
   where
     whole : text_of old ++ front ≡ text_before (format_of old) (before_of old) ++ bytes ++ []
@@ -199,7 +199,7 @@ part_refused old front bytes at cause is split wide some fits same bad = by caus
     below = let reached = is.reached_is in omega arith
 
     by : (cause : Option StateCause) → IsBadHere (format_of old) (before_of old) bytes cause
-        → IsToldSoFar (format_of old) old.limit (text_of old) front at cause
+        → IsCauseSoFar (format_of old) old.limit (text_of old) front at cause
     by None wanting = record {
       before = before_of old;
       good = is.ready.good;
@@ -232,15 +232,15 @@ part_refused old front bytes at cause is split wide some fits same bad = by caus
 
 -- a fault returned for the first part of a piece is the fault of the piece
 pub told_stays : (format : Format) (limit : ℕ) (text read front behind : List ℕ) (at : ℕ) (cause : Option StateCause)
-    → IsToldSoFar format limit (text ++ read) front at cause
-    → IsToldSoFar format limit text ((read ++ front) ++ behind) at cause
+    → IsCauseSoFar format limit (text ++ read) front at cause
+    → IsCauseSoFar format limit text ((read ++ front) ++ behind) at cause
 told_stays format limit text read front behind at cause = by cause
   where
     whole : text ++ ((read ++ front) ++ behind) ≡ ((text ++ read) ++ front) ++ behind
     whole = sym (append_assoc text (read ++ front) behind) ∙ ap (λ xs. xs ++ behind) (sym (append_assoc text read front))
 
-    by : (cause : Option StateCause) → IsToldSoFar format limit (text ++ read) front at cause
-        → IsToldSoFar format limit text ((read ++ front) ++ behind) at cause
+    by : (cause : Option StateCause) → IsCauseSoFar format limit (text ++ read) front at cause
+        → IsCauseSoFar format limit text ((read ++ front) ++ behind) at cause
     by None wanting = record {
       before = wanting.before;
       good = wanting.good;
@@ -295,16 +295,16 @@ module _ {K : Type 0} (initial now : StateReading K) (piece rest : List ℕ) (wh
 
     -- a fault of the first bytes of the rest is a fault of the piece
     pub told_of_piece : (front behind : List ℕ) (at : ℕ) (cause : Option StateCause) → rest ≡ front ++ behind
-        → IsToldSoFar (format_of now) now.limit (text_of now) front at cause
-        → IsToldSoFar (format_of initial) initial.limit (text_of initial) piece at cause
+        → IsCauseSoFar (format_of now) now.limit (text_of now) front at cause
+        → IsCauseSoFar (format_of initial) initial.limit (text_of initial) piece at cause
     told_of_piece front behind at cause split told =
         let all = rest_more piece rest front behind whole split in
         let parted : (before_rest piece rest ++ front) ++ behind ≡ piece = ap (λ xs. xs ++ behind) (sym all.0) ∙ all.1 in
-        subst (λ xs. IsToldSoFar (format_of initial) initial.limit (text_of initial) xs at cause) parted
+        subst (λ xs. IsCauseSoFar (format_of initial) initial.limit (text_of initial) xs at cause) parted
         (told_stays (format_of initial) initial.limit (text_of initial) (before_rest piece rest) front behind at cause
-        (subst (λ f. IsToldSoFar f initial.limit (text_of initial ++ before_rest piece rest) front at cause) on.format
-        (subst (λ n. IsToldSoFar (format_of now) n (text_of initial ++ before_rest piece rest) front at cause) on.limit
-        (subst (λ xs. IsToldSoFar (format_of now) now.limit xs front at cause) on.text told))))
+        (subst (λ f. IsCauseSoFar f initial.limit (text_of initial ++ before_rest piece rest) front at cause) on.format
+        (subst (λ n. IsCauseSoFar (format_of now) n (text_of initial ++ before_rest piece rest) front at cause) on.limit
+        (subst (λ xs. IsCauseSoFar (format_of now) now.limit xs front at cause) on.text told))))
 
     -- if the first bytes of the rest were read, the piece was read up to their end
     pub reads_further : (next : StateReading K) (front behind : List ℕ) → rest ≡ front ++ behind → ReadsOn now next front

@@ -10,7 +10,7 @@ use Rattle.state_text.specs.declared.stage.Stage.{Stage}
 use Rattle.state_text.specs.declared.stage.Stage.TheVariants as stage
 use Rattle.docker_bytes.specs.declared.reading.StateReading.{StateReading}
 use Rattle.state_text.specs.Stage.{stage_meant}
-use Rattle.docker_bytes.specs.StateReading.{format_of, before_of, text_of, IsReading, IsWhole, IsOpen, IsToldAtEnd}
+use Rattle.docker_bytes.specs.StateReading.{format_of, before_of, text_of, IsReading, IsWhole, IsOpen, IsCauseAtEnd}
 use Rattle.docker_bytes.specs.ParserRead.{ParserState, HasRead}
 use Rattle.std.proofs.lemmas.Bool.{cases_lt}
 use Rattle.std.proofs.lemmas.List.{nil_from_length}
@@ -57,7 +57,7 @@ whole_text reading is none = record {
 
 -- if there is no next part, the end of the text is where the next item would begin
 pub wanting_at_end : {K : Type 0} (reading : StateReading K) → IsReading reading → width (before_of reading) ≡ 0
-    → IsToldAtEnd (format_of reading) reading.limit (text_of reading) reading.item_at None
+    → IsCauseAtEnd (format_of reading) reading.limit (text_of reading) reading.item_at None
 wanting_at_end reading is none =
     let whole = whole_text reading is none in
     ((reading.parts, whole), is.item_is ∙ ap length (ap (items_before (format_of reading)) (at_its_end reading is none) ∙ sym whole.is))

@@ -1,6 +1,6 @@
 -- The end of reading a state's text from a source.
 use Rattle.std.specs.Prelude.{◌≡◌, ℕ, ◌+◌, List, Option, Some, None, Result, Ok, Err, ⊤}
-use Rattle.cif_line.specs.FeedEnds.{most_at_once}
+use Rattle.cif_device.specs.FeedEnds.{most_at_once}
 use Rattle.docker_model.specs.state.StateText.{Format}
 use Rattle.docker_bytes.specs.declared.read.ReadFault.{ReadFault}
 use Rattle.docker_bytes.specs.declared.read.ReadFault.TheVariants.{Source, State, Memory}

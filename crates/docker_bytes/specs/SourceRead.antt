@@ -1,6 +1,6 @@
 -- What a source held.
 use Rattle.std.specs.Prelude.{◌≡◌, ℕ, ◌≤◌, ◌⊎◌, List, [], ◌++◌, length, Option, Some, None, ⊤}
-use Rattle.cif_line.specs.Device.{Reads}
+use Rattle.cif_device.specs.Device.{Reads}
 use Rattle.docker_model.specs.state.State.{State, IsJoin}
 use Rattle.docker_model.specs.state.StateText.{Format}
 use Rattle.docker_model.specs.state.StateFault.{IsStateFault, IsStateText}

@@ -64,14 +64,14 @@ pub record IsWanting (format : Format) (limit : ℕ) (text piece : List ℕ) (at
 
 -- a fault returned for a piece after a text: a bad part, or a byte needed at the limit; or memory
 -- ran out
-abbrev pub IsToldSoFar : Format → ℕ → List ℕ → List ℕ → ℕ → Option model.StateCause → Type 0
-IsToldSoFar format limit text piece at None = IsWanting format limit text piece at
-IsToldSoFar format limit text piece at (Some cause) =
+abbrev pub IsCauseSoFar : Format → ℕ → List ℕ → List ℕ → ℕ → Option model.StateCause → Type 0
+IsCauseSoFar format limit text piece at None = IsWanting format limit text piece at
+IsCauseSoFar format limit text piece at (Some cause) =
     HasBadPart format limit (text ++ piece) (record { at = at; cause = cause }) ⊎ IsLong format limit (text ++ piece) (record { at = at; cause = cause })
 
 -- the same for the fault that a call returns
-abbrev pub IsFaultTold : Format → ℕ → List ℕ → List ℕ → StateFault → Type 0
-IsFaultTold format limit text piece fault = IsToldSoFar format limit text piece fault.at (cause_meant fault.cause)
+abbrev pub IsFaultReported : Format → ℕ → List ℕ → List ℕ → StateFault → Type 0
+IsFaultReported format limit text piece fault = IsCauseSoFar format limit text piece fault.at (cause_meant fault.cause)
 
 -- the text is a valid state's, within the limit
 abbrev pub IsWhole : Format → ℕ → List ℕ → Type 0
@@ -83,13 +83,13 @@ IsOpen format limit text = (fault : model.StateFault) × IsShort format limit te
 
 -- the fault of a text that ends before the state does; or memory ran out at the end of a complete
 -- text, and the offset is that end
-abbrev pub IsToldAtEnd : Format → ℕ → List ℕ → ℕ → Option model.StateCause → Type 0
-IsToldAtEnd format limit text at None = IsWhole format limit text × (at ≡ length text)
-IsToldAtEnd format limit text at (Some cause) = IsShort format limit text (record { at = at; cause = cause })
+abbrev pub IsCauseAtEnd : Format → ℕ → List ℕ → ℕ → Option model.StateCause → Type 0
+IsCauseAtEnd format limit text at None = IsWhole format limit text × (at ≡ length text)
+IsCauseAtEnd format limit text at (Some cause) = IsShort format limit text (record { at = at; cause = cause })
 
 -- the same for the fault that a call returns
 abbrev pub IsUnended : Format → ℕ → List ℕ → StateFault → Type 0
-IsUnended format limit text fault = IsToldAtEnd format limit text fault.at (cause_meant fault.cause)
+IsUnended format limit text fault = IsCauseAtEnd format limit text fault.at (cause_meant fault.cause)
 
 -- what a step says of the text so far, when it used `n` bytes of a piece
 abbrev pub IsStep : Format → ℕ → List ℕ → List ℕ → ℕ × Step → Type 0

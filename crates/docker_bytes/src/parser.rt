@@ -2,7 +2,7 @@
 ghost use Rattle.std.specs.Prelude.{◌≡◌, ℕ, ◌+◌, ◌≤◌, List, [], ◌++◌, length, take, IsOk, IsErr, IfOk, IfErr, Ok, Err, None};
 ghost use Rattle.docker_model.specs.state.StateText as formats;
 ghost use Rattle.state_text.specs.FormatMeaning.{format_meant};
-ghost use Rattle.docker_bytes.specs.StateReading.{IsFaultTold, IsUnended, IsStep, IsMadeOf, IsWhole, JoinsText};
+ghost use Rattle.docker_bytes.specs.StateReading.{IsFaultReported, IsUnended, IsStep, IsMadeOf, IsWhole, JoinsText};
 ghost use Rattle.docker_bytes.specs.ParserRead.{HasRead, HasFailed};
 
 use crate::fault::{StateFault, Step};
@@ -61,7 +61,7 @@ impl<K: Keeper> Parser<K> {
             result ≡ Ok (0, Step.Done) }
         ensures err { (format : formats.Format) (limit : ℕ) (text : List ℕ) →
             HasRead self.old format limit text →
-            IfErr result (λ fault. IsFaultTold format limit text piece.now fault) }
+            IfErr result (λ fault. IsFaultReported format limit text piece.now fault) }
         ensures sound { IsOk result → self.new.fault ≡ None }
         ensures failed { IfErr result (λ fault. HasFailed self.new fault) }
         ensures again { (fault : _) → HasFailed self.old fault → result ≡ Err fault }

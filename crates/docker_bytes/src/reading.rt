@@ -2,7 +2,7 @@
 ghost use Rattle.std.specs.Prelude.{◌≡◌, ◌+◌, ◌-◌, ◌/◌, ◌<◌, ◌≤◌, ◌↔◌, [], ◌++◌, length, min, take, IsTrue, IsOk, IsErr, IfOk, IfErr};
 ghost use Rattle.docker_model.specs.state.StatePart.{width};
 ghost use Rattle.state_text.specs.FormatMeaning.{format_meant};
-ghost use Rattle.docker_bytes.specs.StateReading.{format_of, before_of, text_of, IsReading, ReadsOn, IsPartRefused, IsFaultTold, IsUnended, IsStep, IsMadeOf, JoinsText, IsInnerLine, HasOneLineMore};
+ghost use Rattle.docker_bytes.specs.StateReading.{format_of, before_of, text_of, IsReading, ReadsOn, IsPartRefused, IsFaultReported, IsUnended, IsStep, IsMadeOf, JoinsText, IsInnerLine, HasOneLineMore};
 
 use crate::fault::{StateFault, Step};
 use arrayvec::ArrayVec;
@@ -139,7 +139,7 @@ impl<K: Keeper> StateReading<K> {
             take (length piece.now - length behind.now) piece.now ++ behind.now ≡ piece.now) }
         ensures on { IfOk result (λ behind.
             ReadsOn self.old self.new (take (length piece.now - length behind.now) piece.now)) }
-        ensures err { IfErr result (λ fault. IsFaultTold (format_of self.old) self.old.limit
+        ensures err { IfErr result (λ fault. IsFaultReported (format_of self.old) self.old.limit
             (text_of self.old) piece.now fault) }
     {
         let Stage::Line(_entries, key, _stamp, count) = self.stage else {
@@ -203,7 +203,7 @@ impl<K: Keeper> StateReading<K> {
             ≡ width (before_of self.old) }
         requires some { 0 < length front.now }
         ensures ok { IsOk result → ReadsOn self.old self.new front.now }
-        ensures err { IfErr result (λ fault. IsFaultTold (format_of self.old) self.old.limit
+        ensures err { IfErr result (λ fault. IsFaultReported (format_of self.old) self.old.limit
             (text_of self.old) front.now fault) }
     {
         if (self.partial.len() + front.len()) as u64 > self.limit - self.reached {
@@ -223,7 +223,7 @@ impl<K: Keeper> StateReading<K> {
         requires short { length self.old.partial.items + length more.now
             < width (before_of self.old) }
         ensures ok { IsOk result → ReadsOn self.old self.new more.now }
-        ensures err { IfErr result (λ fault. IsFaultTold (format_of self.old) self.old.limit
+        ensures err { IfErr result (λ fault. IsFaultReported (format_of self.old) self.old.limit
             (text_of self.old) more.now fault) }
     {
         if (self.partial.len() + more.len()) as u64 > self.limit - self.reached {
@@ -240,7 +240,7 @@ impl<K: Keeper> StateReading<K> {
         ensures on { IfOk result (λ answer. ReadsOn self.old self.new (take answer.0 piece.now)) }
         ensures step { IfOk result (IsStep (format_of self.old) self.old.limit
             (text_of self.old) piece.now) }
-        ensures err { IfErr result (λ fault. IsFaultTold (format_of self.old) self.old.limit
+        ensures err { IfErr result (λ fault. IsFaultReported (format_of self.old) self.old.limit
             (text_of self.old) piece.now fault) }
     {
         let mut rest = piece;

@@ -3,7 +3,7 @@ ghost use Rattle.std.specs.Prelude.{◌≡◌, ℕ, ◌+◌, ◌≤◌, List, []
 ghost use Rattle.docker_model.specs.state.StateText.{dks_2};
 ghost use Rattle.docker_model.specs.state.StateText as formats;
 ghost use Rattle.docker_model.specs.state.StateFault.{IsStateText};
-ghost use Rattle.docker_bytes.specs.StateReading.{IsFaultTold, IsUnended, IsStep, IsWhole};
+ghost use Rattle.docker_bytes.specs.StateReading.{IsFaultReported, IsUnended, IsStep, IsWhole};
 ghost use Rattle.docker_bytes.specs.ParserRead.{HasRead, HasFailed};
 
 use crate::fault::{StateFault, Step};
@@ -58,7 +58,7 @@ impl StateParser {
             result ≡ Ok (0, Step.Done) }
         ensures err { (format : formats.Format) (limit : ℕ) (text : List ℕ) →
             HasRead self.old format limit text →
-            IfErr result (λ fault. IsFaultTold format limit text piece.now fault) }
+            IfErr result (λ fault. IsFaultReported format limit text piece.now fault) }
         ensures failed { IfErr result (λ fault. HasFailed self.new fault) }
         ensures again { (fault : _) → HasFailed self.old fault → result ≡ Err fault }
     {

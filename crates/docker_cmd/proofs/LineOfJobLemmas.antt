@@ -8,7 +8,7 @@ use Rattle.std.proofs.lemmas.Bool.Decides.{leb_tells}
 use Rattle.std.specs.List.{AllByRecursion, AllPass}
 use Rattle.std.proofs.lemmas.List.Elements.{recursion_from_All}
 use Rattle.docker_model.specs.records.Record.{is_printable}
-use Rattle.cif_line.specs.Device.{Reads, IsEnd}
+use Rattle.cif_device.specs.Device.{Reads, IsEnd}
 use Rattle.docker_cmd.specs.Job.{NameNoJob}
 use Rattle.docker_cmd.specs.JobLine.{ReadsLine, HasNoLine, HasNoJob, HasJob, ReadsAtMost, words_in}
 

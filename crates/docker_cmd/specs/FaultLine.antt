@@ -1,8 +1,8 @@
 -- How a fault is reported: the exit status, and one line on standard error.
 use Rattle.std.specs.Prelude.{◌≡◌, ℕ, List, ◌++◌, Result, Ok, Err, codes, decimal}
-use Rattle.cif_line.specs.Device.{CountsFailure}
+use Rattle.cif_device.specs.Device.{CountsFailure}
 use Rattle.cif_file.specs.declared.fault.FileFault.{FileFault}
-use Rattle.cif_file.specs.Cause.{cause_text}
+use Rattle.cif_change.specs.Cause.{cause_text}
 use Rattle.docker_office.specs.StateFault.{StateFault}
 use Rattle.docker_office.specs.FaultText as state_text
 use Rattle.docker_cmd.specs.Tasks.{usage_line}

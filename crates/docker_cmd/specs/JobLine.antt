@@ -2,7 +2,7 @@
 use Rattle.std.specs.Prelude.{◌≡◌, ℕ, ◌==◌, ◌≤◌, Bool, not, if◌then◌else◌, List, [], ◌∷◌, ◌++◌, length, filter, Option, Some, None, ⊤}
 use Rattle.std.specs.List.{AllPass, slice_split}
 use Rattle.docker_model.specs.records.Record.{is_printable}
-use Rattle.cif_line.specs.Device.{Reads, IsEnd}
+use Rattle.cif_device.specs.Device.{Reads, IsEnd}
 use Rattle.docker_cmd.specs.Job.{JobView, IsJobOf, NameNoJob}
 
 -- a job line has at most 255 bytes, all printable

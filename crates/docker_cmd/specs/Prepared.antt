@@ -1,6 +1,6 @@
 -- What a job reads, and what it writes.
 use Rattle.std.specs.Prelude.{◌≡◌, ◌≢◌, ℕ, ◌+◌, ◌⊎◌, ⊤, List, [], ◌∷◌, Option, Some, None, Result, Ok, Err}
-use Rattle.cif_line.specs.Device.{Reads, Takes, TakesPart, IsEnd}
+use Rattle.cif_device.specs.Device.{Reads, Takes, TakesPart, IsEnd}
 use Rattle.cif_file.specs.FileRead.{FileCounted}
 use Rattle.cif_file.specs.SourceRead.{Held, CountsText, RefusesText, ReadsNoFurther}
 use Rattle.cif_file.specs.declared.fault.FileFault.{FileFault}

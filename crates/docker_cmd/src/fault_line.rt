@@ -1,7 +1,7 @@
 //! The exit status of a fault, and its line on standard error.
 ghost use Rattle.std.specs.Prelude.{◌≡◌, ◌+◌, ◌≤◌, ◌++◌, [], decimal};
 ghost use Rattle.arrayvec.specs.ArrayVec.{array_vec_len};
-ghost use Rattle.cif_file.specs.Cause.{cause_text};
+ghost use Rattle.cif_change.specs.Cause.{cause_text};
 ghost use Rattle.docker_cmd.specs.FaultLine.{status_of, fault_line, file_line, state_line};
 
 use crate::fault::Fault;

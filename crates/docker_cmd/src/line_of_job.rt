@@ -1,7 +1,7 @@
 //! The job line. A program without words reads them from the first line of its standard input.
 ghost use Rattle.std.specs.Prelude.{◌≡◌, ◌+◌, ◌*◌, ◌-◌, ◌^◌, ◌<◌, ◌≤◌, ◌↔◌, ◌≢◌, ◌++◌, length, Some, IfOk, IsErr, OnErr, Err, MatchOption, IfSome};
 ghost use Rattle.std.specs.List.{position_or_len, before_first, after_first};
-ghost use Rattle.cif_line.specs.Device.{CountsFailure};
+ghost use Rattle.cif_device.specs.Device.{CountsFailure};
 ghost use Rattle.docker_cmd.specs.Job.{IsJobOf, NameNoJob};
 ghost use Rattle.arrayvec.specs.ArrayVec.{array_vec_len};
 ghost use Rattle.docker_cmd.specs.JobLine.{HasJob, HasNoJob, HasNoLine, IsLineText, ReadsAtMost, ReadsByte, ReadsJob, ReadsLine, is_space, word_or_none, words_in};

@@ -3,12 +3,12 @@ use Rattle.std.proofs.Common.{◌≡◌, ℕ, List, [], ◌++◌, ap, sym, ◌�
 use Rattle.std.specs.Prelude.{Option}
 use Rattle.std.proofs.lemmas.Grind.{flat_map-append}
 use Rattle.docker_model.specs.docker.Choice.{Group, Train}
-use Rattle.docker_laws.specs.Index.{AreCalling, AreLinked}
+use Rattle.state_laws.specs.Index.{AreCalling, AreLinked}
 use Rattle.docker_laws.proofs.dockers.IndexedWalk.{indexed_walk}
 use Rattle.std.specs.List.Sorted.{IsSorted, IsPermutation}
 use Rattle.docker_model.specs.state.State.{HasGoodBodies}
 use Rattle.docker_model.specs.state.Table.{Table}
-use Rattle.docker_laws.specs.Row.{Row, AreRowsOf}
+use Rattle.state_laws.specs.Row.{Row, AreRowsOf}
 use Rattle.docker_laws.specs.LiveRows.{Link, train_in, link_in}
 use Rattle.docker_laws.specs.Gathering.{IsWalk, row_lines, gathered}
 use Rattle.docker_model.specs.docker.DockerLine.{DockerLine, docker_line_cmp}

@@ -7,7 +7,7 @@ use Rattle.std.proofs.lemmas.List.{take-append-le}
 use Rattle.std.proofs.Math.Seq.{take-append-add, drop-cons}
 use Rattle.std.proofs.lemmas.Result.{on_ok_weaker, on_err_weaker}
 use Rattle.cif_device.proofs.DeviceLemmas.{counts_error}
-use Rattle.cif_line.specs.Device.{CountsFailure, Takes, TakesPart}
+use Rattle.cif_device.specs.Device.{CountsFailure, Takes, TakesPart}
 
 -- if two parts are taken one after the other, the text of both is taken
 pub both_taken : (first second third : Option (List ℕ)) (front back : List ℕ) → Takes first front second → Takes second back third

@@ -2,7 +2,7 @@
 //! line feed.
 ghost use Rattle.std.specs.Prelude.{◌≡◌, ℕ, List, ◌-◌, ◌^◌, ◌<◌, IsErr, OnOk, OnErr};
 ghost use Rattle.std.specs.List.{flat_map};
-ghost use Rattle.cif_line.specs.Device.{CountsFailure, Takes, TakesPart};
+ghost use Rattle.cif_device.specs.Device.{CountsFailure, Takes, TakesPart};
 ghost use Rattle.docker_model.specs.state.Table.{Table};
 ghost use Rattle.docker_model.specs.docker.DockerText.{IsDockerText, detail_text, line_text, last_line, ended};
 ghost use Rattle.docker_day.specs.Details.{detail_meant};

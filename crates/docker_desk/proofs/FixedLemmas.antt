@@ -22,7 +22,7 @@ use Rattle.docker_cmd.specs.RunEnds.{EndsWith, PrintsAs}
 use Rattle.state_lists.specs.Places.{IsPlacesText}
 use Rattle.docker_desk.specs.Answering.{answers_of, lines_of}
 use Rattle.docker_desk.specs.Learning.{IsKnown}
-use Rattle.docker_desk.specs.Moments.{Step}
+use Rattle.docker_desk.specs.SessionViews.{Step}
 
 -- the same files under the same horizon have one state
 pub one_state : (first second : Known) (one two : State) → IsKnown first one → IsKnown second two → AreOneKnowledge first second → one ≡ two

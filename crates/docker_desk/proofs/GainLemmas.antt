@@ -14,7 +14,7 @@ use Rattle.docker_host.specs.History.{Bytes, Event, Text, looked}
 use Rattle.docker_desk.specs.Desk.{EndsReceiving, EndsRenewing, EndsSaving, EndsTaking}
 use Rattle.docker_desk.specs.Doing.{AreSteps, DoesAsked, DoesRequest, Joins, Renews, Saves, answer_of}
 use Rattle.docker_desk.specs.Learning.{GainedBy, GainsAsked, GainsDone, GainsFile, GainsVersion, IsPlaced, renewing}
-use Rattle.docker_desk.specs.Moments.{Moment, Setting, Step}
+use Rattle.docker_desk.specs.SessionViews.{SessionView, Setting, Step}
 use Rattle.docker_desk.specs.Reading.{Reading, StopsInFile, StopsInState, events_of, opening_of}
 use Rattle.docker_desk.specs.Replies.{AnswerView, done_with, no_request, refused_for}
 use Rattle.docker_desk.specs.Requests.{RequestView, print_request, permanent_request, train_request, files_request, places_request, known_request, renew_request, take_request, merge_request, horizon_request, save_request}
@@ -38,7 +38,7 @@ module _ (earlier : List (List ℕ)) where
   gained_both [] more old now new first second = subst (λ s. AreGained earlier more s new) first second
   gained_both (gain ∷ gains) more old now new first second = (first.0, first.1, gained_both gains more first.0 now new first.2 second)
 
-  module _ (setting : Setting) (before after : Moment) where
+  module _ (setting : Setting) (before after : SessionView) where
     -- a file that was taken
     gained_file : (file : Text) (text : List ℕ) (gains : List Gain) → Joins file StopsInFile EndsTaking before (done_with text) after
         → GainsFile file before after gains → AreGained earlier gains before.desk.state after.desk.state
@@ -97,17 +97,17 @@ module _ (earlier : List (List ℕ)) where
     gained_done : (request : RequestView) (text : List ℕ) (gains : List Gain) → ((day : ℕ) → request ≡ horizon_request day → IsDay day)
         → DoesRequest setting request before (done_with text) after → GainsDone setting earlier request before after gains
         → AreGained earlier gains before.desk.state after.desk.state
-    gained_done (print_request place day) text gains days does gained = gained_none gains _ _ gained (ap (λ (m : Moment). m.desk.state) does.1)
-    gained_done (permanent_request place day) text gains days does gained = gained_none gains _ _ gained (ap (λ (m : Moment). m.desk.state) does.1)
-    gained_done (train_request uid day) text gains days does gained = gained_none gains _ _ gained (ap (λ (m : Moment). m.desk.state) does.1)
-    gained_done files_request text gains days does gained = gained_none gains _ _ gained (ap (λ (m : Moment). m.desk.state) does.1)
-    gained_done places_request text gains days does gained = gained_none gains _ _ gained (ap (λ (m : Moment). m.desk.state) does.1)
-    gained_done known_request text gains days does gained = gained_none gains _ _ gained (ap (λ (m : Moment). m.desk.state) does.1)
+    gained_done (print_request place day) text gains days does gained = gained_none gains _ _ gained (ap (λ (m : SessionView). m.desk.state) does.1)
+    gained_done (permanent_request place day) text gains days does gained = gained_none gains _ _ gained (ap (λ (m : SessionView). m.desk.state) does.1)
+    gained_done (train_request uid day) text gains days does gained = gained_none gains _ _ gained (ap (λ (m : SessionView). m.desk.state) does.1)
+    gained_done files_request text gains days does gained = gained_none gains _ _ gained (ap (λ (m : SessionView). m.desk.state) does.1)
+    gained_done places_request text gains days does gained = gained_none gains _ _ gained (ap (λ (m : SessionView). m.desk.state) does.1)
+    gained_done known_request text gains days does gained = gained_none gains _ _ gained (ap (λ (m : SessionView). m.desk.state) does.1)
     gained_done renew_request text gains days does gained = gained_renewed text gains does gained
     gained_done (take_request file) text gains days does gained = gained_file file text gains does gained
     gained_done (merge_request other) text gains days does gained = gained_merged other text gains does gained
     gained_done (horizon_request day) text gains days does gained =
-        gained_one (horizon_gained day) gains before.desk.state after.desk.state gained (days day refl, ap (λ (m : Moment). m.desk.state) does.1)
+        gained_one (horizon_gained day) gains before.desk.state after.desk.state gained (days day refl, ap (λ (m : SessionView). m.desk.state) does.1)
     gained_done save_request text gains days does gained =
         gained_none gains _ _ gained (same_saved setting before after does.result does.desk)
 
@@ -115,7 +115,7 @@ module _ (earlier : List (List ℕ)) where
     gained_asked : (request : Option RequestView) (answer : AnswerView) (gains : List Gain) → ((day : ℕ) → request ≡ Some (horizon_request day) → IsDay day)
         → DoesAsked setting request before answer after → GainsAsked setting earlier request before answer after gains
         → AreGained earlier gains before.desk.state after.desk.state
-    gained_asked None answer gains days does gained = gained_none gains _ _ gained (ap (λ (m : Moment). m.desk.state) does.1)
+    gained_asked None answer gains days does gained = gained_none gains _ _ gained (ap (λ (m : SessionView). m.desk.state) does.1)
     gained_asked (Some request) (done_with text) gains days does gained =
         gained_done request text gains (λ day same. days day (ap Some same)) does gained
     gained_asked (Some request) (refused_for fault) gains days does gained =
@@ -124,19 +124,19 @@ module _ (earlier : List (List ℕ)) where
 
   module _ (setting : Setting) where
     -- by steps
-    gained_steps : (first last : Moment) (steps : List Step) (gains : List Gain) → AreSteps setting first steps last → GainedBy setting earlier steps gains
+    gained_steps : (first last : SessionView) (steps : List Step) (gains : List Gain) → AreSteps setting first steps last → GainedBy setting earlier steps gains
         → AreGained earlier gains first.desk.state last.desk.state
-    gained_steps first last [] gains are gained = gained_none gains _ _ gained (ap (λ (m : Moment). m.desk.state) are)
+    gained_steps first last [] gains are gained = gained_none gains _ _ gained (ap (λ (m : SessionView). m.desk.state) are)
     gained_steps first last (step ∷ steps) gains are gained =
         subst (λ g. AreGained earlier g first.desk.state last.desk.state) (sym gained.1.1.1.1)
-        (subst (λ (m : Moment). AreGained earlier (gained.0 ++ gained.1.0) m.desk.state last.desk.state) are.0
+        (subst (λ (m : SessionView). AreGained earlier (gained.0 ++ gained.1.0) m.desk.state last.desk.state) are.0
         (gained_both gained.0 gained.1.0 step.before.desk.state step.after.desk.state last.desk.state
         (gained_asked setting step.before step.after step.request step.answer gained.0
         (λ day same. day_asked setting.may_write step.line step.request day are.1.0.asks same) are.1.0.does gained.1.1.0)
         (gained_steps step.after last steps gained.1.0 are.1.1 gained.1.1.1.0)))
 
     -- what is saved then
-    pub places_version : (first before after : Moment) (steps : List Step) (old : List Event) (own : ℕ) (gains : List Gain) (answer : List ℕ)
+    pub places_version : (first before after : SessionView) (steps : List Step) (old : List Event) (own : ℕ) (gains : List Gain) (answer : List ℕ)
         → (begins : BeginsAt setting.name old first) → HoldsVersion earlier begins.held own → AreSteps setting first steps before
         → GainedBy setting earlier steps gains → Saves setting before (done_with answer) after → IsPlaced setting earlier own gains before after
     places_version first before after steps old own gains answer begins holds are gained does = by does.result does.told does.stores

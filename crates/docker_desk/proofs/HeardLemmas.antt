@@ -12,7 +12,7 @@ use Rattle.docker_desk.specs.Reading.{Reading, StopsInFile, StopsInState, events
 use Rattle.docker_desk.specs.declared.compared.Compared.{Compared}
 use Rattle.docker_desk.specs.Requests.{RequestView, print_request, permanent_request, train_request, files_request, places_request, known_request, renew_request, take_request, merge_request, horizon_request, save_request}
 use Rattle.docker_desk.specs.Replies.{AnswerView, done_with, no_request, refused_for}
-use Rattle.docker_desk.specs.Moments.{Moment, Setting, Step}
+use Rattle.docker_desk.specs.SessionViews.{SessionView, Setting, Step}
 use Rattle.docker_desk.specs.Doing.{AreSteps, DoesAsked, DoesRequest, Joins, Renews, Saves, answer_of}
 use Rattle.docker_desk.specs.Learning.{AllHearKnown, AreLearned, Hears, HearsFile, HearsKnown, HearsState, HoldsKnown, IsKnown, Learns, PlacesKnown, ReceivesKnown, renewing}
 use Rattle.docker_desk.proofs.KnownLemmas.{known_read}
@@ -37,7 +37,7 @@ held_after_look name old new first second one two =
 
 -- ---- a state
 
-module _ (before after : Moment) (known : Known) where
+module _ (before after : SessionView) (known : Known) where
   -- the state that was received is the one that the file held
   hears_held : (events : Reading → List Event) (held : Bytes) (holds : HoldsKnown events before after known) → held ≡ holds.read.held
       → JoinsState dks_2 most_bytes held before.desk.state after.desk.state → HearsState events before after known
@@ -97,7 +97,7 @@ module _ (before after : Moment) (known : Known) where
 -- ---- steps
 
 -- after a file is taken, the file is heard
-takes_heard : (file : Text) (text : List ℕ) (before after : Moment) → Joins file StopsInFile EndsTaking before (done_with text) after
+takes_heard : (file : Text) (text : List ℕ) (before after : SessionView) → Joins file StopsInFile EndsTaking before (done_with text) after
     → (heard : Known) × HearsFile file before after heard
 takes_heard file text before after does = by does.result does.opens.read does.told does.opens.asked does.opens.ends
   where
@@ -113,7 +113,7 @@ takes_heard file text before after does = by does.result does.opens.read does.to
 
 module _ (setting : Setting) where
   -- something is heard by each request that was done
-  hears_some : (request : RequestView) (text : List ℕ) (before after : Moment) → DoesRequest setting request before (done_with text) after
+  hears_some : (request : RequestView) (text : List ℕ) (before after : SessionView) → DoesRequest setting request before (done_with text) after
       → ReceivesKnown setting request before after → (heard : Known) × Hears setting request before after heard
   hears_some (print_request place day) text before after does received = (nothing, refl)
   hears_some (permanent_request place day) text before after does received = (nothing, refl)
@@ -128,7 +128,7 @@ module _ (setting : Setting) where
   hears_some save_request text before after does received = (nothing, refl)
 
   -- something is learned from each step
-  learns_some : (request : Option RequestView) (answer : AnswerView) (before after : Moment) (old : Known) → DoesAsked setting request before answer after
+  learns_some : (request : Option RequestView) (answer : AnswerView) (before after : SessionView) (old : Known) → DoesAsked setting request before answer after
       → HearsKnown setting request before answer after → (new : Known) × Learns setting request before answer after old new
   learns_some (Some request) (done_with text) before after old does hears =
       let heard = hears_some request text before after does hears in (united old heard.0, (heard.0, (heard.1, refl)))
@@ -137,7 +137,7 @@ module _ (setting : Setting) where
   learns_some None answer before after old does hears = (old, refl)
 
   -- something is learned from all steps together
-  pub learned_of : (first last : Moment) (steps : List Step) (old : Known) → AreSteps setting first steps last → AllHearKnown setting steps
+  pub learned_of : (first last : SessionView) (steps : List Step) (old : Known) → AreSteps setting first steps last → AllHearKnown setting steps
       → (new : Known) × AreLearned setting old steps new
   learned_of first last [] old are hear = (old, refl)
   learned_of first last (step ∷ steps) old are hear =

@@ -1,7 +1,7 @@
 -- What was asked of a folder, and what the folder answered.
 use Rattle.std.proofs.Common.{◌≡◌, ℕ, List, [], ◌∷◌, ◌++◌, Bool, true, false, ap, subst, ◌∙◌, append_assoc, Ok}
 use Rattle.std.specs.Prelude.{Option, Result, ⊤}
-use Rattle.cif_line.specs.Device.{Takes}
+use Rattle.cif_device.specs.Device.{Takes}
 use Rattle.docker_cmd.specs.OfficeFault.{OfficeFault}
 use Rattle.docker_host.specs.History.{Bytes, Event, Text, closed, drafted, looked, named_if, opened, placed, unplaced}
 use Rattle.docker_host.specs.Asked.{IsStored}

@@ -20,12 +20,12 @@ use Rattle.docker_cmd.specs.Words.{NamesDay, OfOne, Text}
 use Rattle.docker_host.specs.History.{Bytes, Event}
 use Rattle.docker_desk.specs.Lines.{LineView, whole_line, bad_line, cut_line}
 use Rattle.docker_cmd.specs.JobLine.{words_in}
-use Rattle.docker_desk.specs.Requests.{RequestView, behind_word, print_request, permanent_request, train_request, files_request, places_request, known_request, renew_request, take_request, merge_request, horizon_request, save_request}
+use Rattle.docker_desk.specs.Requests.{RequestView, after_word, print_request, permanent_request, train_request, files_request, places_request, known_request, renew_request, take_request, merge_request, horizon_request, save_request}
 use Rattle.docker_desk.specs.Desk.{DeskView, EndsReceiving, EndsRenewing, EndsTaking}
 use Rattle.docker_desk.specs.Reading.{Reading, events_of}
 use Rattle.docker_desk.specs.declared.compared.Compared.{Compared}
 use Rattle.docker_desk.specs.Replies.{AnswerView, done_with, no_request, refused_for}
-use Rattle.docker_desk.specs.Moments.{Moment, Setting, Step}
+use Rattle.docker_desk.specs.SessionViews.{SessionView, Setting, Step}
 use Rattle.docker_desk.specs.Doing.{AreSteps, AsksOf, DoesAsked, DoesRequest, IsStep, answer_of, desk_by}
 use Rattle.docker_desk.specs.Learning.{AreLearned, Hears, HearsFile, HearsState, IsKnown, KnowsAt, Learns, renewing}
 
@@ -70,7 +70,7 @@ known_file file state is few summary = record {
 
 -- ---- one request
 
-module _ (setting : Setting) (before after : Moment) where
+module _ (setting : Setting) (before after : SessionView) where
   -- after a file is taken, the file is known too
   file_known : (name : Text) (old heard : Known) → HearsFile name before after heard → IsKnown old before.desk.state
       → IsKnown (united old heard) after.desk.state
@@ -117,31 +117,31 @@ module _ (setting : Setting) (before after : Moment) where
       → DoesRequest setting request before (done_with text) after → Hears setting request before after heard → IsKnown old before.desk.state
       → IsKnown (united old heard) after.desk.state
   known_done (print_request place day) text old heard days does hears is =
-      nothing_heard old heard _ _ hears (ap (λ (m : Moment). m.desk.state) does.1) is
+      nothing_heard old heard _ _ hears (ap (λ (m : SessionView). m.desk.state) does.1) is
   known_done (permanent_request place day) text old heard days does hears is =
-      nothing_heard old heard _ _ hears (ap (λ (m : Moment). m.desk.state) does.1) is
+      nothing_heard old heard _ _ hears (ap (λ (m : SessionView). m.desk.state) does.1) is
   known_done (train_request uid day) text old heard days does hears is =
-      nothing_heard old heard _ _ hears (ap (λ (m : Moment). m.desk.state) does.1) is
-  known_done files_request text old heard days does hears is = nothing_heard old heard _ _ hears (ap (λ (m : Moment). m.desk.state) does.1) is
-  known_done places_request text old heard days does hears is = nothing_heard old heard _ _ hears (ap (λ (m : Moment). m.desk.state) does.1) is
-  known_done known_request text old heard days does hears is = nothing_heard old heard _ _ hears (ap (λ (m : Moment). m.desk.state) does.1) is
+      nothing_heard old heard _ _ hears (ap (λ (m : SessionView). m.desk.state) does.1) is
+  known_done files_request text old heard days does hears is = nothing_heard old heard _ _ hears (ap (λ (m : SessionView). m.desk.state) does.1) is
+  known_done places_request text old heard days does hears is = nothing_heard old heard _ _ hears (ap (λ (m : SessionView). m.desk.state) does.1) is
+  known_done known_request text old heard days does hears is = nothing_heard old heard _ _ hears (ap (λ (m : SessionView). m.desk.state) does.1) is
   known_done renew_request text old heard days does hears is = state_known (renewing setting.name) old heard hears is
   known_done (take_request file) text old heard days does hears is = file_known file old heard hears is
   known_done (merge_request other) text old heard days does hears is = state_known (events_of other) old heard hears is
   known_done (horizon_request day) text old heard days does hears is =
-      subst (λ (m : Moment). IsKnown (united old heard) m.desk.state) (sym does.1)
+      subst (λ (m : SessionView). IsKnown (united old heard) m.desk.state) (sym does.1)
       (known_raised old heard day before.desk.state (days day refl) hears is)
   known_done save_request text old heard days does hears is = nothing_heard old heard _ _ hears (same_saved does.result does.desk) is
 
   -- a request that is refused doesn't change the state
   pub same_refused : (request : RequestView) (fault : OfficeFault) → DoesRequest setting request before (refused_for fault) after
       → after.desk.state ≡ before.desk.state
-  same_refused (print_request place day) fault does = ap (λ (m : Moment). m.desk.state) does.1
-  same_refused (permanent_request place day) fault does = ap (λ (m : Moment). m.desk.state) does.1
-  same_refused (train_request uid day) fault does = ap (λ (m : Moment). m.desk.state) does.1
-  same_refused files_request fault does = ap (λ (m : Moment). m.desk.state) does.1
-  same_refused places_request fault does = ap (λ (m : Moment). m.desk.state) does.1
-  same_refused known_request fault does = ap (λ (m : Moment). m.desk.state) does.1
+  same_refused (print_request place day) fault does = ap (λ (m : SessionView). m.desk.state) does.1
+  same_refused (permanent_request place day) fault does = ap (λ (m : SessionView). m.desk.state) does.1
+  same_refused (train_request uid day) fault does = ap (λ (m : SessionView). m.desk.state) does.1
+  same_refused files_request fault does = ap (λ (m : SessionView). m.desk.state) does.1
+  same_refused places_request fault does = ap (λ (m : SessionView). m.desk.state) does.1
+  same_refused known_request fault does = ap (λ (m : SessionView). m.desk.state) does.1
   same_refused renew_request fault does = refused_renew fault does.result does.opens.read does.told does.opens.ends
   same_refused (take_request file) fault does = refused_take fault does.result does.opens.read does.told does.opens.ends
   same_refused (merge_request other) fault does = refused_merge fault does.result does.opens.read does.told does.opens.ends
@@ -167,7 +167,7 @@ module _ (setting : Setting) (before after : Moment) where
       → DoesAsked setting request before answer after → Learns setting request before answer after old new → IsKnown old before.desk.state
       → IsKnown new after.desk.state
   known_asked None answer old new days does learns is =
-      subst (λ (m : Moment). IsKnown new m.desk.state) (sym does.1) (subst (λ k. IsKnown k before.desk.state) (sym learns) is)
+      subst (λ (m : SessionView). IsKnown new m.desk.state) (sym does.1) (subst (λ k. IsKnown k before.desk.state) (sym learns) is)
   known_asked (Some request) (done_with text) old new days does learns is =
       subst (λ k. IsKnown k after.desk.state) (sym learns.1.1)
       (known_done request text old learns.0 (λ day same. days day (ap Some same)) does learns.1.0 is)
@@ -186,7 +186,7 @@ one_day (word ∷ second ∷ more) day of = absurd of
 pub day_asked : (may_write : Bool) (line : LineView) (request : Option RequestView) (day : ℕ) → AsksOf may_write line request → request ≡ Some (horizon_request day)
     → IsDay day
 day_asked may_write (whole_line line) request day asks same =
-    let asked = subst (λ r. AsksOf may_write (whole_line line) r) same asks in one_day (words_in (behind_word line)) day asked.1.rest
+    let asked = subst (λ r. AsksOf may_write (whole_line line) r) same asks in one_day (words_in (after_word line)) day asked.1.rest
 day_asked may_write bad_line request day asks same = let never : ⊥ = cc in absurd never
 day_asked may_write cut_line request day asks same = let never : ⊥ = cc in absurd never
 
@@ -199,21 +199,21 @@ module _ (setting : Setting) where
       (λ day same. day_asked setting.may_write step.line step.request day does.asks same) does.does learns is
 
   -- after some steps, what was learned from all of them is known
-  pub known_steps : (first last : Moment) (steps : List Step) (old new : Known) → IsKnown old first.desk.state → AreSteps setting first steps last
+  pub known_steps : (first last : SessionView) (steps : List Step) (old new : Known) → IsKnown old first.desk.state → AreSteps setting first steps last
       → AreLearned setting old steps new → IsKnown new last.desk.state
   known_steps first last [] old new is are learned =
-      subst (λ (m : Moment). IsKnown new m.desk.state) (sym are) (subst (λ k. IsKnown k first.desk.state) (sym learned) is)
+      subst (λ (m : SessionView). IsKnown new m.desk.state) (sym are) (subst (λ k. IsKnown k first.desk.state) (sym learned) is)
   known_steps first last (step ∷ steps) old new is are learned =
       known_steps step.after last steps learned.0 new
-      (known_step step old learned.0 are.1.0 learned.1.0 (subst (λ (m : Moment). IsKnown old m.desk.state) (sym are.0) is)) are.1.1 learned.1.1
+      (known_step step old learned.0 are.1.0 learned.1.0 (subst (λ (m : SessionView). IsKnown old m.desk.state) (sym are.0) is)) are.1.1 learned.1.1
 
-  -- at each moment of a session, what was learned up to then is known of the state
+  -- at each point of a session, what was learned up to then is known of the state
   pub known_then : (known : Known) (state : State) → KnowsAt setting known state → IsKnown known state
   known_then known state at = subst (IsKnown known) at.has (known_steps at.first at.last at.steps at.start known at.begins at.are at.learned)
 
-  -- if steps are split in two, the first part leads to a moment, and the second part on from there
-  pub steps_apart : (first last : Moment) (earlier later : List Step) → AreSteps setting first (earlier ++ later) last
-      → (between : Moment) × (AreSteps setting first earlier between × AreSteps setting between later last)
+  -- if steps are split in two, the first part leads to a point, and the second part on from there
+  pub steps_apart : (first last : SessionView) (earlier later : List Step) → AreSteps setting first (earlier ++ later) last
+      → (between : SessionView) × (AreSteps setting first earlier between × AreSteps setting between later last)
   steps_apart first last [] later are = (first, (refl, are))
   steps_apart first last (step ∷ earlier) later are =
       let apart = steps_apart step.after last earlier later are.1.1 in (apart.0, ((are.0, (are.1.0, apart.1.0)), apart.1.1))

@@ -4,7 +4,7 @@ use Rattle.std.specs.Prelude.{Option, option_map, Result, ◌⊎◌}
 use Rattle.std.specs.List.{AllByRecursion}
 use Rattle.std.proofs.lemmas.List.Elements.{recursion_from_All, All-from_recursion}
 use Rattle.docker_model.specs.records.Record.{is_printable}
-use Rattle.cif_line.specs.Device.{Reads, IsEnd}
+use Rattle.cif_device.specs.Device.{Reads, IsEnd}
 use Rattle.docker_cmd.specs.JobLine.{ReadsByte, IsLineText}
 use Rattle.docker_desk.specs.declared.lines.Asked.{Asked}
 use Rattle.docker_desk.specs.declared.lines.Asked.TheVariants as asked

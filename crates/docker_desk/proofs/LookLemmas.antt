@@ -11,7 +11,7 @@ use Rattle.docker_desk.specs.Reading.{Reading, opening_of}
 use Rattle.docker_desk.specs.declared.compared.Compared.{Compared}
 use Rattle.docker_desk.specs.Requests.{RequestView, print_request, permanent_request, train_request, files_request, places_request, known_request, renew_request, take_request, merge_request, horizon_request, save_request}
 use Rattle.docker_desk.specs.Replies.{AnswerView}
-use Rattle.docker_desk.specs.Moments.{Moment, Setting, Step}
+use Rattle.docker_desk.specs.SessionViews.{SessionView, Setting, Step}
 use Rattle.docker_desk.specs.Doing.{AreSteps, DoesAsked, DoesRequest}
 use Rattle.docker_desk.specs.Looking.{IsGoodLook}
 use Rattle.docker_desk.specs.Serving.{BeginsAt}
@@ -94,15 +94,15 @@ module _ (name : Text) where
   good_saved names_bytes text old new (Err (office.State fault)) from look look_now never same good = absurd never
 
 module _ (setting : Setting) where
-  -- the look of a moment is good
-  abbrev pub LooksWell : Moment → Type 0
-  LooksWell moment = IsGoodLook setting.name moment.history moment.look
+  -- the look of a point is good
+  abbrev pub LooksWell : SessionView → Type 0
+  LooksWell session_view = IsGoodLook setting.name session_view.history session_view.look
 
-  good_kept : (before after : Moment) → after ≡ before → LooksWell before → LooksWell after
+  good_kept : (before after : SessionView) → after ≡ before → LooksWell before → LooksWell after
   good_kept before after same good = subst LooksWell (sym same) good
 
   -- after a request the look is still good
-  good_request : (request : RequestView) (before after : Moment) (answer : AnswerView) → DoesRequest setting request before answer after → LooksWell before
+  good_request : (request : RequestView) (before after : SessionView) (answer : AnswerView) → DoesRequest setting request before answer after → LooksWell before
       → LooksWell after
   good_request (print_request place day) before after answer does good = good_kept before after does.1 good
   good_request (permanent_request place day) before after answer does good = good_kept before after does.1 good
@@ -118,25 +118,25 @@ module _ (setting : Setting) where
   good_request (merge_request other) before after answer does good =
       good_same setting.name before.history after.history (opening_of other does.opens.read) before.look after.look does.opens.asked does.look good
   good_request (horizon_request day) before after answer does good =
-      let look : after.look ≡ before.look = ap (λ (m : Moment). m.look) does.1 in
-      let history : after.history ≡ before.history = ap (λ (m : Moment). m.history) does.1 in
+      let look : after.look ≡ before.look = ap (λ (m : SessionView). m.look) does.1 in
+      let history : after.history ≡ before.history = ap (λ (m : SessionView). m.history) does.1 in
       subst (λ l. IsGoodLook setting.name after.history l) (sym look) (subst (λ h. IsGoodLook setting.name h before.look) (sym history) good)
   good_request save_request before after answer does good =
       good_saved setting.name setting.names_bytes (state_text dks_2 before.desk.state) before.history after.history does.result before.look before.look
       after.look does.stores does.look good
 
-  good_asked : (request : Option RequestView) (before after : Moment) (answer : AnswerView) → DoesAsked setting request before answer after → LooksWell before
+  good_asked : (request : Option RequestView) (before after : SessionView) (answer : AnswerView) → DoesAsked setting request before answer after → LooksWell before
       → LooksWell after
   good_asked (Some request) before after answer does good = good_request request before after answer does good
   good_asked None before after answer does good = good_kept before after does.1 good
 
   -- after some steps the look is still good
-  pub good_steps : (first last : Moment) (steps : List Step) → LooksWell first → AreSteps setting first steps last → LooksWell last
+  pub good_steps : (first last : SessionView) (steps : List Step) → LooksWell first → AreSteps setting first steps last → LooksWell last
   good_steps first last [] good are = good_kept first last are good
   good_steps first last (step ∷ steps) good are =
       good_steps step.after last steps
       (good_asked step.request step.before step.after step.answer are.1.0.does (good_kept first step.before are.0 good)) are.1.1
 
   -- at the beginning of a session the look is good
-  pub good_first : (old : List Event) (first : Moment) → BeginsAt setting.name old first → LooksWell first
+  pub good_first : (old : List Event) (first : SessionView) → BeginsAt setting.name old first → LooksWell first
   good_first old first begins = good_opened setting.name old first.history begins.held begins.left first.look begins.asked begins.look

@@ -6,7 +6,7 @@ use Rattle.std.proofs.Math.Seq.{take-add, take-length}
 use Rattle.std.specs.Prelude.{Bool, true, false, ◌&&◌, Result, Ok, Err, OnOk, OnErr, IfErr, IfSome, IsTrue, ⊤}
 use Rattle.std.specs.Option.{is_some}
 use Rattle.std.specs.Result.{is_ok}
-use Rattle.cif_line.specs.Device.{CountsFailure, Takes, TakesPart}
+use Rattle.cif_device.specs.Device.{CountsFailure, Takes, TakesPart}
 use Rattle.docker_cmd.specs.OfficeFault.{OfficeFault}
 use Rattle.docker_cmd.specs.OfficeFault.TheVariants as office
 use Rattle.docker_desk.specs.Copying.{IsNoFront, with_other}

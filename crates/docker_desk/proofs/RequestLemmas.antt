@@ -5,7 +5,7 @@ use Rattle.std.specs.Str.{bytes_eq}
 use Rattle.std.proofs.lemmas.Slice.Eq.{bytes_eq-Decides}
 use Rattle.docker_cmd.specs.Words.{NamesDay, OfTwo, Text}
 use Rattle.docker_cmd.specs.JobLine.{words_in}
-use Rattle.docker_desk.specs.Requests.{ArePlaceAndDay, AsksFor, HasRest, IsRequestOf, RequestView, behind_word, first_word, is_writing, name_of, verb_named, verb_of, verbs, FitsRest, NamesTrain, print_request, permanent_request, train_request, files_request, places_request, known_request, renew_request, take_request, merge_request, horizon_request, save_request}
+use Rattle.docker_desk.specs.Requests.{ArePlaceAndDay, AsksFor, HasRest, IsRequestOf, RequestView, after_word, first_word, is_writing, name_of, verb_named, verb_of, verbs, FitsRest, NamesTrain, print_request, permanent_request, train_request, files_request, places_request, known_request, renew_request, take_request, merge_request, horizon_request, save_request}
 use Rattle.docker_desk.specs.declared.requests.Verb.{Verb}
 use Rattle.docker_desk.specs.declared.requests.Verb.TheVariants as verb
 
@@ -106,7 +106,7 @@ module _ (may_write : Bool) (line : List ℕ) (word : Text) (v : Verb) (first : 
   not_allowed never = λ request is. never (subst (λ u. is_writing u ≡ true → may_write ≡ true) (of_request request is) is.allowed)
 
   -- a line with a verb that is allowed asks for the request that its other words fit
-  pub asked_by : (rest : List ℕ) (request : Option RequestView) → rest ≡ behind_word line → (is_writing v ≡ true → may_write ≡ true) → FitsRest v rest request
+  pub asked_by : (rest : List ℕ) (request : Option RequestView) → rest ≡ after_word line → (is_writing v ≡ true → may_write ≡ true) → FitsRest v rest request
       → AsksFor may_write line request
   asked_by rest None behind allowed fits = λ request is. fits request (of_request request is) (subst (HasRest request) (sym behind) is.rest)
   asked_by rest (Some request) behind allowed fits = record {

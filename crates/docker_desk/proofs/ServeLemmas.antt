@@ -1,7 +1,7 @@
 -- How a session comes to its end.
 use Rattle.std.proofs.Common.{◌≡◌, ◌+◌, ℕ, Bool, List, ◌++◌, [], ◌∷◌, length, arith, inl, inr, Some, None, Ok, ap, subst, ◌∙◌, false}
 use Rattle.std.specs.Prelude.{Option, IfSome, ◌&&◌}
-use Rattle.cif_line.specs.Device.{Takes, TakesPart}
+use Rattle.cif_device.specs.Device.{Takes, TakesPart}
 use Rattle.docker_host.specs.History.{Event, Text, looked}
 use Rattle.docker_host.specs.Host.{HostView}
 use Rattle.docker_desk.specs.Answering.{AnswersLines, CountsStreams}
@@ -10,7 +10,7 @@ use Rattle.docker_host.specs.FaultSink.{FaultsView, TellsText, faults_of}
 use Rattle.docker_desk.specs.Desk.{DeskView}
 use Rattle.docker_desk.specs.Reading.{LooksAndOpens, Reading, StopsInState, opening_of}
 use Rattle.docker_desk.specs.declared.ending.Ending.{Ending}
-use Rattle.docker_desk.specs.Moments.{Moment, moment, setting}
+use Rattle.docker_desk.specs.SessionViews.{SessionView, session_view, setting}
 use Rattle.docker_desk.specs.Serving.{BeginsAt, EndsOpening, EndsWithStatus, NamesSession, Serves}
 use Rattle.docker_desk.proofs.WritingLemmas.{both_taken, part_of_back, part_of_front}
 
@@ -35,11 +35,11 @@ tells_first first second piece old new one failed part =
 -- a session begins with the desk that was read
 pub begins : {T : Type 0} (desk_in : T → DeskView) (name : Text) (old new : List Event) (made : T) (look failures : ℕ)
     → LooksAndOpens name (EndsOpening desk_in (Ok made)) old new → look ≡ length old
-    → BeginsAt name old (moment (desk_in made) look new failures)
+    → BeginsAt name old (session_view (desk_in made) look new failures)
 begins desk_in name old new made look failures opens same = by opens.read opens.asked opens.stops opens.ends
   where
     by : (read : Option Reading) → new ≡ old ++ looked name ∷ opening_of name read → IfSome read StopsInState → EndsOpening desk_in (Ok made) read
-        → BeginsAt name old (moment (desk_in made) look new failures)
+        → BeginsAt name old (session_view (desk_in made) look new failures)
     by (Some read) asked stops ends =
         record { held = read.held; left = read.left; asked = asked; stops = stops; state = ends.0; saved = ends.1; look = same }
     by None asked stops ends = absurd ends.0
@@ -49,7 +49,7 @@ pub still : (before after : ℕ) → IsCounted 0 before after → after ≡ befo
 still before after counted = counted.1 (λ four. omega arith)
 
 -- if the lines were answered and the ending was reported, the session was served
-pub served : (words : List Text) (names_bytes : Bool) (old new : HostView) (status : ℕ) (name : Text) (may_write : Bool) (first last : Moment)
+pub served : (words : List Text) (names_bytes : Bool) (old new : HostView) (status : ℕ) (name : Text) (may_write : Bool) (first last : SessionView)
     (ending : Ending) (unsaved : Bool)
     → NamesSession words name may_write → BeginsAt name old.history first → first.failures ≡ old.folder_failures
     → AnswersLines (setting name may_write names_bytes) first last old.input old.output new.output ending
@@ -76,7 +76,7 @@ served words names_bytes old new status name may_write first last ending unsaved
     }))
 
 -- as `served`, with an equal old view
-pub served_as : (words : List Text) (names_bytes : Bool) (seen old new : HostView) (status : ℕ) (name : Text) (may_write : Bool) (first last : Moment)
+pub served_as : (words : List Text) (names_bytes : Bool) (seen old new : HostView) (status : ℕ) (name : Text) (may_write : Bool) (first last : SessionView)
     (ending : Ending) (unsaved : Bool) → seen ≡ old
     → NamesSession words name may_write → BeginsAt name seen.history first → first.failures ≡ seen.folder_failures
     → AnswersLines (setting name may_write names_bytes) first last seen.input seen.output new.output ending

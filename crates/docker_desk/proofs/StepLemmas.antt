@@ -5,19 +5,19 @@ use Rattle.std.proofs.Math.Dec.{eqb}
 use Rattle.std.proofs.lemmas.Bool.Decides.{eqb_tells}
 use Rattle.std.proofs.lemmas.List.{length-map, map-append}
 use Rattle.std.proofs.lemmas.Grind.{flat_map-append}
-use Rattle.cif_line.specs.Device.{IsEnd, Reads, Takes, TakesPart}
+use Rattle.cif_device.specs.Device.{IsEnd, Reads, Takes, TakesPart}
 use Rattle.docker_cmd.specs.Prepared.{DeviceBytes}
 use Rattle.docker_desk.specs.Lines.{AreLines, EndsLine, IsNextLine, LineView, ReadsAsked, ReadsMany, ReadsNext, asked_meant, with_ahead, whole_line, bad_line, cut_line}
 use Rattle.docker_desk.specs.declared.lines.Asked.{Asked}
 use Rattle.docker_desk.specs.declared.lines.InputFault.{InputFault}
 use Rattle.docker_desk.specs.declared.lines.InputFault.TheVariants.{Endless}
 use Rattle.docker_cmd.specs.FaultLine.{IsCounted}
-use Rattle.docker_desk.specs.Replies.{AnswerView, bytes_told, no_request}
+use Rattle.docker_desk.specs.Replies.{AnswerView, answer_bytes, no_request}
 use Rattle.docker_desk.specs.declared.ending.Ending.{Ending}
 use Rattle.docker_desk.specs.declared.ending.Ending.TheVariants.{Ended, InputFailed, InputEndless, OutputFailed}
-use Rattle.docker_desk.specs.Moments.{Moment, Setting, Step}
+use Rattle.docker_desk.specs.SessionViews.{SessionView, Setting, Step}
 use Rattle.docker_desk.specs.Doing.{AreSteps, DoesLine, IsStep}
-use Rattle.docker_desk.specs.Answering.{AnswersLines, AreFirstLines, BeginsWith, BreaksOff, CountsNext, EndsSession, HasLines, IsEndless, IsFollowed, ServesNext, TellsAnswer, answers_told, lines_of}
+use Rattle.docker_desk.specs.Answering.{AnswersLines, AreFirstLines, BeginsWith, BreaksOff, CountsNext, EndsSession, HasLines, IsEndless, IsFollowed, ServesNext, TellsAnswer, answers_text, lines_of}
 
 -- ---- the input
 
@@ -152,8 +152,8 @@ takes_more (Some taken) now new first second one two =
 -- ---- steps
 
 module _ (setting : Setting) where
-  -- if steps lead to a moment, and others on from there, all of them lead on
-  steps_more : (first now last : Moment) (steps more : List Step) → AreSteps setting first steps now → AreSteps setting now more last
+  -- if steps lead to a point, and others on from there, all of them lead on
+  steps_more : (first now last : SessionView) (steps more : List Step) → AreSteps setting first steps now → AreSteps setting now more last
       → AreSteps setting first (steps ++ more) last
   steps_more first now last [] more are then_more = subst (λ m. AreSteps setting m more last) are then_more
   steps_more first now last (step ∷ steps) more are then_more = (are.0, (are.1.0, steps_more step.after now last steps more are.1.1 then_more))
@@ -161,24 +161,24 @@ module _ (setting : Setting) where
   lines_both : (steps more : List Step) → lines_of (steps ++ more) ≡ lines_of steps ++ lines_of more
   lines_both steps more = map-append (λ (step : Step). step.line) steps more
 
-  told_both : (steps more : List Step) → answers_told (steps ++ more) ≡ answers_told steps ++ answers_told more
-  told_both steps more = flat_map-append (λ (step : Step). bytes_told step.answer) steps more
+  told_both : (steps more : List Step) → answers_text (steps ++ more) ≡ answers_text steps ++ answers_text more
+  told_both steps more = flat_map-append (λ (step : Step). answer_bytes step.answer) steps more
 
-  -- a session so far: some lines were answered, and led to this moment
-  pub record IsSoFar (count : ℕ) (first now : Moment) (input input_now output output_now : DeviceBytes) : Type 0 where
+  -- a session so far: some lines were answered, and led to this point
+  pub record IsSoFar (count : ℕ) (first now : SessionView) (input input_now output output_now : DeviceBytes) : Type 0 where
     pub steps : List Step
     pub many : length steps ≡ count
     pub are : AreSteps setting first steps now
     pub read : ReadsFirst input (lines_of steps) input_now
-    pub told : Takes output (answers_told steps) output_now
+    pub told : Takes output (answers_text steps) output_now
 
   -- before the first line, the session has no step
-  so_far_none : (first : Moment) (input output : DeviceBytes) → IsSoFar 0 first first input input output output
+  so_far_none : (first : SessionView) (input output : DeviceBytes) → IsSoFar 0 first first input input output output
   so_far_none first input output =
       record { steps = []; many = refl; are = refl; read = reads_none input; told = takes_none output }
 
   -- before the first line nothing was read ahead
-  pub so_far_first : (first : Moment) (ahead : List ℕ) (left output : DeviceBytes) → ahead ≡ [] → IsSoFar 0 first first left (with_ahead ahead left) output output
+  pub so_far_first : (first : SessionView) (ahead : List ℕ) (left output : DeviceBytes) → ahead ≡ [] → IsSoFar 0 first first left (with_ahead ahead left) output output
   so_far_first first ahead left output none =
       subst (λ bytes. IsSoFar 0 first first left (with_ahead bytes left) output output) (sym none)
       (subst (λ input. IsSoFar 0 first first left input output output) (sym (none_ahead left)) (so_far_none first left output))
@@ -188,20 +188,20 @@ module _ (setting : Setting) where
       none_ahead (Some rest) = refl
 
   -- a line with its answer is a step
-  abbrev pub step_of : (line : LineView) (before : Moment) (answer : AnswerView) (after : Moment) → DoesLine setting line before answer after → Step
+  abbrev pub step_of : (line : LineView) (before : SessionView) (answer : AnswerView) (after : SessionView) → DoesLine setting line before answer after → Step
   step_of line before answer after does = record { line = line; request = does.request; before = before; answer = answer; after = after }
 
-  is_step : (line : LineView) (before : Moment) (answer : AnswerView) (after : Moment) → (does : DoesLine setting line before answer after)
+  is_step : (line : LineView) (before : SessionView) (answer : AnswerView) (after : SessionView) → (does : DoesLine setting line before answer after)
       → IsStep setting (step_of line before answer after does)
   is_step line before answer after does = record { asks = does.asks; does = does.does; counted = does.counted }
 
   -- a line that is answered is one step
-  pub one_step : (line : LineView) (before : Moment) (answer : AnswerView) (after : Moment) → (does : DoesLine setting line before answer after)
+  pub one_step : (line : LineView) (before : SessionView) (answer : AnswerView) (after : SessionView) → (does : DoesLine setting line before answer after)
       → AreSteps setting before (step_of line before answer after does ∷ []) after
   one_step line before answer after does = (refl, (is_step line before answer after does, refl))
 
   -- a session so far and one more answered line are a session so far
-  so_far_more : (count : ℕ) (first now next : Moment) (input input_now input_next output output_now output_next : DeviceBytes)
+  so_far_more : (count : ℕ) (first now next : SessionView) (input input_now input_next output output_now output_next : DeviceBytes)
       → IsSoFar count first now input input_now output output_now → ServesNext setting now next input_now input_next output_now output_next None
       → IsSoFar (count + 1) first next input input_next output output_next
   so_far_more count first now next input input_now input_next output output_now output_next so_far (line, answer, (followed, (does, (read, told)))) =
@@ -214,12 +214,12 @@ module _ (setting : Setting) where
             (reads_more input input_now (lines_of so_far.steps) input_next line so_far.read read);
         told =
             subst (λ text. Takes output text output_next)
-            (sym (told_both so_far.steps (step ∷ []) ∙ ap (λ text. answers_told so_far.steps ++ text) (append-nil (bytes_told answer))))
-            (takes_more output output_now output_next (answers_told so_far.steps) (bytes_told answer) so_far.told told);
+            (sym (told_both so_far.steps (step ∷ []) ∙ ap (λ text. answers_text so_far.steps ++ text) (append-nil (answer_bytes answer))))
+            (takes_more output output_now output_next (answers_text so_far.steps) (answer_bytes answer) so_far.told told);
       }
 
   -- if the session doesn't end at the next line, the session so far has that line too
-  pub so_far_on : (count : ℕ) (first now next : Moment) (input input_now input_next output output_now output_next : DeviceBytes) (result : Option Ending)
+  pub so_far_on : (count : ℕ) (first now next : SessionView) (input input_now input_next output output_now output_next : DeviceBytes) (result : Option Ending)
       → IsSoFar count first now input input_now output output_now → result ≡ None
       → ServesNext setting now next input_now input_next output_now output_next result
       → IsSoFar (count + 1) first next input input_next output output_next
@@ -228,7 +228,7 @@ module _ (setting : Setting) where
       (subst (ServesNext setting now next input_now input_next output_now output_next) none serves)
 
   -- a session that ends after further lines ends after all its lines
-  ends_more : (ending : Ending) (count : ℕ) (first now : Moment) (input input_now output output_now output_last : DeviceBytes) (more : List Step)
+  ends_more : (ending : Ending) (count : ℕ) (first now : SessionView) (input input_now output output_now output_last : DeviceBytes) (more : List Step)
       → (so_far : IsSoFar count first now input input_now output output_now) → EndsSession ending input_now more output_now output_last
       → EndsSession ending input (so_far.steps ++ more) output output_last
   ends_more ending count first now input input_now output output_now output_last more so_far = by ending
@@ -239,10 +239,10 @@ module _ (setting : Setting) where
       begins : BeginsWith input_now (lines_of more) → BeginsWith input (lines_of (so_far.steps ++ more))
       begins next = subst (BeginsWith input) lines (begins_more input input_now (lines_of so_far.steps) (lines_of more) so_far.read next)
 
-      gained : Takes output_now (answers_told more) output_last → Takes output (answers_told (so_far.steps ++ more)) output_last
+      gained : Takes output_now (answers_text more) output_last → Takes output (answers_text (so_far.steps ++ more)) output_last
       gained next =
           subst (λ text. Takes output text output_last) (sym (told_both so_far.steps more))
-          (takes_more output output_now output_last (answers_told so_far.steps) (answers_told more) so_far.told next)
+          (takes_more output output_now output_last (answers_text so_far.steps) (answers_text more) so_far.told next)
 
       breaks : BreaksOff more output_now output_last → BreaksOff (so_far.steps ++ more) output output_last
       breaks next = record {
@@ -252,7 +252,7 @@ module _ (setting : Setting) where
         between = next.between;
         told =
             subst (λ text. Takes output text next.between) (sym (told_both so_far.steps next.earlier))
-            (takes_more output output_now next.between (answers_told so_far.steps) (answers_told next.earlier) so_far.told next.told);
+            (takes_more output output_now next.between (answers_text so_far.steps) (answers_text next.earlier) so_far.told next.told);
         part = next.part;
       }
 
@@ -264,7 +264,7 @@ module _ (setting : Setting) where
       by OutputFailed ends = (begins ends.0, breaks ends.1)
 
   -- a session so far and the lines that end it are an ended session
-  pub ended_after : (ending : Ending) (count : ℕ) (first now last : Moment) (input input_now output output_now output_last : DeviceBytes)
+  pub ended_after : (ending : Ending) (count : ℕ) (first now last : SessionView) (input input_now output output_now output_last : DeviceBytes)
       → IsSoFar count first now input input_now output output_now → AnswersLines setting now last input_now output_now output_last ending
       → AnswersLines setting first last input output output_last ending
   ended_after ending count first now last input input_now output output_now output_last so_far answers = record {
@@ -274,7 +274,7 @@ module _ (setting : Setting) where
   }
 
   -- a session with 2 ^ 64 - 1 lines ends, because the input is endless
-  pub ended_endless : (count : ℕ) (first now : Moment) (input input_now output output_now : DeviceBytes) → count ≡ 2 ^ 64 - 1
+  pub ended_endless : (count : ℕ) (first now : SessionView) (input input_now output output_now : DeviceBytes) → count ≡ 2 ^ 64 - 1
       → IsSoFar count first now input input_now output output_now → AnswersLines setting first now input output output_now InputEndless
   ended_endless count first now input input_now output output_now full so_far = record {
     steps = so_far.steps;
@@ -293,7 +293,7 @@ module _ (setting : Setting) where
 
 -- ---- one line
 
-module _ (setting : Setting) (now next : Moment) (input input_now output output_now : DeviceBytes) where
+module _ (setting : Setting) (now next : SessionView) (input input_now output output_now : DeviceBytes) where
   -- at the end of the input the session ends without another line
   pub ends_before : next ≡ now → IsEnd input → input_now ≡ input → output_now ≡ output → ServesNext setting now next input input_now output output_now (Some Ended)
   ends_before same end kept silent = record { steps = []; are = same; ends = (by input end, subst (Takes output []) (sym silent) (takes_none output)) }
@@ -320,7 +320,7 @@ module _ (setting : Setting) (now next : Moment) (input input_now output output_
 
   -- if an answer is written in part, the session ends at this line
   pub breaks_at : (line : LineView) (answer : AnswerView) → DoesLine setting line now answer next → ReadsNext input line input_now
-      → TakesPart output (bytes_told answer) output_now
+      → TakesPart output (answer_bytes answer) output_now
       → ServesNext setting now next input input_now output output_now (Some OutputFailed)
   breaks_at line answer does read part = record {
     steps = step_of setting line now answer next does ∷ [];
@@ -337,12 +337,12 @@ module _ (setting : Setting) (now next : Moment) (input input_now output output_
 
   -- at a line whose line feed is missing the session ends, because that line is the last
   pub ends_at_cut : (answer : AnswerView) → DoesLine setting cut_line now answer next → ReadsNext input cut_line input_now
-      → Takes output (bytes_told answer) output_now
+      → Takes output (answer_bytes answer) output_now
       → ServesNext setting now next input input_now output output_now (Some Ended)
   ends_at_cut answer does read told = record {
     steps = step_of setting cut_line now answer next does ∷ [];
     are = one_step setting cut_line now answer next does;
-    ends = (has_one input read, subst (λ text. Takes output text output_now) (sym (append-nil (bytes_told answer))) told);
+    ends = (has_one input read, subst (λ text. Takes output text output_now) (sym (append-nil (answer_bytes answer))) told);
   }
     where
       has_one : (input : DeviceBytes) → ReadsNext input cut_line input_now → HasLines input (cut_line ∷ [])
@@ -352,7 +352,7 @@ module _ (setting : Setting) (now next : Moment) (input input_now output output_
   -- after a line that isn't the last, the session goes on unless the output fails
   after_line : (line : LineView) (answer : AnswerView) (failures failures_now : ℕ) (result : Option Ending) → IsFollowed line → DoesLine setting line now answer next
       → ReadsNext input line input_now
-      → TellsAnswer (bytes_told answer) None output output_now failures failures_now result
+      → TellsAnswer (answer_bytes answer) None output output_now failures failures_now result
       → ServesNext setting now next input input_now output output_now result
   after_line line answer failures failures_now result followed does read (inl told) =
       subst (ServesNext setting now next input input_now output output_now) (sym told.0) (line, answer, (followed, (does, (read, told.1.0))))
@@ -362,20 +362,20 @@ module _ (setting : Setting) (now next : Moment) (input input_now output output_
   -- after a whole line, whose bytes were passed on, the session goes on unless the output fails
   pub after_whole : (line passed : List ℕ) (answer : AnswerView) (failures failures_now : ℕ) (result : Option Ending) → passed ≡ line
       → DoesLine setting (whole_line passed) now answer next → ReadsNext input (whole_line line) input_now
-      → TellsAnswer (bytes_told answer) None output output_now failures failures_now result
+      → TellsAnswer (answer_bytes answer) None output output_now failures failures_now result
       → ServesNext setting now next input input_now output output_now result
   after_whole line passed answer failures failures_now result same does read tells =
       after_line (whole_line line) answer failures failures_now result tt (subst (λ l. DoesLine setting (whole_line l) now answer next) same does) read tells
 
   -- after a bad line the session goes on unless the output fails
   pub after_bad : (failures failures_now : ℕ) (result : Option Ending) → DoesLine setting bad_line now no_request next → ReadsNext input bad_line input_now
-      → TellsAnswer (bytes_told no_request) None output output_now failures failures_now result
+      → TellsAnswer (answer_bytes no_request) None output output_now failures failures_now result
       → ServesNext setting now next input input_now output output_now result
   after_bad failures failures_now result does read tells = after_line bad_line no_request failures failures_now result tt does read tells
 
   pub after_cut : (answer : AnswerView) (failures failures_now : ℕ) (result : Option Ending) → DoesLine setting cut_line now answer next
       → ReadsNext input cut_line input_now
-      → TellsAnswer (bytes_told answer) (Some Ended) output output_now failures failures_now result
+      → TellsAnswer (answer_bytes answer) (Some Ended) output output_now failures failures_now result
       → ServesNext setting now next input input_now output output_now result
   after_cut answer failures failures_now result does read (inl told) =
       subst (ServesNext setting now next input input_now output output_now) (sym told.0) (ends_at_cut answer does read told.1.0)
@@ -400,8 +400,8 @@ counted_few status before after counted = by (eqb_tells status 4)
     by (inr other) = let never = counted.1 other.1 in omega (arith, never)
 
 -- a bad line asks for nothing
-pub does_bad : (setting : Setting) (now : Moment) → DoesLine setting bad_line now no_request now
+pub does_bad : (setting : Setting) (now : SessionView) → DoesLine setting bad_line now no_request now
 does_bad setting now = record { request = None; asks = refl; does = (refl, refl); counted = counted_none 2 now.failures (λ four. omega arith) }
 
-pub does_cut : (setting : Setting) (now : Moment) → DoesLine setting cut_line now no_request now
+pub does_cut : (setting : Setting) (now : SessionView) → DoesLine setting cut_line now no_request now
 does_cut setting now = record { request = None; asks = refl; does = (refl, refl); counted = counted_none 2 now.failures (λ four. omega arith) }

@@ -4,7 +4,7 @@ use Rattle.std.specs.Prelude.{Option, codes, decimal}
 use Rattle.std.proofs.lemmas.Fmt.{decimal_digit}
 use Rattle.std.proofs.lemmas.List.Sums.{AllPass-from_list_all}
 use Rattle.docker_model.specs.records.Record.{is_printable}
-use Rattle.cif_line.specs.Device.{Takes}
+use Rattle.cif_device.specs.Device.{Takes}
 use Rattle.docker_model.specs.state.State.{State, IsValid}
 use Rattle.docker_model.specs.state.StateText.{dks_2, state_text}
 use Rattle.docker_cmd.specs.Office.{HoldsState, no_state}
@@ -19,16 +19,16 @@ use Rattle.docker_host.specs.Shelf.{IsShelfHistory}
 use Rattle.docker_desk.specs.Lines.{AreLines, LineView, whole_line}
 use Rattle.docker_desk.specs.Requests.{AsksFor, IsRequestOf, RequestView, print_request, permanent_request, train_request, files_request, places_request, known_request, renew_request, take_request, merge_request, horizon_request, save_request}
 use Rattle.docker_desk.specs.Desk.{IsFilesAnswer}
-use Rattle.docker_desk.specs.Replies.{AnswerView, bytes_told, done_with, memory_told, no_request, refused_for}
-use Rattle.docker_desk.specs.Moments.{Moment, Setting, Step, setting}
+use Rattle.docker_desk.specs.Replies.{AnswerView, answer_bytes, done_with, memory_answer, no_request, refused_for}
+use Rattle.docker_desk.specs.SessionViews.{SessionView, Setting, Step, setting}
 use Rattle.docker_desk.specs.Doing.{AreSteps, AsksOf, DoesAsked}
-use Rattle.docker_desk.specs.Answering.{EndsSession, answers_told, lines_of}
+use Rattle.docker_desk.specs.Answering.{EndsSession, answers_text, lines_of}
 use Rattle.docker_desk.specs.Serving.{BeginsAt, Serves, ending_status, session_words}
 use Rattle.docker_desk.specs.declared.ending.Ending.{Ending}
 use Rattle.docker_desk.specs.declared.ending.Ending.TheVariants.{Ended, InputFailed, InputEndless, OutputFailed}
 use Rattle.docker_desk.proofs.ReadingLemmas.{one_reading}
 use Rattle.docker_desk.proofs.KnownLemmas.{one_read}
-use Rattle.state_laws.proofs.texts.ToldWithHorizon.{valid_is_told}
+use Rattle.state_laws.proofs.texts.ReportedWithHorizon.{valid_is_told}
 
 -- the line that asks for the files
 abbrev asked_line : List ℕ
@@ -36,7 +36,7 @@ asked_line = codes "files"
 
 -- the output gains the answer without files, or the answer that memory ran out
 abbrev pub IsAnswered : Bytes → Type 0
-IsAnswered output = (output ≡ Some (codes "0 0 0\n")) ⊎ (output ≡ Some memory_told)
+IsAnswered output = (output ≡ Some (codes "0 0 0\n")) ⊎ (output ≡ Some memory_answer)
 
 -- ---- the words and the status
 
@@ -92,20 +92,20 @@ asked_files may_write (Some save_request) asks = let first = heads 102 115 _ _ a
 -- ---- the answer
 
 -- the bytes of an answer without a text
-empty_told : bytes_told (done_with []) ≡ codes "0 0 0\n"
+empty_told : answer_bytes (done_with []) ≡ codes "0 0 0\n"
 empty_told = ap (λ (zero : List ℕ). zero ++ codes " " ++ zero ++ codes " " ++ zero ++ codes "\n" ++ []) zero_told
   where
     zero_told : decimal 0 ≡ 48 ∷ []
     zero_told = decimal_digit 0 (omega arith)
 
 -- an answer without files, or none if memory ran out
-answered : (output : Bytes) (state : State) (answer : AnswerView) → state ≡ no_state → IsFilesAnswer state answer → Takes (Some []) (bytes_told answer ++ []) output
+answered : (output : Bytes) (state : State) (answer : AnswerView) → state ≡ no_state → IsFilesAnswer state answer → Takes (Some []) (answer_bytes answer ++ []) output
     → IsAnswered output
 answered output state (done_with text) same is takes =
     let none : text ≡ [] = subst (λ (s : State). IsFilesAnswer s (done_with text)) same is in
-    inl (takes ∙ ap (λ (t : List ℕ). Some (bytes_told (done_with t) ++ [])) none ∙ ap Some (append-nil (bytes_told (done_with [])) ∙ empty_told))
+    inl (takes ∙ ap (λ (t : List ℕ). Some (answer_bytes (done_with t) ++ [])) none ∙ ap Some (append-nil (answer_bytes (done_with [])) ∙ empty_told))
 answered output state (refused_for fault) same is takes =
-    inr (takes ∙ ap (λ (f : OfficeFault). Some (bytes_told (refused_for f) ++ [])) is ∙ ap Some (append-nil (bytes_told (refused_for office.Memory))))
+    inr (takes ∙ ap (λ (f : OfficeFault). Some (answer_bytes (refused_for f) ++ [])) is ∙ ap Some (append-nil (answer_bytes (refused_for office.Memory))))
 answered output state no_request same is takes = absurd is
 
 -- ---- the state
@@ -128,11 +128,11 @@ holds_none text is few valid = record {
 
 module _ (text : List ℕ) (holds : HoldsState dks_2 most_bytes (Some text) no_state) (old : List Event) (output : Bytes)
     (before : old ≡ placed (codes "S") (Some text) ∷ []) where
-  -- one answered line leads from the beginning of the session to its last moment
-  one_step : (its : Setting) (first last : Moment) (step : Step) → BeginsAt its.name old first → its.name ≡ codes "S" → step.line ≡ whole_line asked_line
-      → AreSteps its first (step ∷ []) last → IsShelfHistory last.history → Takes (Some []) (bytes_told step.answer ++ []) output → IsAnswered output
+  -- one answered line leads from the beginning of the session to its last point
+  one_step : (its : Setting) (first last : SessionView) (step : Step) → BeginsAt its.name old first → its.name ≡ codes "S" → step.line ≡ whole_line asked_line
+      → AreSteps its first (step ∷ []) last → IsShelfHistory last.history → Takes (Some []) (answer_bytes step.answer ++ []) output → IsAnswered output
   one_step its first last step begins named line are met takes =
-      answered output step.before.desk.state step.answer (ap (λ (m : Moment). m.desk.state) are.0 ∙ read) does.0 takes
+      answered output step.before.desk.state step.answer (ap (λ (m : SessionView). m.desk.state) are.0 ∙ read) does.0 takes
     where
       asks : AsksOf its.may_write (whole_line asked_line) step.request
       asks = subst (λ (l : LineView). AsksOf its.may_write l step.request) line are.1.0.asks
@@ -147,7 +147,7 @@ module _ (text : List ℕ) (holds : HoldsState dks_2 most_bytes (Some text) no_s
       same = are.1.1 ∙ does.1 ∙ are.0
 
       history : last.history ≡ placed (codes "S") (Some text) ∷ looked its.name ∷ opened its.name begins.held ∷ closed begins.left ∷ []
-      history = ap (λ (m : Moment). m.history) same ∙ begins.asked
+      history = ap (λ (m : SessionView). m.history) same ∙ begins.asked
           ∙ ap (λ (events : List Event). events ++ looked its.name ∷ opened its.name begins.held ∷ closed begins.left ∷ []) before
 
       held : begins.held ≡ Some text
@@ -158,9 +158,9 @@ module _ (text : List ℕ) (holds : HoldsState dks_2 most_bytes (Some text) no_s
           (subst (λ (h : Bytes). HoldsState dks_2 most_bytes h no_state) (sym held) holds)
 
   -- the session's steps are the one step of the line
-  all_steps : (its : Setting) (first last : Moment) (steps : List Step) → BeginsAt its.name old first → its.name ≡ codes "S"
+  all_steps : (its : Setting) (first last : SessionView) (steps : List Step) → BeginsAt its.name old first → its.name ≡ codes "S"
       → lines_of steps ≡ whole_line asked_line ∷ [] → AreSteps its first steps last → IsShelfHistory last.history
-      → Takes (Some []) (answers_told steps) output → IsAnswered output
+      → Takes (Some []) (answers_text steps) output → IsAnswered output
   all_steps its first last [] begins named lines are met takes = let never : ⊥ = cc in absurd never
   all_steps its first last (step ∷ []) begins named lines are met takes =
       let line : step.line ≡ whole_line asked_line = cc in one_step its first last step begins named line are met takes
@@ -201,12 +201,12 @@ sent_text text before after state none takes is same =
     unsome one two equal = cc
 
 -- what is answered, as the bytes of a sink in memory
-bytes_answered : (taken : List ℕ) → IsAnswered (Some taken) → (taken ≡ codes "0 0 0\n") ⊎ (taken ≡ memory_told)
+bytes_answered : (taken : List ℕ) → IsAnswered (Some taken) → (taken ≡ codes "0 0 0\n") ⊎ (taken ≡ memory_answer)
 bytes_answered taken (inl done) = inl (unsome taken (codes "0 0 0\n") done)
   where
     unsome : (one two : List ℕ) → Some one ≡ Some two → one ≡ two
     unsome one two equal = cc
-bytes_answered taken (inr refused) = inr (unsome taken memory_told refused)
+bytes_answered taken (inr refused) = inr (unsome taken memory_answer refused)
   where
     unsome : (one two : List ℕ) → Some one ≡ Some two → one ≡ two
     unsome one two equal = cc
@@ -215,7 +215,7 @@ bytes_answered taken (inr refused) = inr (unsome taken memory_told refused)
 pub files_told : (text : List ℕ) (old seen new : HostView) (status : ℕ) (taken : List ℕ) → Serves (codes "S" ∷ []) true old new status → seen ≡ new
     → text ≡ state_text dks_2 no_state → length text ≤ 100 → IsValid no_state → old.history ≡ placed (codes "S") (Some text) ∷ []
     → old.input ≡ Some (codes "files\n") → old.output ≡ Some [] → IsShelfHistory seen.history → status ≡ 0 → seen.output ≡ Some taken
-    → (taken ≡ codes "0 0 0\n") ⊎ (taken ≡ memory_told)
+    → (taken ≡ codes "0 0 0\n") ⊎ (taken ≡ memory_answer)
 files_told text old seen new status taken serves same is few valid history input output met none told =
     bytes_answered taken (subst IsAnswered told
     (files_answered text old seen status (holds_none text is few valid) history input output met none

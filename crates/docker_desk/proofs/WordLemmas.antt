@@ -6,7 +6,7 @@ use Rattle.std.proofs.lemmas.List.{length-take-le, take_all}
 use Rattle.std.proofs.lemmas.List.Elements.{All-from_recursion}
 use Rattle.std.proofs.lemmas.List.Splits.{slice_split-cons_yes, slice_split_first, slice_split_none}
 use Rattle.docker_cmd.specs.JobLine.{is_space, word_or_none, words_in}
-use Rattle.docker_desk.specs.Requests.{behind_word, first_word, without_spaces}
+use Rattle.docker_desk.specs.Requests.{after_word, first_word, without_spaces}
 
 -- ---- the words of pieces
 
@@ -85,7 +85,7 @@ word_leads (b ∷ text) some = by (is_space b) refl some (word_leads text)
 
 -- if a space comes after the first word, the words are the first word and the words after the space
 pub words_cut : (text : List ℕ) → without_spaces text ≢ [] → position_or_len is_space (without_spaces text) < length (without_spaces text)
-    → words_in text ≡ first_word text ∷ words_in (behind_word text)
+    → words_in text ≡ first_word text ∷ words_in (after_word text)
 words_cut text some here =
     words_behind_spaces text ∙ at_space rest here ∙ ap (λ words. words ++ words_in (after_first is_space rest)) (some_word (first_word text) long)
     ∙ ap (λ words. first_word text ∷ words) (words_behind_spaces (after_first is_space rest))
@@ -99,7 +99,7 @@ words_cut text some here =
 
 -- if no space comes after the first word, it is the only word
 pub words_last : (text : List ℕ) → without_spaces text ≢ [] → position_or_len is_space (without_spaces text) ≡ length (without_spaces text)
-    → (words_in text ≡ without_spaces text ∷ words_in []) × ((first_word text ≡ without_spaces text) × (behind_word text ≡ []))
+    → (words_in text ≡ without_spaces text ∷ words_in []) × ((first_word text ≡ without_spaces text) × (after_word text ≡ []))
 words_last text some end = (words_behind_spaces text ∙ without_space rest end ∙ some_word rest long, (first, behind))
   where
     rest : List ℕ

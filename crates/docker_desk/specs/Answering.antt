@@ -1,13 +1,13 @@
 -- The lines of an input, and their answers on the output.
 use Rattle.std.specs.Prelude.{◌≡◌, ℕ, ◌+◌, ◌-◌, ◌^◌, ◌≤◌, ◌⊎◌, Bool, false, List, [], ◌∷◌, ◌++◌, length, map, Option, Some, None, ⊤}
 use Rattle.std.specs.List.{flat_map}
-use Rattle.cif_line.specs.Device.{Takes, TakesPart}
+use Rattle.cif_device.specs.Device.{Takes, TakesPart}
 use Rattle.docker_cmd.specs.Prepared.{DeviceBytes}
 use Rattle.docker_desk.specs.Lines.{AreLines, IsNextLine, LineView, ReadsNext, whole_line, bad_line, cut_line}
-use Rattle.docker_desk.specs.Replies.{AnswerView, bytes_told}
+use Rattle.docker_desk.specs.Replies.{AnswerView, answer_bytes}
 use Rattle.docker_desk.specs.declared.ending.Ending.{Ending}
 use Rattle.docker_desk.specs.declared.ending.Ending.TheVariants.{Ended, InputFailed, InputEndless, OutputFailed}
-use Rattle.docker_desk.specs.Moments.{Moment, Setting, Step}
+use Rattle.docker_desk.specs.SessionViews.{SessionView, Setting, Step}
 use Rattle.docker_desk.specs.Doing.{AreSteps, DoesLine}
 
 -- the lines of steps
@@ -19,8 +19,8 @@ abbrev pub answers_of : List Step → List AnswerView
 answers_of = map (λ step. step.answer)
 
 -- the bytes of the answers of steps
-abbrev pub answers_told : List Step → List ℕ
-answers_told = flat_map (λ step. bytes_told step.answer)
+abbrev pub answers_text : List Step → List ℕ
+answers_text = flat_map (λ step. answer_bytes step.answer)
 
 -- the text begins with these lines, and then comes the rest
 abbrev pub AreFirstLines : List ℕ → List LineView → List ℕ → Type 0
@@ -50,25 +50,25 @@ pub record BreaksOff (steps : List Step)
   pub last : Step
   pub whole : steps ≡ earlier ++ last ∷ []
   pub between : DeviceBytes
-  pub told : Takes output (answers_told earlier) between
-  pub part : TakesPart between (bytes_told last.answer) output_now
+  pub told : Takes output (answers_text earlier) between
+  pub part : TakesPart between (answer_bytes last.answer) output_now
 
 -- which lines were answered, and what the output gained, by how the session ended. At the input's
 -- end all lines were answered, otherwise its first lines
 abbrev pub EndsSession : Ending → DeviceBytes → List Step → DeviceBytes
     → DeviceBytes → Type 0
 EndsSession Ended input steps output output_now =
-    HasLines input (lines_of steps) × Takes output (answers_told steps) output_now
+    HasLines input (lines_of steps) × Takes output (answers_text steps) output_now
 EndsSession InputFailed input steps output output_now =
-    BeginsWith input (lines_of steps) × Takes output (answers_told steps) output_now
+    BeginsWith input (lines_of steps) × Takes output (answers_text steps) output_now
 EndsSession InputEndless input steps output output_now =
     BeginsWith input (lines_of steps)
-    × (IsEndless input × Takes output (answers_told steps) output_now)
+    × (IsEndless input × Takes output (answers_text steps) output_now)
 EndsSession OutputFailed input steps output output_now =
     BeginsWith input (lines_of steps) × BreaksOff steps output output_now
 
--- the lines of an input were answered on an output, and led from the moment before to the one after
-pub record AnswersLines (setting : Setting) (before after : Moment)
+-- the lines of an input were answered on an output, and led from the point before to the one after
+pub record AnswersLines (setting : Setting) (before after : SessionView)
     (input output output_now : DeviceBytes) (ending : Ending) : Type 0 where
   pub steps : List Step
   pub are : AreSteps setting before steps after
@@ -91,12 +91,12 @@ IsFollowed bad_line = ⊤
 IsFollowed cut_line = ⊥
 
 -- after one line: the session goes on, with that line answered, or it ends here
-abbrev pub ServesNext : Setting → Moment → Moment → DeviceBytes → DeviceBytes
+abbrev pub ServesNext : Setting → SessionView → SessionView → DeviceBytes → DeviceBytes
     → DeviceBytes → DeviceBytes → Option Ending → Type 0
 ServesNext setting before after input input_now output output_now None =
     (line : LineView) × (answer : AnswerView) × (IsFollowed line
     × (DoesLine setting line before answer after
-    × (ReadsNext input line input_now × Takes output (bytes_told answer) output_now)))
+    × (ReadsNext input line input_now × Takes output (answer_bytes answer) output_now)))
 ServesNext setting before after input input_now output output_now (Some ending) =
     AnswersLines setting before after input output output_now ending
 

@@ -16,7 +16,7 @@ use Rattle.docker_cmd.specs.Office.{TakesFile, WantsForFile}
 use Rattle.docker_cmd.specs.OfficeFault.{OfficeFault}
 use Rattle.docker_cmd.specs.OfficeFault.TheVariants as office
 use Rattle.docker_cmd.specs.Prepared.{WantsForState, most_bytes}
-use Rattle.cif_line.specs.Device.{IsEnd}
+use Rattle.cif_device.specs.Device.{IsEnd}
 use Rattle.docker_host.specs.History.{Bytes, Event, IsText, Text, drafted, looked, named_if, placed}
 use Rattle.docker_host.specs.Asked.{FailsToStore, IsStored, IsUndrafted}
 use Rattle.docker_desk.specs.Reading.{HasOpened, Reading}

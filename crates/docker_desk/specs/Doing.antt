@@ -11,8 +11,8 @@ use Rattle.docker_desk.specs.Requests.{AsksFor, RequestView, print_request, perm
 use Rattle.docker_desk.specs.Desk.{DeskView, EndsReceiving, EndsRenewing, EndsSaving, EndsTaking, IsDockerAnswer, IsFilesAnswer, IsKnownAnswer, IsPermanentAnswer, IsPlacesAnswer, IsTrainAnswer, look_by, unsaved_by}
 use Rattle.docker_desk.specs.Reading.{LooksAndOpens, OpensOnce, Reading, StopsInFile, StopsInState}
 use Rattle.docker_desk.specs.declared.compared.Compared.{Compared}
-use Rattle.docker_desk.specs.Replies.{AnswerView, done_with, no_request, refused_for, status_told}
-use Rattle.docker_desk.specs.Moments.{Moment, Setting, Step}
+use Rattle.docker_desk.specs.Replies.{AnswerView, done_with, no_request, refused_for, answer_status}
+use Rattle.docker_desk.specs.SessionViews.{SessionView, Setting, Step}
 
 -- the answer to a request that was done and has no text, or was refused
 abbrev pub answer_of : {A : Type 0} → Result A OfficeFault → AnswerView
@@ -23,7 +23,7 @@ answer_of (Err fault) = refused_for fault
 -- then decides how the request ends
 pub record Joins (name : Text) (Stops : Reading → Type 0)
     (Ends : State → State → Result ⊤ OfficeFault → Option Reading → Type 0)
-    (before : Moment) (answer : AnswerView) (after : Moment) : Type 0 where
+    (before : SessionView) (answer : AnswerView) (after : SessionView) : Type 0 where
   pub result : Result ⊤ OfficeFault
   pub told : answer ≡ answer_of result
   pub opens : OpensOnce name Stops (Ends before.desk.state after.desk.state result) before.history
@@ -32,9 +32,9 @@ pub record Joins (name : Text) (Stops : Reading → Type 0)
   pub look : after.look ≡ before.look
 
 -- a request to renew: the state's file is looked at and then opened once, and the state is joined
--- with the one whose text the file held then. If that is done, the moment's look is the one right
+-- with the one whose text the file held then. If that is done, the point's look is the one right
 -- before this opening
-pub record Renews (setting : Setting) (before : Moment) (answer : AnswerView) (after : Moment)
+pub record Renews (setting : Setting) (before : SessionView) (answer : AnswerView) (after : SessionView)
     : Type 0 where
   pub result : Result Compared OfficeFault
   pub told : answer ≡ answer_of result
@@ -47,9 +47,9 @@ abbrev pub desk_by : Result ⊤ OfficeFault → DeskView → DeskView
 desk_by (Ok done) desk = record desk { unsaved = false }
 desk_by (Err fault) desk = desk
 
--- a request to save: a draft is made from the moment's look. If the draft takes the file's place,
--- the file is looked at again, and that look is the next moment's
-pub record Saves (setting : Setting) (before : Moment) (answer : AnswerView) (after : Moment)
+-- a request to save: a draft is made from the point's look. If the draft takes the file's place,
+-- the file is looked at again, and that look is the next point's
+pub record Saves (setting : Setting) (before : SessionView) (answer : AnswerView) (after : SessionView)
     : Type 0 where
   pub result : Result ⊤ OfficeFault
   pub told : answer ≡ answer_of result
@@ -58,14 +58,14 @@ pub record Saves (setting : Setting) (before : Moment) (answer : AnswerView) (af
   pub desk : after.desk ≡ desk_by result before.desk
   pub look : after.look ≡ look_by result (length before.history + 2) before.look
 
--- the moment after a horizon was set: the state has the later of the two horizons, and something is
+-- the point after a horizon was set: the state has the later of the two horizons, and something is
 -- unsaved
-abbrev pub with_horizon : ℕ → Moment → Moment
+abbrev pub with_horizon : ℕ → SessionView → SessionView
 with_horizon day before =
     record before { desk = record { state = raise_horizon day before.desk.state; unsaved = true } }
 
 -- the answer to a request, and what the request changes
-abbrev pub DoesRequest : Setting → RequestView → Moment → AnswerView → Moment → Type 0
+abbrev pub DoesRequest : Setting → RequestView → SessionView → AnswerView → SessionView → Type 0
 DoesRequest setting (print_request place day) before answer after =
     IsDockerAnswer before.desk.state place day answer × (after ≡ before)
 DoesRequest setting (permanent_request place day) before answer after =
@@ -94,28 +94,28 @@ AsksOf may_write bad_line request = request ≡ None
 AsksOf may_write cut_line request = request ≡ None
 
 -- what was asked for was done; if nothing was, the answer says so, and nothing changes
-abbrev pub DoesAsked : Setting → Option RequestView → Moment → AnswerView → Moment → Type 0
+abbrev pub DoesAsked : Setting → Option RequestView → SessionView → AnswerView → SessionView → Type 0
 DoesAsked setting (Some request) before answer after =
     DoesRequest setting request before answer after
 DoesAsked setting None before answer after = (answer ≡ no_request) × (after ≡ before)
 
--- the step does what its line asks for, from the moment before to the moment after. The folder
+-- the step does what its line asks for, from the point before to the point after. The folder
 -- failed once more exactly if the answer has status 4
 pub record IsStep (setting : Setting) (step : Step) : Type 0 where
   pub asks : AsksOf setting.may_write step.line step.request
   pub does : DoesAsked setting step.request step.before step.answer step.after
-  pub counted : IsCounted (status_told step.answer) step.before.failures step.after.failures
+  pub counted : IsCounted (answer_status step.answer) step.before.failures step.after.failures
 
--- a line gets this answer, and leads from one moment to the other
-pub record DoesLine (setting : Setting) (line : LineView) (before : Moment) (answer : AnswerView)
-    (after : Moment) : Type 0 where
+-- a line gets this answer, and leads from one point to the other
+pub record DoesLine (setting : Setting) (line : LineView) (before : SessionView) (answer : AnswerView)
+    (after : SessionView) : Type 0 where
   pub request : Option RequestView
   pub asks : AsksOf setting.may_write line request
   pub does : DoesAsked setting request before answer after
-  pub counted : IsCounted (status_told answer) before.failures after.failures
+  pub counted : IsCounted (answer_status answer) before.failures after.failures
 
--- steps, one after the other, lead from one moment to the other
-abbrev pub AreSteps : Setting → Moment → List Step → Moment → Type 0
+-- steps, one after the other, lead from one point to the other
+abbrev pub AreSteps : Setting → SessionView → List Step → SessionView → Type 0
 AreSteps setting before [] after = after ≡ before
 AreSteps setting before (step ∷ steps) after =
     (step.before ≡ before) × (IsStep setting step × AreSteps setting step.after steps after)

@@ -1,4 +1,4 @@
--- What is known in a session: the files that the state of each moment is the summary of, and its
+-- What is known in a session: the files that the state of each point is the summary of, and its
 -- horizon.
 use Rattle.std.specs.Prelude.{◌≡◌, ◌↔◌, ℕ, List, [], ◌∷◌, ◌++◌, Option, Some, None, option_map, ⊤}
 use Rattle.docker_model.specs.file.File.{most_records}
@@ -20,7 +20,7 @@ use Rattle.docker_cmd.specs.Prepared.{most_bytes}
 use Rattle.docker_host.specs.History.{Event, Text, drafted, looked, named_if, placed}
 use Rattle.docker_desk.specs.Requests.{RequestView, print_request, permanent_request, train_request, files_request, places_request, known_request, renew_request, take_request, merge_request, horizon_request, save_request}
 use Rattle.docker_desk.specs.Replies.{AnswerView, done_with, no_request, refused_for}
-use Rattle.docker_desk.specs.Moments.{Moment, Setting, Step}
+use Rattle.docker_desk.specs.SessionViews.{SessionView, Setting, Step}
 use Rattle.docker_desk.specs.Doing.{AreSteps}
 use Rattle.docker_desk.specs.Reading.{Reading, events_of}
 
@@ -37,7 +37,7 @@ KeepsAs state table = (place : List ℕ) (day : ℕ) (text : List ℕ) → ¬ Is
 
 -- the named file was opened and held an extract that was taken. This extract is what was heard,
 -- without a horizon
-pub record HearsFile (name : Text) (before after : Moment) (heard : Known) : Type 0 where
+pub record HearsFile (name : Text) (before after : SessionView) (heard : Known) : Type 0 where
   pub read : Reading
   pub asked : after.history ≡ before.history ++ events_of name read
   pub takes : TakesFile most_records read.held before.desk.state after.desk.state
@@ -45,7 +45,7 @@ pub record HearsFile (name : Text) (before after : Moment) (heard : Known) : Typ
 
 -- a file was opened by these events and held the text of a state, and the state is the summary of
 -- what was heard
-pub record HearsState (events : Reading → List Event) (before after : Moment) (heard : Known)
+pub record HearsState (events : Reading → List Event) (before after : SessionView) (heard : Known)
     : Type 0 where
   pub read : Reading
   pub asked : after.history ≡ before.history ++ events read
@@ -57,7 +57,7 @@ abbrev pub renewing : Text → Reading → List Event
 renewing name read = looked name ∷ events_of name read
 
 -- what is heard by a request that was done
-abbrev pub Hears : Setting → RequestView → Moment → Moment → Known → Type 0
+abbrev pub Hears : Setting → RequestView → SessionView → SessionView → Known → Type 0
 Hears setting (print_request place day) before after heard = heard ≡ nothing
 Hears setting (permanent_request place day) before after heard = heard ≡ nothing
 Hears setting (train_request uid day) before after heard = heard ≡ nothing
@@ -74,7 +74,7 @@ Hears setting (horizon_request day) before after heard =
 Hears setting save_request before after heard = heard ≡ nothing
 
 -- what a request adds to what is known: what is heard by it, if it was done
-abbrev pub Learns : Setting → Option RequestView → Moment → AnswerView → Moment
+abbrev pub Learns : Setting → Option RequestView → SessionView → AnswerView → SessionView
     → Known → Known → Type 0
 Learns setting (Some request) before (done_with text) after old new =
     (heard : Known) × (Hears setting request before after heard × (new ≡ united old heard))
@@ -90,7 +90,7 @@ AreLearned setting old (step ∷ steps) new =
     × AreLearned setting now steps new)
 
 -- a file was opened by these events, and held the text of the summary of this
-pub record HoldsKnown (events : Reading → List Event) (before after : Moment) (known : Known)
+pub record HoldsKnown (events : Reading → List Event) (before after : SessionView) (known : Known)
     : Type 0 where
   pub read : Reading
   pub asked : after.history ≡ before.history ++ events read
@@ -99,7 +99,7 @@ pub record HoldsKnown (events : Reading → List Event) (before after : Moment) 
   pub of : IsKnown known sent
 
 -- if the request receives a state, the file held the text of a summary
-abbrev pub ReceivesKnown : Setting → RequestView → Moment → Moment → Type 0
+abbrev pub ReceivesKnown : Setting → RequestView → SessionView → SessionView → Type 0
 ReceivesKnown setting (print_request place day) before after = ⊤
 ReceivesKnown setting (permanent_request place day) before after = ⊤
 ReceivesKnown setting (train_request uid day) before after = ⊤
@@ -115,7 +115,7 @@ ReceivesKnown setting (horizon_request day) before after = ⊤
 ReceivesKnown setting save_request before after = ⊤
 
 -- if a state was received, the file held the text of a summary
-abbrev pub HearsKnown : Setting → Option RequestView → Moment → AnswerView → Moment → Type 0
+abbrev pub HearsKnown : Setting → Option RequestView → SessionView → AnswerView → SessionView → Type 0
 HearsKnown setting (Some request) before (done_with text) after =
     ReceivesKnown setting request before after
 HearsKnown setting (Some request) before (refused_for fault) after = ⊤
@@ -129,7 +129,7 @@ AllHearKnown setting (step ∷ steps) =
     HearsKnown setting step.request step.before step.answer step.after × AllHearKnown setting steps
 
 -- a draft with the text of the summary of this knowledge took the place of the state's file
-pub record PlacesKnown (setting : Setting) (before after : Moment) (known : Known) : Type 0 where
+pub record PlacesKnown (setting : Setting) (before after : SessionView) (known : Known) : Type 0 where
   pub text : List ℕ
   pub good : IsGoodKnown dks_2 known
   pub is : IsMessageOf dks_2 known text
@@ -137,7 +137,7 @@ pub record PlacesKnown (setting : Setting) (before after : Moment) (known : Know
       ∷ placed setting.name (named_if setting.names_bytes text) ∷ looked setting.name ∷ []
 
 -- a file was opened and held the text of this file, which is all that was gained
-pub record GainsFile (name : Text) (before after : Moment) (gains : List Gain) : Type 0 where
+pub record GainsFile (name : Text) (before after : SessionView) (gains : List Gain) : Type 0 where
   pub read : Reading
   pub asked : after.history ≡ before.history ++ events_of name read
   pub file : List (List ℕ)
@@ -146,7 +146,7 @@ pub record GainsFile (name : Text) (before after : Moment) (gains : List Gain) :
 
 -- these events opened a file that held this earlier version of a state's file, which is all that was
 -- gained
-pub record GainsVersion (events : Reading → List Event) (earlier : List Text) (before after : Moment)
+pub record GainsVersion (events : Reading → List Event) (earlier : List Text) (before after : SessionView)
     (gains : List Gain) : Type 0 where
   pub read : Reading
   pub asked : after.history ≡ before.history ++ events read
@@ -155,7 +155,7 @@ pub record GainsVersion (events : Reading → List Event) (earlier : List Text) 
   pub gains_are : gains ≡ version_gained number ∷ []
 
 -- what a request that was done gained: a file, an earlier version of a state's file, or a horizon
-abbrev pub GainsDone : Setting → List Text → RequestView → Moment → Moment → List Gain → Type 0
+abbrev pub GainsDone : Setting → List Text → RequestView → SessionView → SessionView → List Gain → Type 0
 GainsDone setting earlier (print_request place day) before after gains = gains ≡ []
 GainsDone setting earlier (permanent_request place day) before after gains = gains ≡ []
 GainsDone setting earlier (train_request uid day) before after gains = gains ≡ []
@@ -173,7 +173,7 @@ GainsDone setting earlier (horizon_request day) before after gains =
 GainsDone setting earlier save_request before after gains = gains ≡ []
 
 -- what a line gained: something only if it asked for a request that was done
-abbrev pub GainsAsked : Setting → List Text → Option RequestView → Moment → AnswerView → Moment
+abbrev pub GainsAsked : Setting → List Text → Option RequestView → SessionView → AnswerView → SessionView
     → List Gain → Type 0
 GainsAsked setting earlier (Some request) before (done_with text) after gains =
     GainsDone setting earlier request before after gains
@@ -192,19 +192,19 @@ GainedBy setting earlier (step ∷ steps) gains = (now : List Gain) × ((more : 
 -- A draft took the place of the state's file. Its text was saved of a state that was read from an
 -- earlier version of such a file, and then gained this
 pub record IsPlaced (setting : Setting) (earlier : List Text) (own : ℕ) (gains : List Gain)
-    (before after : Moment) : Type 0 where
+    (before after : SessionView) : Type 0 where
   pub text : Text
   pub saved : IsSaved earlier own gains text
   pub asked : after.history ≡ before.history ++ drafted setting.name before.look
       ∷ placed setting.name (named_if setting.names_bytes text) ∷ looked setting.name ∷ []
 
--- at some moment of some session this is known, and the desk has this state
+-- at some point of some session this is known, and the desk has this state
 pub record KnowsAt (setting : Setting) (known : Known) (state : State) : Type 0 where
   pub start : Known
-  pub first : Moment
+  pub first : SessionView
   pub begins : IsKnown start first.desk.state
   pub steps : List Step
-  pub last : Moment
+  pub last : SessionView
   pub are : AreSteps setting first steps last
   pub learned : AreLearned setting start steps known
   pub has : last.desk.state ≡ state

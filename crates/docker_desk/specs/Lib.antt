@@ -4,7 +4,7 @@ pub mod Answers
 pub mod Replies
 pub mod Reading
 pub mod Desk
-pub mod Moments
+pub mod SessionViews
 pub mod Doing
 pub mod Answering
 pub mod Serving

@@ -24,21 +24,21 @@ answer_meant (code.Refused fault) = refused_for fault
 answer_meant code.Usage = no_request
 
 -- the status of an answer
-abbrev pub status_told : AnswerView → ℕ
-status_told (done_with text) = 0
-status_told (refused_for fault) = status_of (Office fault)
-status_told no_request = 2
+abbrev pub answer_status : AnswerView → ℕ
+answer_status (done_with text) = 0
+answer_status (refused_for fault) = status_of (Office fault)
+answer_status no_request = 2
 
 -- the text of an answer
-abbrev pub text_told : AnswerView → List ℕ
-text_told (done_with text) = text
-text_told (refused_for fault) = fault_line (Office fault)
-text_told no_request = usage_line
+abbrev pub answer_body : AnswerView → List ℕ
+answer_body (done_with text) = text
+answer_body (refused_for fault) = fault_line (Office fault)
+answer_body no_request = usage_line
 
 -- the bytes of an answer: its header and its text
-abbrev pub bytes_told : AnswerView → List ℕ
-bytes_told answer = answer_text (status_told answer) (text_told answer)
+abbrev pub answer_bytes : AnswerView → List ℕ
+answer_bytes answer = answer_text (answer_status answer) (answer_body answer)
 
 -- the bytes of the answer to a request for which memory ran out
-abbrev pub memory_told : List ℕ
-memory_told = bytes_told (refused_for office.Memory)
+abbrev pub memory_answer : List ℕ
+memory_answer = answer_bytes (refused_for office.Memory)

@@ -120,8 +120,8 @@ abbrev pub first_word : List ℕ → Text
 first_word text = before_first is_space (without_spaces text)
 
 -- what comes after the first word of a text, without the spaces between
-abbrev pub behind_word : List ℕ → List ℕ
-behind_word text = without_spaces (after_first is_space (without_spaces text))
+abbrev pub after_word : List ℕ → List ℕ
+after_word text = without_spaces (after_first is_space (without_spaces text))
 
 -- the word names this train: it is the train's UID, of six bytes
 pub record NamesTrain (word : Text) (uid : List ℕ) : Type 0 where
@@ -159,7 +159,7 @@ HasRest save_request rest = words_in rest ≡ []
 -- the line asks for this request, and the desk may write if the request needs it
 pub record IsRequestOf (may_write : Bool) (line : List ℕ) (request : RequestView) : Type 0 where
   pub name : first_word line ≡ name_of (verb_of request)
-  pub rest : HasRest request (behind_word line)
+  pub rest : HasRest request (after_word line)
   pub allowed : is_writing (verb_of request) ≡ true → may_write ≡ true
 
 -- the line asks for this request, or for none

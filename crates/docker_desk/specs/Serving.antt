@@ -1,6 +1,6 @@
 -- A whole session: its words, how it begins, and how it ends.
 use Rattle.std.specs.Prelude.{◌≡◌, ℕ, ◌+◌, Bool, true, false, ◌&&◌, List, [], ◌∷◌, ◌++◌, codes, length, Option, Result, Ok, Err, ◌⊎◌}
-use Rattle.cif_line.specs.Device.{Takes, TakesPart}
+use Rattle.cif_device.specs.Device.{Takes, TakesPart}
 use Rattle.docker_model.specs.state.StateText.{dks_2}
 use Rattle.docker_cmd.specs.SourceRead.{ReadsState}
 use Rattle.docker_cmd.specs.FaultLine.{IsCounted, device_line, fault_line, status_of}
@@ -15,7 +15,7 @@ use Rattle.docker_desk.specs.Desk.{DeskView, IsWhyNot, RefusesToReceive}
 use Rattle.docker_desk.specs.Reading.{HasOpened, LooksAndOpens, Reading}
 use Rattle.docker_desk.specs.declared.ending.Ending.{Ending}
 use Rattle.docker_desk.specs.declared.ending.Ending.TheVariants.{Ended, InputFailed, InputEndless, OutputFailed}
-use Rattle.docker_desk.specs.Moments.{Moment, setting}
+use Rattle.docker_desk.specs.SessionViews.{SessionView, setting}
 use Rattle.docker_desk.specs.Answering.{AnswersLines, CountsStreams}
 
 -- ---- words
@@ -44,10 +44,10 @@ EndsOpening desk_in (Ok made) read =
     × ((desk_in made).unsaved ≡ false)
 EndsOpening desk_in (Err fault) read = IsWhyNot RefusesToReceive fault read
 
--- the first moment of a session, after this history. The state's file was looked at, opened, read no
+-- the first point of a session, after this history. The state's file was looked at, opened, read no
 -- further than decides the result, and closed. The desk has the state whose text it held, and that
--- look is the moment's
-pub record BeginsAt (name : Text) (old : List Event) (first : Moment) : Type 0 where
+-- look is the point's
+pub record BeginsAt (name : Text) (old : List Event) (first : SessionView) : Type 0 where
   pub held : Bytes
   pub left : Bytes
   pub asked : first.history ≡ old ++ looked name ∷ opened name held ∷ closed left ∷ []
@@ -127,10 +127,10 @@ pub record IsServed (words : List Text) (names_bytes : Bool) (old new : HostView
   pub name : Text
   pub may_write : Bool
   pub words_are : NamesSession words name may_write
-  pub first : Moment
+  pub first : SessionView
   pub begins : BeginsAt name old.history first
   pub none : first.failures ≡ old.folder_failures
-  pub last : Moment
+  pub last : SessionView
   pub ending : Ending
   pub answers : AnswersLines (setting name may_write names_bytes) first last old.input old.output
       new.output ending

@@ -1,6 +1,6 @@
 //! The bytes that were read ahead from a source.
 ghost use Rattle.std.specs.Prelude.{◌≡◌, ◌≢◌, ◌+◌, ◌-◌, ◌^◌, ◌<◌, ◌↔◌, [], ◌∷◌, false, true, IsTrue, IfOk, IsErr, OnOk, OnErr, MatchOption};
-ghost use Rattle.cif_line.specs.Device.{CountsFailure, IsEnd};
+ghost use Rattle.cif_device.specs.Device.{CountsFailure, IsEnd};
 ghost use Rattle.docker_cmd.specs.JobLine.{ReadsByte};
 ghost use Rattle.docker_desk.specs.Lines.{MeetsEnd, is_end_of_bytes, with_ahead};
 

@@ -4,9 +4,9 @@ ghost use Rattle.docker_cmd.specs.FaultLine.{IsCounted};
 ghost use Rattle.docker_cmd.specs.JobLine.{IsLineText};
 ghost use Rattle.docker_desk.specs.Lines.{whole_line};
 ghost use Rattle.docker_desk.specs.Requests.{request_meant};
-ghost use Rattle.docker_desk.specs.Replies.{answer_meant, status_told};
+ghost use Rattle.docker_desk.specs.Replies.{answer_meant, answer_status};
 ghost use Rattle.docker_desk.specs.Doing.{DoesLine, DoesRequest, answer_of};
-ghost use Rattle.docker_desk.specs.Moments.{moment, setting};
+ghost use Rattle.docker_desk.specs.SessionViews.{session_view, setting};
 
 use crate::reply::Answer;
 use crate::requests::{Request, request_in};
@@ -26,10 +26,10 @@ pub fn answer_line<D: Folder>(
     requires few { D.failures folder.old < 2 ^ 64 - 1 }
     ensures { DoesLine (setting words.now.name.now words.now.may_write D.names_bytes)
         (whole_line line.now)
-        (moment session.old.desk (D.look_of session.old.seen)
+        (session_view session.old.desk (D.look_of session.old.seen)
         (D.history folder.old) (D.failures folder.old))
         (answer_meant result)
-        (moment session.new.desk (D.look_of session.new.seen)
+        (session_view session.new.desk (D.look_of session.new.seen)
         (D.history folder.new) (D.failures folder.new)) }
 {
     match request_in(line, words.may_write) {
@@ -48,12 +48,12 @@ fn answer_request<D: Folder>(
     requires { D.failures folder.old < 2 ^ 64 - 1 }
     ensures does { DoesRequest (setting words.now.name.now words.now.may_write D.names_bytes)
         (request_meant request.entry)
-        (moment session.old.desk (D.look_of session.old.seen)
+        (session_view session.old.desk (D.look_of session.old.seen)
         (D.history folder.old) (D.failures folder.old))
         (answer_meant result)
-        (moment session.new.desk (D.look_of session.new.seen)
+        (session_view session.new.desk (D.look_of session.new.seen)
         (D.history folder.new) (D.failures folder.new)) }
-    ensures counted { IsCounted (status_told (answer_meant result))
+    ensures counted { IsCounted (answer_status (answer_meant result))
         (D.failures folder.old) (D.failures folder.new) }
 {
     match request {

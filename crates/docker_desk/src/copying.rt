@@ -34,7 +34,7 @@ pub(crate) struct Copying<B: Begun, S: Source> {
 impl<B: Begun, S: Source> Model for Copying<B, S> {
     ghost use Rattle.std.specs.Prelude.{IfSome, option_map};
     ghost use Rattle.std.specs.Prelude.{◌≡◌, true};
-    ghost use Rattle.cif_line.specs.Device.{IsEnd, Reads};
+    ghost use Rattle.cif_device.specs.Device.{IsEnd, Reads};
     ghost use Rattle.docker_desk.specs.Copying.{CopyView};
 
     ghost Value = { CopyView };

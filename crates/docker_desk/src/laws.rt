@@ -22,7 +22,7 @@ ghost use Rattle.state_lists.specs.Places.{IsPlacesText};
 ghost use Rattle.docker_desk.specs.Answering.{EndsSession, answers_of, lines_of};
 ghost use Rattle.docker_desk.specs.Doing.{AreSteps, DoesRequest};
 ghost use Rattle.docker_desk.specs.Learning.{AllHearKnown, AreLearned, GainedBy, HearsState, HoldsKnown, IsKnown, IsPlaced, IsTrainOf, KeepsAs, KnowsAt, PlacesKnown, renewing};
-ghost use Rattle.docker_desk.specs.Moments.{Moment, Setting, Step};
+ghost use Rattle.docker_desk.specs.SessionViews.{SessionView, Setting, Step};
 ghost use Rattle.docker_desk.specs.Reading.{events_of};
 ghost use Rattle.docker_desk.specs.Replies.{done_with};
 ghost use Rattle.docker_desk.specs.Requests.{merge_request, renew_request, save_request};
@@ -38,23 +38,23 @@ use state_lists::laws::{one_known_text, one_places_text};
 /// state is that summary. Each later state is the summary of these files and of all that was taken
 /// and received until then, under the greatest horizon.
 pub fn known_files_fix_sessions()
-    ensures begins { (name : List ℕ) (old : List Event) (first : Moment) (start : Known)
+    ensures begins { (name : List ℕ) (old : List Event) (first : SessionView) (start : Known)
         (sent : State) → (begins : BeginsAt name old first)
         → HoldsState dks_2 most_bytes begins.held sent → IsKnown start sent
         → IsKnown start first.desk.state }
-    ensures goes_on { (setting : Setting) (first last : Moment) (steps : List Step)
+    ensures goes_on { (setting : Setting) (first last : SessionView) (steps : List Step)
         (old new : Known) → IsKnown old first.desk.state → AreSteps setting first steps last
         → AreLearned setting old steps new → IsKnown new last.desk.state }
     ensures knows { (setting : Setting) (known : Known) (state : State)
         → KnowsAt setting known state → IsKnown known state }
 {}
 
-/// At each moment of a session there is a look from which a draft is made. It comes right before an
+/// At each point of a session there is a look from which a draft is made. It comes right before an
 /// opening of the state's file, whose text was read then, or right after the desk put its own text
 /// there. So a text that came between a look and a reading is never overwritten unread: it was
 /// read, or the file is no longer the one that the look saw.
 pub fn looks_come_before_readings()
-    ensures { (setting : Setting) (old : List Event) (first last : Moment) (steps : List Step)
+    ensures { (setting : Setting) (old : List Event) (first last : SessionView) (steps : List Step)
         → BeginsAt setting.name old first → AreSteps setting first steps last
         → IsGoodLook setting.name last.history last.look }
 {}
@@ -63,15 +63,15 @@ pub fn looks_come_before_readings()
 /// each such file held one, something is learned from every step, so the law
 /// `known_files_fix_sessions` applies to the whole session.
 pub fn known_texts_are_heard()
-    ensures merged { (setting : Setting) (other text : List ℕ) (before after : Moment)
+    ensures merged { (setting : Setting) (other text : List ℕ) (before after : SessionView)
         (known : Known) → DoesRequest setting (merge_request other) before (done_with text) after
         → HoldsKnown (events_of other) before after known
         → HearsState (events_of other) before after known }
-    ensures renewed { (setting : Setting) (text : List ℕ) (before after : Moment) (known : Known)
+    ensures renewed { (setting : Setting) (text : List ℕ) (before after : SessionView) (known : Known)
         → DoesRequest setting renew_request before (done_with text) after
         → HoldsKnown (renewing setting.name) before after known
         → HearsState (renewing setting.name) before after known }
-    ensures learned { (setting : Setting) (first last : Moment) (steps : List Step) (old : Known)
+    ensures learned { (setting : Setting) (first last : SessionView) (steps : List Step) (old : Known)
         → AreSteps setting first steps last → AllHearKnown setting steps
         → (new : Known) × AreLearned setting old steps new }
 {}
@@ -79,7 +79,7 @@ pub fn known_texts_are_heard()
 /// Each text that a desk puts in the place of its state's file is the text of the summary of what it
 /// knew then.
 pub fn saves_tell_what_is_known()
-    ensures { (setting : Setting) (text : List ℕ) (before after : Moment) (known : Known)
+    ensures { (setting : Setting) (text : List ℕ) (before after : SessionView) (known : Known)
         → IsKnown known before.desk.state
         → DoesRequest setting save_request before (done_with text) after
         → PlacesKnown setting before after known }
@@ -89,7 +89,7 @@ pub fn saves_tell_what_is_known()
 /// an earlier version, and then gained what the steps up to the saving gained. `earlier` are the texts of
 /// all earlier versions of any state's file, and `own` is the number of the one that was read first.
 pub fn saves_are_versions()
-    ensures { (setting : Setting) (first before after : Moment) (steps : List Step)
+    ensures { (setting : Setting) (first before after : SessionView) (steps : List Step)
         (old : List Event) (earlier : List (List ℕ)) (own : ℕ) (gains : List Gain)
         (answer : List ℕ) → (begins : BeginsAt setting.name old first)
         → HoldsVersion earlier begins.held own → AreSteps setting first steps before
@@ -98,11 +98,11 @@ pub fn saves_are_versions()
         → IsPlaced setting earlier own gains before after }
 {}
 
-/// The first steps of a session lead to a moment, and the others lead on from there. So what a law
-/// says of the last moment holds at every moment.
-pub fn each_moment_is_a_last_one()
-    ensures { (setting : Setting) (first last : Moment) (earlier later : List Step)
-        → AreSteps setting first (earlier ++ later) last → (between : Moment)
+/// The first steps of a session lead to a point, and the others lead on from there. So what a law
+/// says of the last point holds at every point.
+pub fn each_point_is_a_last_one()
+    ensures { (setting : Setting) (first last : SessionView) (earlier later : List Step)
+        → AreSteps setting first (earlier ++ later) last → (between : SessionView)
         × AreSteps setting first earlier between × AreSteps setting between later last }
 {}
 
@@ -127,7 +127,7 @@ pub fn known_files_fix_states()
         → IsDockerText (live_table two) place day other → text ≡ other }
 {}
 
-/// If no two files that a session knows have the same moment, they have a plain table. Each docker
+/// If no two files that a session knows have the same session_view, they have a plain table. Each docker
 /// that is printed then is the docker of this table.
 pub fn dockers_are_of_the_plain_table()
     ensures { (known : Known) (state : State) → IsKnown known state
@@ -137,7 +137,7 @@ pub fn dockers_are_of_the_plain_table()
 
 /// Two sessions, or a session and an office of a run, that know the same files have the same dockers
 /// without the short-term plan. This holds for each timing point and each day that neither refuses,
-/// even if their horizons differ. If no two of these files have the same moment, they are the dockers
+/// even if their horizons differ. If no two of these files have the same session_view, they are the dockers
 /// of the plain table without its short-term entries.
 pub fn known_files_fix_permanent_answers()
     ensures docker { (first second : Known) (one two : State) → IsKnown first one
@@ -151,7 +151,7 @@ pub fn known_files_fix_permanent_answers()
 {}
 
 /// Each schedule that `train` shows came from a known file. If no two known files have the same
-/// moment, it is the schedule that their plain table has for the UID on the day.
+/// session_view, it is the schedule that their plain table has for the UID on the day.
 pub fn trains_came_from_known_files()
     ensures { (known : Known) (state : State) (uid : List ℕ) (day : ℕ) (text : List ℕ)
         → IsKnown known state → IsTrainText state uid day text → state.horizon ≤ day
@@ -177,7 +177,7 @@ pub fn known_files_fix_lists()
     one_known_text();
 }
 
-/// If no two files that a session knows have the same moment, the list of timing points is the one
+/// If no two files that a session knows have the same session_view, the list of timing points is the one
 /// of their plain table, without what has lapsed.
 pub fn places_are_of_the_plain_table()
     ensures { (known : Known) (state : State) → IsKnown known state

@@ -1,6 +1,6 @@
 //! The lines of a source.
 ghost use Rattle.std.specs.Prelude.{◌≡◌, ◌-◌, ◌^◌, ◌<◌, Err};
-ghost use Rattle.cif_line.specs.Device.{CountsFailure};
+ghost use Rattle.cif_device.specs.Device.{CountsFailure};
 ghost use Rattle.docker_desk.specs.Lines.{EndsLine, EndsSkipping, MeetsEnd, asked_meant, cut_or_end, is_end_of_lines, with_ahead};
 
 use crate::ahead::Ahead;

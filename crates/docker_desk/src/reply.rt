@@ -1,10 +1,10 @@
 //! The answers to requests.
 ghost use Rattle.std.specs.Prelude.{◌-◌, ◌^◌, ◌<◌, IsErr, OnOk, OnErr};
-ghost use Rattle.cif_line.specs.Device.{CountsFailure, Takes, TakesPart};
+ghost use Rattle.cif_device.specs.Device.{CountsFailure, Takes, TakesPart};
 ghost use Rattle.docker_desk.specs.Answers.{answer_text};
 ghost use Rattle.docker_cmd.specs.FaultLine.{fault_line, status_of};
 ghost use Rattle.docker_cmd.specs.declared.fault.Fault.TheVariants as why;
-ghost use Rattle.docker_desk.specs.Replies.{answer_meant, bytes_told};
+ghost use Rattle.docker_desk.specs.Replies.{answer_meant, answer_bytes};
 
 use crate::answers::write_answer;
 use crate::page::Page;
@@ -29,10 +29,10 @@ pub enum Answer {
 /// a write fails, the sink has gained a proper prefix of the answer.
 pub fn write_reply<K: Sink>(answer: &Answer, sink: &mut K) -> Result<(), Failed>
     requires { K.failures sink.old < 2 ^ 64 - 1 }
-    ensures whole { OnOk result (Takes (K.taken sink.old) (bytes_told (answer_meant answer.now))
+    ensures whole { OnOk result (Takes (K.taken sink.old) (answer_bytes (answer_meant answer.now))
         (K.taken sink.new)) }
     ensures part { OnErr result (TakesPart (K.taken sink.old)
-        (bytes_told (answer_meant answer.now)) (K.taken sink.new)) }
+        (answer_bytes (answer_meant answer.now)) (K.taken sink.new)) }
     ensures failures { CountsFailure (IsErr result) (K.failures sink.old) (K.failures sink.new) }
 {
     match answer {

@@ -1,9 +1,9 @@
 //! The lines of a session, one after the other.
 ghost use Rattle.std.specs.Prelude.{◌≡◌, false, ◌+◌, ◌-◌, ◌^◌, ◌<◌, ◌≤◌, Some, Option};
 ghost use Rattle.docker_desk.specs.Lines.{with_ahead};
-ghost use Rattle.docker_desk.specs.Replies.{answer_meant, bytes_told};
+ghost use Rattle.docker_desk.specs.Replies.{answer_meant, answer_bytes};
 ghost use Rattle.docker_desk.specs.Answering.{AnswersLines, CountsNext, CountsStreams, ServesNext, StopsAtEnd, TellsAnswer};
-ghost use Rattle.docker_desk.specs.Moments.{moment, setting};
+ghost use Rattle.docker_desk.specs.SessionViews.{session_view, setting};
 
 use crate::ahead::Ahead;
 use crate::answering::answer_line;
@@ -30,9 +30,9 @@ pub fn serve_lines<S: Source, D: Folder, K: Sink>(
     requires output { K.failures output.old < 2 ^ 64 - 1 }
     ensures answers { AnswersLines
         (setting words.now.name.now words.now.may_write D.names_bytes)
-        (moment session.old.desk (D.look_of session.old.seen)
+        (session_view session.old.desk (D.look_of session.old.seen)
         (D.history folder.old) (D.failures folder.old))
-        (moment session.new.desk (D.look_of session.new.seen)
+        (session_view session.new.desk (D.look_of session.new.seen)
         (D.history folder.new) (D.failures folder.new))
         (S.left input.old) (K.taken output.old) (K.taken output.new) result }
     ensures counted { CountsStreams result (S.failures input.old) (S.failures input.new)
@@ -65,9 +65,9 @@ pub fn serve_next<S: Source, D: Folder, K: Sink>(
     requires few { D.failures folder.old < 2 ^ 64 - 1 }
     requires output { K.failures output.old < 2 ^ 64 - 1 }
     ensures serves { ServesNext (setting words.now.name.now words.now.may_write D.names_bytes)
-        (moment session.old.desk (D.look_of session.old.seen)
+        (session_view session.old.desk (D.look_of session.old.seen)
         (D.history folder.old) (D.failures folder.old))
-        (moment session.new.desk (D.look_of session.new.seen)
+        (session_view session.new.desk (D.look_of session.new.seen)
         (D.history folder.new) (D.failures folder.new))
         (with_ahead ahead.old (S.left input.old)) (with_ahead ahead.new (S.left input.new))
         (K.taken output.old) (K.taken output.new) result }
@@ -93,7 +93,7 @@ pub fn serve_next<S: Source, D: Folder, K: Sink>(
 /// Writes an answer. Returns `OutputFailed` if the write fails, and otherwise `next`.
 fn tell_answer<K: Sink>(answer: &Answer, next: Option<Ending>, output: &mut K) -> Option<Ending>
     requires { K.failures output.old < 2 ^ 64 - 1 }
-    ensures { TellsAnswer (bytes_told (answer_meant answer.now)) next
+    ensures { TellsAnswer (answer_bytes (answer_meant answer.now)) next
         (K.taken output.old) (K.taken output.new)
         (K.failures output.old) (K.failures output.new) result }
 {

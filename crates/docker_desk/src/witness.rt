@@ -1,6 +1,6 @@
 //! A session over devices whose bytes are known, and what the contract of `serve` says of it.
 ghost use Rattle.std.specs.Prelude.{◌≡◌, ◌⊎◌, IfOk, codes};
-ghost use Rattle.docker_desk.specs.Replies.{memory_told};
+ghost use Rattle.docker_desk.specs.Replies.{memory_answer};
 
 use crate::program::serve;
 use cif_line::{Bytes, Kept, Memory};
@@ -16,7 +16,7 @@ const ROOM: usize = 100;
 /// session ended with the status 0. It has no files, unless memory ran out for it.
 pub fn files_of_none(alloc: Global) -> Result<Kept, Memory>
     ensures { IfOk result (λ output. (output.taken ≡ codes "0 0 0\n")
-        ⊎ (output.taken ≡ memory_told)) }
+        ⊎ (output.taken ≡ memory_answer)) }
 {
     let office = Office::new(alloc);
     // Called for its contract: the state is valid.

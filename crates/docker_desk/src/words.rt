@@ -1,7 +1,7 @@
 //! The words of a line.
 ghost use Rattle.std.specs.Prelude.{◌≡◌, [], ◌∷◌, IfSome, IsNone, ◌↔◌, false, option_map};
 ghost use Rattle.docker_cmd.specs.JobLine.{words_in};
-ghost use Rattle.docker_desk.specs.Requests.{HasOneWord, HasTwoWords, behind_word, first_word, without_spaces};
+ghost use Rattle.docker_desk.specs.Requests.{HasOneWord, HasTwoWords, after_word, first_word, without_spaces};
 
 use docker_cmd::split_at_space;
 
@@ -24,7 +24,7 @@ fn without_spaces(text: &str) -> &str
 pub(crate) fn next_word(text: &str) -> Option<(&str, &str)>
     ensures none { IsNone result → (words_in text.now ≡ []) × (first_word text.now ≡ []) }
     ensures word { IfSome result (λ cut. cut.0.now ≡ first_word text.now) }
-    ensures behind { IfSome result (λ cut. cut.1.now ≡ behind_word text.now) }
+    ensures behind { IfSome result (λ cut. cut.1.now ≡ after_word text.now) }
     ensures words { IfSome result (λ cut. words_in text.now ≡ cut.0.now ∷ words_in cut.1.now) }
 {
     let text = without_spaces(text);

@@ -15,7 +15,7 @@ use Rattle.docker_laws.proofs.dockers.ExcerptState.{entry_behind}
 use Rattle.cif_change.specs.declared.key.Key.{Key}
 use Rattle.cif_change.specs.Meaning.{key_meant}
 use Rattle.state_text.specs.Entry.{Entry as Row}
-use Rattle.state_text.specs.Meaning.{entry_meant, row_meant}
+use Rattle.docker_join.specs.Meaning.{entry_meant, row_meant}
 use Rattle.state_text.specs.Parts.{last_key}
 use Rattle.docker_excerpt.specs.Values.{with_entries}
 use Rattle.docker_excerpt.specs.Ledger.{IsLedgerOf}

@@ -8,7 +8,7 @@ use Rattle.docker_model.specs.state.Op as ops
 use Rattle.cif_change.specs.declared.key.Key.{Key}
 use Rattle.cif_change.specs.Meaning.{key_meant}
 use Rattle.state_text.specs.Entry.{Entry}
-use Rattle.state_text.specs.Meaning.{entry_meant, row_meant}
+use Rattle.docker_join.specs.Meaning.{entry_meant, row_meant}
 use Rattle.docker_excerpt.specs.Walked.{IsWalk}
 
 -- one more row in the code is one more row in the definitions

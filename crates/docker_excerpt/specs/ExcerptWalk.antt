@@ -2,7 +2,7 @@
 use Rattle.std.specs.Prelude.{List, map}
 use Rattle.docker_model.specs.file.Change.{Key}
 use Rattle.docker_model.specs.state.Op.{Entry}
-use Rattle.state_text.specs.Meaning.{row_meant}
+use Rattle.docker_join.specs.Meaning.{row_meant}
 use Rattle.docker_excerpt.specs.declared.walk.ExcerptWalk.{ExcerptWalk}
 use Rattle.docker_excerpt.specs.Walked.{IsWalk}
 

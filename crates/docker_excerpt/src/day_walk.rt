@@ -6,7 +6,7 @@ ghost use Rattle.docker_model.specs.state.State.{IsOpOf};
 ghost use Rattle.docker_model.specs.state.StatePart.{IsAboveEntries};
 ghost use Rattle.docker_laws.specs.NearDay.{excerpt_on};
 ghost use Rattle.cif_change.specs.Meaning.{key_meant};
-ghost use Rattle.state_text.specs.Meaning.{entry_meant, row_meant};
+ghost use Rattle.docker_join.specs.Meaning.{entry_meant, row_meant};
 ghost use Rattle.docker_excerpt.specs.Walked.{state_of_entries};
 ghost use Rattle.docker_excerpt.specs.DayWalk.{HasPassed};
 

@@ -3,7 +3,7 @@ ghost use Rattle.std.specs.Prelude.{◌≡◌};
 ghost use Rattle.docker_model.specs.state.State.{IsOpOf};
 ghost use Rattle.docker_laws.specs.NearDay.{may_count};
 ghost use Rattle.cif_change.specs.Meaning.{key_meant};
-ghost use Rattle.state_text.specs.Meaning.{op_meant};
+ghost use Rattle.docker_join.specs.Meaning.{op_meant};
 
 use cif_change::{Body, Key};
 use cif_file::runs_near;

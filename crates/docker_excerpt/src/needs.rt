@@ -4,7 +4,7 @@ ghost use Rattle.std.specs.List.Sorted.{IsSorted};
 ghost use Rattle.docker_model.specs.state.Order.{bytes_cmp};
 ghost use Rattle.docker_laws.specs.ExcerptWalk.{is_here, name_in, is_call, goes_on};
 ghost use Rattle.cif_change.specs.Meaning.{key_meant};
-ghost use Rattle.state_text.specs.Meaning.{op_meant, row_meant};
+ghost use Rattle.docker_join.specs.Meaning.{op_meant, row_meant};
 
 use cif_change::{Body, Key};
 use cif_file::calls_at;

@@ -6,7 +6,7 @@ ghost use Rattle.docker_model.specs.state.State as states;
 ghost use Rattle.docker_model.specs.state.StatePart.{IsAboveEntries};
 ghost use Rattle.docker_laws.specs.ExcerptWalk.{has_uid, goes_on, excerpt_for};
 ghost use Rattle.cif_change.specs.Meaning.{key_meant};
-ghost use Rattle.state_text.specs.Meaning.{entry_meant, row_meant};
+ghost use Rattle.docker_join.specs.Meaning.{entry_meant, row_meant};
 ghost use Rattle.docker_excerpt.specs.Walked.{state_of_entries};
 ghost use Rattle.docker_excerpt.specs.ExcerptWalk.{HasWalked};
 

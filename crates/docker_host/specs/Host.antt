@@ -2,7 +2,7 @@
 use Rattle.std.specs.Prelude.{ℕ, ◌^◌, ◌-◌, ◌<◌, Bool, List}
 use Rattle.docker_host.specs.History.{Bytes, Event}
 
--- All devices of a program at one moment. The bytes of a device that can't name them are `None`.
+-- All devices of a program at one position. The bytes of a device that can't name them are `None`.
 pub record HostView : Type 0 where
   -- the bytes left in the input, whether its end was reported, and whether it was read after that
   pub input : Bytes

@@ -103,7 +103,7 @@ fn open_draft(
     match fs::metadata(rt, name) {
         Ok(there) if there.is_file() => {
             let path = fs::canonicalize(rt, name)?.into_string();
-            open_beside(rt, name, path, Some(there), seen)
+            open_in_folder_of(rt, name, path, Some(there), seen)
         }
         Ok(there) => {
             if !is_still_pipe(seen, &Version::of(&there)) {
@@ -114,7 +114,7 @@ fn open_draft(
         Err(error) if error.kind() == ErrorKind::NotFound => {
             if fs::symlink_metadata(rt, name).is_err() {
                 let path = String::from_str(rt.alloc(), name)?;
-                return open_beside(rt, name, path, None, seen);
+                return open_in_folder_of(rt, name, path, None, seen);
             }
             if seen.is_some() {
                 return Err(OpenFault::Failed);
@@ -126,7 +126,7 @@ fn open_draft(
 }
 
 /// Opens a draft next to the file with this path, if what is under the name is still what was seen.
-fn open_beside(
+fn open_in_folder_of(
     rt: &HostRuntime,
     name: &str,
     path: String,

@@ -37,14 +37,14 @@ impl DraftPlace {
         let mut draft = String::from_str(rt.alloc(), file.as_str())?;
         draft.push_str(SUFFIX)?;
         remove_left_over(rt, draft.as_str());
-        let mark = mark_for(file.as_str());
+        let draft_bit = draft_bit_of(file.as_str());
         let made = File::options()
             .write(true)
             .create_new(true)
-            .mode(NEW_FILE | mark)
+            .mode(NEW_FILE | draft_bit)
             .open(rt, draft.as_str())?;
         hold(rt, &made, draft.as_str())?;
-        match give_permissions(&made, old, mark) {
+        match give_permissions(&made, old, draft_bit) {
             Ok(permissions) => {
                 let place = DraftPlace {
                     draft,
@@ -79,12 +79,12 @@ impl DraftPlace {
 /// The mark of a draft next to the file with this path. A file whose name ends like the name of a
 /// draft gets an unmarked draft. Otherwise the file, once it is replaced, might look like a draft
 /// left over from another file.
-fn mark_for(file: &str) -> u32 {
+fn draft_bit_of(file: &str) -> u32 {
     if file.ends_with(SUFFIX) { 0 } else { MARK }
 }
 
 /// Whether a file is a regular file with the mark of a draft.
-fn is_marked(file: &Metadata) -> bool {
+fn has_draft_bit(file: &Metadata) -> bool {
     file.is_file() && file.permissions().mode() & MARK != 0
 }
 
@@ -102,7 +102,7 @@ fn remove_left_over(rt: &HostRuntime, name: &str) {
     let Ok(there) = fs::symlink_metadata(rt, name) else {
         return;
     };
-    if !is_marked(&there) {
+    if !has_draft_bit(&there) {
         return;
     }
     let Ok(left) = File::open(rt, name) else {
@@ -119,7 +119,7 @@ fn is_left_over(rt: &HostRuntime, left: &File, name: &str) -> bool {
     let Ok(held) = left.metadata() else {
         return false;
     };
-    is_marked(&held) && stands_under(rt, left, name)
+    has_draft_bit(&held) && stands_under(rt, left, name)
 }
 
 /// Locks a draft that was just made. Fails if another command took it for a left-over draft, and
@@ -136,11 +136,11 @@ fn hold(rt: &HostRuntime, made: &File, name: &str) -> Result<(), OpenFault> {
 
 /// Gives a draft the permissions of the old file, if there is one, and the mark of a draft. Returns
 /// the permissions that the file is to have in the end.
-fn give_permissions(made: &File, old: Option<Metadata>, mark: u32) -> io::Result<u32> {
+fn give_permissions(made: &File, old: Option<Metadata>, draft_bit: u32) -> io::Result<u32> {
     let Some(file) = old else {
         return Ok(made.metadata()?.permissions().mode() & !MARK);
     };
     let permissions = file.permissions().mode() & !MARK;
-    made.set_permissions(Permissions::from_mode(permissions | mark))?;
+    made.set_permissions(Permissions::from_mode(permissions | draft_bit))?;
     Ok(permissions)
 }

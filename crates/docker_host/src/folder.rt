@@ -102,7 +102,7 @@ pub trait Folder {
         ensures no_failure { failures self.new ≡ failures self.old };
 
     /// Opens the named file, to be read from its first byte. The bytes left in it are the bytes
-    /// that the file holds at this moment.
+    /// that the file holds at this position.
     fn open(&mut self, name: &str) -> Result<Self::File, OpenFault>
         requires { failures self.old < 2 ^ 64 - 1 }
         ensures asked { IfOk result (λ file.

@@ -16,13 +16,13 @@ impl Model for History {
     ghost also_owns = { λ _. ftrue };
 }
 
-/// A moment in a history: the number of events before it. Only proofs see it.
+/// A position in a history: the number of events before it. Only proofs see it.
 #[derive(Drop)]
-pub struct Moment {
+pub struct Position {
     pub ghost at: { ℕ },
 }
 
-impl Model for Moment {
+impl Model for Position {
     ghost also_owns = { λ _. ftrue };
 }
 
@@ -41,10 +41,10 @@ pub enum Note<'a> {
     Closed(&'a [u8]),
     /// An opened file that can't name its bytes was closed.
     ClosedUnnamed,
-    /// A draft was made for a named file, from the look at this moment.
-    Drafted(&'a str, &'a Moment),
-    /// No draft could be made for a named file, from the look at this moment.
-    Undrafted(&'a str, &'a Moment),
+    /// A draft was made for a named file, from the look at this position.
+    Drafted(&'a str, &'a Position),
+    /// No draft could be made for a named file, from the look at this position.
+    Undrafted(&'a str, &'a Position),
     /// A draft took the place of a named file, which holds these bytes from then on.
     Placed(&'a str, &'a [u8]),
     /// A draft that can't name its bytes took the place of a named file.
@@ -74,10 +74,10 @@ impl History {
         History {}
     }
 
-    /// The moment before the next event.
-    pub fn moment(&self) -> Moment
+    /// The position before the next event.
+    pub fn position(&self) -> Position
         ensures { result.at ≡ length self.now.events }
     {
-        Moment {}
+        Position {}
     }
 }

@@ -21,7 +21,7 @@ mod version;
 pub use draft_file::DraftFile;
 pub use fault_sink::tell_text;
 pub use folder::{Drafted, Folder, OpenFault};
-pub use history::{History, Moment, Note};
+pub use history::{History, Note, Position};
 pub use host::Host;
 pub use input_device::InputDevice;
 pub use open_file::OpenFile;

@@ -6,7 +6,7 @@ ghost use Rattle.docker_host.specs.History.{placed, unplaced, dropped};
 
 use crate::draft_file::{DraftFile, Placed};
 use crate::folder::{Drafted, Folder, OpenFault};
-use crate::history::{History, Moment, Note};
+use crate::history::{History, Note, Position};
 use crate::open_file::OpenFile;
 use crate::version::Version;
 use cif_device::{Failed, Sink, Source};
@@ -16,7 +16,7 @@ use std::marker::Model;
 #[derive(Drop)]
 pub struct Seen {
     file: Option<Version>,
-    moment: Moment,
+    position: Position,
 }
 
 /// The real files. After a draft has taken the place of a file, the next look at that name sees the
@@ -78,7 +78,7 @@ impl Folder for RealFolder {
 
     ghost failures = { λ folder. folder.failures };
 
-    ghost look_of = { λ seen. seen.moment.at };
+    ghost look_of = { λ seen. seen.position.at };
 
     ghost names_bytes = { false };
 
@@ -87,9 +87,9 @@ impl Folder for RealFolder {
             Some(placed) => Some(placed),
             None => Version::under(&self.rt, name),
         };
-        let moment = self.history.moment();
+        let position = self.history.position();
         self.history = self.history.then(&Note::Looked(name));
-        Seen { file, moment }
+        Seen { file, position }
     }
 
     fn open(&mut self, name: &str) -> Result<OpenFile, OpenFault> {
@@ -123,15 +123,15 @@ impl Folder for RealFolder {
         self.placed = None;
         match DraftFile::make(&self.rt, name, seen.file) {
             Ok(draft) => {
-                self.history = self.history.then(&Note::Drafted(name, &seen.moment));
+                self.history = self.history.then(&Note::Drafted(name, &seen.position));
                 Ok(Drafted { name, draft })
             }
             Err(OpenFault::Memory) => {
-                self.history = self.history.then(&Note::Undrafted(name, &seen.moment));
+                self.history = self.history.then(&Note::Undrafted(name, &seen.position));
                 Err(OpenFault::Memory)
             }
             Err(OpenFault::Failed) => {
-                self.history = self.history.then(&Note::Undrafted(name, &seen.moment));
+                self.history = self.history.then(&Note::Undrafted(name, &seen.position));
                 self.failures += 1;
                 Err(OpenFault::Failed)
             }

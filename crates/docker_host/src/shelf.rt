@@ -6,7 +6,7 @@ ghost use Rattle.docker_host.specs.Shelf.{IsShelfHistory, text_under};
 ghost use Rattle.docker_host.specs.Places.{texts_of};
 
 use crate::folder::{Drafted, Folder, OpenFault};
-use crate::history::{History, Moment, Note};
+use crate::history::{History, Note, Position};
 use crate::page::Page;
 use cif_device::{Failed, Kept, Memory, Sink, Source};
 use std::alloc::Global;
@@ -45,7 +45,7 @@ pub enum Fails {
 #[derive(Drop)]
 pub struct Sight {
     text: Option<usize>,
-    moment: Moment,
+    position: Position,
 }
 
 /// A folder in memory. A newly placed text comes first, and hides older texts of the same name.
@@ -225,15 +225,15 @@ impl Folder for Shelf {
 
     ghost failures = { λ shelf. shelf.failures };
 
-    ghost look_of = { λ seen. seen.moment.at };
+    ghost look_of = { λ seen. seen.position.at };
 
     ghost names_bytes = { true };
 
     fn look(&mut self, name: &str) -> Sight {
         let text = number_among(self.places.as_slice(), name);
-        let moment = self.history.moment();
+        let position = self.history.position();
         self.history = self.history.then(&Note::Looked(name));
-        Sight { text, moment }
+        Sight { text, position }
     }
 
     fn open(&mut self, name: &str) -> Result<Page, OpenFault> {
@@ -262,15 +262,15 @@ impl Folder for Shelf {
     fn create<'a>(&mut self, name: &'a str, seen: &Sight) -> Result<Drafted<'a, Kept>, OpenFault> {
         match self.draft_of(name, seen) {
             Ok(draft) => {
-                self.history = self.history.then(&Note::Drafted(name, &seen.moment));
+                self.history = self.history.then(&Note::Drafted(name, &seen.position));
                 Ok(Drafted { name, draft })
             }
             Err(OpenFault::Memory) => {
-                self.history = self.history.then(&Note::Undrafted(name, &seen.moment));
+                self.history = self.history.then(&Note::Undrafted(name, &seen.position));
                 Err(OpenFault::Memory)
             }
             Err(OpenFault::Failed) => {
-                self.history = self.history.then(&Note::Undrafted(name, &seen.moment));
+                self.history = self.history.then(&Note::Undrafted(name, &seen.position));
                 self.failures += 1;
                 Err(OpenFault::Failed)
             }

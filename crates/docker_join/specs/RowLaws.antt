@@ -15,7 +15,7 @@ use Rattle.cif_laws.proofs.lists.Membership.{Contains-cons, cons-Contains, cons-
 use Rattle.cif_laws.proofs.orders.Ascending.{same_list}
 use Rattle.cif_change.specs.Stp.{Stp}
 use Rattle.cif_change.specs.Stp.TheVariants as stp
-use Rattle.cif_change.specs.Letter.{stp_letter}
+use Rattle.cif_line.specs.Letter.{stp_letter}
 use Rattle.cif_change.specs.declared.key.Key.{Key}
 use Rattle.cif_change.specs.declared.key.Key.TheVariants as key
 use Rattle.cif_change.specs.declared.key.AssocKey.{AssocKey}

@@ -6,7 +6,7 @@ use Rattle.std.proofs.Math.ListN.{get_or-map, drop_of_length-le}
 use Rattle.std.proofs.Math.Seq.{take-suc, take-append-add}
 use Rattle.std.proofs.lemmas.List.{map-append, length-map, take-append-le, take-append-drop}
 use Rattle.std.proofs.lemmas.Grind.{flat_map-append}
-use Rattle.cif_line.specs.Device.{Takes, TakesPart}
+use Rattle.cif_device.specs.Device.{Takes, TakesPart}
 use Rattle.docker_model.specs.docker.DockerText.{ended, file_text, files_text}
 use Rattle.docker_model.specs.state.State.{IsGoodItem}
 use Rattle.docker_day.specs.LedgerItem.{LedgerItem}

@@ -2,7 +2,7 @@
 use Rattle.std.proofs.Common.{◌≡◌, ℕ, ◌^◌, ◌<◌, ◌≤◌, List, [], ◌∷◌, ◌++◌, length, set, get_or, refl, sym, ◌∙◌}
 use Rattle.std.proofs.Common.{ap, subst, arith, Option, Some, None, Result, Ok, Err, IsOk, IsErr, IfErr}
 use Rattle.std.proofs.lemmas.List.{length-map, set-get_or, map-append}
-use Rattle.cif_line.specs.Device.{Store}
+use Rattle.cif_device.specs.Device.{Store}
 use Rattle.cif_file.specs.declared.fault.FileFault.{FileFault}
 use Rattle.cif_file.specs.SourceRead.{RefusesText}
 use Rattle.docker_bytes.specs.declared.fault.StateFault.{StateFault}

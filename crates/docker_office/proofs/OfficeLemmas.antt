@@ -16,8 +16,8 @@ use Rattle.cif_file.specs.declared.fault.FileFault.{FileFault}
 use Rattle.cif_file.specs.declared.fault.ReadFault as files
 use Rattle.cif_file.specs.declared.fault.ReadFault.TheVariants as file_faults
 use Rattle.docker_bytes.specs.Excerpts.{IsExcerptAt}
-use Rattle.cif_line.specs.Device.{CountsFailure, IsEnd}
-use Rattle.cif_line.specs.FeedEnds.{most_at_once}
+use Rattle.cif_device.specs.Device.{CountsFailure, IsEnd}
+use Rattle.cif_device.specs.FeedEnds.{most_at_once}
 use Rattle.docker_bytes.specs.ReadEnds.{BytesLeft, CountsOutcome, CountsWhy, IsOutcome, IsWhyUnread, StopsReading, Wanting}
 use Rattle.docker_bytes.specs.SourceRead.{Held, ReadsMade, ReadsState, RefusesState, JoinsState}
 use Rattle.docker_bytes.specs.declared.fault.StateFault.{StateFault}
@@ -28,7 +28,7 @@ use Rattle.docker_bytes.specs.declared.read.ReadFault as states
 use Rattle.docker_bytes.specs.declared.read.ReadFault.TheVariants as state_faults
 use Rattle.docker_office.specs.declared.fault.OfficeFault.{OfficeFault}
 use Rattle.docker_office.specs.declared.fault.OfficeFault.TheVariants as office
-use Rattle.docker_office.specs.Faults.{IsOfFile, IsOfState, told_of_file, told_of_state}
+use Rattle.docker_office.specs.Faults.{IsOfFile, IsOfState, office_fault_of_file, office_fault_of_state}
 use Rattle.docker_office.specs.Office.{HoldsFile, TakesFile, KnowsFileToo, HoldsState, no_state}
 use Rattle.docker_office.specs.OfficeReads.{CountsTaking, IsTakingOutcome, StopsTaking, why_unread}
 
@@ -62,8 +62,8 @@ holds_file limit left read reads =
 -- if the reader of states has read no state, the office returns why
 pub unread_by_office : (wants : Wanting) (format : Format) (limit : ℕ) (left left_now : BytesLeft) (failures failures_now : ℕ) (cause : states.ReadFault)
     → StopsReading format limit left left_now (IsWhyUnread wants format limit left left_now (Some cause)) (CountsWhy (Some cause) failures failures_now)
-    → StopsReading format limit left left_now (IsWhyUnread wants format limit left left_now (why_unread (told_of_state cause)))
-    (CountsWhy (why_unread (told_of_state cause)) failures failures_now)
+    → StopsReading format limit left left_now (IsWhyUnread wants format limit left left_now (why_unread (office_fault_of_state cause)))
+    (CountsWhy (why_unread (office_fault_of_state cause)) failures failures_now)
 unread_by_office wants format limit left left_now failures failures_now state_faults.Source ends = ends
 unread_by_office wants format limit left left_now failures failures_now (state_faults.State fault) ends = ends
 unread_by_office wants format limit left left_now failures failures_now state_faults.Memory ends = ends
@@ -74,8 +74,8 @@ pub untaken : {A B : Type 0} (limit : ℕ) (IsMade : B → Type 0) (left left_no
     → ((fault : FileFault) → ◌≡◌ {A = Result A files.ReadFault} (Err cause) (Err (file_faults.File fault)) → RefusesText limit left fault)
     → (◌≡◌ {A = Result A files.ReadFault} (Err cause) (Err file_faults.Memory) → WantsMemory most_at_once limit left left_now)
     → CountsFailure (◌≡◌ {A = Result A files.ReadFault} (Err cause) (Err file_faults.Source)) failures failures_now
-    → StopsTaking limit left left_now (IsTakingOutcome limit IsMade left left_now (Err (told_of_file cause)))
-    (CountsTaking {A = B} failures failures_now (Err (told_of_file cause)))
+    → StopsTaking limit left left_now (IsTakingOutcome limit IsMade left left_now (Err (office_fault_of_file cause)))
+    (CountsTaking {A = B} failures failures_now (Err (office_fault_of_file cause)))
 untaken limit IsMade left left_now failures failures_now file_faults.Source few file memory counted =
     record { no_further = few; outcome = tt; failures = counted.0.0 refl }
 untaken limit IsMade left left_now failures failures_now (file_faults.File fault) few file memory counted =

@@ -11,21 +11,21 @@ use Rattle.docker_office.specs.declared.fault.OfficeFault.{OfficeFault}
 use Rattle.docker_office.specs.declared.fault.OfficeFault.TheVariants.{File, State, Lapsed, Source, Sink, Memory}
 
 -- the office's fault for a fault of reading a file
-abbrev pub told_of_file : files.ReadFault → OfficeFault
-told_of_file file_faults.Source = Source
-told_of_file (file_faults.File fault) = File fault
-told_of_file file_faults.Memory = Memory
+abbrev pub office_fault_of_file : files.ReadFault → OfficeFault
+office_fault_of_file file_faults.Source = Source
+office_fault_of_file (file_faults.File fault) = File fault
+office_fault_of_file file_faults.Memory = Memory
 
 -- the office's fault for a fault of reading a state
-abbrev pub told_of_state : states.ReadFault → OfficeFault
-told_of_state state_faults.Source = Source
-told_of_state (state_faults.State fault) = State fault
-told_of_state state_faults.Memory = Memory
+abbrev pub office_fault_of_state : states.ReadFault → OfficeFault
+office_fault_of_state state_faults.Source = Source
+office_fault_of_state (state_faults.State fault) = State fault
+office_fault_of_state state_faults.Memory = Memory
 
 -- the office's fault for a fault of making a docker
-abbrev pub told_of_docker : dockers.DockerFault → OfficeFault
-told_of_docker docker_faults.Lapsed = Lapsed
-told_of_docker docker_faults.Memory = Memory
+abbrev pub office_fault_of_docker : dockers.DockerFault → OfficeFault
+office_fault_of_docker docker_faults.Lapsed = Lapsed
+office_fault_of_docker docker_faults.Memory = Memory
 
 -- the faults of a call that reads a file
 abbrev pub IsOfFile : OfficeFault → Type 0

@@ -1,8 +1,8 @@
 -- The end of an office's reading of a state or a file.
 use Rattle.std.specs.Prelude.{◌≡◌, ℕ, ◌+◌, Option, Some, None, Result, Ok, Err, ⊤}
 use Rattle.cif_file.specs.SourceRead.{ReadsNoFurther, RefusesText}
-use Rattle.cif_line.specs.Device.{IsEnd}
-use Rattle.cif_line.specs.FeedEnds.{most_at_once}
+use Rattle.cif_device.specs.Device.{IsEnd}
+use Rattle.cif_device.specs.FeedEnds.{most_at_once}
 use Rattle.docker_bytes.specs.ReadEnds.{BytesLeft, EndsReadingBy}
 use Rattle.docker_bytes.specs.SourceRead.{WantsMemory}
 use Rattle.docker_bytes.specs.declared.read.ReadFault.{ReadFault}

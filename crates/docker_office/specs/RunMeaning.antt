@@ -1,7 +1,7 @@
 -- Events, replies and messages of the code, translated to the definitions.
 use Rattle.std.specs.Prelude.{ℕ, ◌<◌, ◌≤◌, List, map, Option, Some, None, Result, Ok, Err, ⊤}
-use Rattle.cif_file.specs.Cause.{cause_meant}
-use Rattle.cif_line.specs.Device.{Store}
+use Rattle.cif_change.specs.Cause.{cause_meant}
+use Rattle.cif_device.specs.Device.{Store}
 use Rattle.docker_model.specs.file.FileFault as files
 use Rattle.docker_model.specs.run.Run as model
 use Rattle.docker_model.specs.run.Run.{take_file, send_state, deliver, reload, horizon_event, done, refused, no_office, no_message, no_memory, bad_file}

@@ -30,10 +30,10 @@ pub enum OfficeFault {
 }
 
 impl From<cif_file::ReadFault> for OfficeFault {
-    ghost use Rattle.docker_office.specs.Faults.{told_of_file};
+    ghost use Rattle.docker_office.specs.Faults.{office_fault_of_file};
     ghost use Rattle.std.specs.Prelude.{◌≡◌};
 
-    ghost from_gives = { λ cause fault. fault ≡ told_of_file cause };
+    ghost from_gives = { λ cause fault. fault ≡ office_fault_of_file cause };
 
     fn from(cause: cif_file::ReadFault) -> OfficeFault {
         match cause {
@@ -45,10 +45,10 @@ impl From<cif_file::ReadFault> for OfficeFault {
 }
 
 impl From<docker_bytes::ReadFault> for OfficeFault {
-    ghost use Rattle.docker_office.specs.Faults.{told_of_state};
+    ghost use Rattle.docker_office.specs.Faults.{office_fault_of_state};
     ghost use Rattle.std.specs.Prelude.{◌≡◌};
 
-    ghost from_gives = { λ cause fault. fault ≡ told_of_state cause };
+    ghost from_gives = { λ cause fault. fault ≡ office_fault_of_state cause };
 
     fn from(cause: docker_bytes::ReadFault) -> OfficeFault {
         match cause {
@@ -60,10 +60,10 @@ impl From<docker_bytes::ReadFault> for OfficeFault {
 }
 
 impl From<DockerFault> for OfficeFault {
-    ghost use Rattle.docker_office.specs.Faults.{told_of_docker};
+    ghost use Rattle.docker_office.specs.Faults.{office_fault_of_docker};
     ghost use Rattle.std.specs.Prelude.{◌≡◌};
 
-    ghost from_gives = { λ cause fault. fault ≡ told_of_docker cause };
+    ghost from_gives = { λ cause fault. fault ≡ office_fault_of_docker cause };
 
     fn from(cause: DockerFault) -> OfficeFault {
         match cause {

@@ -1,6 +1,6 @@
 //! The list of a state's files, as text: for each file a line of 33 columns and a line feed.
 ghost use Rattle.std.specs.Prelude.{◌≡◌, ◌-◌, ◌^◌, ◌<◌, map, All, IsErr, OnOk, OnErr};
-ghost use Rattle.cif_line.specs.Device.{CountsFailure, Takes, TakesPart};
+ghost use Rattle.cif_device.specs.Device.{CountsFailure, Takes, TakesPart};
 ghost use Rattle.docker_model.specs.docker.DockerText.{ended, file_text, files_text};
 ghost use Rattle.docker_model.specs.records.PrintedTime.{minute_text};
 ghost use Rattle.docker_model.specs.state.State.{IsGoodItem};

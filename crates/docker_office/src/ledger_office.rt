@@ -1,6 +1,6 @@
 //! An office that only lists the files of a state, and keeps only the state's ledger.
 ghost use Rattle.std.specs.Prelude.{◌≡◌, ◌-◌, ◌^◌, ◌<◌, IfOk, IfErr, OnOk, OnErr, Err};
-ghost use Rattle.cif_line.specs.Device.{CountsFailure, Takes, TakesPart};
+ghost use Rattle.cif_device.specs.Device.{CountsFailure, Takes, TakesPart};
 ghost use Rattle.docker_bytes.specs.SourceRead.{ReadsState};
 ghost use Rattle.docker_model.specs.docker.DockerText.{files_text};
 ghost use Rattle.docker_model.specs.state.State as states;

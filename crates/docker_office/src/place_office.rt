@@ -1,7 +1,7 @@
 //! An office that prints the docker of one timing point on one day, and keeps no more of a state
 //! than may count there on that day.
 ghost use Rattle.std.specs.Prelude.{◌≡◌, ◌-◌, ◌^◌, ◌<◌, ◌≤◌, ◌⊎◌, ◌↔◌, IsOk, IfOk, IfErr, Err};
-ghost use Rattle.cif_line.specs.Device.{CountsFailure};
+ghost use Rattle.cif_device.specs.Device.{CountsFailure};
 ghost use Rattle.docker_bytes.specs.SourceRead.{ReadsState};
 ghost use Rattle.docker_model.specs.state.Lapse.{IsDayRefused};
 ghost use Rattle.docker_model.specs.state.State as states;

@@ -1,7 +1,7 @@
 -- How writing a file anew ends.
 use Rattle.std.proofs.Common.{◌≡◌, ◌≢◌, ◌+◌, arith, refl, sym, ◌∙◌, ap, subst, Some, None, Ok, Err, inl, inr, append_assoc}
 use Rattle.std.specs.Prelude.{ℕ, Bool, true, false, List, [], ◌∷◌, ◌++◌, Option, Result, ⊤}
-use Rattle.cif_line.specs.Device.{Takes}
+use Rattle.cif_device.specs.Device.{Takes}
 use Rattle.docker_host.specs.Asked.{IsDropped, IsUndrafted}
 use Rattle.docker_host.specs.History.{Bytes, Event, drafted, dropped, named_if, placed, unplaced}
 use Rattle.docker_cmd.specs.Words.{Text}

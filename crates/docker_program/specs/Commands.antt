@@ -7,7 +7,7 @@ use Rattle.docker_model.specs.state.StateText.{Format, dks_1, dks_2}
 use Rattle.docker_model.specs.docker.DockerText.{IsDockerText, files_text}
 use Rattle.docker_model.specs.run.Run.{Known, IsMessageOf, IsStateOf, nothing, united}
 use Rattle.docker_model.specs.run.Knowledge.{IsGoodKnown}
-use Rattle.cif_line.specs.Device.{Takes}
+use Rattle.cif_device.specs.Device.{Takes}
 use Rattle.docker_host.specs.Asked.{IsStored, IsUnplaced}
 use Rattle.docker_host.specs.History.{Bytes, Event, placed, unplaced}
 use Rattle.docker_host.specs.Host.{HostView}

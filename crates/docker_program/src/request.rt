@@ -1,6 +1,6 @@
 //! The job that the program is asked for.
 ghost use Rattle.std.specs.Prelude.{◌≡◌, ◌-◌, ◌^◌, ◌<◌, [], IfOk, Err};
-ghost use Rattle.cif_line.specs.Device.{CountsFailure};
+ghost use Rattle.cif_device.specs.Device.{CountsFailure};
 ghost use Rattle.docker_cmd.specs.Words.{texts};
 ghost use Rattle.docker_program.specs.Program.{AskForNone, AskForSome, AsksAtMost, AsksFor};
 

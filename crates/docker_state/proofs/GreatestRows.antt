@@ -13,7 +13,7 @@ use Rattle.cif_laws.proofs.orders.Orders.{key_total, exact_key, entry_total}
 use Rattle.cif_laws.proofs.lists.Membership.{Contains-cons, cons-Contains, cons-Contains-first, nil-Contains, Contains-map, map-Contains}
 use Rattle.cif_laws.proofs.orders.AtMost.{level}
 use Rattle.cif_file.specs.Key.{Key}
-use Rattle.cif_file.specs.Meaning.{key_meant}
+use Rattle.cif_change.specs.Meaning.{key_meant}
 use Rattle.docker_join.specs.declared.entry.Entry.{Entry}
 use Rattle.docker_join.specs.Meaning.{op_meant, entry_meant}
 use Rattle.docker_join.specs.Records.{HasRecords}

@@ -17,7 +17,7 @@ use Rattle.docker_model.specs.state.Order.{IsAtMost}
 use Rattle.cif_laws.proofs.lists.Membership.{Contains-cons, cons-Contains, cons-Contains-first, nil-Contains}
 use Rattle.cif_file.specs.Key.{Key}
 use Rattle.cif_file.specs.Change.{Change}
-use Rattle.cif_file.specs.Meaning.{key_meant, change_meant}
+use Rattle.cif_change.specs.Meaning.{key_meant, change_meant}
 use Rattle.docker_join.specs.declared.entry.Entry.{Entry}
 use Rattle.state_index.specs.Noted.{Item, ArePicked, items_of, items_put}
 use Rattle.docker_state.specs.Meaning.{row_meant}

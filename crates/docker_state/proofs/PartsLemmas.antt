@@ -9,7 +9,7 @@ use Rattle.state_laws.proofs.joins.RaisedHorizon.{none_has_to}
 use Rattle.docker_model.specs.state.StatePart.{IsStampHere}
 use Rattle.state_laws.proofs.texts.StateGrown.{valid_more}
 use Rattle.cif_file.specs.Key.{Key}
-use Rattle.cif_file.specs.Meaning.{key_meant}
+use Rattle.cif_change.specs.Meaning.{key_meant}
 use Rattle.docker_join.specs.declared.entry.Entry.{Entry}
 use Rattle.docker_join.specs.Meaning.{entry_meant, op_meant}
 use Rattle.state_index.specs.Notes.{Notes}

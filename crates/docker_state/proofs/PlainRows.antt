@@ -13,7 +13,7 @@ use Rattle.docker_model.specs.state.Op as ops
 use Rattle.docker_model.specs.state.Order.{IsAtMost}
 use Rattle.docker_model.specs.state.State.{IsGreatestAmong}
 use Rattle.cif_file.specs.Key.{Key}
-use Rattle.cif_file.specs.Meaning.{key_meant}
+use Rattle.cif_change.specs.Meaning.{key_meant}
 use Rattle.docker_join.specs.declared.entry.Entry.{Entry}
 use Rattle.docker_join.specs.Meaning.{op_meant}
 use Rattle.docker_join.specs.Records.{HasRecords}

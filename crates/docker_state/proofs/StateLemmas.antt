@@ -11,7 +11,7 @@ use Rattle.docker_model.specs.state.State.{IsLedger, entry_at}
 use Rattle.state_laws.proofs.joins.JoinValid.{floor_is_first_full}
 use Rattle.state_laws.proofs.texts.StateGrown.{valid_without}
 use Rattle.cif_file.specs.Key.{Key}
-use Rattle.cif_file.specs.Meaning.{key_meant}
+use Rattle.cif_change.specs.Meaning.{key_meant}
 use Rattle.docker_join.specs.declared.entry.Entry.{Entry}
 use Rattle.docker_join.specs.Meaning.{entry_meant}
 use Rattle.docker_join.specs.Rows.{value_at}

@@ -10,7 +10,7 @@ use Rattle.docker_model.specs.file.Change as model
 use Rattle.docker_model.specs.file.Change.{tiploc_key, association_key, schedule_key}
 use Rattle.docker_model.specs.state.Order.{bytes_cmp}
 use Rattle.cif_file.specs.Key.{Key}
-use Rattle.cif_file.specs.Meaning.{key_meant}
+use Rattle.cif_change.specs.Meaning.{key_meant}
 use Rattle.docker_join.specs.declared.entry.Entry.{Entry}
 
 -- how a key compares with a UID's schedules. Keys of other kinds are below them

@@ -5,7 +5,7 @@ ghost use Rattle.docker_model.specs.state.Op as ops;
 ghost use Rattle.docker_model.specs.state.Lapse.{lapse_entries};
 ghost use Rattle.docker_model.specs.state.State.{AreAscending};
 ghost use Rattle.cif_file.specs.MadeChanges.{AreNotesOf};
-ghost use Rattle.cif_file.specs.Meaning.{key_meant};
+ghost use Rattle.cif_change.specs.Meaning.{key_meant};
 ghost use Rattle.docker_join.specs.Meaning.{op_meant};
 ghost use Rattle.state_index.specs.Noted.{Item, items_of};
 ghost use Rattle.state_index.specs.Rooms.{AreMadeBy};
@@ -106,7 +106,7 @@ pub(crate) fn picked_index(
     }
 }
 
-/// Takes the marks of rows that have lapsed out of the index, if there is one.
+/// Takes the postings of rows that have lapsed out of the index, if there is one.
 pub(crate) fn lapse_index(index: &mut Option<Index>, rows: &[(Key, Entry)])
     ensures { (before : List (model.Key × ops.Entry)) (horizon : ℕ)
         → map row_meant rows.now ≡ lapse_entries horizon before

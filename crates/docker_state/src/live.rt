@@ -1,7 +1,7 @@
 //! The walk over the live keys.
 ghost use Rattle.std.specs.Prelude.{◌≡◌, map};
 ghost use Rattle.std.specs.Iterator.{YieldsFirstBy, item_count};
-ghost use Rattle.cif_file.specs.Meaning.{key_meant, body_meant};
+ghost use Rattle.cif_change.specs.Meaning.{key_meant, body_meant};
 ghost use Rattle.docker_state.specs.Meaning.{row_meant};
 ghost use Rattle.docker_state.specs.Live.{live_rows};
 

@@ -1,7 +1,7 @@
 //! Finds an entry by looking first where it is likely to be.
 ghost use Rattle.std.specs.Prelude.{◌≡◌};
 ghost use Rattle.std.specs.Option.{option_copied};
-ghost use Rattle.cif_file.specs.Meaning.{key_meant};
+ghost use Rattle.cif_change.specs.Meaning.{key_meant};
 ghost use Rattle.docker_join.specs.Rows.{AreAscending, value_at};
 
 use cif_file::Key;

@@ -1,19 +1,19 @@
 //! The live rows at a place, by an index or by a walk over all rows.
 ghost use Rattle.std.specs.Prelude.{◌≡◌};
 ghost use Rattle.std.specs.Iterator.{YieldsFirstBy, item_count};
-ghost use Rattle.cif_file.specs.Meaning.{key_meant, body_meant};
+ghost use Rattle.cif_change.specs.Meaning.{key_meant, body_meant};
 ghost use Rattle.docker_state.specs.Walked.{rows_walked};
 
 use crate::sifted::SiftedRows;
 use cif_file::{Body, Key};
-use state_index::Numbered as MarkedRows;
+use state_index::Numbered as NumberedRows;
 use std::marker::Model;
 
 /// A walk over the live rows at a place.
 #[derive(Clone, Debug, Drop)]
 pub(crate) enum Walk<'a> {
     /// Over the rows that an index names.
-    Marked(MarkedRows<'a>),
+    Numbered(NumberedRows<'a>),
     /// Over all rows.
     Sifted(SiftedRows<'a>),
 }
@@ -25,7 +25,7 @@ impl<'a> Walk<'a> {
             rows_walked self.old result self.new }
     {
         match self {
-            Walk::Marked(rows) => rows.next(),
+            Walk::Numbered(rows) => rows.next(),
             Walk::Sifted(rows) => rows.next(),
         }
     }

@@ -2,7 +2,7 @@
 ghost use Rattle.std.specs.Prelude.{◌≡◌, false, length, map};
 ghost use Rattle.std.specs.Iterator.{YieldsFirstBy, item_count};
 ghost use Rattle.std.specs.Option.{option_map};
-ghost use Rattle.cif_file.specs.Meaning.{key_meant, body_meant};
+ghost use Rattle.cif_change.specs.Meaning.{key_meant, body_meant};
 ghost use Rattle.docker_state.specs.Meaning.{row_meant};
 ghost use Rattle.docker_state.specs.PlaceRows.{is_call, is_here, is_link, row_here, rows_here};
 

@@ -7,7 +7,7 @@ ghost use Rattle.docker_model.specs.state.Stamp.{ledger_item_cmp, IsFloor};
 ghost use Rattle.docker_model.specs.state.Order.{IsStrictlyAscending};
 ghost use Rattle.docker_model.specs.state.State.{IsLedger, IsGoodEntry, IsJoin, IsValid};
 ghost use Rattle.state_laws.specs.Staging.{IsToStage, IsStaged, IsCommit, staged_state};
-ghost use Rattle.cif_file.specs.Meaning.{key_meant};
+ghost use Rattle.cif_change.specs.Meaning.{key_meant};
 ghost use Rattle.docker_join.specs.Meaning.{entry_meant};
 ghost use Rattle.docker_state.specs.Meaning.{floor_meant, item_meant};
 ghost use Rattle.docker_state.specs.Staging.{IsAboveStaged, IsOffered, HasNothingNew, with_staged};

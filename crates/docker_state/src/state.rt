@@ -9,7 +9,7 @@ ghost use Rattle.docker_model.specs.state.State.{entry_at, live_table, raise_hor
 ghost use Rattle.docker_model.specs.records.Date.{IsDay};
 ghost use Rattle.docker_model.specs.state.Lapse.{lapse_entries, lapse_table};
 ghost use Rattle.std.specs.Option.{option_copied, option_map};
-ghost use Rattle.cif_file.specs.Meaning.{key_meant};
+ghost use Rattle.cif_change.specs.Meaning.{key_meant};
 ghost use Rattle.docker_model.specs.state.Stamp.{IsFloor};
 ghost use Rattle.docker_join.specs.Meaning.{entry_meant, file_stamp_meant};
 ghost use Rattle.docker_join.specs.Rows.{AreAscending};
@@ -18,7 +18,7 @@ ghost use Rattle.docker_model.specs.state.Table as tables;
 ghost use Rattle.docker_model.specs.state.Table.{IsPlainTable};
 ghost use Rattle.cif_file.specs.FileRead.{IsOfRecords};
 ghost use Rattle.cif_file.specs.MadeChanges.{AreNotesOf};
-ghost use Rattle.cif_file.specs.Meaning.{change_meant};
+ghost use Rattle.cif_change.specs.Meaning.{change_meant};
 ghost use Rattle.docker_laws.specs.Thinning.{IsStateOfChanges};
 ghost use Rattle.docker_state.specs.Indexed.{IsIndexIfAny};
 ghost use Rattle.docker_state.specs.MadeState.{HaveRecords, IsMadeState, MakeValid};
@@ -342,7 +342,7 @@ impl State {
     {
         let rows = self.entries.as_slice();
         match &self.index {
-            Some(index) => { PlaceRows::of(Walk::Marked(index.calling(rows, tiploc).numbered())) }
+            Some(index) => { PlaceRows::of(Walk::Numbered(index.calling(rows, tiploc).numbered())) }
             None => PlaceRows::of(Walk::Sifted(SiftedRows::of(rows, tiploc, false))),
         }
     }
@@ -366,7 +366,7 @@ impl State {
     {
         let rows = self.entries.as_slice();
         match &self.index {
-            Some(index) => PlaceRows::of(Walk::Marked(index.linked(rows, tiploc).numbered())),
+            Some(index) => PlaceRows::of(Walk::Numbered(index.linked(rows, tiploc).numbered())),
             None => PlaceRows::of(Walk::Sifted(SiftedRows::of(rows, tiploc, true))),
         }
     }

@@ -2,7 +2,7 @@
 //! only the permanent ones.
 ghost use Rattle.std.specs.Prelude.{◌≡◌, true, false, option_map};
 ghost use Rattle.std.specs.Option.{option_copied};
-ghost use Rattle.cif_file.specs.Meaning.{body_meant};
+ghost use Rattle.cif_change.specs.Meaning.{body_meant};
 ghost use Rattle.docker_model.specs.file.Change.{tiploc_key};
 ghost use Rattle.docker_model.specs.records.Date.{IsDay};
 ghost use Rattle.docker_model.specs.state.Op.{body_of};

@@ -1,7 +1,7 @@
 //! Walks over the rows that count in a timetable.
 ghost use Rattle.std.specs.Prelude.{◌≡◌};
 ghost use Rattle.std.specs.Iterator.{YieldsFirstBy, item_count};
-ghost use Rattle.cif_file.specs.Meaning.{key_meant, body_meant};
+ghost use Rattle.cif_change.specs.Meaning.{key_meant, body_meant};
 ghost use Rattle.docker_model.specs.docker.Permanent.{is_permanent};
 ghost use Rattle.docker_laws.specs.CountedRows.{counted_rows};
 ghost use Rattle.docker_state.specs.Timetables.{counts};

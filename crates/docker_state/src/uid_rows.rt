@@ -2,7 +2,7 @@
 ghost use Rattle.std.specs.Prelude.{◌≡◌, ◌≤◌, true, not, length, position};
 ghost use Rattle.std.specs.List.{position_or_len};
 ghost use Rattle.std.specs.Ordering.{is_le};
-ghost use Rattle.cif_file.specs.Meaning.{key_meant};
+ghost use Rattle.cif_change.specs.Meaning.{key_meant};
 ghost use Rattle.docker_join.specs.Rows.{AreAscending};
 ghost use Rattle.docker_state.specs.UidPiece.{to_uid, is_of_uid_at, IsBeginning, IsPieceOfUid};
 
@@ -69,14 +69,14 @@ fn rows_up_to(rows: &[(Key, Entry)], uid: &Uid) -> usize
     ensures { result
         ≡ position_or_len (λ row. not (is_le (to_uid (key_meant row.0) uid.now))) rows.now }
 {
-    match first_behind(rows, uid) {
+    match first_after(rows, uid) {
         Some(at) => at,
         None => rows.len(),
     }
 }
 
 /// The index of the first row after the UID's schedules.
-fn first_behind(rows: &[(Key, Entry)], uid: &Uid) -> Option<usize>
+fn first_after(rows: &[(Key, Entry)], uid: &Uid) -> Option<usize>
     ensures { result
         ≡ position (λ row. not (is_le (to_uid (key_meant row.0) uid.now))) rows.now }
 {

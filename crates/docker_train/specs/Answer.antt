@@ -1,6 +1,6 @@
 -- What is found in a state for a UID and a day, and what a sink gains of its text.
 use Rattle.std.specs.Prelude.{◌≡◌, ℕ, List, Option}
-use Rattle.cif_line.specs.Device.{Takes, TakesPart}
+use Rattle.cif_device.specs.Device.{Takes, TakesPart}
 use Rattle.docker_model.specs.state.State.{State}
 use Rattle.docker_train.specs.TrainText.{Stamped, IsFoundFor, IsTrainText, train_text}
 

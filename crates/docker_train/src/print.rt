@@ -3,7 +3,7 @@
 ghost use Rattle.std.specs.Prelude.{◌≡◌, ℕ, List, ◌-◌, ◌^◌, ◌<◌, ◌↔◌, IsOk, IsErr, Err, OnOk, OnErr, Some};
 ghost use Rattle.std.specs.List.{flat_map};
 ghost use Rattle.std.specs.Option.{option_copied};
-ghost use Rattle.cif_line.specs.Device.{CountsFailure, Takes, TakesPart};
+ghost use Rattle.cif_device.specs.Device.{CountsFailure, Takes, TakesPart};
 ghost use Rattle.docker_join.specs.Meaning.{stamp_meant};
 ghost use Rattle.docker_model.specs.records.PrintedTime.{minute_text};
 ghost use Rattle.docker_model.specs.docker.DockerText.{ended};

@@ -1,6 +1,6 @@
 //! Copies of the rows of states.
 ghost use Rattle.std.specs.Prelude.{◌≡◌, IfOk};
-ghost use Rattle.cif_file.specs.Meaning.{body_meant};
+ghost use Rattle.cif_change.specs.Meaning.{body_meant};
 ghost use Rattle.docker_join.specs.Meaning.{op_meant};
 ghost use Rattle.docker_state.specs.Meaning.{row_meant};
 

@@ -1,4 +1,4 @@
--- A place has as many marks as live schedules call there.
+-- A place has as many postings as live schedules call there.
 use Rattle.std.proofs.Common.{◌≡◌, ℕ, suc, List, [], ◌∷◌, ◌++◌, length, refl, ap, sym, ◌∙◌, subst, Some, None, Contains}
 use Rattle.std.specs.Prelude.{Option, slice_get, option_map, option_and_then}
 use Rattle.std.specs.List.{cons_option}
@@ -11,9 +11,9 @@ use Rattle.state_laws.specs.Row.{Row}
 use Rattle.cif_laws.proofs.lists.Membership.{cons-Contains, cons-Contains-first}
 use Rattle.state_index.specs.Counts.{IsCallingCount}
 use Rattle.state_index.specs.SpotOrder.{Spot}
-use Rattle.state_index.specs.Spots.{call_places, spot_at, mark_spot, spots_in, AreSpotsOf}
+use Rattle.state_index.specs.Spots.{call_places, spot_at, posting_spot, spots_in, AreSpotsOf}
 use Rattle.state_index.specs.PlaceRows.{live_row, live_at, rows_at_spots, IsPieceAt}
-use Rattle.state_index.specs.declared.mark.Mark.{Mark}
+use Rattle.state_index.specs.declared.posting.Posting.{Posting}
 use Rattle.state_index.proofs.LiveIndexes.{calling_there}
 use Rattle.state_index.proofs.Positions.{Keyed, spots_stand}
 use Rattle.state_index.proofs.RowPlaces.{call_back}
@@ -21,17 +21,17 @@ use Rattle.state_index.proofs.RowPlaces.{call_back}
 none_some : {A : Type 0} (a : A) → None ≡ Some a → ⊥
 none_some a h = cc
 
--- marks of one named place stand for spots, one for each mark
-pub as_many_spots : (names : List (List ℕ)) (rank : ℕ) (place : List ℕ) → slice_get names rank ≡ Some place → (piece : List Mark)
-    → ((mark : Mark) → Contains piece mark → mark.place ≡ rank) → length (spots_in names piece) ≡ length piece
+-- postings of one named place stand for spots, one for each posting
+pub as_many_spots : (names : List (List ℕ)) (rank : ℕ) (place : List ℕ) → slice_get names rank ≡ Some place → (piece : List Posting)
+    → ((posting : Posting) → Contains piece posting → posting.place ≡ rank) → length (spots_in names piece) ≡ length piece
 as_many_spots names rank place at [] here = refl
-as_many_spots names rank place at (mark ∷ piece) here =
-    by (mark_spot names mark) (ap (option_map (spot_at mark.at)) (ap (slice_get names) (here mark (cons-Contains-first mark piece)) ∙ at))
-    (as_many_spots names rank place at piece (λ m among. here m (cons-Contains mark piece m among)))
+as_many_spots names rank place at (posting ∷ piece) here =
+    by (posting_spot names posting) (ap (option_map (spot_at posting.at)) (ap (slice_get names) (here posting (cons-Contains-first posting piece)) ∙ at))
+    (as_many_spots names rank place at piece (λ m among. here m (cons-Contains posting piece m among)))
   where
-    by : (o : Option Spot) → o ≡ Some (spot_at mark.at place) → length (spots_in names piece) ≡ length piece
-        → length (cons_option o (spots_in names piece)) ≡ length (mark ∷ piece)
-    by None told rest = absurd (none_some (spot_at mark.at place) told)
+    by : (o : Option Spot) → o ≡ Some (spot_at posting.at place) → length (spots_in names piece) ≡ length piece
+        → length (cons_option o (spots_in names piece)) ≡ length (posting ∷ piece)
+    by None told rest = absurd (none_some (spot_at posting.at place) told)
     by (Some spot) told rest = ap suc rest
 
 -- the spot names a live row
@@ -67,9 +67,9 @@ counted_there state up spots of place piece is =
               ∙ ap (λ op. option_and_then {U = Row} (λ (b : model.Body). Some (stands.0.0, b)) (body_of op)) calls.3,
         )
 
--- as in `counted_there`, for the marks of the piece, and for equal spots and places
+-- as in `counted_there`, for the postings of the piece, and for equal spots and places
 pub calling_counted : (state : State) → AreAscending state.entries → (spots slice : List Spot) → slice ≡ spots
-    → AreSpotsOf call_places state.entries spots → (place field : List ℕ) → field ≡ place → (names : List (List ℕ)) (piece : List Mark)
+    → AreSpotsOf call_places state.entries spots → (place field : List ℕ) → field ≡ place → (names : List (List ℕ)) (piece : List Posting)
     → IsPieceAt field slice (spots_in names piece) → length (spots_in names piece) ≡ length piece → (count : ℕ) → count ≡ length piece
     → IsCallingCount (live_table state) place count
 calling_counted state up spots slice slice_is of place field field_is names piece is many count count_is =

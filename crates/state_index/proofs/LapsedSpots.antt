@@ -11,15 +11,15 @@ use Rattle.docker_model.specs.state.Order.{IsStrictlyAscending}
 use Rattle.cif_laws.proofs.lists.Membership.{nil-Contains}
 use Rattle.cif_laws.proofs.lists.FilteredMembers.{filter_back, filter_forth}
 use Rattle.state_index.specs.SpotOrder.{Spot, spot_cmp}
-use Rattle.state_index.specs.declared.mark.Mark.{Mark}
-use Rattle.state_index.specs.MarkOrder.{mark_cmp}
-use Rattle.state_index.specs.Spots.{Places, spots_of, spots_in, AreSpotsOf, AreMarksOf}
-use Rattle.state_index.specs.PlaceRows.{live_row, is_put_at, is_put_at_mark}
+use Rattle.state_index.specs.declared.posting.Posting.{Posting}
+use Rattle.state_index.specs.PostingOrder.{posting_cmp}
+use Rattle.state_index.specs.Spots.{Places, spots_of, spots_in, AreSpotsOf, ArePostingsOf}
+use Rattle.state_index.specs.PlaceRows.{live_row, is_put_at, is_put_at_posting}
 use Rattle.state_index.specs.Turns.{is_put}
 use Rattle.state_index.proofs.Positions.{Keyed, some_is, spots_stand, stand_spots}
 use Rattle.state_index.proofs.JoinedSpots.{stays}
 use Rattle.state_index.proofs.JoinedRows.{filter_ascends}
-use Rattle.state_index.proofs.MarkSpots.{kept_spots}
+use Rattle.state_index.proofs.PostingSpots.{kept_spots}
 
 none_some : {A : Type 0} (a : A) → None ≡ Some a → ⊥
 none_some a h = cc
@@ -87,10 +87,10 @@ module _ (places : Places) (none : (key : Key) (op : Op) → is_put op ≡ false
           subst (λ zs. Contains zs spot) (sym is)
           (filter_forth (is_put_at rows) spots spot ((of.members spot).1 there) (put_row rows spot row at ∙ put))
 
-  -- after a lapse, the marks that stay are the marks of the lapsed rows
-  pub lapsed_marks : (names : List (List ℕ)) (marks after : List Mark) → after ≡ filter (is_put_at_mark rows) marks → AreMarksOf places before names marks
-      → AreMarksOf places rows names after
-  lapsed_marks names marks after is of = record {
-    up = subst (IsStrictlyAscending mark_cmp) (sym is) (filter_ascends mark_cmp (is_put_at_mark rows) marks of.up);
-    are = lapsed_spots (spots_in names marks) (spots_in names after) (ap (spots_in names) is ∙ kept_spots names rows marks) of.are;
+  -- after a lapse, the postings that stay are the postings of the lapsed rows
+  pub lapsed_postings : (names : List (List ℕ)) (postings after : List Posting) → after ≡ filter (is_put_at_posting rows) postings → ArePostingsOf places before names postings
+      → ArePostingsOf places rows names after
+  lapsed_postings names postings after is of = record {
+    up = subst (IsStrictlyAscending posting_cmp) (sym is) (filter_ascends posting_cmp (is_put_at_posting rows) postings of.up);
+    are = lapsed_spots (spots_in names postings) (spots_in names after) (ap (spots_in names) is ∙ kept_spots names rows postings) of.are;
   }

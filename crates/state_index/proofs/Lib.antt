@@ -12,9 +12,9 @@ pub mod JoinedRows
 pub mod LapsedSpots
 pub mod PutRows
 pub mod SortedSpots
-pub mod MarkPieces
-pub mod MarkSpots
-pub mod MovedMarks
+pub mod PostingPieces
+pub mod PostingSpots
+pub mod MovedPostings
 pub mod NotedNames
 pub mod CountedSpots
 pub mod Counted

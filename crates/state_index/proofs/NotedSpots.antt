@@ -1,4 +1,4 @@
--- The marks of noted rows stand for the rows' spots.
+-- The postings of noted rows stand for the rows' spots.
 use Rattle.std.proofs.Common.{◌≡◌, ℕ, zero, suc, ◌+◌, ◌≤◌, List, [], ◌∷◌, ◌++◌, map, take, drop, length}
 use Rattle.std.proofs.Common.{refl, ap, sym, ◌∙◌, subst, Bool, true, false, Some, None, arith, get_or}
 use Rattle.std.specs.Prelude.{Option, slice_get, option_map}
@@ -9,15 +9,15 @@ use Rattle.std.proofs.lemmas.Option.{get_or_from_slice_get, slice_get-map}
 use Rattle.docker_model.specs.file.Change as model
 use Rattle.docker_model.specs.state.State.{AreAscending}
 use Rattle.docker_model.specs.state.Op.{op_of}
-use Rattle.state_index.specs.declared.mark.Mark.{Mark}
+use Rattle.state_index.specs.declared.posting.Posting.{Posting}
 use Rattle.cif_change.specs.declared.notes.Notes.{Notes}
 use Rattle.cif_change.specs.declared.piece.Piece.{Piece}
 use Rattle.state_index.specs.declared.room.Room.{Room}
 use Rattle.state_index.specs.declared.slots.Slots.{Slots}
-use Rattle.state_index.specs.Spots.{Places, call_places, link_places, spot_at, spots_from, spots_of, mark_spot, spots_in}
+use Rattle.state_index.specs.Spots.{Places, call_places, link_places, spot_at, spots_from, spots_of, posting_spot, spots_in}
 use Rattle.state_index.specs.Joined.{AreRanks}
 use Rattle.state_index.specs.Rooms.{AreMadeBy, HasSlots, HasRoomFor, IsRoom}
-use Rattle.state_index.specs.Noted.{Item, items_of, items_put, if_asked, numbers_of, numbers_in, IsNoted, AreNoted, HasNoted, mark_of, row_before, noted_marks}
+use Rattle.state_index.specs.Noted.{Item, items_of, items_put, if_asked, numbers_of, numbers_in, IsNoted, AreNoted, HasNoted, posting_of, row_before, noted_postings}
 use Rattle.state_index.specs.ByPlace.{AreBelow, AreFrom}
 use Rattle.state_index.proofs.PlacedOrder.{made_of_rows}
 use Rattle.state_index.proofs.Positions.{Keyed, some_is}
@@ -26,7 +26,7 @@ use Rattle.state_index.proofs.CountedSpots.{places_of_rows, places_of_changes, r
 none_some : {A : Type 0} (a : A) → None ≡ Some a → ⊥
 none_some a h = cc
 
--- ---- the marks of one row
+-- ---- the postings of one row
 
 module _ (names sorted : List (List ℕ)) (ranks : List ℕ) (are : AreRanks sorted names ranks) where
   rank_is : (number : ℕ) (place : List ℕ) → slice_get names number ≡ Some place → slice_get sorted (get_or ranks number 0) ≡ Some place
@@ -43,7 +43,7 @@ module _ (names sorted : List (List ℕ)) (ranks : List ℕ) (are : AreRanks sor
           ∙ some_is (slice_get sorted rank) (Some place) (sym (ap (option_map (slice_get sorted)) told) ∙ at)
 
   row_spots : (at : ℕ) (places : List (List ℕ)) (numbers : List ℕ) → AreRanks names places numbers
-      → (spots_in sorted (map (mark_of ranks at) numbers) ≡ map (spot_at at) places) × (length numbers ≡ length places)
+      → (spots_in sorted (map (posting_of ranks at) numbers) ≡ map (spot_at at) places) × (length numbers ≡ length places)
   row_spots at [] [] is = (refl, refl)
   row_spots at [] (n ∷ ns) is = absurd (let len : suc (length (map (slice_get names) ns)) ≡ 0 = ap length is in omega arith)
   row_spots at (place ∷ places) [] is = absurd (let len : 0 ≡ suc (length (map Some places)) = ap length is in omega arith)
@@ -51,10 +51,10 @@ module _ (names sorted : List (List ℕ)) (ranks : List ℕ) (are : AreRanks sor
       let here : slice_get names n ≡ Some place = cc in
       let behind : map (slice_get names) ns ≡ map Some places = cc in
       let rest = row_spots at places ns behind in
-      let first : mark_spot sorted (mark_of ranks at n) ≡ Some (spot_at at place) = ap (option_map (spot_at at)) (rank_is n place here) in
+      let first : posting_spot sorted (posting_of ranks at n) ≡ Some (spot_at at place) = ap (option_map (spot_at at)) (rank_is n place here) in
       ((λ i. cons_option (first i) (rest.0 i)), ap suc rest.1)
 
-  -- ---- the marks of all rows
+  -- ---- the postings of all rows
 
   abbrev AreSame : Places → Bool → Type 0
   AreSame places links = (numbers : List ℕ) (item : Item) (piece : Piece) → IsNoted names numbers item piece
@@ -62,8 +62,8 @@ module _ (names sorted : List (List ℕ)) (ranks : List ℕ) (are : AreRanks sor
 
   module _ (places : Places) (links : Bool) (same : AreSame places links) (numbers : List ℕ) (count : ℕ) where
     abbrev AreSpots : ℕ → List Keyed → List Piece → Type 0
-    AreSpots at rows pieces = (spots_in sorted (noted_marks links ranks numbers count pieces) ≡ spots_from places at rows)
-        × (length (noted_marks links ranks numbers count pieces) ≡ length (spots_from places at rows))
+    AreSpots at rows pieces = (spots_in sorted (noted_postings links ranks numbers count pieces) ≡ spots_from places at rows)
+        × (length (noted_postings links ranks numbers count pieces) ≡ length (spots_from places at rows))
 
     all_spots : (at : ℕ) (rows : List Keyed) (pieces : List Piece) → AreNoted names numbers (items_of rows) pieces → count ≡ at + length rows
         → AreSpots at rows pieces × (length rows ≡ length pieces)
@@ -75,22 +75,22 @@ module _ (names sorted : List (List ℕ)) (ranks : List ℕ) (are : AreRanks sor
         here : List ℕ
         here = numbers_of links numbers piece
 
-        found : (at : ℕ) → (spots_in sorted (map (mark_of ranks at) here) ≡ map (spot_at at) (places row.0 row.1.op))
+        found : (at : ℕ) → (spots_in sorted (map (posting_of ranks at) here) ≡ map (spot_at at) (places row.0 row.1.op))
             × (length here ≡ length (places row.0 row.1.op))
         found at = row_spots at (places row.0 row.1.op) here (same numbers (row.0, row.1.op) piece noted.0)
 
-        all_here : (place : row_before count pieces ≡ at) → spots_in sorted (noted_marks links ranks numbers count pieces) ≡ spots_from places (1 + at) rows
-            → spots_in sorted (noted_marks links ranks numbers count (piece ∷ pieces)) ≡ spots_from places at (row ∷ rows)
+        all_here : (place : row_before count pieces ≡ at) → spots_in sorted (noted_postings links ranks numbers count pieces) ≡ spots_from places (1 + at) rows
+            → spots_in sorted (noted_postings links ranks numbers count (piece ∷ pieces)) ≡ spots_from places at (row ∷ rows)
         all_here place rest =
-            (λ i. spots_in sorted (map (mark_of ranks (place i)) here ++ noted_marks links ranks numbers count pieces))
-            ∙ filter_map-append (mark_spot sorted) (map (mark_of ranks at) here) (noted_marks links ranks numbers count pieces)
+            (λ i. spots_in sorted (map (posting_of ranks (place i)) here ++ noted_postings links ranks numbers count pieces))
+            ∙ filter_map-append (posting_spot sorted) (map (posting_of ranks at) here) (noted_postings links ranks numbers count pieces)
             ∙ (λ i. (found at).0 i ++ rest i)
 
-        len_here : length (noted_marks links ranks numbers count pieces) ≡ length (spots_from places (1 + at) rows)
-            → length (noted_marks links ranks numbers count (piece ∷ pieces)) ≡ length (spots_from places at (row ∷ rows))
+        len_here : length (noted_postings links ranks numbers count pieces) ≡ length (spots_from places (1 + at) rows)
+            → length (noted_postings links ranks numbers count (piece ∷ pieces)) ≡ length (spots_from places at (row ∷ rows))
         len_here rest =
-            let one = length-append (map (mark_of ranks (row_before count pieces)) here) (noted_marks links ranks numbers count pieces) in
-            let two = length-map here (mark_of ranks (row_before count pieces)) in
+            let one = length-append (map (posting_of ranks (row_before count pieces)) here) (noted_postings links ranks numbers count pieces) in
+            let two = length-map here (posting_of ranks (row_before count pieces)) in
             let three = (found at).1 in
             let four = length-append (map (spot_at at) (places row.0 row.1.op)) (spots_from places (1 + at) rows) in
             let five = length-map (places row.0 row.1.op) (spot_at at) in
@@ -100,60 +100,60 @@ module _ (names sorted : List (List ℕ)) (ranks : List ℕ) (are : AreRanks sor
             → AreSpots at (row ∷ rows) (piece ∷ pieces) × (length (row ∷ rows) ≡ length (piece ∷ pieces))
         by rest = ((all_here (let len = rest.1 in omega arith) rest.0.0, len_here rest.0.1), ap suc rest.1)
 
--- the marks of calls noted for rows stand for the rows' call spots
+-- the postings of calls noted for rows stand for the rows' call spots
 calls_noted : (names sorted : List (List ℕ)) (ranks numbers : List ℕ) → AreRanks sorted names ranks → (count : ℕ) (rows : List Keyed) (pieces : List Piece)
     → count ≡ length rows → AreNoted names numbers (items_of rows) pieces
-    → (spots_in sorted (noted_marks false ranks numbers count pieces) ≡ spots_of call_places rows)
-    × (length (noted_marks false ranks numbers count pieces) ≡ length (spots_of call_places rows))
+    → (spots_in sorted (noted_postings false ranks numbers count pieces) ≡ spots_of call_places rows)
+    × (length (noted_postings false ranks numbers count pieces) ≡ length (spots_of call_places rows))
 calls_noted names sorted ranks numbers are count rows pieces count_is noted =
     (all_spots names sorted ranks are call_places false (λ ns item piece is. is.calls) numbers count 0 rows pieces noted (omega arith)).0
 
--- the marks of links noted for rows stand for the rows' link spots
+-- the postings of links noted for rows stand for the rows' link spots
 links_noted : (names sorted : List (List ℕ)) (ranks numbers : List ℕ) → AreRanks sorted names ranks → (count : ℕ) (rows : List Keyed) (pieces : List Piece)
     → count ≡ length rows → AreNoted names numbers (items_of rows) pieces
-    → (spots_in sorted (noted_marks true ranks numbers count pieces) ≡ spots_of link_places rows)
-    × (length (noted_marks true ranks numbers count pieces) ≡ length (spots_of link_places rows))
+    → (spots_in sorted (noted_postings true ranks numbers count pieces) ≡ spots_of link_places rows)
+    × (length (noted_postings true ranks numbers count pieces) ≡ length (spots_of link_places rows))
 links_noted names sorted ranks numbers are count rows pieces count_is noted =
     (all_spots names sorted ranks are link_places true (λ ns item piece is. is.links) numbers count 0 rows pieces noted (omega arith)).0
 
--- these marks are in row order, and stand for the rows' spots
-pub record IsWalk (places : Places) (rows : List Keyed) (sorted : List (List ℕ)) (walk : List Mark) : Type 0 where
+-- these postings are in row order, and stand for the rows' spots
+pub record IsWalk (places : Places) (rows : List Keyed) (sorted : List (List ℕ)) (walk : List Posting) : Type 0 where
   pub spots : spots_in sorted walk ≡ spots_of places rows
   pub len : length walk ≡ length (spots_of places rows)
   pub below : AreBelow (length sorted) walk
   pub from : AreFrom 0 walk
 
-walked : (places : Places) (rows : List Keyed) (sorted : List (List ℕ)) (walk marks : List Mark) → walk ≡ marks
-    → (spots_in sorted marks ≡ spots_of places rows) × (length marks ≡ length (spots_of places rows)) → IsWalk places rows sorted walk
-walked places rows sorted walk marks same told = subst (IsWalk places rows sorted) (sym same) (record {
+walked : (places : Places) (rows : List Keyed) (sorted : List (List ℕ)) (walk postings : List Posting) → walk ≡ postings
+    → (spots_in sorted postings ≡ spots_of places rows) × (length postings ≡ length (spots_of places rows)) → IsWalk places rows sorted walk
+walked places rows sorted walk postings same told = subst (IsWalk places rows sorted) (sym same) (record {
   spots = told.0;
   len = told.1;
   below = in_order.0;
   from = in_order.1;
 })
   where
-    in_order : AreBelow (length sorted) marks × AreFrom 0 marks
-    in_order = made_of_rows places rows sorted marks told.0 (ap length told.0 ∙ sym told.1)
+    in_order : AreBelow (length sorted) postings × AreFrom 0 postings
+    in_order = made_of_rows places rows sorted postings told.0 (ap length told.0 ∙ sym told.1)
 
--- the walk over the noted calls gives the rows' marks of calls in row order
+-- the walk over the noted calls gives the rows' postings of calls in row order
 pub calls_walk : (names sorted : List (List ℕ)) (ranks numbers : List ℕ) → AreRanks sorted names ranks → (count : ℕ) (rows : List Keyed) (pieces : List Piece)
-    → count ≡ length rows → AreNoted names numbers (items_of rows) pieces → (walk : List Mark) → walk ≡ noted_marks false ranks numbers count pieces
+    → count ≡ length rows → AreNoted names numbers (items_of rows) pieces → (walk : List Posting) → walk ≡ noted_postings false ranks numbers count pieces
     → IsWalk call_places rows sorted walk
 calls_walk names sorted ranks numbers are count rows pieces count_is noted walk walk_is =
-    walked call_places rows sorted walk (noted_marks false ranks numbers count pieces) walk_is
+    walked call_places rows sorted walk (noted_postings false ranks numbers count pieces) walk_is
     (calls_noted names sorted ranks numbers are count rows pieces count_is noted)
 
--- the walk over the noted links gives the rows' marks of links in row order
+-- the walk over the noted links gives the rows' postings of links in row order
 pub links_walk : (names sorted : List (List ℕ)) (ranks numbers : List ℕ) → AreRanks sorted names ranks → (count : ℕ) (rows : List Keyed) (pieces : List Piece)
-    → count ≡ length rows → AreNoted names numbers (items_of rows) pieces → (walk : List Mark) → walk ≡ noted_marks true ranks numbers count pieces
+    → count ≡ length rows → AreNoted names numbers (items_of rows) pieces → (walk : List Posting) → walk ≡ noted_postings true ranks numbers count pieces
     → IsWalk link_places rows sorted walk
 links_walk names sorted ranks numbers are count rows pieces count_is noted walk walk_is =
-    walked link_places rows sorted walk (noted_marks true ranks numbers count pieces) walk_is
+    walked link_places rows sorted walk (noted_postings true ranks numbers count pieces) walk_is
     (links_noted names sorted ranks numbers are count rows pieces count_is noted)
 
 -- ---- the room for an index
 
--- room for many marks is room for fewer
+-- room for many postings is room for fewer
 less_slots : (places few many : ℕ) (slots : Slots) → few ≤ many → HasSlots places many slots → HasSlots places few slots
 less_slots places few many slots less has = record {
   none = has.none;

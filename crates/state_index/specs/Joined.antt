@@ -16,7 +16,7 @@ use Rattle.docker_join.specs.Meaning.{file_stamp_meant, entry_meant, row_meant}
 use Rattle.docker_join.specs.Rows.{IsJoinOfRows}
 pub use Rattle.cif_change.specs.NamedPlaces.{AreRanks}
 use Rattle.state_index.specs.SpotOrder.{Spot}
-use Rattle.state_index.specs.declared.mark.Mark.{Mark}
+use Rattle.state_index.specs.declared.posting.Posting.{Posting}
 use Rattle.state_index.specs.declared.moves.Moves.{Moves}
 use Rattle.state_index.specs.Spots.{Places, call_places, link_places, spots_of}
 
@@ -46,16 +46,16 @@ moved_spot moves spot =
 abbrev pub moved_spots : List (Option ℕ) → List Spot → List Spot
 moved_spots moves spots = filter_map (moved_spot moves) spots
 
--- a mark, moved to where its place and its row go. `ranks` has, for each of the old places, its
+-- a posting, moved to where its place and its row go. `ranks` has, for each of the old places, its
 -- index among the new ones
-abbrev pub moved_mark : List ℕ → List (Option ℕ) → Mark → Option Mark
-moved_mark ranks moves mark = option_and_then
-    (λ rank. option_map (λ at. record { place = rank; at = at }) (option_and_then (λ (move : Option ℕ). move) (slice_get moves mark.at)))
-    (slice_get ranks mark.place)
+abbrev pub moved_posting : List ℕ → List (Option ℕ) → Posting → Option Posting
+moved_posting ranks moves posting = option_and_then
+    (λ rank. option_map (λ at. record { place = rank; at = at }) (option_and_then (λ (move : Option ℕ). move) (slice_get moves posting.at)))
+    (slice_get ranks posting.place)
 
--- marks, moved to where their places and rows go
-abbrev pub moved_marks : List ℕ → List (Option ℕ) → List Mark → List Mark
-moved_marks ranks moves marks = filter_map (moved_mark ranks moves) marks
+-- postings, moved to where their places and rows go
+abbrev pub moved_postings : List ℕ → List (Option ℕ) → List Posting → List Posting
+moved_postings ranks moves postings = filter_map (moved_posting ranks moves) postings
 
 -- of two rows that go into the join, the earlier one goes to the lower index
 abbrev pub AreRising : List (Option ℕ) → Type 0

@@ -1,4 +1,4 @@
-pub mod MarkOrder
+pub mod PostingOrder
 pub mod SpotOrder
 pub mod Spots
 pub mod Tables

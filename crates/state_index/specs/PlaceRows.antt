@@ -1,4 +1,4 @@
--- The live rows that spots and marks name.
+-- The live rows that spots and postings name.
 use Rattle.std.specs.Prelude.{◌≡◌, ℕ, Bool, false, List, ◌++◌, map, Contains, Option, Some, None, slice_get, option_and_then}
 use Rattle.std.specs.List.{filter_map}
 use Rattle.std.specs.Option.{is_some}
@@ -7,7 +7,7 @@ use Rattle.docker_model.specs.state.Op.{Entry, body_of}
 use Rattle.state_laws.specs.Row.{Row}
 use Rattle.state_index.specs.SpotOrder.{Spot}
 use Rattle.state_index.specs.Turns.{is_put}
-use Rattle.state_index.specs.declared.mark.Mark.{Mark}
+use Rattle.state_index.specs.declared.posting.Posting.{Posting}
 
 -- a row's key with its body, if the row is put
 abbrev pub live_row : Key × Entry → Option Row
@@ -21,23 +21,23 @@ live_at rows spot = option_and_then live_row (slice_get rows spot.at)
 abbrev pub rows_at_spots : List (Key × Entry) → List Spot → List Row
 rows_at_spots rows spots = filter_map (live_at rows) spots
 
--- the live row that a mark names
-abbrev pub live_at_mark : List (Key × Entry) → Mark → Option Row
-live_at_mark rows mark = option_and_then live_row (slice_get rows mark.at)
+-- the live row that a posting names
+abbrev pub live_at_posting : List (Key × Entry) → Posting → Option Row
+live_at_posting rows posting = option_and_then live_row (slice_get rows posting.at)
 
--- the live rows that marks name, in the order of the marks
-abbrev pub rows_at_marks : List (Key × Entry) → List Mark → List Row
-rows_at_marks rows marks = filter_map (live_at_mark rows) marks
+-- the live rows that postings name, in the order of the postings
+abbrev pub rows_at_postings : List (Key × Entry) → List Posting → List Row
+rows_at_postings rows postings = filter_map (live_at_posting rows) postings
 
--- the piece is the marks of one place, by the place's index; no mark before or after it has that
+-- the piece is the postings of one place, by the place's index; no posting before or after it has that
 -- place
-pub record IsPieceOf (rank : ℕ) (marks piece : List Mark) : Type 0 where
-  pub before : List Mark
-  pub behind : List Mark
-  pub whole : marks ≡ (before ++ piece) ++ behind
-  pub none_before : (mark : Mark) → Contains before mark → ¬ (mark.place ≡ rank)
-  pub here : (mark : Mark) → Contains piece mark → mark.place ≡ rank
-  pub none_behind : (mark : Mark) → Contains behind mark → ¬ (mark.place ≡ rank)
+pub record IsPieceOf (rank : ℕ) (postings piece : List Posting) : Type 0 where
+  pub before : List Posting
+  pub behind : List Posting
+  pub whole : postings ≡ (before ++ piece) ++ behind
+  pub none_before : (posting : Posting) → Contains before posting → ¬ (posting.place ≡ rank)
+  pub here : (posting : Posting) → Contains piece posting → posting.place ≡ rank
+  pub none_behind : (posting : Posting) → Contains behind posting → ¬ (posting.place ≡ rank)
 
 -- the piece is the spots of one place; no spot before or after it has that place
 pub record IsPieceAt (place : List ℕ) (spots piece : List Spot) : Type 0 where
@@ -52,9 +52,9 @@ pub record IsPieceAt (place : List ℕ) (spots piece : List Spot) : Type 0 where
 abbrev pub is_put_at : List (Key × Entry) → Spot → Bool
 is_put_at rows spot = is_some (live_at rows spot)
 
--- the row that a mark names is put
-abbrev pub is_put_at_mark : List (Key × Entry) → Mark → Bool
-is_put_at_mark rows mark = is_some (live_at_mark rows mark)
+-- the row that a posting names is put
+abbrev pub is_put_at_posting : List (Key × Entry) → Posting → Bool
+is_put_at_posting rows posting = is_some (live_at_posting rows posting)
 
 -- for each row, whether it is put
 abbrev pub puts_in : List (Key × Entry) → List Bool
@@ -65,6 +65,6 @@ abbrev pub or_not : Option Bool → Bool
 or_not None = false
 or_not (Some put) = put
 
--- the row that a mark names is put, according to these flags
-abbrev pub put_among : List Bool → Mark → Bool
-put_among puts mark = or_not (slice_get puts mark.at)
+-- the row that a posting names is put, according to these flags
+abbrev pub put_among : List Bool → Posting → Bool
+put_among puts posting = or_not (slice_get puts posting.at)

@@ -11,17 +11,17 @@ use Rattle.state_index.specs.ByPlace.{AreCounts}
 use Rattle.state_index.specs.Joined.{AreRanks}
 use Rattle.state_index.specs.Spots.{call_places, link_places, spots_of}
 
--- there are no counts yet, and there is room for this many places and marks
-pub record HasSlots (places marks : ℕ) (slots : Slots) : Type 0 where
+-- there are no counts yet, and there is room for this many places and postings
+pub record HasSlots (places postings : ℕ) (slots : Slots) : Type 0 where
   pub none : AreCounts [] slots.counts.items
   pub len : length slots.counts.items ≡ places
   pub no_next : slots.next.items ≡ []
   pub empty_next : vec_len slots.next ≡ 0
   pub room_next : places ≤ vec_capacity slots.next
-  pub room : marks ≤ length slots.marks.items
+  pub room : postings ≤ length slots.postings.items
 
 -- there is room for these rows' index: all their places in order, the index of each place that has
--- a number, and slots for the marks
+-- a number, and slots for the postings
 pub record HasRoomFor (rows : List (model.Key × ops.Entry)) (names : List (List ℕ)) (room : Room) : Type 0 where
   pub named : IsStrictlyAscending bytes_cmp room.places.items
   pub ranks : AreRanks room.places.items names room.ranks.items

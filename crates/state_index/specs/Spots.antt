@@ -7,8 +7,8 @@ use Rattle.docker_model.specs.state.Op.{Op, Entry}
 use Rattle.docker_model.specs.state.Order.{bytes_cmp, IsStrictlyAscending}
 pub use Rattle.cif_change.specs.NamedPlaces.{location_lines, call_places, link_places}
 use Rattle.state_index.specs.SpotOrder.{Spot, spot_cmp}
-use Rattle.state_index.specs.declared.mark.Mark.{Mark}
-use Rattle.state_index.specs.MarkOrder.{mark_cmp}
+use Rattle.state_index.specs.declared.posting.Posting.{Posting}
+use Rattle.state_index.specs.PostingOrder.{posting_cmp}
 use Rattle.state_index.specs.declared.index.Index.{Index}
 
 -- gives the places of a key and its op
@@ -37,25 +37,25 @@ pub record AreSpotsOf (places : Places) (rows : List (Key × Entry)) (spots : Li
   pub ascending : IsStrictlyAscending spot_cmp spots
   pub members : (spot : Spot) → Contains spots spot ↔ Contains (spots_of places rows) spot
 
--- the spot that a mark stands for. The mark's place is an index into these names
-abbrev pub mark_spot : List (List ℕ) → Mark → Option Spot
-mark_spot names mark = option_map (spot_at mark.at) (slice_get names mark.place)
+-- the spot that a posting stands for. The posting's place is an index into these names
+abbrev pub posting_spot : List (List ℕ) → Posting → Option Spot
+posting_spot names posting = option_map (spot_at posting.at) (slice_get names posting.place)
 
--- the spots that marks stand for
-abbrev pub spots_in : List (List ℕ) → List Mark → List Spot
-spots_in names marks = filter_map (mark_spot names) marks
+-- the spots that postings stand for
+abbrev pub spots_in : List (List ℕ) → List Posting → List Spot
+spots_in names postings = filter_map (posting_spot names) postings
 
--- the marks ascend, and stand for the rows' spots
-pub record AreMarksOf (places : Places) (rows : List (Key × Entry)) (names : List (List ℕ)) (marks : List Mark) : Type 0 where
-  pub up : IsStrictlyAscending mark_cmp marks
-  pub are : AreSpotsOf places rows (spots_in names marks)
+-- the postings ascend, and stand for the rows' spots
+pub record ArePostingsOf (places : Places) (rows : List (Key × Entry)) (names : List (List ℕ)) (postings : List Posting) : Type 0 where
+  pub up : IsStrictlyAscending posting_cmp postings
+  pub are : AreSpotsOf places rows (spots_in names postings)
 
 -- this is the rows' index: it has the spots at which live schedules call and the spots of live
 -- associations
 pub record IsIndexOf (rows : List (Key × Entry)) (index : Index) : Type 0 where
   pub named : IsStrictlyAscending bytes_cmp index.places.items
-  pub calls : AreMarksOf call_places rows index.places.items index.calls.items
-  pub links : AreMarksOf link_places rows index.places.items index.links.items
+  pub calls : ArePostingsOf call_places rows index.places.items index.calls.items
+  pub links : ArePostingsOf link_places rows index.places.items index.links.items
 
 -- the spots at which live schedules call
 abbrev pub call_spots : Index → List Spot

@@ -8,7 +8,7 @@ ghost use Rattle.docker_model.specs.state.State.{State, AreAscending, live_table
 ghost use Rattle.state_laws.specs.Index.{AreCalling, AreLinked};
 ghost use Rattle.docker_join.specs.Meaning.{row_meant};
 ghost use Rattle.state_index.specs.Counts.{IsCallingCount};
-ghost use Rattle.state_index.specs.MarkOrder.{mark_cmp};
+ghost use Rattle.state_index.specs.PostingOrder.{posting_cmp};
 ghost use Rattle.state_index.specs.Spots.{IsIndexOf};
 ghost use Rattle.docker_join.specs.Room.{HasRoomOf};
 ghost use Rattle.state_index.specs.Rooms.{HasRoomFor};
@@ -16,13 +16,13 @@ ghost use Rattle.state_index.specs.Joined.{AreMoves};
 ghost use Rattle.state_index.specs.Noted.{AreNoted, items_of};
 
 use crate::fill::ascending;
-use crate::mark::Mark;
 use crate::merge::{Moved, merged, ranks_of, union_of};
 use crate::moves::Moves;
-use crate::place_rows::{PlaceRows, marks_at};
+use crate::place_rows::{PlaceRows, postings_at};
+use crate::posting::Posting;
 use crate::puts::{keep_put, puts_of};
 use crate::room::Room;
-use crate::walk::MarkWalk;
+use crate::walk::PostingWalk;
 use cif_change::{Key, Memory, Notes, Tiploc};
 use docker_join::Entry;
 use std::alloc::Global;
@@ -34,9 +34,9 @@ pub struct Index {
     pub places: Vec<[u8; 7]>,
     /// For each place the live schedules that call there, by an LO, an LI or an LT. In ascending
     /// order, each once.
-    pub calls: Vec<Mark>,
+    pub calls: Vec<Posting>,
     /// For each place the live associations there. In ascending order, each once.
-    pub links: Vec<Mark>,
+    pub links: Vec<Posting>,
 }
 
 impl Index {
@@ -69,8 +69,8 @@ impl Index {
         let ranks = ranks.as_slice();
         let numbers = notes.numbers.as_slice();
         let pieces = notes.pieces.as_slice();
-        let called = MarkWalk::of(ranks, numbers, pieces, count, false);
-        let linked = MarkWalk::of(ranks, numbers, pieces, count, true);
+        let called = PostingWalk::of(ranks, numbers, pieces, count, false);
+        let linked = PostingWalk::of(ranks, numbers, pieces, count, true);
         let calls = ascending(called, places.len(), calls);
         let links = ascending(linked, places.len(), links);
         Index {
@@ -151,7 +151,7 @@ impl Index {
     {
         PlaceRows::of(
             rows,
-            marks_at(
+            postings_at(
                 self.places.as_slice(),
                 self.calls.as_slice(),
                 tiploc.bytes(),
@@ -163,11 +163,11 @@ impl Index {
     /// them, and no row is looked at.
     pub fn count_calling(&self, tiploc: &Tiploc) -> usize
         requires named { IsStrictlyAscending bytes_cmp self.now.places.items }
-        requires up { IsStrictlyAscending mark_cmp self.now.calls.items }
+        requires up { IsStrictlyAscending posting_cmp self.now.calls.items }
         ensures { (state : State) → AreAscending state.entries → IsIndexOf state.entries self.now
             → IsCallingCount (live_table state) tiploc.now result }
     {
-        marks_at(
+        postings_at(
             self.places.as_slice(),
             self.calls.as_slice(),
             tiploc.bytes(),
@@ -185,7 +185,7 @@ impl Index {
     {
         PlaceRows::of(
             rows,
-            marks_at(
+            postings_at(
                 self.places.as_slice(),
                 self.links.as_slice(),
                 tiploc.bytes(),
@@ -194,8 +194,8 @@ impl Index {
     }
 }
 
-/// An empty vector with room for the marks of both indexes. `Memory` if the allocator refuses.
-fn room_for(alloc: Global, first: usize, second: usize) -> Result<Vec<Mark>, Memory>
+/// An empty vector with room for the postings of both indexes. `Memory` if the allocator refuses.
+fn room_for(alloc: Global, first: usize, second: usize) -> Result<Vec<Posting>, Memory>
     ensures { IfOk result (HasRoomOf (first + second)) }
 {
     let count = first.checked_add(second).ok_or(Memory)?;

@@ -9,11 +9,11 @@ ghost use Rattle.docker_model.specs.state.Order.{bytes_cmp, IsStrictlyAscending}
 ghost use Rattle.docker_model.specs.file.Change as model;
 ghost use Rattle.docker_model.specs.state.Op as ops;
 ghost use Rattle.state_index.specs.Spots.{spots_in};
-ghost use Rattle.state_index.specs.MarkOrder.{mark_cmp};
-ghost use Rattle.state_index.specs.PlaceRows.{rows_at_spots, rows_at_marks, live_at_mark, IsPieceAt, IsPieceOf, is_put_at_mark};
+ghost use Rattle.state_index.specs.PostingOrder.{posting_cmp};
+ghost use Rattle.state_index.specs.PlaceRows.{rows_at_spots, rows_at_postings, live_at_posting, IsPieceAt, IsPieceOf, is_put_at_posting};
 
-use crate::mark::Mark;
 use crate::names::rank_of;
+use crate::posting::Posting;
 use cif_change::{Body, Key};
 use docker_join::{Entry, Op};
 use std::marker::Model;
@@ -24,19 +24,19 @@ use std::marker::Model;
 #[derive(Clone, Debug, Drop)]
 pub struct Numbered<'a> {
     rows: &'a [(Key, Entry)],
-    marks: &'a [Mark],
+    postings: &'a [Posting],
 }
 
 impl<'a> Model for Numbered<'a> {
     ghost use Rattle.std.specs.Prelude.{List, map};
     ghost use Rattle.state_laws.specs.Row.{Row};
     ghost use Rattle.docker_join.specs.Meaning.{row_meant};
-    ghost use Rattle.state_index.specs.PlaceRows.{rows_at_marks};
+    ghost use Rattle.state_index.specs.PlaceRows.{rows_at_postings};
 
     ghost Value = { List Row };
 
     ghost view = { λ numbered.
-        rows_at_marks (map row_meant numbered.rows.now) numbered.marks.now };
+        rows_at_postings (map row_meant numbered.rows.now) numbered.postings.now };
 }
 
 impl<'a> Iterator for Numbered<'a> {
@@ -48,10 +48,10 @@ impl<'a> Iterator for Numbered<'a> {
     ghost remaining = { item_count (λ numbered. numbered) };
 
     fn next(&mut self) -> Option<(usize, &'a Key, &'a Body)> {
-        while let Some((mark, behind)) = self.marks.split_first() {
-            self.marks = behind;
-            if let Some((key, body)) = live_at(self.rows, mark) {
-                return Some((mark.at as usize, key, body));
+        while let Some((posting, behind)) = self.postings.split_first() {
+            self.postings = behind;
+            if let Some((key, body)) = live_at(self.rows, posting) {
+                return Some((posting.at as usize, key, body));
             }
         }
         None
@@ -74,12 +74,12 @@ impl<'a> Model for PlaceRows<'a> {
 }
 
 impl<'a> PlaceRows<'a> {
-    /// The walk over the rows that these marks name.
-    pub(crate) fn of(rows: &'a [(Key, Entry)], marks: &'a [Mark]) -> PlaceRows<'a>
-        ensures { result ≡ rows_at_marks (map row_meant rows.entry.now) marks.entry.now }
+    /// The walk over the rows that these postings name.
+    pub(crate) fn of(rows: &'a [(Key, Entry)], postings: &'a [Posting]) -> PlaceRows<'a>
+        ensures { result ≡ rows_at_postings (map row_meant rows.entry.now) postings.entry.now }
     {
         PlaceRows {
-            numbered: Numbered { rows, marks },
+            numbered: Numbered { rows, postings },
         }
     }
 
@@ -107,12 +107,12 @@ impl<'a> Iterator for PlaceRows<'a> {
     }
 }
 
-/// The live row that a mark names. None if it isn't put.
-fn live_at<'a>(rows: &'a [(Key, Entry)], mark: &Mark) -> Option<(&'a Key, &'a Body)>
+/// The live row that a posting names. None if it isn't put.
+fn live_at<'a>(rows: &'a [(Key, Entry)], posting: &Posting) -> Option<(&'a Key, &'a Body)>
     ensures { option_map (λ row. (key_meant row.0.now, body_meant row.1.now)) result
-        ≡ live_at_mark (map row_meant rows.entry.now) mark.now }
+        ≡ live_at_posting (map row_meant rows.entry.now) posting.now }
 {
-    match rows.get(mark.at as usize) {
+    match rows.get(posting.at as usize) {
         Some((key, entry)) => match &entry.op {
             Op::Put(body) => Some((key, body)),
             _ => None,
@@ -121,54 +121,58 @@ fn live_at<'a>(rows: &'a [(Key, Entry)], mark: &Mark) -> Option<(&'a Key, &'a Bo
     }
 }
 
-/// Whether the row that a mark names is put.
-pub(crate) fn is_put_at(rows: &[(Key, Entry)], mark: &Mark) -> bool
-    ensures { result ≡ is_put_at_mark (map row_meant rows.now) mark.now }
+/// Whether the row that a posting names is put.
+pub(crate) fn is_put_at(rows: &[(Key, Entry)], posting: &Posting) -> bool
+    ensures { result ≡ is_put_at_posting (map row_meant rows.now) posting.now }
 {
-    match rows.get(mark.at as usize) {
+    match rows.get(posting.at as usize) {
         Some((_, entry)) => matches!(&entry.op, Op::Put(_)),
         None => false,
     }
 }
 
-/// The marks of one place among ascending marks, found by a binary search. `rank` is the place's
+/// The postings of one place among ascending postings, found by a binary search. `rank` is the place's
 /// index.
-pub(crate) fn marks_of<'a>(marks: &'a [Mark], rank: usize) -> &'a [Mark]
-    requires { IsStrictlyAscending mark_cmp marks.now }
-    ensures { IsPieceOf rank marks.entry.now result.now }
+pub(crate) fn postings_of<'a>(postings: &'a [Posting], rank: usize) -> &'a [Posting]
+    requires { IsStrictlyAscending posting_cmp postings.now }
+    ensures { IsPieceOf rank postings.entry.now result.now }
 {
-    let (_, rest) = marks.split_at(marks.partition_point(|mark| is_before(mark, rank)));
-    let (here, _) = rest.split_at(rest.partition_point(|mark| is_up_to(mark, rank)));
+    let (_, rest) = postings.split_at(postings.partition_point(|posting| is_before(posting, rank)));
+    let (here, _) = rest.split_at(rest.partition_point(|posting| is_up_to(posting, rank)));
     here
 }
 
-/// Whether a mark's place has an index below this one.
-fn is_before(mark: &Mark, rank: usize) -> bool
-    ensures { result ≡ is_lt (nat_cmp mark.now.place rank) }
+/// Whether a posting's place has an index below this one.
+fn is_before(posting: &Posting, rank: usize) -> bool
+    ensures { result ≡ is_lt (nat_cmp posting.now.place rank) }
 {
-    (mark.place as usize).cmp(&rank).is_lt()
+    (posting.place as usize).cmp(&rank).is_lt()
 }
 
-/// Whether a mark's place has this index, or one below it.
-fn is_up_to(mark: &Mark, rank: usize) -> bool
-    ensures { result ≡ is_le (nat_cmp mark.now.place rank) }
+/// Whether a posting's place has this index, or one below it.
+fn is_up_to(posting: &Posting, rank: usize) -> bool
+    ensures { result ≡ is_le (nat_cmp posting.now.place rank) }
 {
-    (mark.place as usize).cmp(&rank).is_le()
+    (posting.place as usize).cmp(&rank).is_le()
 }
 
-/// The marks at a place, among ascending marks, found by a binary search. There are none if the
+/// The postings at a place, among ascending postings, found by a binary search. There are none if the
 /// place isn't named.
-pub(crate) fn marks_at<'a>(places: &[[u8; 7]], marks: &'a [Mark], place: &[u8; 7]) -> &'a [Mark]
+pub(crate) fn postings_at<'a>(
+    places: &[[u8; 7]],
+    postings: &'a [Posting],
+    place: &[u8; 7],
+) -> &'a [Posting]
     requires named { IsStrictlyAscending bytes_cmp places.now }
-    requires up { IsStrictlyAscending mark_cmp marks.now }
-    ensures piece { IsPieceAt place.now (spots_in places.now marks.entry.now)
+    requires up { IsStrictlyAscending posting_cmp postings.now }
+    ensures piece { IsPieceAt place.now (spots_in places.now postings.entry.now)
         (spots_in places.now result.now) }
     ensures each { length (spots_in places.now result.now) ≡ length result.now }
-    ensures rows { (rows : List (model.Key × ops.Entry)) → rows_at_marks rows result.now
+    ensures rows { (rows : List (model.Key × ops.Entry)) → rows_at_postings rows result.now
         ≡ rows_at_spots rows (spots_in places.now result.now) }
 {
     match rank_of(places, place) {
-        Some(rank) => marks_of(marks, rank),
-        None => &marks[..0],
+        Some(rank) => postings_of(postings, rank),
+        None => &postings[..0],
     }
 }

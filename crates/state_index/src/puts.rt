@@ -1,11 +1,11 @@
-//! Which rows are put, and the marks that name them.
+//! Which rows are put, and the postings that name them.
 ghost use Rattle.std.specs.Prelude.{◌≡◌, filter, map, IfSome};
 ghost use Rattle.docker_join.specs.Meaning.{op_meant, row_meant};
 ghost use Rattle.state_index.specs.Turns.{is_put};
-ghost use Rattle.state_index.specs.PlaceRows.{is_put_at_mark, put_among, puts_in};
+ghost use Rattle.state_index.specs.PlaceRows.{is_put_at_posting, put_among, puts_in};
 
-use crate::mark::Mark;
 use crate::place_rows::is_put_at;
+use crate::posting::Posting;
 use cif_change::Key;
 use docker_join::{Entry, Op};
 use std::alloc::Global;
@@ -25,27 +25,27 @@ pub(crate) fn puts_of(alloc: Global, rows: &[(Key, Entry)]) -> Option<Vec<bool>>
     Some(puts)
 }
 
-/// Keeps only the marks whose rows are put. It looks that up in the table `puts`, which is small.
+/// Keeps only the postings whose rows are put. It looks that up in the table `puts`, which is small.
 /// Without the table it looks into the rows.
-pub(crate) fn keep_put(marks: &mut Vec<Mark>, rows: &[(Key, Entry)], puts: &Option<Vec<bool>>)
+pub(crate) fn keep_put(postings: &mut Vec<Posting>, rows: &[(Key, Entry)], puts: &Option<Vec<bool>>)
     requires { IfSome puts.now (λ puts. puts.items ≡ puts_in (map row_meant rows.now)) }
-    ensures { marks.new.items
-        ≡ filter (is_put_at_mark (map row_meant rows.now)) marks.old.items }
+    ensures { postings.new.items
+        ≡ filter (is_put_at_posting (map row_meant rows.now)) postings.old.items }
 {
     match puts {
         Some(puts) => {
             let puts = puts.as_slice();
-            marks.retain(|mark| is_put_in(puts, mark));
+            postings.retain(|posting| is_put_in(puts, posting));
         }
-        None => marks.retain(|mark| is_put_at(rows, mark)),
+        None => postings.retain(|posting| is_put_at(rows, posting)),
     }
 }
 
-/// Whether the row that a mark names is put, by the table.
-fn is_put_in(puts: &[bool], mark: &Mark) -> bool
-    ensures { result ≡ put_among puts.now mark.now }
+/// Whether the row that a posting names is put, by the table.
+fn is_put_in(puts: &[bool], posting: &Posting) -> bool
+    ensures { result ≡ put_among puts.now posting.now }
 {
-    match puts.get(mark.at as usize) {
+    match puts.get(posting.at as usize) {
         Some(put) => *put,
         None => false,
     }

@@ -12,7 +12,7 @@ use crate::slots::Slots;
 use cif_change::{Memory, Notes};
 use std::alloc::Global;
 
-/// The places of an index that is to be made, and room for its marks.
+/// The places of an index that is to be made, and room for its postings.
 #[derive(Debug, Drop)]
 pub struct Room {
     /// The TIPLOCs that the rows name, in ascending order.

@@ -12,4 +12,4 @@ pub mod PartDecisions
 pub mod TextOrFault
 pub mod OneStateFault
 pub mod StateFaultStays
-pub mod ToldWithHorizon
+pub mod ReportedWithHorizon

@@ -3,7 +3,7 @@ use Rattle.std.proofs.Common.{◌≡◌, List, ℕ, [], ◌∷◌, ◌++◌, map
 use Rattle.std.specs.Prelude.{Option}
 use Rattle.std.specs.List.{flat_map}
 use Rattle.std.proofs.lemmas.List.Folds.{flat_map-map}
-use Rattle.cif_line.specs.Device.{Takes, TakesPart}
+use Rattle.cif_device.specs.Device.{Takes, TakesPart}
 use Rattle.docker_model.specs.file.Change.{Key, tiploc_key, Body, tiploc_body}
 use Rattle.docker_model.specs.state.Op.{Op, deleted, lapsed, put_with, Entry}
 use Rattle.docker_model.specs.state.State.{State, IsValid, live_table}

@@ -1,6 +1,6 @@
 //! What a state knows, in a few lines: a name in columns 1 to 12, and a value from column 14 on.
 ghost use Rattle.std.specs.Prelude.{◌≡◌, ◌-◌, ◌^◌, ◌<◌, IfSome, IsErr, OnOk, OnErr, option_map};
-ghost use Rattle.cif_line.specs.Device.{CountsFailure};
+ghost use Rattle.cif_device.specs.Device.{CountsFailure};
 ghost use Rattle.docker_model.specs.records.Date.{IsDay};
 ghost use Rattle.docker_model.specs.records.PrintedTime.{minute_text};
 ghost use Rattle.docker_join.specs.Meaning.{file_stamp_meant};

@@ -1,6 +1,6 @@
 //! The list of timing points: a line of 55 columns and a line feed for each.
 ghost use Rattle.std.specs.Prelude.{◌≡◌, ◌+◌, ◌-◌, ◌^◌, ◌<◌, IsErr, OnOk, OnErr};
-ghost use Rattle.cif_line.specs.Device.{CountsFailure, Takes, TakesPart};
+ghost use Rattle.cif_device.specs.Device.{CountsFailure, Takes, TakesPart};
 ghost use Rattle.docker_model.specs.state.State.{IsValid, live_table};
 ghost use Rattle.docker_model.specs.docker.DockerText.{ended};
 ghost use Rattle.cif_change.specs.Meaning.{body_meant, key_meant};

@@ -5,7 +5,7 @@ use Rattle.std.specs.List.{concat, flat_map}
 use Rattle.std.proofs.lemmas.List.{take-append-le, take-append-drop, take_more, map-append}
 use Rattle.std.proofs.lemmas.Grind.{flat_map-append}
 use Rattle.cif_device.proofs.DeviceLemmas.{counts_error}
-use Rattle.cif_line.specs.Device.{CountsFailure, Takes, TakesPart}
+use Rattle.cif_device.specs.Device.{CountsFailure, Takes, TakesPart}
 use Rattle.state_text.specs.Written.{Gathers, Gives, Flushes}
 
 -- the bytes that a sink has taken, or None if it can't name them

@@ -11,7 +11,7 @@ use Rattle.docker_model.specs.state.Stamp.{LedgerItem}
 use Rattle.docker_model.specs.state.State.{State}
 use Rattle.docker_model.specs.state.StateText.{dks_2, head_text, item_bytes, key_bytes, stamp_bytes, entry_bytes, state_text}
 use Rattle.state_text.specs.Entries.{entry_head, op_lines}
-use Rattle.cif_line.specs.Device.{TakesPart}
+use Rattle.cif_device.specs.Device.{TakesPart}
 use Rattle.state_text.specs.Written.{body_text, Gathers, Gives}
 use Rattle.state_text.proofs.BufferLemmas.{gathers_then, then_gives, fails_first}
 

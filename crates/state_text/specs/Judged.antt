@@ -13,7 +13,7 @@ use Rattle.docker_model.specs.state.StateFault as fault
 use Rattle.docker_model.specs.state.StatePart as fault_statepart
 use Rattle.docker_model.specs.state.StateText.{Format}
 use Rattle.cif_change.specs.declared.key.Key.{Key}
-use Rattle.cif_file.specs.Meaning.{key_meant}
+use Rattle.cif_change.specs.Meaning.{key_meant}
 use Rattle.docker_state.specs.declared.item.LedgerItem.{LedgerItem}
 use Rattle.docker_state.specs.Meaning.{item_meant}
 use Rattle.state_text.specs.declared.cause.StateCause.{StateCause}

@@ -7,7 +7,7 @@ use Rattle.docker_model.specs.state.Stamp as stamps
 use Rattle.docker_model.specs.state.Stamp.{IsFloor}
 use Rattle.docker_model.specs.state.State.{State, IsLedger, IsValid}
 use Rattle.state_laws.specs.Staging.{IsStaged}
-use Rattle.cif_file.specs.Meaning.{key_meant}
+use Rattle.cif_change.specs.Meaning.{key_meant}
 use Rattle.docker_state.specs.declared.item.LedgerItem.{LedgerItem}
 use Rattle.docker_state.specs.Meaning.{item_meant}
 use Rattle.docker_state.specs.Parts.{last_key}

@@ -10,7 +10,7 @@ use Rattle.docker_model.specs.state.StatePart.{EntryPart, before_tag, before_key
 use Rattle.cif_line.specs.Letter.{stp_letter}
 use Rattle.cif_change.specs.declared.key.AssocKey.{AssocKey}
 use Rattle.cif_change.specs.declared.key.ScheduleKey.{ScheduleKey}
-use Rattle.cif_file.specs.Meaning.{key_meant}
+use Rattle.cif_change.specs.Meaning.{key_meant}
 use Rattle.docker_join.specs.Meaning.{stamp_meant}
 use Rattle.state_text.specs.declared.stage.Tag.{Tag}
 use Rattle.state_text.specs.declared.stage.Tag.TheVariants as tag

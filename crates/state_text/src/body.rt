@@ -7,7 +7,7 @@ ghost use Rattle.docker_model.specs.file.Change.{tiploc_body, association_body, 
 ghost use Rattle.docker_model.specs.state.Op.{readable_end};
 ghost use Rattle.docker_model.specs.state.State.{IsAssociationOf};
 ghost use Rattle.cif_line.specs.Kind.{meaning};
-ghost use Rattle.cif_file.specs.Meaning.{key_meant, body_meant};
+ghost use Rattle.cif_change.specs.Meaning.{key_meant, body_meant};
 ghost use Rattle.state_text.specs.Stage.{assoc_meant, schedule_meant};
 ghost use Rattle.state_text.specs.Judged.{IsAssociationUnder, IsOfKey, IsFirstOf};
 

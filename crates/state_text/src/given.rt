@@ -4,7 +4,7 @@ ghost use Rattle.std.specs.Prelude.{◌≡◌, List, [], ◌∷◌, ◌++◌};
 ghost use Rattle.std.specs.Borrow.{ftrue};
 ghost use Rattle.docker_model.specs.file.Change as model;
 ghost use Rattle.docker_model.specs.state.Op as ops;
-ghost use Rattle.cif_file.specs.Meaning.{key_meant};
+ghost use Rattle.cif_change.specs.Meaning.{key_meant};
 ghost use Rattle.docker_join.specs.Meaning.{entry_meant};
 
 use cif_file::Key;

@@ -3,7 +3,7 @@ ghost use Rattle.std.specs.Prelude.{◌≡◌, ◌↔◌, length, IsTrue, MatchO
 ghost use Rattle.docker_model.specs.state.State.{IsGoodKey, AreAscending};
 ghost use Rattle.docker_model.specs.state.StateText.{key_in};
 ghost use Rattle.docker_model.specs.state.StatePart.{key_width, IsAboveEntries};
-ghost use Rattle.cif_file.specs.Meaning.{key_meant};
+ghost use Rattle.cif_change.specs.Meaning.{key_meant};
 ghost use Rattle.state_text.specs.Stage.{tag_meant};
 ghost use Rattle.state_text.specs.Judged.{IsJudgedKey};
 

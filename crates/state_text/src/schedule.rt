@@ -1,6 +1,6 @@
 //! Reads the lines of a schedule.
 ghost use Rattle.std.specs.Prelude.{◌≡◌, ◌+◌, ◌-◌, ◌<◌, ◌↔◌, ◌⊎◌, [], ◌∷◌, ◌++◌, length, false, IsTrue, IsOk, IfOk, IfErr};
-ghost use Rattle.cif_file.specs.JourneyRead.{HasLines};
+ghost use Rattle.cif_change.specs.JourneyRead.{HasLines};
 ghost use Rattle.docker_model.specs.file.File.{BeginsSchedule};
 ghost use Rattle.state_text.specs.Stage.{schedule_meant};
 ghost use Rattle.state_text.specs.Judged.{IsOfKey, IsFirstOf};
@@ -27,7 +27,7 @@ pub struct Gathered {
 
 impl Model for Gathered {
     ghost use Rattle.std.specs.Prelude.{List, ℕ};
-    ghost use Rattle.cif_file.specs.JourneyRead.{HasLines};
+    ghost use Rattle.cif_change.specs.JourneyRead.{HasLines};
 
     ghost Value = { List (List ℕ) };
 

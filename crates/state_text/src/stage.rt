@@ -2,7 +2,7 @@
 ghost use Rattle.std.specs.Prelude.{◌≡◌, ◌≤◌, ℕ, List};
 ghost use Rattle.docker_model.specs.state.State as states;
 ghost use Rattle.docker_model.specs.state.StatePart.{width, key_width, body_width};
-ghost use Rattle.cif_file.specs.Meaning.{key_meant};
+ghost use Rattle.cif_change.specs.Meaning.{key_meant};
 ghost use Rattle.state_text.specs.Stage.{tag_meant, stage_meant, begins_item};
 
 use crate::format::{

@@ -8,7 +8,7 @@ ghost use Rattle.docker_model.specs.state.StateText.{mark};
 ghost use Rattle.docker_model.specs.state.StateText as formats;
 ghost use Rattle.docker_model.specs.state.StatePart.{before_mark, before_horizon, before_item, in_entry, before_tag, before_key, before_stamp, before_op, before_body, before_line, AreGood, IsStampHere, IsLineCount, width, key_width};
 ghost use Rattle.state_laws.specs.TextStage.{after_items, after_entries, with_entry};
-ghost use Rattle.cif_file.specs.Meaning.{key_meant};
+ghost use Rattle.cif_change.specs.Meaning.{key_meant};
 ghost use Rattle.docker_join.specs.Meaning.{stamp_meant, op_meant};
 ghost use Rattle.state_text.specs.FormatMeaning.{format_meant};
 ghost use Rattle.state_text.specs.Judged.{Judges};

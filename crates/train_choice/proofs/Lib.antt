@@ -1,7 +1,7 @@
 pub mod LineTimes
 pub mod Occurrences
 pub mod KeptLines
-pub mod FallsTold
+pub mod FallsCounted
 pub mod BestSoFar
 pub mod Along
 pub mod WalkOn

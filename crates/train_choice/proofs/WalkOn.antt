@@ -5,7 +5,7 @@ use Rattle.docker_model.specs.records.Field.{HasGoodFields}
 use Rattle.docker_model.specs.file.Journey.{Occasion, times_of}
 use Rattle.train_choice.specs.Meaning.{times_meant}
 use Rattle.train_choice.specs.Occurrences.{Progress, turned, occurrences_at, occurrences_from, past_times}
-use Rattle.train_choice.specs.EventWalk.{progress_of, events_here, behind_line, events_left, HasRoom, CanWalk}
+use Rattle.train_choice.specs.EventWalk.{progress_of, events_here, progress_after_line, events_left, HasRoom, CanWalk}
 use Rattle.train_choice.specs.declared.walk.EventWalk.{EventWalk}
 
 no_times : (p : Progress) (line : List ℕ) (times : List (Occasion × ℕ)) → occurrences_at p line times ≡ [] → times ≡ []
@@ -18,7 +18,7 @@ next_good walk lines rest line is can = (recursion_from_All HasGoodFields (line 
 
 -- once a line has no more events, the events of the next line follow
 pub goes_on : (before ended after : EventWalk) (lines rest : List (List ℕ)) (line : List ℕ) → lines ≡ line ∷ rest → events_here before ≡ [] → events_here ended ≡ []
-    → behind_line ended ≡ behind_line before → after.line.now ≡ line → times_meant after.times ≡ times_of line → progress_of after ≡ turned
+    → progress_after_line ended ≡ progress_after_line before → after.line.now ≡ line → times_meant after.times ≡ times_of line → progress_of after ≡ turned
     (progress_of ended) line
     → events_left before lines ≡ events_left after rest
 goes_on before ended after lines rest line is none_before none behind at times progress =

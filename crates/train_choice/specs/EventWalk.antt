@@ -27,8 +27,8 @@ abbrev pub events_here : EventWalk → List model.Occurrence
 events_here walk = occurrences_at (progress_of walk) walk.line.now (times_meant walk.times)
 
 -- what the walk will carry after the line
-abbrev pub behind_line : EventWalk → Progress
-behind_line walk = past_times (progress_of walk) (times_meant walk.times)
+abbrev pub progress_after_line : EventWalk → Progress
+progress_after_line walk = past_times (progress_of walk) (times_meant walk.times)
 
 -- the times of this line and `more` others can be numbered
 pub record HasRoom (walk : EventWalk) (more : ℕ) : Type 0 where
@@ -37,7 +37,7 @@ pub record HasRoom (walk : EventWalk) (more : ℕ) : Type 0 where
 
 -- the events that are still to come, in this line and in the lines after it
 abbrev pub events_left : EventWalk → List (List ℕ) → List model.Occurrence
-events_left walk lines = events_here walk ++ occurrences_from (behind_line walk) lines
+events_left walk lines = events_here walk ++ occurrences_from (progress_after_line walk) lines
 
 -- the walk can go on over these lines
 pub record CanWalk (walk : EventWalk) (lines : List (List ℕ)) : Type 0 where

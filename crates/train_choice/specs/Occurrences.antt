@@ -75,8 +75,8 @@ past_times p (time ∷ times) = past_times (past_time p time) times
 
 -- the train identity after a line: a change en route has a new one, and any other line changes
 -- nothing
-abbrev pub identity_behind : List ℕ → List ℕ → List ℕ
-identity_behind line identity = if has_identity (codes "CR") line then columns 13 16 line else identity
+abbrev pub identity_after : List ℕ → List ℕ → List ℕ
+identity_after line identity = if has_identity (codes "CR") line then columns 13 16 line else identity
 
 -- what the walk carries when it comes to a line
 abbrev pub turned : Progress → List ℕ → Progress
@@ -84,7 +84,7 @@ turned p line = record {
   number = p.number;
   falls = p.falls;
   last = p.last;
-  identity = identity_behind line p.identity;
+  identity = identity_after line p.identity;
 }
 
 -- the events of some lines

@@ -14,7 +14,7 @@ use cif_line::{Line, Tiploc, kind};
 
 /// How often a train passes midnight between its start and an event: 0 to 2 times. Events are
 /// numbered from 1. `None` if there is no event with this number.
-#[tactic(auto, using(crate::proofs::FallsTold::falls_there, crate::proofs::FallsTold::falls_are))]
+#[tactic(auto, using(crate::proofs::FallsCounted::falls_there, crate::proofs::FallsCounted::falls_are))]
 pub fn falls(view: &ScheduleView<'_>, event: u64) -> Option<u8>
     ensures there { IsSome result ↔
         ((e : Event) × Contains (events_of view.now.lines) e × (e.number ≡ event)) }

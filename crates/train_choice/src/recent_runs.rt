@@ -97,21 +97,23 @@ fn lasts_back(last: u16, day: Day, back: u16) -> bool
 }
 
 /// Whether a basic schedule marks one of three weekdays: the day's and the two before.
-pub(crate) fn is_marked_recently(line: &Line, day: Day) -> bool
+pub(crate) fn runs_on_recent_weekday(line: &Line, day: Day) -> bool
     ensures { result ≡ (marked_back (columns 22 28 line.now) day 0
         || marked_back (columns 22 28 line.now) day 1 || marked_back (columns 22 28 line.now) day 2) }
 {
-    is_marked_back(line, day, 0) | is_marked_back(line, day, 1) | is_marked_back(line, day, 2)
+    runs_on_weekday_back(line, day, 0)
+        | runs_on_weekday_back(line, day, 1)
+        | runs_on_weekday_back(line, day, 2)
 }
 
 /// Whether a basic schedule marks the weekday of the day `back` days before.
-fn is_marked_back(line: &Line, day: Day, back: u16) -> bool
+fn runs_on_weekday_back(line: &Line, day: Day, back: u16) -> bool
     ensures { result ≡ marked_back (columns 22 28 line.now) day back }
 {
     match day_back(day, back) {
         Some(start) => {
-            let marks: &[u8; 7] = line.field(22);
-            marks[start.weekday() as usize] == b'1'
+            let flags: &[u8; 7] = line.field(22);
+            flags[start.weekday() as usize] == b'1'
         }
         None => false,
     }

@@ -14,7 +14,7 @@ ghost use Rattle.train_choice.specs.UpTo.{occurrences_to, up_to_last};
 use crate::days_run::schedule_runs_on;
 use crate::events::Events;
 use crate::ranked::Ranked;
-use crate::recent_runs::{RecentRuns, is_marked_recently, recent_runs_of};
+use crate::recent_runs::{RecentRuns, recent_runs_of, runs_on_recent_weekday};
 use crate::up_to::up_to_last;
 use cif_change::{Lines, ScheduleKey};
 use cif_line::{Day, Line, Stp, Tiploc};
@@ -103,19 +103,19 @@ impl<'a> ScheduleView<'a> {
     pub fn recent_runs(&self, day: Day) -> RecentRuns
         ensures { AreRecentRuns (runs_back self.now.lines day) result }
     {
-        if begins_behind(self.key, day) {
+        if begins_after(self.key, day) {
             return RecentRuns::never();
         }
         recent_runs_of(self.first(), self.key.runs_from, day)
     }
 
     /// Whether the schedule has begun by a day, and marks that weekday or one of the two before. If
-    /// not, it doesn't run on any of these days. This reads the key and three marks, which costs
+    /// not, it doesn't run on any of these days. This reads the key and three flags, which costs
     /// less than `recent_runs`.
     pub fn may_run_recently(&self, day: Day) -> bool
         ensures { result ≡ may_run_recently self.now.key self.now.lines day }
     {
-        !begins_behind(self.key, day) && is_marked_recently(self.first(), day)
+        !begins_after(self.key, day) && runs_on_recent_weekday(self.first(), day)
     }
 
     /// The train identity in the basic schedule.
@@ -159,7 +159,7 @@ impl<'a> Ranked for ScheduleView<'a> {
 }
 
 /// Whether a schedule begins after a day.
-fn begins_behind(key: &ScheduleKey, day: Day) -> bool
+fn begins_after(key: &ScheduleKey, day: Day) -> bool
     ensures { result ≡ nat_lt day (schedule_key_meant key.now).runs_from }
 {
     day.number() < key.runs_from.number()

@@ -1,7 +1,7 @@
 //! Where the schedules of a UID are looked for: a timetable, and one of its rows.
 ghost use Rattle.std.specs.Prelude.{◌≡◌};
 ghost use Rattle.docker_laws.specs.CountedRows.{IsOfGoodRows};
-ghost use Rattle.docker_laws.specs.Index.{AreOfUid};
+ghost use Rattle.state_laws.specs.Index.{AreOfUid};
 ghost use Rattle.docker_state.specs.Timetables.{live_in};
 
 use cif_line::Uid;

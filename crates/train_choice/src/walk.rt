@@ -7,8 +7,8 @@ ghost use Rattle.docker_model.specs.records.Field.{HasGoodFields};
 ghost use Rattle.docker_model.specs.file.Journey.{times_of};
 ghost use Rattle.docker_laws.specs.EventWalk.{fall_at};
 ghost use Rattle.train_choice.specs.Meaning.{times_meant};
-ghost use Rattle.train_choice.specs.Occurrences.{turned, identity_behind};
-ghost use Rattle.train_choice.specs.EventWalk.{occurrence_meant, progress_of, events_here, behind_line, HasRoom};
+ghost use Rattle.train_choice.specs.Occurrences.{turned, identity_after};
+ghost use Rattle.train_choice.specs.EventWalk.{occurrence_meant, progress_of, events_here, progress_after_line, HasRoom};
 
 use crate::occasion::Occasion;
 use crate::times::EventTimes;
@@ -71,14 +71,14 @@ impl<'a> EventWalk<'a> {
         self.line = line;
         let kind = kind(line);
         self.times = EventTimes::of(kind, line);
-        self.identity = identity_behind(kind, line, self.identity);
+        self.identity = identity_after(kind, line, self.identity);
     }
 
     /// The next event of the line, if there is one.
     pub(crate) fn next_event(&mut self) -> Option<Occurrence<'a>>
         requires room { HasRoom self.old 0 }
         ensures event { YieldsFirstBy occurrence_meant events_here self.old result self.new }
-        ensures behind { behind_line self.new ≡ behind_line self.old }
+        ensures behind { progress_after_line self.new ≡ progress_after_line self.old }
         ensures room { (more : ℕ) → HasRoom self.old more → HasRoom self.new more }
     {
         let (occasion, time) = self.times.next()?;
@@ -111,9 +111,9 @@ fn fall(last: Option<Time>, time: Time) -> u64
 
 /// The train identity after a line of this kind. A change en route (CR) has a new one; any other
 /// line changes nothing.
-fn identity_behind<'a>(kind: Option<Kind>, line: &'a Line, identity: &'a [u8; 4]) -> &'a [u8; 4]
+fn identity_after<'a>(kind: Option<Kind>, line: &'a Line, identity: &'a [u8; 4]) -> &'a [u8; 4]
     requires { option_map meaning kind ≡ kind_of line.now }
-    ensures { result.now ≡ identity_behind line.entry.now identity.entry.now }
+    ensures { result.now ≡ identity_after line.entry.now identity.entry.now }
 {
     match kind {
         Some(Kind::ChangeEnRoute) => match change(line) {

@@ -1,7 +1,7 @@
 //! The rows of a timetable from which a docker is made.
 ghost use Rattle.std.specs.Prelude.{◌≡◌};
 ghost use Rattle.docker_model.specs.docker.Choice.{Group};
-ghost use Rattle.docker_laws.specs.Index.{AreCalling, AreLinked};
+ghost use Rattle.state_laws.specs.Index.{AreCalling, AreLinked};
 ghost use Rattle.docker_laws.specs.LiveRows.{HasSchedulesOf, HasAssociationsOf};
 ghost use Rattle.train_choice.specs.Along.{AreGoodRows, AreLive};
 ghost use Rattle.docker_state.specs.Timetables.{live_in};

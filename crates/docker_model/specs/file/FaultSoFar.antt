@@ -14,12 +14,12 @@ last_of (piece ∷ next ∷ pieces) = last_of (next ∷ pieces)
 -- once its line feed has been read. An unended line of more than 81 bytes counts too: it is too
 -- long, even if its last byte is a carriage return. For example, the text `HD` has no certain line,
 -- and `HD` with a line feed has one
-abbrev pub lines_told : List ℕ → ℕ
-lines_told text =
+abbrev pub sure_lines : List ℕ → ℕ
+sure_lines text =
     count_by (λ b. b == 10) text + (if nat_le 82 (length (last_of (slice_split (λ b. b == 10) text))) then 1 else 0)
 
 -- these first bytes of a file already show this fault: the record at fault is a line that is
 -- certain
 pub record IsFaultSoFar (limit : ℕ) (text : List ℕ) (fault : FileFault) : Type 0 where
   pub is : IsRecordFault limit (lines_of text) fault
-  pub told : fault.number ≤ lines_told text
+  pub told : fault.number ≤ sure_lines text

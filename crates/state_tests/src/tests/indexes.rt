@@ -5,7 +5,7 @@ use super::compare::same;
 use cif_file::{AssocKey, Body, Key, Lines, ScheduleKey};
 use cif_line::{Day, Line, Stp, Tiploc, Uid};
 use docker_join::{Entry, FileStamp, Merge, Op, Stamp, Table};
-use state_index::{Index, Mark, Moves, Room, notes_of_rows};
+use state_index::{Index, Moves, Posting, Room, notes_of_rows};
 use std::alloc::Global;
 use std::process::Abort;
 use test_records::AA_NO_END;
@@ -142,25 +142,28 @@ fn joined(rt: &impl Abort, alloc: Global, floor: &Option<FileStamp>) -> Index {
     Index::of_join(alloc, &first, &second, &moves).expect(rt, "memory")
 }
 
-/// Asserts that a mark is of this place and this row.
-fn mark_is(rt: &impl Abort, index: &Index, mark: &Mark, code: &str, at: u32) {
-    let place = index.places.get(mark.place as usize).expect(rt, "a place");
+/// Asserts that a posting is of this place and this row.
+fn posting_is(rt: &impl Abort, index: &Index, posting: &Posting, code: &str, at: u32) {
+    let place = index
+        .places
+        .get(posting.place as usize)
+        .expect(rt, "a place");
     same(rt, place, tiploc(rt, code).bytes());
-    same(rt, mark.at, at);
+    same(rt, posting.at, at);
 }
 
-/// Asserts that marks are of these places and these rows.
-fn marks_are(rt: &impl Abort, index: &Index, marks: &[Mark], wanted: &[(&str, u32)]) {
-    same(rt, marks.len(), wanted.len());
-    for (mark, (code, at)) in marks.iter().zip(wanted) {
-        mark_is(rt, index, mark, code, *at);
+/// Asserts that postings are of these places and these rows.
+fn postings_are(rt: &impl Abort, index: &Index, postings: &[Posting], wanted: &[(&str, u32)]) {
+    same(rt, postings.len(), wanted.len());
+    for (posting, (code, at)) in postings.iter().zip(wanted) {
+        posting_is(rt, index, posting, code, *at);
     }
 }
 
 /// Asserts which rows call, and that the association is linked at Colwell.
 fn index_is(rt: &impl Abort, index: &Index, calls: &[(&str, u32)]) {
-    marks_are(rt, index, index.calls.as_slice(), calls);
-    marks_are(rt, index, index.links.as_slice(), &[("COLWELL", 0)]);
+    postings_are(rt, index, index.calls.as_slice(), calls);
+    postings_are(rt, index, index.links.as_slice(), &[("COLWELL", 0)]);
 }
 
 #[test]
@@ -178,7 +181,7 @@ fn places_of_a_timetable(rt: HostRuntime) {
 }
 
 #[test]
-fn a_lapse_takes_marks_out(rt: HostRuntime) {
+fn a_lapse_takes_postings_out(rt: HostRuntime) {
     let mut table = timetable(&rt, rt.alloc());
     let mut index = indexed(&rt, rt.alloc(), &table);
     table.lapse(1);
@@ -204,6 +207,6 @@ fn a_join_keeps_what_the_floor_does(rt: HostRuntime) {
     let floor = Some(file(&rt, 23537));
     let index = joined(&rt, rt.alloc(), &floor);
     let calls = [("ASHFELD", 0), ("BRAYTON", 0)];
-    marks_are(&rt, &index, index.calls.as_slice(), &calls);
+    postings_are(&rt, &index, index.calls.as_slice(), &calls);
     same(&rt, index.links.len(), 0);
 }

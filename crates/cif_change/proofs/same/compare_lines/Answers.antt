@@ -1,9 +1,9 @@
 use Rattle.std.proofs.Common.{◌∙◌}
-use Rattle.cif_change.proofs.JoinedLines.{behind_first}
+use Rattle.cif_change.proofs.JoinedLines.{after_first_record}
 use Rattle.cif_change.proofs.same.compare_lines.Goals as goal
 
 pub loop-one-preserved : goal.loop-one-preserved
 loop-one-preserved c =
-    behind_first c.loop-one.own.now c.loop-one.other.now c.in-Some-Some.ones.now c.in-Some-Some.twos.now c.in-Some-Some.one.now c.in-Some-Some.two.now
+    after_first_record c.loop-one.own.now c.loop-one.other.now c.in-Some-Some.ones.now c.in-Some-Some.twos.now c.in-Some-Some.one.now c.in-Some-Some.two.now
     c.in-Some-Some.ensures.cases.0 c.in-Some-Some.ensures'.cases.0 (c.is_same_line.ensures.0 c.if-not-is_same_line.false)
     ∙ c.loop-one.invariant

@@ -4,7 +4,7 @@ use Rattle.std.proofs.lemmas.List.{length-take-le}
 use Rattle.cif_device.specs.Device.{IsEnd}
 use Rattle.cif_device.proofs.FeedLemmas.{at_once, at_start, count_told, end_stays, ended_by, going_on, not_passed_by, still_going}
 use Rattle.cif_device.proofs.FeedLemmas.{still_not_passed, fed_where_failed, fits_still, next_turn, no_more, none_failed, nothing_more}
-use Rattle.cif_device.proofs.FeedLemmas.{nothing_read, one_more, memory_told, refusal_told, refused_behind, same_front}
+use Rattle.cif_device.proofs.FeedLemmas.{nothing_read, one_more, memory_answer, refusal_told, refused_behind, same_front}
 use Rattle.cif_device.specs.declared.feed.FeedFault.TheVariants as feed
 use Rattle.cif_device.proofs.feed.feed_all.Goals as goal
 
@@ -18,7 +18,7 @@ returns-in_default-clause-no_further g c = λ terms text taken.
 pub returns-in_default-clause-failures : goal.returns-in_default-clause-failures
 returns-in_default-clause-failures g c = (
   none_failed (Err feed.Memory)
-      (g.S.Source.failures c.args.source.now) (g.S.Source.failures c.args.source.now) (g.S.Source.failures c.args.source.now) memory_told refl refl,
+      (g.S.Source.failures c.args.source.now) (g.S.Source.failures c.args.source.now) (g.S.Source.failures c.args.source.now) memory_answer refl refl,
   λ other. refl,
 )
 

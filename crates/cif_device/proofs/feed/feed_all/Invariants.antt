@@ -1,11 +1,11 @@
 -- The taker has taken all bytes that were read, at least one in each turn.
 use Rattle.std.proofs.Common.{◌≡◌, ◌-◌, ◌^◌, false, vec_len}
-use Rattle.cif_device.specs.Taken.{BehindEach, HasFed}
+use Rattle.cif_device.specs.Taken.{AfterEach, HasFed}
 use Rattle.cif_device.proofs.feed.feed_all.Given as goal
 
 abbrev pub invariant-pieces : goal.invariant-pieces
 invariant-pieces g l = record {
-  turn : BehindEach g.T.Taker.takes l.fn.taker
+  turn : AfterEach g.T.Taker.takes l.fn.taker
       (λ terms text. HasFed g.T.Taker.takes l.fed terms text (g.S.Source.left l.fn.source) (g.S.Source.left l.source) l.taker);
   no_failure : g.S.Source.failures l.source ≡ g.S.Source.failures l.fn.source;
   room : vec_len l.piece ≡ 65536;

@@ -1,6 +1,6 @@
 -- The reading was fed what the source gave.
 use Rattle.std.proofs.Common.{rules, [], subst, Err}
-use Rattle.cif_line.specs.FeedEnds.{EndsFeeding}
+use Rattle.cif_device.specs.FeedEnds.{EndsFeeding}
 use Rattle.cif_file.specs.FileTaken.{TakesFile, RefusesPiece}
 use Rattle.cif_file.proofs.ReadLemmas.{at_start, file_read, refused_at_end, refused_before, wants_at_end, wants_before, no_further}
 use Rattle.cif_file.proofs.read.read_source.Goals as goal

@@ -1,4 +1,4 @@
-use Rattle.cif_laws.proofs.files.ToldBound as law
+use Rattle.cif_laws.proofs.files.ReportedBound as law
 use Rattle.cif_laws.proofs.file.text_without_fault_is_bounded.Goals as goal
 
 pub returns : goal.returns

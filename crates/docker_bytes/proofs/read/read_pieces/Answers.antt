@@ -1,6 +1,6 @@
 -- The parser was fed what the source gave.
 use Rattle.std.proofs.Common.{[], ap, inl, subst, Err}
-use Rattle.cif_line.specs.FeedEnds.{EndsFeeding}
+use Rattle.cif_device.specs.FeedEnds.{EndsFeeding}
 use Rattle.docker_bytes.specs.StateTaken.{RefusesPart, TakesState}
 use Rattle.docker_bytes.proofs.ReadLemmas.{at_start, loses_few, nothing_lost, reads_all, refused_ends, terms_of}
 use Rattle.docker_bytes.proofs.read.read_pieces.Goals as goal

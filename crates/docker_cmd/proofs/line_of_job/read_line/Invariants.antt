@@ -1,5 +1,5 @@
 use Rattle.std.proofs.Common.{◌≡◌, length}
-use Rattle.cif_line.specs.Device.{Reads}
+use Rattle.cif_device.specs.Device.{Reads}
 use Rattle.docker_cmd.proofs.LineOfJobLemmas.{ArePrintable}
 use Rattle.docker_cmd.proofs.line_of_job.read_line.Given as goal
 

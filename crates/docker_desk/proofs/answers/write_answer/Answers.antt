@@ -1,6 +1,6 @@
 use Rattle.std.proofs.Common.{List, ℕ, ap, length, subst, ◌∙◌}
 use Rattle.std.proofs.lemmas.Result.{on_err_weaker}
-use Rattle.cif_line.specs.Device.{Takes}
+use Rattle.cif_device.specs.Device.{Takes}
 use Rattle.docker_desk.specs.Answers.{header_text}
 use Rattle.docker_desk.proofs.WritingLemmas.{part_of_back}
 use Rattle.docker_desk.proofs.answers.write_answer.Goals as goal

@@ -1,5 +1,5 @@
 use Rattle.std.proofs.Common.{◌≡◌, ◌≤◌, length, false}
-use Rattle.cif_line.specs.Device.{Reads}
+use Rattle.cif_device.specs.Device.{Reads}
 use Rattle.docker_desk.specs.Lines.{with_ahead}
 use Rattle.docker_desk.proofs.LineLemmas.{ArePrintable}
 use Rattle.docker_desk.proofs.lines.next_line.Given as goal

@@ -1,16 +1,16 @@
 use Rattle.std.proofs.Common.{ap, refl}
 use Rattle.std.specs.Prelude.{Bool, ◌&&◌}
 use Rattle.docker_cmd.specs.Words.{texts}
-use Rattle.docker_desk.specs.Moments.{moment}
+use Rattle.docker_desk.specs.SessionViews.{session_view}
 use Rattle.docker_desk.proofs.ServeLemmas.{begins, served_as, still}
 use Rattle.docker_desk.proofs.program.serve.Goals as goal
 
 pub returns-in-Ok : goal.returns-in-Ok
 returns-in-Ok g c =
     served_as (texts c.args.words.now) g.D.Folder.names_bytes _ _ _ c.end_session.result c.in-Some.named.name.now c.in-Some.named.may_write
-    (moment c.in-Ok.session.desk (g.D.Folder.look_of c.in-Ok.session.seen) (g.D.Folder.history c.open_session.new.folder)
+    (session_view c.in-Ok.session.desk (g.D.Folder.look_of c.in-Ok.session.seen) (g.D.Folder.history c.open_session.new.folder)
     (g.D.Folder.failures c.open_session.new.folder))
-    (moment c.serve_lines-ending.new.session.desk (g.D.Folder.look_of c.serve_lines-ending.new.session.seen)
+    (session_view c.serve_lines-ending.new.session.desk (g.D.Folder.look_of c.serve_lines-ending.new.session.seen)
     (g.D.Folder.history c.serve_lines-ending.new.folder) (g.D.Folder.failures c.serve_lines-ending.new.folder))
     c.serve_lines-ending.result (c.in-Some.named.may_write && c.is_unsaved-unsaved.result) c.host.view_is
     c.in-Some.ensures.named

@@ -1,5 +1,5 @@
 use Rattle.std.proofs.Common.{◌∙◌, ap, sym, true≢false}
-use Rattle.docker_desk.specs.Requests.{first_word, behind_word}
+use Rattle.docker_desk.specs.Requests.{first_word, after_word}
 use Rattle.docker_desk.proofs.RequestLemmas.{asked_by, no_verb, not_allowed}
 use Rattle.docker_desk.proofs.requests.request_in.Goals as goal
 
@@ -10,7 +10,7 @@ returns-in_err-verb c = rw c.from_residual-in_err-verb.ensures
 pub returns-then-is_allowed : goal.returns-then-is_allowed
 returns-then-is_allowed c =
     asked_by c.args.may_write c.args.line.now c.in_ok-name.name.now c.in_ok-verb.verb (c.in_ok-name.ensures.word ∙ ap first_word c.text_of.ensures) c.in_ok-verb.ensures
-    c.in_ok-name.rest.now _ (c.in_ok-name.ensures.behind ∙ ap behind_word c.text_of.ensures) (c.is_allowed.ensures.0 c.if-is_allowed.true) c.request_of.ensures
+    c.in_ok-name.rest.now _ (c.in_ok-name.ensures.behind ∙ ap after_word c.text_of.ensures) (c.is_allowed.ensures.0 c.if-is_allowed.true) c.request_of.ensures
 
 pub returns : goal.returns
 returns c =

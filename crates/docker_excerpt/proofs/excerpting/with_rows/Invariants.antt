@@ -1,5 +1,5 @@
 use Rattle.std.proofs.Common.{◌≡◌, ◌++◌, map}
-use Rattle.state_text.specs.Meaning.{row_meant}
+use Rattle.docker_join.specs.Meaning.{row_meant}
 use Rattle.docker_excerpt.proofs.excerpting.with_rows.Given as goal
 
 abbrev pub invariant-loop-key : goal.invariant-loop-key

@@ -1,5 +1,5 @@
 use Rattle.std.proofs.Common.{◌≡◌, take}
-use Rattle.cif_line.specs.Device.{Takes}
+use Rattle.cif_device.specs.Device.{Takes}
 use Rattle.docker_office.proofs.FilesLemmas.{text_of}
 use Rattle.docker_office.proofs.files.write_files.Given as goal
 

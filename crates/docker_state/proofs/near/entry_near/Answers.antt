@@ -2,7 +2,7 @@ use Rattle.std.proofs.Common.{rules, ◌∙◌, ap, sym}
 use Rattle.std.specs.Cmp.{Equal-is}
 use Rattle.std.proofs.lemmas.Fn.{always_returns_same}
 use Rattle.std.proofs.lemmas.List.{get_or_default}
-use Rattle.cif_file.specs.Meaning.{key_meant}
+use Rattle.cif_change.specs.Meaning.{key_meant}
 use Rattle.docker_model.specs.state.Op.{key_cmp}
 use Rattle.docker_join.proofs.Lookup.{by_key, row_found, row_missing, rows_rise}
 use Rattle.docker_state.proofs.near.entry_near.Goals as goal

@@ -2,12 +2,12 @@ use Rattle.std.proofs.Common.{◌-◌, ap, sym, ◌∙◌, arith}
 use Rattle.std.specs.Ordering.{is_lt}
 use Rattle.std.proofs.lemmas.List.{get_or_default}
 use Rattle.docker_state.specs.UidPiece.{is_before}
-use Rattle.docker_state.proofs.UidRows.{begins_at_front, begins_behind}
+use Rattle.docker_state.proofs.UidRows.{begins_at_front, begins_after}
 use Rattle.docker_state.proofs.uid_rows.first_back.Goals as goal
 
 pub returns-else-not-is_lt-clause-parts : goal.returns-else-not-is_lt-clause-parts
 returns-else-not-is_lt-clause-parts c =
-    begins_behind c.args.uid.now c.args.rows.now c.requires.up c.loop-first.first c.loop-first.invariant.within c.loop-first.invariant.here
+    begins_after c.args.uid.now c.args.rows.now c.requires.up c.loop-first.first c.loop-first.invariant.within c.loop-first.invariant.here
     (let above = c.loop-first-test.true in omega arith) (λ d.
     ap (is_before c.args.uid.now)
     (get_or_default c.args.rows.now (c.loop-first.first - 1) d c.index-rows-first.result (let within = c.loop-first.invariant.within in omega arith))

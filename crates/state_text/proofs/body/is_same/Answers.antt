@@ -1,4 +1,4 @@
-use Rattle.cif_file.specs.Meaning.{key_meant}
+use Rattle.cif_change.specs.Meaning.{key_meant}
 use Rattle.state_text.proofs.KeyLemmas.{same_key}
 use Rattle.state_text.proofs.body.is_same.Goals as goal
 

@@ -1,4 +1,4 @@
-use Rattle.cif_file.specs.Meaning.{key_meant}
+use Rattle.cif_change.specs.Meaning.{key_meant}
 use Rattle.state_text.proofs.KeyLemmas.{keys_above, none_above}
 use Rattle.state_text.proofs.key.is_above.Goals as goal
 

@@ -1,5 +1,5 @@
 use Rattle.std.proofs.Common.{ap}
-use Rattle.cif_file.specs.Meaning.{key_meant, body_meant}
+use Rattle.cif_change.specs.Meaning.{key_meant, body_meant}
 use Rattle.state_text.proofs.LengthLemmas.{schedule_length}
 use Rattle.state_text.proofs.length.body_len.Goals as goal
 

@@ -1,4 +1,4 @@
-use Rattle.cif_file.specs.Meaning.{key_meant}
+use Rattle.cif_change.specs.Meaning.{key_meant}
 use Rattle.docker_join.specs.Meaning.{entry_meant}
 use Rattle.state_text.proofs.ReceivingLemmas.{above_staged, offered_more}
 use Rattle.state_text.proofs.receiving.offer.Goals as goal

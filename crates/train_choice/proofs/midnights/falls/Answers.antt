@@ -1,6 +1,6 @@
 use Rattle.std.proofs.Common.{ap, sym, ◌∙◌, Some, arith}
 use Rattle.train_choice.specs.Falls.{falls_among}
-use Rattle.train_choice.proofs.FallsTold.{falls_there, falls_are, falls_few}
+use Rattle.train_choice.proofs.FallsCounted.{falls_there, falls_are, falls_few}
 use Rattle.train_choice.proofs.midnights.falls.Goals as goal
 
 pub returns-clause-there : goal.returns-clause-there

@@ -18,7 +18,7 @@ pub returns-in-BetweenUnits-clause-err : goal.returns-in-BetweenUnits-clause-err
 returns-in-BetweenUnits-clause-err g c = if_err_by c.take_unit.result (λ cause told. λ records has unended. told records has) c.take_unit.ensures.err
 
 pub returns-in-InSchedule-clause-err : goal.returns-in-InSchedule-clause-err
-returns-in-InSchedule-clause-err g c = if_err_by c.take_behind.result (λ cause told. λ records has unended. told records has) c.take_behind.ensures.err
+returns-in-InSchedule-clause-err g c = if_err_by c.take_after.result (λ cause told. λ records has unended. told records has) c.take_after.ensures.err
 
 pub returns-in-AfterEnd-clause-err : goal.returns-in-AfterEnd-clause-err
 returns-in-AfterEnd-clause-err g c = λ records has unended. absurd (unended (file_at_end g.K.Keeper.keeps c.args.self.now records has c.in-AfterEnd.is))

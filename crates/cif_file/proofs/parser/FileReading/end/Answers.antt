@@ -2,7 +2,7 @@
 use Rattle.std.proofs.Common.{ap, subst, ◌∙◌}
 use Rattle.std.proofs.lemmas.Result.{IfOk-weaker}
 use Rattle.std.specs.Str.Lines.{strip_carriage_return}
-use Rattle.cif_laws.specs.LinesTold.{told_lines}
+use Rattle.cif_laws.specs.CompleteLines.{complete_lines}
 use Rattle.docker_model.specs.file.Text.{lines_of}
 use Rattle.cif_file.specs.ParserRead.{IsFaultNext}
 use Rattle.cif_file.proofs.AnswerLemmas.{if_err_by}
@@ -30,9 +30,9 @@ pub returns-in-Err-clause-err : goal.returns-in-Err-clause-err
 returns-in-Err-clause-err g c = λ limit text reading.
     end_fault g.K.Keeper.keeps g.K.Keeper.wants c.args.self limit text c.in-Err.fault reading
     (some_is_open g.K.Keeper.keeps c.args.self limit text reading c.if-is_empty.ensures)
-    (subst (λ line. IsFaultNext g.K.Keeper.wants limit (told_lines text) line c.in-Err.fault)
+    (subst (λ line. IsFaultNext g.K.Keeper.wants limit (complete_lines text) line c.in-Err.fault)
     (c.without_return.ensures.line ∙ ap strip_carriage_return (c.as_slice.ensures.value ∙ reading.partial_is))
-    (c.in-Err.ensures.err limit (told_lines text) reading.counted))
+    (c.in-Err.ensures.err limit (complete_lines text) reading.counted))
 
 pub returns-in-Ok-clause-ok : goal.returns-in-Ok-clause-ok
 returns-in-Ok-clause-ok g c =
@@ -41,7 +41,7 @@ returns-in-Ok-clause-ok g c =
     file_at_end g.K.Keeper.keeps c.take.new.self limit text file
     (counted_last g.K.Keeper.keeps c.args.self c.take.new.self limit text c.as_slice.result.now c.without_return.result.now reading c.if-is_empty.ensures
     c.as_slice.ensures.value
-    c.without_return.ensures.line (c.in-Ok.ensures.read limit (told_lines text) reading.counted)) told)
+    c.without_return.ensures.line (c.in-Ok.ensures.read limit (complete_lines text) reading.counted)) told)
     c.finish-in-Ok.ensures.ok
 
 pub returns-in-Ok-clause-err : goal.returns-in-Ok-clause-err
@@ -51,7 +51,7 @@ returns-in-Ok-clause-err g c =
     no_end_at_end g.K.Keeper.keeps c.take.new.self limit text fault
     (counted_last g.K.Keeper.keeps c.args.self c.take.new.self limit text c.as_slice.result.now c.without_return.result.now reading c.if-is_empty.ensures
     c.as_slice.ensures.value
-    c.without_return.ensures.line (c.in-Ok.ensures.read limit (told_lines text) reading.counted)) told)
+    c.without_return.ensures.line (c.in-Ok.ensures.read limit (complete_lines text) reading.counted)) told)
     c.finish-in-Ok.ensures.err
 
 pub returns-then-is_empty-clause-later : goal.returns-then-is_empty-clause-later
@@ -84,7 +84,7 @@ returns-in-Ok-clause-later g c =
     (λ limit text reading. told limit (lines_of text)
     (counted_last g.K.Keeper.keeps c.args.self c.take.new.self limit text c.as_slice.result.now c.without_return.result.now reading c.if-is_empty.ensures
     c.as_slice.ensures.value
-    c.without_return.ensures.line (c.in-Ok.ensures.read limit (told_lines text) reading.counted))))
+    c.without_return.ensures.line (c.in-Ok.ensures.read limit (complete_lines text) reading.counted))))
     c.finish-in-Ok.ensures.err
 
 pub returns-in-Ok-clause-last : goal.returns-in-Ok-clause-last
@@ -94,5 +94,5 @@ returns-in-Ok-clause-last g c =
     (λ limit text reading. told limit (lines_of text)
     (counted_last g.K.Keeper.keeps c.args.self c.take.new.self limit text c.as_slice.result.now c.without_return.result.now reading c.if-is_empty.ensures
     c.as_slice.ensures.value
-    c.without_return.ensures.line (c.in-Ok.ensures.read limit (told_lines text) reading.counted))))
+    c.without_return.ensures.line (c.in-Ok.ensures.read limit (complete_lines text) reading.counted))))
     c.finish-in-Ok.ensures.err

@@ -1,7 +1,7 @@
 -- A line ends here, and is taken together with its earlier bytes.
 use Rattle.std.proofs.Common.{◌++◌, sym, ap, ◌∙◌}
 use Rattle.std.proofs.lemmas.Bool.{false≢true}
-use Rattle.cif_laws.specs.LinesTold.{told_lines}
+use Rattle.cif_laws.specs.CompleteLines.{complete_lines}
 use Rattle.cif_file.proofs.AnswerLemmas.{if_err_by}
 use Rattle.cif_file.proofs.FrontLemmas.{on_ok_one}
 use Rattle.cif_file.proofs.ParserLemmas.{ended_ok, ended_err, ended_long, ended_many, taken_is, empty_is, later_next, later_long}
@@ -15,7 +15,7 @@ returns-then-is_empty-clause-read g c =
     ended_ok g.K.Keeper.keeps c.args.self.now _ limit text c.args.front.now c.without_return.result.now reading c.requires
     (taken_is g.K.Keeper.keeps c.args.self.now limit text c.args.front.now c.args.front.now c.without_return.result.now reading
     (ap (λ l. l ++ c.args.front.now) (sym none))
-    c.without_return.ensures.line) (taken limit (told_lines text) reading.counted) none)
+    c.without_return.ensures.line) (taken limit (complete_lines text) reading.counted) none)
 
 pub returns-then-is_empty-clause-err : goal.returns-then-is_empty-clause-err
 returns-then-is_empty-clause-err g c =
@@ -33,7 +33,7 @@ returns-then-not-extend-clause-err g c = λ limit text reading.
     ended_long g.K.Keeper.keeps c.args.self.now limit text c.args.front.now c.too_long.result reading c.requires
     (ended_many g.K.Keeper.keeps c.args.self.now limit text c.args.front.now reading
     (λ few. false≢true (sym c.if-not-extend.true ∙ c.extend.ensures.fits.1 few)))
-    (c.too_long.ensures limit (told_lines text) reading.counted)
+    (c.too_long.ensures limit (complete_lines text) reading.counted)
 
 pub returns-clause-read : goal.returns-clause-read
 returns-clause-read g c =
@@ -42,7 +42,7 @@ returns-clause-read g c =
     ended_ok g.K.Keeper.keeps c.args.self.now _ limit text c.args.front.now c.without_return-2.result.now reading c.requires
     (taken_is g.K.Keeper.keeps c.args.self.now limit text c.args.front.now c.as_slice.result.now c.without_return-2.result.now reading
     (c.as_slice.ensures.value ∙ c.extend.ensures.items c.if-not-extend.false) c.without_return-2.ensures.line)
-    (taken limit (told_lines text) reading.counted) c.clear.ensures)
+    (taken limit (complete_lines text) reading.counted) c.clear.ensures)
 
 pub returns-clause-err : goal.returns-clause-err
 returns-clause-err g c =
@@ -60,7 +60,7 @@ returns-then-is_empty-clause-later g c =
 pub returns-then-not-extend-clause-later : goal.returns-then-not-extend-clause-later
 returns-then-not-extend-clause-later g c =
     later_long g.K.Keeper.keeps g.K.Keeper.wants c.args.self.now c.too_long.result
-    (λ limit text reading. c.too_long.ensures limit (told_lines text) reading.counted)
+    (λ limit text reading. c.too_long.ensures limit (complete_lines text) reading.counted)
 
 pub returns-clause-later : goal.returns-clause-later
 returns-clause-later g c =

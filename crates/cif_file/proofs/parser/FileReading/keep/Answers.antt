@@ -2,13 +2,13 @@
 use Rattle.std.proofs.Common.{refl, sym, ◌∙◌}
 use Rattle.std.proofs.lemmas.Bool.{false≢true}
 use Rattle.cif_file.proofs.ParserLemmas.{kept_read, kept_long, later_long}
-use Rattle.cif_laws.specs.LinesTold.{told_lines}
+use Rattle.cif_laws.specs.CompleteLines.{complete_lines}
 use Rattle.cif_file.proofs.parser.FileReading.keep.Goals as goal
 
 pub returns-then-not-extend-clause-err : goal.returns-then-not-extend-clause-err
 returns-then-not-extend-clause-err g c = λ limit text reading.
     kept_long g.K.Keeper.keeps c.args.self.now limit text c.args.more.now c.too_long.result reading c.requires
-    (λ few. false≢true (sym c.if-not-extend.true ∙ c.extend.ensures.fits.1 few)) (c.too_long.ensures limit (told_lines text) reading.counted)
+    (λ few. false≢true (sym c.if-not-extend.true ∙ c.extend.ensures.fits.1 few)) (c.too_long.ensures limit (complete_lines text) reading.counted)
 
 pub returns-clause-read : goal.returns-clause-read
 returns-clause-read g c = λ limit text reading.
@@ -18,4 +18,4 @@ returns-clause-read g c = λ limit text reading.
 pub returns-then-not-extend-clause-later : goal.returns-then-not-extend-clause-later
 returns-then-not-extend-clause-later g c =
     later_long g.K.Keeper.keeps g.K.Keeper.wants c.args.self.now c.too_long.result
-    (λ limit text reading. c.too_long.ensures limit (told_lines text) reading.counted)
+    (λ limit text reading. c.too_long.ensures limit (complete_lines text) reading.counted)

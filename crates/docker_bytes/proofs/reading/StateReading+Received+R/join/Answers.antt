@@ -3,7 +3,7 @@ use Rattle.std.specs.Prelude.{is_ok}
 use Rattle.docker_model.specs.state.StatePart.{width}
 use Rattle.state_text.specs.declared.cause.StateCause.{StateCause}
 use Rattle.state_text.specs.FaultMeaning.{cause_meant}
-use Rattle.docker_bytes.specs.StateReading.{format_of, before_of, text_of, IsToldAtEnd}
+use Rattle.docker_bytes.specs.StateReading.{format_of, before_of, text_of, IsCauseAtEnd}
 use Rattle.docker_bytes.proofs.TextEnd.{whole_text, wanting_at_end, short_at_end}
 use Rattle.docker_bytes.proofs.reading.StateReading+Received+R.join.Goals as goal
 
@@ -27,5 +27,5 @@ pub returns-clause-err : goal.returns-clause-err
 returns-clause-err g c =
     let told = c.width.ensures.value c.args.self.parts c.args.self.lines in
     let low = c.if-width-gt0.false in
-    subst (λ (k : StateCause). IsToldAtEnd (format_of c.args.self) c.args.self.limit (text_of c.args.self) c.args.self.item_at (cause_meant k))
+    subst (λ (k : StateCause). IsCauseAtEnd (format_of c.args.self) c.args.self.limit (text_of c.args.self) c.args.self.item_at (cause_meant k))
     (sym c.from-cause.ensures) (wanting_at_end c.args.self c.requires (omega arith))

@@ -1,7 +1,7 @@
 use Rattle.std.proofs.Common.{◌++◌, ◌∷◌, [], ◌∙◌, ap}
 use Rattle.docker_model.specs.state.State.{State}
 use Rattle.cif_change.specs.Meaning.{key_meant}
-use Rattle.state_text.specs.Meaning.{entry_meant}
+use Rattle.docker_join.specs.Meaning.{entry_meant}
 use Rattle.docker_excerpt.proofs.GivenEntries.{valid_with, last_with}
 use Rattle.docker_excerpt.proofs.ledger.Ledger.with.Goals as goal
 

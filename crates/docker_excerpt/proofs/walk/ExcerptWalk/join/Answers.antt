@@ -1,6 +1,6 @@
 use Rattle.std.proofs.Common.{map, refl}
 use Rattle.cif_change.specs.declared.key.Key.TheVariants as key
-use Rattle.state_text.specs.Meaning.{entry_meant, row_meant}
+use Rattle.docker_join.specs.Meaning.{entry_meant, row_meant}
 use Rattle.docker_excerpt.specs.Walked.{state_of_entries}
 use Rattle.docker_excerpt.proofs.WalkTurns.{walk_joins}
 use Rattle.docker_excerpt.proofs.WalkSteps.{rows_more, walk_by}

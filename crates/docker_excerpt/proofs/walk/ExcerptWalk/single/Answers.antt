@@ -1,6 +1,6 @@
 use Rattle.std.proofs.Common.{◌++◌, ◌∷◌, [], ◌∙◌, map, refl, ap, sym, subst}
 use Rattle.cif_change.specs.Meaning.{key_meant}
-use Rattle.state_text.specs.Meaning.{entry_meant, row_meant}
+use Rattle.docker_join.specs.Meaning.{entry_meant, row_meant}
 use Rattle.docker_excerpt.specs.declared.walk.ExcerptWalk.{ExcerptWalk}
 use Rattle.docker_excerpt.specs.Walked.{state_of_entries, IsWalk}
 use Rattle.docker_excerpt.proofs.WalkTurns.{walk_here, walk_elsewhere}

@@ -1,5 +1,5 @@
 use Rattle.std.proofs.Common.{map}
-use Rattle.state_text.specs.Meaning.{row_meant}
+use Rattle.docker_join.specs.Meaning.{row_meant}
 use Rattle.docker_excerpt.specs.Walked.{state_of_entries}
 use Rattle.docker_excerpt.proofs.WalkTurns.{walk_sorted}
 use Rattle.docker_excerpt.proofs.walk.ExcerptWalk.sort_names.Goals as goal

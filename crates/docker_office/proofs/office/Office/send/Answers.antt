@@ -1,6 +1,6 @@
 use Rattle.std.proofs.Common.{subst}
 use Rattle.std.specs.Prelude.{OnOk}
-use Rattle.cif_line.specs.Device.{Takes}
+use Rattle.cif_device.specs.Device.{Takes}
 use Rattle.docker_model.specs.state.State.{State}
 use Rattle.docker_model.specs.state.StateText.{dks_2, state_text}
 use Rattle.docker_office.proofs.OfficeLemmas.{on_ok_with}

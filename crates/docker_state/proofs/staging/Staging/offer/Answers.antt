@@ -1,6 +1,6 @@
 use Rattle.std.proofs.Common.{ap}
 use Rattle.state_laws.specs.Staging.{staged_state}
-use Rattle.cif_file.specs.Meaning.{key_meant}
+use Rattle.cif_change.specs.Meaning.{key_meant}
 use Rattle.docker_join.specs.Meaning.{entry_meant}
 use Rattle.docker_state.specs.Staging.{Staging}
 use Rattle.docker_state.proofs.PartsLemmas.{valid_with_entry}

@@ -1,6 +1,6 @@
 use Rattle.std.proofs.Common.{ap, ◌∙◌}
 use Rattle.std.specs.Option.{option_map}
-use Rattle.cif_file.specs.Meaning.{key_meant}
+use Rattle.cif_change.specs.Meaning.{key_meant}
 use Rattle.docker_join.specs.Meaning.{entry_meant}
 use Rattle.docker_state.proofs.StateLemmas.{entry_of_rows}
 use Rattle.docker_state.proofs.state.State.get.Goals as goal

@@ -1,6 +1,6 @@
 -- The state that all changes of the file make.
 use Rattle.std.proofs.Common.{map, subst, sym, ◌∙◌}
-use Rattle.cif_file.specs.Meaning.{change_meant}
+use Rattle.cif_change.specs.Meaning.{change_meant}
 use Rattle.docker_state.specs.Meaning.{item_meant}
 use Rattle.docker_state.specs.MadeState.{HaveRecords}
 use Rattle.docker_state.proofs.FileState.{changes_are, file_records, item_is_of, summary_of_made, valid_of_made}

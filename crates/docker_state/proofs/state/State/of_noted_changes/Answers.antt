@@ -3,7 +3,7 @@ use Rattle.std.proofs.Common.{List, map, length, ap, sym, subst, arith}
 use Rattle.docker_model.specs.file.Change as model
 use Rattle.docker_model.specs.state.Op as ops
 use Rattle.docker_model.specs.state.Op.{key_cmp}
-use Rattle.cif_file.specs.Meaning.{change_meant}
+use Rattle.cif_change.specs.Meaning.{change_meant}
 use Rattle.docker_join.specs.Meaning.{file_stamp_meant}
 use Rattle.docker_join.proofs.MeantOrder.{ascending_meant}
 use Rattle.cif_file.specs.Key.{Key}

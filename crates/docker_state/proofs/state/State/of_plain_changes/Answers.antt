@@ -1,5 +1,5 @@
 use Rattle.std.proofs.Common.{map, sym, subst}
-use Rattle.cif_file.specs.Meaning.{change_meant}
+use Rattle.cif_change.specs.Meaning.{change_meant}
 use Rattle.docker_join.specs.Meaning.{file_stamp_meant}
 use Rattle.docker_state.specs.Meaning.{item_meant}
 use Rattle.docker_state.specs.MadeState.{IsMadeState}

@@ -1,6 +1,6 @@
 -- The state that the kept changes of the file make.
 use Rattle.std.proofs.Common.{map, ap, subst, sym, ◌∙◌}
-use Rattle.cif_file.specs.Meaning.{change_meant}
+use Rattle.cif_change.specs.Meaning.{change_meant}
 use Rattle.cif_file.specs.ThinRead.{ThinRead}
 use Rattle.docker_laws.specs.Thinning.{IsStateOfChanges}
 use Rattle.docker_state.specs.Meaning.{item_meant}

@@ -9,5 +9,5 @@ returns c = λ state same.
     calling_found state (map row_meant c.args.rows.now) same c.requires.ascending
     (spots_in c.args.self.now.places.items c.args.self.now.calls.items) (spots_in c.as_slice.result.now c.as_slice-2.result.now)
     (λ i. spots_in (c.as_slice.ensures.value i) (c.as_slice-2.ensures.value i)) c.requires.index.calls.are
-    c.args.tiploc.now c.bytes.result.now c.bytes.ensures.bytes (spots_in c.as_slice.result.now c.marks_at.result.now) c.marks_at.ensures.piece
-    c.of.result (c.of.ensures ∙ c.marks_at.ensures.rows (map row_meant c.args.rows.now))
+    c.args.tiploc.now c.bytes.result.now c.bytes.ensures.bytes (spots_in c.as_slice.result.now c.postings_at.result.now) c.postings_at.ensures.piece
+    c.of.result (c.of.ensures ∙ c.postings_at.ensures.rows (map row_meant c.args.rows.now))

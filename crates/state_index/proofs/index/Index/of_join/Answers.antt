@@ -1,8 +1,8 @@
 use Rattle.std.proofs.Common.{ℕ, List, sym, subst, ◌∙◌}
 use Rattle.state_index.specs.Rooms.{Includes}
 use Rattle.state_index.specs.Spots.{call_places, link_places}
-use Rattle.state_index.specs.Joined.{moved_marks, AreRanks}
-use Rattle.state_index.proofs.MovedMarks.{joined_marks}
+use Rattle.state_index.specs.Joined.{moved_postings, AreRanks}
+use Rattle.state_index.proofs.MovedPostings.{joined_postings}
 use Rattle.state_index.proofs.index.Index.of_join.Goals as goal
 
 pub ranks_of-requires-clause-all : goal.ranks_of-requires-clause-all
@@ -25,18 +25,18 @@ returns c = λ rows others joined moves one two.
     (λ i. (c.as_slice-6.ensures.value i, c.as_slice-5.ensures.value i)) c.in_ok-others.ensures in
     record {
       named = c.in_ok-places.ensures.up;
-      calls = joined_marks call_places rows others joined c.args.moves.now.first.items c.args.moves.now.second.items
+      calls = joined_postings call_places rows others joined c.args.moves.now.first.items c.args.moves.now.second.items
           c.args.first.now.places.items c.args.second.now.places.items c.in_ok-places.places.items c.in_ok-ranks.ranks.items c.in_ok-others.others.items
           first second one.named two.named c.in_ok-places.ensures.up moves.first_rise moves.second_rise
           c.args.first.now.calls.items c.args.second.now.calls.items one.calls two.calls moves.calls c.of.result c.of-2.result c.merged.result.items
-          (c.of.ensures.marks ∙ (λ i. moved_marks (c.as_slice-8.ensures.value i) (c.as_slice-9.ensures.value i) (c.as_slice-7.ensures.value i)))
-          (c.of-2.ensures.marks ∙ (λ i. moved_marks (c.as_slice-11.ensures.value i) (c.as_slice-12.ensures.value i) (c.as_slice-10.ensures.value i)))
+          (c.of.ensures.postings ∙ (λ i. moved_postings (c.as_slice-8.ensures.value i) (c.as_slice-9.ensures.value i) (c.as_slice-7.ensures.value i)))
+          (c.of-2.ensures.postings ∙ (λ i. moved_postings (c.as_slice-11.ensures.value i) (c.as_slice-12.ensures.value i) (c.as_slice-10.ensures.value i)))
           c.merged.ensures.ascending c.merged.ensures.members;
-      links = joined_marks link_places rows others joined c.args.moves.now.first.items c.args.moves.now.second.items
+      links = joined_postings link_places rows others joined c.args.moves.now.first.items c.args.moves.now.second.items
           c.args.first.now.places.items c.args.second.now.places.items c.in_ok-places.places.items c.in_ok-ranks.ranks.items c.in_ok-others.others.items
           first second one.named two.named c.in_ok-places.ensures.up moves.first_rise moves.second_rise
           c.args.first.now.links.items c.args.second.now.links.items one.links two.links moves.links c.of-3.result c.of-4.result c.merged-2.result.items
-          (c.of-3.ensures.marks ∙ (λ i. moved_marks (c.as_slice-14.ensures.value i) (c.as_slice-15.ensures.value i) (c.as_slice-13.ensures.value i)))
-          (c.of-4.ensures.marks ∙ (λ i. moved_marks (c.as_slice-17.ensures.value i) (c.as_slice-18.ensures.value i) (c.as_slice-16.ensures.value i)))
+          (c.of-3.ensures.postings ∙ (λ i. moved_postings (c.as_slice-14.ensures.value i) (c.as_slice-15.ensures.value i) (c.as_slice-13.ensures.value i)))
+          (c.of-4.ensures.postings ∙ (λ i. moved_postings (c.as_slice-17.ensures.value i) (c.as_slice-18.ensures.value i) (c.as_slice-16.ensures.value i)))
           c.merged-2.ensures.ascending c.merged-2.ensures.members;
     }

@@ -4,8 +4,8 @@ use Rattle.docker_join.specs.Meaning.{row_meant}
 use Rattle.state_index.specs.ByPlace.{AreBelow}
 use Rattle.state_index.specs.Rooms.{HasSlots}
 use Rattle.state_index.specs.Spots.{call_places, link_places}
-use Rattle.state_index.specs.Noted.{noted_marks}
-use Rattle.state_index.proofs.MarkSpots.{marks_made}
+use Rattle.state_index.specs.Noted.{noted_postings}
+use Rattle.state_index.proofs.PostingSpots.{postings_made}
 use Rattle.state_index.proofs.NotedSpots.{calls_walk, links_walk}
 use Rattle.state_index.proofs.index.Index.of_rows.Goals as goal
 
@@ -15,7 +15,7 @@ ascending-calls-requires-clause-slots c =
     let walk = calls_walk c.args.notes.names.list.items c.args.room.places.items c.args.room.ranks.items c.args.notes.numbers.items c.requires.room.ranks
     (length c.args.rows.now) (map row_meant c.args.rows.now) c.args.notes.pieces.items (sym (length-map c.args.rows.now row_meant)) c.requires.noted
     c.of-called.result
-    (c.of-called.ensures ∙ (λ i. noted_marks false (c.as_slice-ranks.ensures.value i) (c.as_slice-numbers.ensures.value i) (length c.args.rows.now)
+    (c.of-called.ensures ∙ (λ i. noted_postings false (c.as_slice-ranks.ensures.value i) (c.as_slice-numbers.ensures.value i) (length c.args.rows.now)
     (c.as_slice-pieces.ensures.value i))) in
     subst (λ (p : ℕ × ℕ). HasSlots p.0 p.1 c.args.room.calls) (λ i. (sym len i, sym walk.len i)) c.requires.room.calls
 
@@ -25,7 +25,7 @@ ascending-calls-requires-clause-below c =
     let walk = calls_walk c.args.notes.names.list.items c.args.room.places.items c.args.room.ranks.items c.args.notes.numbers.items c.requires.room.ranks
     (length c.args.rows.now) (map row_meant c.args.rows.now) c.args.notes.pieces.items (sym (length-map c.args.rows.now row_meant)) c.requires.noted
     c.of-called.result
-    (c.of-called.ensures ∙ (λ i. noted_marks false (c.as_slice-ranks.ensures.value i) (c.as_slice-numbers.ensures.value i) (length c.args.rows.now)
+    (c.of-called.ensures ∙ (λ i. noted_postings false (c.as_slice-ranks.ensures.value i) (c.as_slice-numbers.ensures.value i) (length c.args.rows.now)
     (c.as_slice-pieces.ensures.value i))) in
     subst (λ places. AreBelow places c.of-called.result) (sym len) walk.below
 
@@ -34,7 +34,7 @@ ascending-calls-requires-clause-rows c =
     let walk = calls_walk c.args.notes.names.list.items c.args.room.places.items c.args.room.ranks.items c.args.notes.numbers.items c.requires.room.ranks
     (length c.args.rows.now) (map row_meant c.args.rows.now) c.args.notes.pieces.items (sym (length-map c.args.rows.now row_meant)) c.requires.noted
     c.of-called.result
-    (c.of-called.ensures ∙ (λ i. noted_marks false (c.as_slice-ranks.ensures.value i) (c.as_slice-numbers.ensures.value i) (length c.args.rows.now)
+    (c.of-called.ensures ∙ (λ i. noted_postings false (c.as_slice-ranks.ensures.value i) (c.as_slice-numbers.ensures.value i) (length c.args.rows.now)
     (c.as_slice-pieces.ensures.value i))) in
     walk.from
 
@@ -44,7 +44,7 @@ ascending-links-requires-clause-slots c =
     let walk = links_walk c.args.notes.names.list.items c.args.room.places.items c.args.room.ranks.items c.args.notes.numbers.items c.requires.room.ranks
     (length c.args.rows.now) (map row_meant c.args.rows.now) c.args.notes.pieces.items (sym (length-map c.args.rows.now row_meant)) c.requires.noted
     c.of-linked.result
-    (c.of-linked.ensures ∙ (λ i. noted_marks true (c.as_slice-ranks.ensures.value i) (c.as_slice-numbers.ensures.value i) (length c.args.rows.now)
+    (c.of-linked.ensures ∙ (λ i. noted_postings true (c.as_slice-ranks.ensures.value i) (c.as_slice-numbers.ensures.value i) (length c.args.rows.now)
     (c.as_slice-pieces.ensures.value i))) in
     subst (λ (p : ℕ × ℕ). HasSlots p.0 p.1 c.args.room.links) (λ i. (sym len i, sym walk.len i)) c.requires.room.links
 
@@ -54,7 +54,7 @@ ascending-links-requires-clause-below c =
     let walk = links_walk c.args.notes.names.list.items c.args.room.places.items c.args.room.ranks.items c.args.notes.numbers.items c.requires.room.ranks
     (length c.args.rows.now) (map row_meant c.args.rows.now) c.args.notes.pieces.items (sym (length-map c.args.rows.now row_meant)) c.requires.noted
     c.of-linked.result
-    (c.of-linked.ensures ∙ (λ i. noted_marks true (c.as_slice-ranks.ensures.value i) (c.as_slice-numbers.ensures.value i) (length c.args.rows.now)
+    (c.of-linked.ensures ∙ (λ i. noted_postings true (c.as_slice-ranks.ensures.value i) (c.as_slice-numbers.ensures.value i) (length c.args.rows.now)
     (c.as_slice-pieces.ensures.value i))) in
     subst (λ places. AreBelow places c.of-linked.result) (sym len) walk.below
 
@@ -63,7 +63,7 @@ ascending-links-requires-clause-rows c =
     let walk = links_walk c.args.notes.names.list.items c.args.room.places.items c.args.room.ranks.items c.args.notes.numbers.items c.requires.room.ranks
     (length c.args.rows.now) (map row_meant c.args.rows.now) c.args.notes.pieces.items (sym (length-map c.args.rows.now row_meant)) c.requires.noted
     c.of-linked.result
-    (c.of-linked.ensures ∙ (λ i. noted_marks true (c.as_slice-ranks.ensures.value i) (c.as_slice-numbers.ensures.value i) (length c.args.rows.now)
+    (c.of-linked.ensures ∙ (λ i. noted_postings true (c.as_slice-ranks.ensures.value i) (c.as_slice-numbers.ensures.value i) (length c.args.rows.now)
     (c.as_slice-pieces.ensures.value i))) in
     walk.from
 
@@ -72,17 +72,17 @@ returns c =
     let called = calls_walk c.args.notes.names.list.items c.args.room.places.items c.args.room.ranks.items c.args.notes.numbers.items c.requires.room.ranks
     (length c.args.rows.now) (map row_meant c.args.rows.now) c.args.notes.pieces.items (sym (length-map c.args.rows.now row_meant)) c.requires.noted
     c.of-called.result
-    (c.of-called.ensures ∙ (λ i. noted_marks false (c.as_slice-ranks.ensures.value i) (c.as_slice-numbers.ensures.value i) (length c.args.rows.now)
+    (c.of-called.ensures ∙ (λ i. noted_postings false (c.as_slice-ranks.ensures.value i) (c.as_slice-numbers.ensures.value i) (length c.args.rows.now)
     (c.as_slice-pieces.ensures.value i))) in
     let linked = links_walk c.args.notes.names.list.items c.args.room.places.items c.args.room.ranks.items c.args.notes.numbers.items c.requires.room.ranks
     (length c.args.rows.now) (map row_meant c.args.rows.now) c.args.notes.pieces.items (sym (length-map c.args.rows.now row_meant)) c.requires.noted
     c.of-linked.result
-    (c.of-linked.ensures ∙ (λ i. noted_marks true (c.as_slice-ranks.ensures.value i) (c.as_slice-numbers.ensures.value i) (length c.args.rows.now)
+    (c.of-linked.ensures ∙ (λ i. noted_postings true (c.as_slice-ranks.ensures.value i) (c.as_slice-numbers.ensures.value i) (length c.args.rows.now)
     (c.as_slice-pieces.ensures.value i))) in
     record {
       named = c.requires.room.named;
-      calls = marks_made call_places (map row_meant c.args.rows.now) c.args.room.places.items c.of-called.result c.ascending-calls.result.items
+      calls = postings_made call_places (map row_meant c.args.rows.now) c.args.room.places.items c.of-called.result c.ascending-calls.result.items
           c.requires.room.named called.spots c.ascending-calls.ensures.ascending c.ascending-calls.ensures.members;
-      links = marks_made link_places (map row_meant c.args.rows.now) c.args.room.places.items c.of-linked.result c.ascending-links.result.items
+      links = postings_made link_places (map row_meant c.args.rows.now) c.args.room.places.items c.of-linked.result c.ascending-links.result.items
           c.requires.room.named linked.spots c.ascending-links.ensures.ascending c.ascending-links.ensures.members;
     }

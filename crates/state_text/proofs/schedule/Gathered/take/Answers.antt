@@ -1,6 +1,6 @@
 use Rattle.std.proofs.Common.{rules, inl, inr, subst, ◌∷◌, ◌++◌, []}
 use Rattle.std.specs.Prelude.{IsOk}
-use Rattle.cif_file.specs.JourneyRead.{HasLines}
+use Rattle.cif_change.specs.JourneyRead.{HasLines}
 use Rattle.state_text.proofs.ScheduleLemmas.{incomplete, begin_up_to}
 use Rattle.state_text.proofs.schedule.Gathered.take.Goals as goal
 use Rattle.state_text.proofs.schedule.Gathered.take.Goals.{else-is_last-via-then-is_last+else-not-complete, else-is_last-via-else-is_last}

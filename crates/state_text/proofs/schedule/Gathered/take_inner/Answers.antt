@@ -1,7 +1,7 @@
 use Rattle.std.proofs.Common.{rules, ◌≡◌, [], ◌∷◌, ◌++◌, subst, ◌∙◌, length}
 use Rattle.std.specs.Prelude.{IsOk}
 use Rattle.docker_model.specs.file.File.{BeginsSchedule}
-use Rattle.cif_file.specs.JourneyRead.{HasLines}
+use Rattle.cif_change.specs.JourneyRead.{HasLines}
 use Rattle.state_text.proofs.ScheduleLemmas.{more_up_to, written_last}
 use Rattle.state_text.proofs.schedule.Gathered.take_inner.Goals as goal
 

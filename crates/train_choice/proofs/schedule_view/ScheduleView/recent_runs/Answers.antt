@@ -10,8 +10,8 @@ returns c =
     (subst (λ (view : Train). IsScheduleOf view.key view.lines) c.self.view_is c.self.invariant) c.first.ensures.line
     (ap (λ (view : Train). view.key.runs_from) c.self.view_is) c.recent_runs_of.ensures
 
-pub returns-then-begins_behind : goal.returns-then-begins_behind
-returns-then-begins_behind c =
+pub returns-then-begins_after : goal.returns-then-begins_after
+returns-then-begins_after c =
     never_told c.args.self.now.key c.args.self.now.lines c.self.inside.key.now.runs_from c.args.day c.never.result
     (subst (λ (view : Train). IsScheduleOf view.key view.lines) c.self.view_is c.self.invariant)
-    (ap (λ (view : Train). view.key.runs_from) c.self.view_is) (sym c.begins_behind.ensures ∙ c.if-begins_behind.true) c.never.ensures
+    (ap (λ (view : Train). view.key.runs_from) c.self.view_is) (sym c.begins_after.ensures ∙ c.if-begins_after.true) c.never.ensures

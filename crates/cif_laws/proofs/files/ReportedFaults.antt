@@ -12,14 +12,14 @@ use Rattle.docker_model.specs.file.File.{BeginsFile}
 use Rattle.docker_model.specs.file.Text.{without_empty_last, lines_of}
 use Rattle.docker_model.specs.file.FileFault.{FileCause, too_many, after_trailer, bad_length, bad_byte, bad_kind, bad_place, bad_field}
 use Rattle.docker_model.specs.file.FileFault.{third_midnight, no_end, cause_rank, HoldsOf, IsCause, FileFault, IsRecordFault, IsFileFault}
-use Rattle.docker_model.specs.file.FaultSoFar.{IsFaultSoFar, lines_told, last_of}
+use Rattle.docker_model.specs.file.FaultSoFar.{IsFaultSoFar, sure_lines, last_of}
 use Rattle.cif_laws.specs.FileStage.{Place, next_place, IsPlaceOf}
 use Rattle.cif_laws.specs.RecordCause.{is_after_end, byte_cause, cause_of, cause_of_long}
-use Rattle.cif_laws.specs.LinesTold.{open_line, told_lines, line_left, HasNoFeed}
+use Rattle.cif_laws.specs.CompleteLines.{open_line, complete_lines, line_left, HasNoFeed}
 use Rattle.cif_laws.proofs.files.OneFileFault.{begins_front, one_fault}
 use Rattle.cif_laws.proofs.files.FileStages.{next_by_test, begins_iff_place, begins_next_iff}
 use Rattle.cif_laws.proofs.files.FileCauses.{Pass, HasRecordFault, pass_or_fault, record_fault}
-use Rattle.cif_laws.proofs.files.ToldLines.{GoesOn, goes_on, lines_of_told, lines_of_open, lines_told_is, lines_told_grow, told_lines_cut}
+use Rattle.cif_laws.proofs.files.CompleteLines.{GoesOn, goes_on, lines_of_told, lines_of_open, sure_lines_is, sure_lines_grow, complete_lines_cut}
 
 -- ---- a piece of more than 81 bytes is no record
 
@@ -135,31 +135,31 @@ first_left piece (next ∷ pieces) some = (without_empty_last (next ∷ pieces),
 pub fault_stays : (limit : ℕ) (text more : List ℕ) (fault : FileFault) → IsFaultSoFar limit text fault → IsFaultSoFar limit (text ++ more) fault
 fault_stays limit text more fault told =
     record {
-      is = by (cases_lt (length told.is.earlier) (length (told_lines text)));
-      told = (let grown = lines_told_grow text more in let before = told.told in
+      is = by (cases_lt (length told.is.earlier) (length (complete_lines text)));
+      told = (let grown = sure_lines_grow text more in let before = told.told in
           omega arith);
     }
   where
     on : GoesOn text more
     on = goes_on text more
 
-    open_told : length (told_lines text) ≤ length told.is.earlier → (b : Bool) → nat_le 82 (length (open_line text)) ≡ b → length told.is.earlier + 1 ≤ length
-        (told_lines text) + cond b 1 0
-        → (length told.is.earlier ≡ length (told_lines text)) × (82 ≤ length (open_line text))
+    open_told : length (complete_lines text) ≤ length told.is.earlier → (b : Bool) → nat_le 82 (length (open_line text)) ≡ b → length told.is.earlier + 1 ≤ length
+        (complete_lines text) + cond b 1 0
+        → (length told.is.earlier ≡ length (complete_lines text)) × (82 ≤ length (open_line text))
     open_told high true h most = (omega arith, leb-true 82 (length (open_line text)) h)
     open_told high false h most = absurd (omega arith)
 
-    most : length told.is.earlier + 1 ≤ length (told_lines text) + cond (nat_le 82 (length (open_line text))) 1 0
+    most : length told.is.earlier + 1 ≤ length (complete_lines text) + cond (nat_le 82 (length (open_line text))) 1 0
     most =
-        subst (λ n. n ≤ length (told_lines text) + cond (nat_le 82 (length (open_line text))) 1 0) told.is.number
-        (subst (λ n. fault.number ≤ n) (lines_told_is text) told.told)
+        subst (λ n. n ≤ length (complete_lines text) + cond (nat_le 82 (length (open_line text))) 1 0) told.is.number
+        (subst (λ n. fault.number ≤ n) (sure_lines_is text) told.told)
 
-    by : (length told.is.earlier < length (told_lines text)) ⊎ (length (told_lines text) ≤ length told.is.earlier)
+    by : (length told.is.earlier < length (complete_lines text)) ⊎ (length (complete_lines text) ≤ length told.is.earlier)
         → IsRecordFault limit (lines_of (text ++ more)) fault
     by (inl below) =
-        let within = within_front (told_lines text) (line_left (open_line text)) told.is.earlier told.is.line told.is.later (sym (lines_of_told text)
+        let within = within_front (complete_lines text) (line_left (open_line text)) told.is.earlier told.is.line told.is.later (sym (lines_of_told text)
         ∙ told.is.whole) below in
-        fault_in_front limit (told_lines text) (lines_of (text ++ more))
+        fault_in_front limit (complete_lines text) (lines_of (text ++ more))
         (map strip_carriage_return (without_empty_last ((open_line text ++ on.first) ∷ on.pieces))) fault on.lines (record {
           earlier = told.is.earlier;
           line = told.is.line;
@@ -176,7 +176,7 @@ fault_stays limit text more fault told =
         let long = opened.1 in
         let size = length-append (open_line text) on.first in
         let left = first_left (open_line text ++ on.first) on.pieces (omega arith) in
-        let place = behind_front (told_lines text) (strip_carriage_return (open_line text)) told.is.earlier told.is.line told.is.later
+        let place = behind_front (complete_lines text) (strip_carriage_return (open_line text)) told.is.earlier told.is.line told.is.later
         (sym (lines_of_open text (omega arith)) ∙ told.is.whole) opened.0 in
         let longer : length (strip_carriage_return (open_line text ++ on.first)) ≢ 80 = not_80 (open_line text ++ on.first) (omega arith) in
         let short : length told.is.line ≢ 80 = subst (λ line. length line ≢ 80) (sym place.1) (not_80 (open_line text) long) in
@@ -203,25 +203,25 @@ one_fault_so_far limit text first second one two = one_fault limit text first se
 -- ---- bytes show a fault, or their complete lines begin a file
 
 -- if the incomplete line has at most 81 bytes, only the complete lines are certain
-pub lines_told_short : (text : List ℕ) → length (open_line text) ≤ 81 → lines_told text ≡ length (told_lines text)
-lines_told_short text short =
-    lines_told_is text ∙ ap (λ b. length (told_lines text) + cond b 1 0) (lt-leb 82 (length (open_line text)) (omega arith)) ∙ omega arith
+pub sure_lines_short : (text : List ℕ) → length (open_line text) ≤ 81 → sure_lines text ≡ length (complete_lines text)
+sure_lines_short text short =
+    sure_lines_is text ∙ ap (λ b. length (complete_lines text) + cond b 1 0) (lt-leb 82 (length (open_line text)) (omega arith)) ∙ omega arith
 
 -- an incomplete line of more than 81 bytes counts as certain too
-pub lines_told_long : (text : List ℕ) → 82 ≤ length (open_line text) → lines_told text ≡ length (told_lines text) + 1
-lines_told_long text long = lines_told_is text ∙ ap (λ b. length (told_lines text) + cond b 1 0) (le-leb 82 (length (open_line text)) long)
+pub sure_lines_long : (text : List ℕ) → 82 ≤ length (open_line text) → sure_lines text ≡ length (complete_lines text) + 1
+sure_lines_long text long = sure_lines_is text ∙ ap (λ b. length (complete_lines text) + cond b 1 0) (le-leb 82 (length (open_line text)) long)
 
 -- if the incomplete line has at most 81 bytes, the certain lines are the complete ones
-pub take_told : (text : List ℕ) → length (open_line text) ≤ 81 → take (lines_told text) (lines_of text) ≡ told_lines text
+pub take_told : (text : List ℕ) → length (open_line text) ≤ 81 → take (sure_lines text) (lines_of text) ≡ complete_lines text
 take_told text short =
-    ap (λ lines. take (lines_told text) lines) (lines_of_told text) ∙ take_at (told_lines text) (line_left (open_line text)) (lines_told text)
-    (sym (lines_told_short text short))
+    ap (λ lines. take (sure_lines text) lines) (lines_of_told text) ∙ take_at (complete_lines text) (line_left (open_line text)) (sure_lines text)
+    (sym (sure_lines_short text short))
 
 -- the bytes show no fault: their complete lines begin some file and are within the limit, and the
 -- incomplete line has at most 81 bytes
 pub record TellsNoFault (limit : ℕ) (text : List ℕ) : Type 0 where
-  pub begin : BeginsFile (told_lines text)
-  pub within : length (told_lines text) ≤ limit
+  pub begin : BeginsFile (complete_lines text)
+  pub within : length (complete_lines text) ≤ limit
   pub short : length (open_line text) ≤ 81
 
 number_within : (limit : ℕ) (records : Lines) (fault : FileFault) → IsRecordFault limit records fault → fault.number ≤ length records
@@ -231,16 +231,16 @@ number_within limit records fault is = let size = ap length is.whole ∙ length-
 pub fault_so_far_or_none : (limit : ℕ) (text : List ℕ) → ((fault : FileFault) × IsFaultSoFar limit text fault) ⊎ TellsNoFault limit text
 fault_so_far_or_none limit text = by (cases_lt (length (open_line text)) 82)
   where
-    told : Pass limit (told_lines text) ⊎ HasRecordFault limit (told_lines text) → length (open_line text) ≤ 81
+    told : Pass limit (complete_lines text) ⊎ HasRecordFault limit (complete_lines text) → length (open_line text) ≤ 81
         → ((fault : FileFault) × IsFaultSoFar limit text fault) ⊎ TellsNoFault limit text
-    told (inl pass) short = inr (record { begin = (begins_iff_place (told_lines text)).1 (pass.0, pass.1); within = pass.2; short = short })
+    told (inl pass) short = inr (record { begin = (begins_iff_place (complete_lines text)).1 (pass.0, pass.1); within = pass.2; short = short })
     told (inr fault) short =
-        let same = lines_told_short text short in
-        let number = number_within limit (told_lines text) fault.0 fault.1 in
+        let same = sure_lines_short text short in
+        let number = number_within limit (complete_lines text) fault.0 fault.1 in
         inl (
           fault.0,
           record {
-            is = fault_in_front limit (told_lines text) (lines_of text) (line_left (open_line text)) fault.0 (lines_of_told text) fault.1;
+            is = fault_in_front limit (complete_lines text) (lines_of text) (line_left (open_line text)) fault.0 (lines_of_told text) fault.1;
             told = omega arith;
           },
         )
@@ -248,27 +248,27 @@ fault_so_far_or_none limit text = by (cases_lt (length (open_line text)) 82)
     opened : Pass limit (lines_of text) ⊎ HasRecordFault limit (lines_of text) → 82 ≤ length (open_line text)
         → ((fault : FileFault) × IsFaultSoFar limit text fault) ⊎ TellsNoFault limit text
     opened (inl pass) long =
-        absurd (no_begin (told_lines text) (strip_carriage_return (open_line text)) (not_80 (open_line text) long)
+        absurd (no_begin (complete_lines text) (strip_carriage_return (open_line text)) (not_80 (open_line text) long)
         (subst BeginsFile (lines_of_open text (omega arith)) ((begins_iff_place (lines_of text)).1 (pass.0, pass.1))))
     opened (inr fault) long =
-        let same = lines_told_long text long in
-        let size = ap length (lines_of_open text (omega arith)) ∙ length-append (told_lines text) (strip_carriage_return (open_line text) ∷ []) in
+        let same = sure_lines_long text long in
+        let size = ap length (lines_of_open text (omega arith)) ∙ length-append (complete_lines text) (strip_carriage_return (open_line text) ∷ []) in
         let number = number_within limit (lines_of text) fault.0 fault.1 in
         inl (fault.0, record { is = fault.1; told = omega arith })
 
     by : (length (open_line text) < 82) ⊎ (82 ≤ length (open_line text)) → ((fault : FileFault) × IsFaultSoFar limit text fault) ⊎ TellsNoFault limit text
-    by (inl short) = told (pass_or_fault limit (told_lines text)) (omega arith)
+    by (inl short) = told (pass_or_fault limit (complete_lines text)) (omega arith)
     by (inr long) = opened (pass_or_fault limit (lines_of text)) long
 
 -- like `TellsNoFault`, in terms of the definitions that the laws use
 abbrev pub PassesSoFar : ℕ → List ℕ → Type 0
 PassesSoFar limit text =
-    BeginsFile (take (lines_told text) (lines_of text)) × (lines_told text ≤ limit) × (length (last_of (slice_split (λ b. b == 10) text)) ≤ 81)
+    BeginsFile (take (sure_lines text) (lines_of text)) × (sure_lines text ≤ limit) × (length (last_of (slice_split (λ b. b == 10) text)) ≤ 81)
 
 -- bytes that show no fault satisfy `PassesSoFar`
 pub passes_so_far : (limit : ℕ) (text : List ℕ) → TellsNoFault limit text → PassesSoFar limit text
 passes_so_far limit text none =
-    let same = lines_told_short text none.short in
+    let same = sure_lines_short text none.short in
     let within = none.within in
     (subst BeginsFile (sym (take_told text none.short)) none.begin, omega arith, none.short)
 
@@ -285,15 +285,15 @@ fault_so_far_or_passes limit text = by (fault_so_far_or_none limit text)
 pub passes_no_fault : (limit : ℕ) (text : List ℕ) (fault : FileFault) → PassesSoFar limit text → ¬ IsFaultSoFar limit text fault
 passes_no_fault limit text fault passes told = by told.is.here
   where
-    same : lines_told text ≡ length (told_lines text)
-    same = lines_told_short text passes.2
+    same : sure_lines text ≡ length (complete_lines text)
+    same = sure_lines_short text passes.2
 
-    below : length told.is.earlier < length (told_lines text)
+    below : length told.is.earlier < length (complete_lines text)
     below = let number = told.is.number in let at_number = told.told in let told_is = same in omega arith
 
-    within : (rest : Lines) × (told_lines text ≡ told.is.earlier ++ told.is.line ∷ rest)
+    within : (rest : Lines) × (complete_lines text ≡ told.is.earlier ++ told.is.line ∷ rest)
     within =
-        within_front (told_lines text) (line_left (open_line text)) told.is.earlier told.is.line told.is.later (sym (lines_of_told text) ∙ told.is.whole) below
+        within_front (complete_lines text) (line_left (open_line text)) told.is.earlier told.is.line told.is.later (sym (lines_of_told text) ∙ told.is.whole) below
 
     by : (limit ≤ length told.is.earlier) ⊎ (¬ BeginsFile (told.is.earlier ++ told.is.line ∷ [])) → ⊥
     by (inl over) = let most = passes.1 in let under = below in let told_is = same in absurd (omega arith)
@@ -311,68 +311,68 @@ cause_of_length limit count place line apart =
 
 -- if the complete lines lead to a place within the limit, and the incomplete line has at most 81
 -- bytes, the bytes show no fault
-pub no_fault_told : (limit : ℕ) (text : List ℕ) (place : Place) → IsPlaceOf (told_lines text) place → length (told_lines text) ≤ limit
+pub no_fault_told : (limit : ℕ) (text : List ℕ) (place : Place) → IsPlaceOf (complete_lines text) place → length (complete_lines text) ≤ limit
     → length (open_line text) ≤ 81
     → (fault : FileFault) → ¬ IsFaultSoFar limit text fault
 no_fault_told limit text place found within short fault =
     passes_no_fault limit text fault (passes_so_far limit text (record {
-      begin = (begins_iff_place (told_lines text)).1 (place, found);
+      begin = (begins_iff_place (complete_lines text)).1 (place, found);
       within = within;
       short = short;
     }))
 
 -- a complete line that leads to no place is at fault, whatever follows
-pub fault_at_feed : (limit : ℕ) (text front rest : List ℕ) (place : Place) → HasNoFeed front → IsPlaceOf (told_lines text) place
-    → length (told_lines text) ≤ limit
-    → (limit ≤ length (told_lines text)) ⊎ (next_place place (strip_carriage_return (open_line text ++ front)) ≡ None)
+pub fault_at_feed : (limit : ℕ) (text front rest : List ℕ) (place : Place) → HasNoFeed front → IsPlaceOf (complete_lines text) place
+    → length (complete_lines text) ≤ limit
+    → (limit ≤ length (complete_lines text)) ⊎ (next_place place (strip_carriage_return (open_line text ++ front)) ≡ None)
     → IsFaultSoFar limit (text ++ (front ++ 10 ∷ rest))
     (record {
-      number = length (told_lines text) + 1;
-      cause = cause_of limit (length (told_lines text)) place
+      number = length (complete_lines text) + 1;
+      cause = cause_of limit (length (complete_lines text)) place
           (strip_carriage_return (open_line text ++ front));
     })
 fault_at_feed limit text front rest place plain found within here = record {
-  is = record_fault limit (told_lines text) place (strip_carriage_return (open_line text ++ front)) found (lines_of (text ++ (front ++ 10 ∷ rest)))
-      (told_lines rest ++ line_left (open_line (text ++ (front ++ 10 ∷ rest))))
-      (lines_of_told (text ++ (front ++ 10 ∷ rest)) ∙ (λ i. told_lines_cut text front rest plain i ++ line_left (open_line (text ++ (front ++ 10 ∷ rest))))
-      ∙ append_assoc (told_lines text) (strip_carriage_return (open_line text ++ front) ∷ told_lines rest)
+  is = record_fault limit (complete_lines text) place (strip_carriage_return (open_line text ++ front)) found (lines_of (text ++ (front ++ 10 ∷ rest)))
+      (complete_lines rest ++ line_left (open_line (text ++ (front ++ 10 ∷ rest))))
+      (lines_of_told (text ++ (front ++ 10 ∷ rest)) ∙ (λ i. complete_lines_cut text front rest plain i ++ line_left (open_line (text ++ (front ++ 10 ∷ rest))))
+      ∙ append_assoc (complete_lines text) (strip_carriage_return (open_line text ++ front) ∷ complete_lines rest)
       (line_left (open_line (text ++ (front ++ 10 ∷ rest)))))
       within here;
   told =
-      let told_is = lines_told_is (text ++ (front ++ 10 ∷ rest)) in
-      let size = ap length (told_lines_cut text front rest plain) ∙ length-append (told_lines text)
-      (strip_carriage_return (open_line text ++ front) ∷ told_lines rest) in
+      let told_is = sure_lines_is (text ++ (front ++ 10 ∷ rest)) in
+      let size = ap length (complete_lines_cut text front rest plain) ∙ length-append (complete_lines text)
+      (strip_carriage_return (open_line text ++ front) ∷ complete_lines rest) in
       omega arith;
 }
 
 -- an incomplete line of more than 81 bytes is at fault, whatever follows
-pub fault_at_long : (limit : ℕ) (text : List ℕ) (place : Place) → IsPlaceOf (told_lines text) place → length (told_lines text) ≤ limit
+pub fault_at_long : (limit : ℕ) (text : List ℕ) (place : Place) → IsPlaceOf (complete_lines text) place → length (complete_lines text) ≤ limit
     → 82 ≤ length (open_line text)
-    → IsFaultSoFar limit text (record { number = length (told_lines text) + 1; cause = cause_of_long limit (length (told_lines text)) place })
+    → IsFaultSoFar limit text (record { number = length (complete_lines text) + 1; cause = cause_of_long limit (length (complete_lines text)) place })
 fault_at_long limit text place found within long =
     let apart : length (strip_carriage_return (open_line text)) ≢ 80 = not_80 (open_line text) long in
-    let told_is = lines_told_long text long in
-    subst (λ cause. IsFaultSoFar limit text (record { number = length (told_lines text) + 1; cause = cause }))
-    (cause_of_length limit (length (told_lines text)) place (strip_carriage_return (open_line text)) apart)
+    let told_is = sure_lines_long text long in
+    subst (λ cause. IsFaultSoFar limit text (record { number = length (complete_lines text) + 1; cause = cause }))
+    (cause_of_length limit (length (complete_lines text)) place (strip_carriage_return (open_line text)) apart)
     (record {
       is =
-          record_fault limit (told_lines text) place (strip_carriage_return (open_line text)) found (lines_of text) [] (lines_of_open text (omega arith)) within
+          record_fault limit (complete_lines text) place (strip_carriage_return (open_line text)) found (lines_of text) [] (lines_of_open text (omega arith)) within
           (inr (no_next_place place (strip_carriage_return (open_line text)) apart));
       told = omega arith;
     })
 
 -- at the end of a text an incomplete line with bytes is the last line, and may be at fault
-pub fault_at_end : (limit : ℕ) (text : List ℕ) (place : Place) → IsPlaceOf (told_lines text) place → length (told_lines text) ≤ limit
+pub fault_at_end : (limit : ℕ) (text : List ℕ) (place : Place) → IsPlaceOf (complete_lines text) place → length (complete_lines text) ≤ limit
     → 0 < length (open_line text)
-    → (limit ≤ length (told_lines text)) ⊎ (next_place place (strip_carriage_return (open_line text)) ≡ None)
+    → (limit ≤ length (complete_lines text)) ⊎ (next_place place (strip_carriage_return (open_line text)) ≡ None)
     → IsFileFault limit text (record {
-      number = length (told_lines text) + 1;
-      cause = cause_of limit (length (told_lines text)) place
+      number = length (complete_lines text) + 1;
+      cause = cause_of limit (length (complete_lines text)) place
           (strip_carriage_return (open_line text));
     })
 fault_at_end limit text place found within some here =
-    inl (record_fault limit (told_lines text) place (strip_carriage_return (open_line text)) found (lines_of text) [] (lines_of_open text some) within here)
+    inl (record_fault limit (complete_lines text) place (strip_carriage_return (open_line text)) found (lines_of text) [] (lines_of_open text some) within here)
 
 -- an incomplete line with bytes is one more line
-pub length_at_end : (text : List ℕ) → 0 < length (open_line text) → length (lines_of text) ≡ length (told_lines text) + 1
-length_at_end text some = ap length (lines_of_open text some) ∙ length-append (told_lines text) (strip_carriage_return (open_line text) ∷ [])
+pub length_at_end : (text : List ℕ) → 0 < length (open_line text) → length (lines_of text) ≡ length (complete_lines text) + 1
+length_at_end text some = ap length (lines_of_open text some) ∙ length-append (complete_lines text) (strip_carriage_return (open_line text) ∷ [])

@@ -1,5 +1,5 @@
-use Rattle.state_laws.proofs.texts.ToldWithHorizon.{valid_is_told, migrated_is_told}
-use Rattle.state_laws.proofs.text.told_with_a_horizon.Goals as goal
+use Rattle.state_laws.proofs.texts.ReportedWithHorizon.{valid_is_told, migrated_is_told}
+use Rattle.state_laws.proofs.text.reported_with_a_horizon.Goals as goal
 
 pub returns-clause-valid : goal.returns-clause-valid
 returns-clause-valid c = valid_is_told

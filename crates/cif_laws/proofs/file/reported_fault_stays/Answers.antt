@@ -1,5 +1,5 @@
-use Rattle.cif_laws.proofs.files.ToldFaults.{fault_stays, fault_in_the_end, one_fault_so_far}
-use Rattle.cif_laws.proofs.file.told_fault_stays.Goals as goal
+use Rattle.cif_laws.proofs.files.ReportedFaults.{fault_stays, fault_in_the_end, one_fault_so_far}
+use Rattle.cif_laws.proofs.file.reported_fault_stays.Goals as goal
 
 pub returns-clause-so_far : goal.returns-clause-so_far
 returns-clause-so_far c = fault_stays

@@ -10,10 +10,10 @@ use Rattle.docker_model.specs.records.Record.{Lines}
 use Rattle.docker_model.specs.file.FileFault.{FileFault}
 use Rattle.docker_model.specs.file.FaultSoFar.{last_of, IsFaultSoFar}
 use Rattle.cif_laws.specs.FileStage.{Place, next_place, place_from, before_header}
-use Rattle.cif_laws.specs.LinesTold.{but_last, pieces_of, told_lines}
+use Rattle.cif_laws.specs.CompleteLines.{but_last, pieces_of, complete_lines}
 use Rattle.cif_laws.proofs.lists.BoolsAndOptions.{then_some}
 use Rattle.cif_laws.proofs.files.FileStages.{next_by_test, begins_iff_place}
-use Rattle.cif_laws.proofs.files.ToldFaults.{strip_long, TellsNoFault, fault_so_far_or_none}
+use Rattle.cif_laws.proofs.files.ReportedFaults.{strip_long, TellsNoFault, fault_so_far_or_none}
 
 abbrev Has80 : List ℕ → Type 0
 Has80 line = length line ≡ 80
@@ -69,11 +69,11 @@ few_bytes (piece ∷ pieces) all =
 
 bound_of_none : (limit : ℕ) (text : List ℕ) → TellsNoFault limit text → length text ≤ 82 * limit + 81
 bound_of_none limit text none =
-    let place = (begins_iff_place (told_lines text)).0 none.begin in
+    let place = (begins_iff_place (complete_lines text)).0 none.begin in
     let size = length-slice_split (λ b. b == 10) text in
     let whole = bytes_of_split (λ b. b == 10) text in
     let apart = bytes_but_last (pieces_of text) (omega arith) in
-    let few = few_bytes (but_last (pieces_of text)) (records_of_80 (told_lines text) before_header place.0 place.1) in
+    let few = few_bytes (but_last (pieces_of text)) (records_of_80 (complete_lines text) before_header place.0 place.1) in
     let told = length-map (but_last (pieces_of text)) strip_carriage_return in
     let within = none.within in
     let short = none.short in

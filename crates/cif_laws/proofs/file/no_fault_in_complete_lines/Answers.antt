@@ -1,5 +1,5 @@
-use Rattle.cif_laws.proofs.files.ToldFaults.{fault_so_far_or_passes, passes_no_fault}
-use Rattle.cif_laws.proofs.file.no_fault_among_told.Goals as goal
+use Rattle.cif_laws.proofs.files.ReportedFaults.{fault_so_far_or_passes, passes_no_fault}
+use Rattle.cif_laws.proofs.file.no_fault_in_complete_lines.Goals as goal
 
 pub returns-clause-either : goal.returns-clause-either
 returns-clause-either c = fault_so_far_or_passes

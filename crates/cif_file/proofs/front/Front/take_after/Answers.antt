@@ -8,7 +8,7 @@ use Rattle.cif_line.specs.Kind.{meaning}
 use Rattle.cif_file.specs.RecordsRead.{IsNoNextCause}
 use Rattle.cif_file.proofs.FrontLemmas.{bad_behind, not_whole, anew_goes_on}
 use Rattle.cif_file.proofs.UnitLemmas.{unit_begins}
-use Rattle.cif_file.proofs.front.Front.take_behind.Goals as goal
+use Rattle.cif_file.proofs.front.Front.take_after.Goals as goal
 
 pub returns-then-not-complete-clause-err : goal.returns-then-not-complete-clause-err
 returns-then-not-complete-clause-err g c = λ records has.

@@ -10,8 +10,8 @@ use Rattle.std.proofs.lemmas.List.{map-append, length-map}
 use Rattle.std.proofs.lemmas.List.Splits.{length-slice_split, slice_split-cons_yes, slice_split-cons_no, slice_split_none, slice_split_at}
 use Rattle.docker_model.specs.records.Record.{Lines}
 use Rattle.docker_model.specs.file.Text.{last_piece, without_empty_last, lines_of}
-use Rattle.docker_model.specs.file.FaultSoFar.{last_of, lines_told}
-use Rattle.cif_laws.specs.LinesTold.{but_last, open_line, told_lines, pieces_of, line_left, feeds, HasNoFeed}
+use Rattle.docker_model.specs.file.FaultSoFar.{last_of, sure_lines}
+use Rattle.cif_laws.specs.CompleteLines.{but_last, open_line, complete_lines, pieces_of, line_left, feeds, HasNoFeed}
 
 -- ---- pieces
 
@@ -84,39 +84,39 @@ split_append p (b ∷ text) more = by (p b) refl (split_append p text more)
 -- ---- lines
 
 -- the lines of a text are its complete lines, and the incomplete line if that has bytes
-pub lines_of_told : (text : List ℕ) → lines_of text ≡ told_lines text ++ line_left (open_line text)
+pub lines_of_told : (text : List ℕ) → lines_of text ≡ complete_lines text ++ line_left (open_line text)
 lines_of_told text =
     ap (map strip_carriage_return) (without_last (pieces_of text)) ∙ map-append strip_carriage_return (but_last (pieces_of text)) (last_piece (open_line text))
 
 -- if the incomplete line has no bytes, the complete lines are all lines
-pub lines_of_ended : (text : List ℕ) → open_line text ≡ [] → lines_of text ≡ told_lines text
-lines_of_ended text none = lines_of_told text ∙ (λ i. told_lines text ++ line_left (none i)) ∙ append-nil (told_lines text)
+pub lines_of_ended : (text : List ℕ) → open_line text ≡ [] → lines_of text ≡ complete_lines text
+lines_of_ended text none = lines_of_told text ∙ (λ i. complete_lines text ++ line_left (none i)) ∙ append-nil (complete_lines text)
 
 line_left_some : (piece : List ℕ) → 0 < length piece → line_left piece ≡ strip_carriage_return piece ∷ []
 line_left_some [] some = absurd (omega arith)
 line_left_some (b ∷ bytes) some = refl
 
 -- an incomplete line with bytes is the last line of the text
-pub lines_of_open : (text : List ℕ) → 0 < length (open_line text) → lines_of text ≡ told_lines text ++ strip_carriage_return (open_line text) ∷ []
-lines_of_open text some = lines_of_told text ∙ ap (λ lines. told_lines text ++ lines) (line_left_some (open_line text) some)
+pub lines_of_open : (text : List ℕ) → 0 < length (open_line text) → lines_of text ≡ complete_lines text ++ strip_carriage_return (open_line text) ∷ []
+lines_of_open text some = lines_of_told text ∙ ap (λ lines. complete_lines text ++ lines) (line_left_some (open_line text) some)
 
 -- there are as many complete lines as line feeds
-pub length_told_lines : (text : List ℕ) → length (told_lines text) ≡ feeds text
-length_told_lines text =
+pub length_complete_lines : (text : List ℕ) → length (complete_lines text) ≡ feeds text
+length_complete_lines text =
     let size = length-slice_split (λ b. b == 10) text in
     let front = length_but_last (pieces_of text) (some_pieces (λ b. b == 10) text) in
     let mapped = length-map (but_last (pieces_of text)) strip_carriage_return in
     omega arith
 
 -- the certain lines are the complete ones, and the incomplete one if it has more than 81 bytes
-pub lines_told_is : (text : List ℕ) → lines_told text ≡ length (told_lines text) + (if nat_le 82 (length (open_line text)) then 1 else 0)
-lines_told_is text = ap (λ n. n + (if nat_le 82 (length (open_line text)) then 1 else 0)) (sym (length_told_lines text))
+pub sure_lines_is : (text : List ℕ) → sure_lines text ≡ length (complete_lines text) + (if nat_le 82 (length (open_line text)) then 1 else 0)
+sure_lines_is text = ap (λ n. n + (if nat_le 82 (length (open_line text)) then 1 else 0)) (sym (length_complete_lines text))
 
 -- ---- a text that grows
 
 -- bytes without a line feed complete no line
-pub told_lines_plain : (text piece : List ℕ) → HasNoFeed piece → told_lines (text ++ piece) ≡ told_lines text
-told_lines_plain text piece plain =
+pub complete_lines_plain : (text piece : List ℕ) → HasNoFeed piece → complete_lines (text ++ piece) ≡ complete_lines text
+complete_lines_plain text piece plain =
     ap (λ pieces. map strip_carriage_return (but_last pieces))
     (split_append (λ b. b == 10) text piece ∙ (λ i. but_last (pieces_of text) ++ going_on (open_line text) (slice_split_none (λ b. b == 10) piece plain i)))
     ∙ ap (map strip_carriage_return) (but_last_append (but_last (pieces_of text)) (open_line text ++ piece) [] ∙ append-nil (but_last (pieces_of text)))
@@ -143,9 +143,9 @@ last_rest piece [] some = absurd (omega arith)
 last_rest piece (next ∷ pieces) some = refl
 
 -- a line feed completes the incomplete line, and the bytes after it give the lines that follow
-pub told_lines_cut : (text front rest : List ℕ) → HasNoFeed front
-    → told_lines (text ++ (front ++ 10 ∷ rest)) ≡ told_lines text ++ strip_carriage_return (open_line text ++ front) ∷ told_lines rest
-told_lines_cut text front rest plain =
+pub complete_lines_cut : (text front rest : List ℕ) → HasNoFeed front
+    → complete_lines (text ++ (front ++ 10 ∷ rest)) ≡ complete_lines text ++ strip_carriage_return (open_line text ++ front) ∷ complete_lines rest
+complete_lines_cut text front rest plain =
     ap (λ pieces. map strip_carriage_return (but_last pieces)) (pieces_cut text front rest plain)
     ∙ ap (map strip_carriage_return)
     (but_last_append (but_last (pieces_of text)) (open_line text ++ front) (pieces_of rest)
@@ -159,10 +159,10 @@ open_line_cut text front rest plain =
     ∙ last_of_append (but_last (pieces_of text)) (open_line text ++ front) (pieces_of rest)
     ∙ last_rest (open_line text ++ front) (pieces_of rest) (some_pieces (λ b. b == 10) rest)
 
--- like `told_lines_cut`, for bytes that end with a line feed
-pub told_lines_ended : (text front : List ℕ) → HasNoFeed front → told_lines (text ++ (front ++ 10 ∷ [])) ≡ told_lines text ++ strip_carriage_return
+-- like `complete_lines_cut`, for bytes that end with a line feed
+pub complete_lines_ended : (text front : List ℕ) → HasNoFeed front → complete_lines (text ++ (front ++ 10 ∷ [])) ≡ complete_lines text ++ strip_carriage_return
     (open_line text ++ front) ∷ []
-told_lines_ended text front plain = told_lines_cut text front [] plain
+complete_lines_ended text front plain = complete_lines_cut text front [] plain
 
 -- after a line feed the incomplete line has no bytes
 pub open_line_ended : (text front : List ℕ) → HasNoFeed front → open_line (text ++ (front ++ 10 ∷ [])) ≡ []
@@ -175,8 +175,8 @@ open_line_ended text front plain = open_line_cut text front [] plain
 pub record GoesOn (text more : List ℕ) : Type 0 where
   pub first : List ℕ
   pub pieces : Lines
-  pub lines : lines_of (text ++ more) ≡ told_lines text ++ map strip_carriage_return (without_empty_last ((open_line text ++ first) ∷ pieces))
-  pub told : told_lines (text ++ more) ≡ told_lines text ++ map strip_carriage_return (but_last ((open_line text ++ first) ∷ pieces))
+  pub lines : lines_of (text ++ more) ≡ complete_lines text ++ map strip_carriage_return (without_empty_last ((open_line text ++ first) ∷ pieces))
+  pub told : complete_lines (text ++ more) ≡ complete_lines text ++ map strip_carriage_return (but_last ((open_line text ++ first) ∷ pieces))
   pub open_is : open_line (text ++ more) ≡ last_of ((open_line text ++ first) ∷ pieces)
 
 -- each text grows as `GoesOn` says, by whatever bytes
@@ -201,12 +201,12 @@ goes_on text more = by (slice_split (λ b. b == 10) more) refl
         whole = split_append (λ b. b == 10) text more ∙ (λ i. but_last (pieces_of text) ++ going_on (open_line text) (h i))
 
 -- the complete lines of a text are the first complete lines of a longer one
-pub told_lines_stay : (text more : List ℕ) → (others : Lines) × (told_lines (text ++ more) ≡ told_lines text ++ others)
-told_lines_stay text more = let on = goes_on text more in (map strip_carriage_return (but_last ((open_line text ++ on.first) ∷ on.pieces)), on.told)
+pub complete_lines_stay : (text more : List ℕ) → (others : Lines) × (complete_lines (text ++ more) ≡ complete_lines text ++ others)
+complete_lines_stay text more = let on = goes_on text more in (map strip_carriage_return (but_last ((open_line text ++ on.first) ∷ on.pieces)), on.told)
 
 -- a longer text has at least as many certain lines
-pub lines_told_grow : (text more : List ℕ) → lines_told text ≤ lines_told (text ++ more)
-lines_told_grow text more = by on.pieces on.told on.open_is
+pub sure_lines_grow : (text more : List ℕ) → sure_lines text ≤ sure_lines (text ++ more)
+sure_lines_grow text more = by on.pieces on.told on.open_is
   where
     on : GoesOn text more
     on = goes_on text more
@@ -222,17 +222,17 @@ lines_told_grow text more = by on.pieces on.told on.open_is
     most true = omega arith
     most false = omega arith
 
-    by : (pieces : Lines) → told_lines (text ++ more) ≡ told_lines text ++ map strip_carriage_return (but_last ((open_line text ++ on.first) ∷ pieces))
-        → open_line (text ++ more) ≡ last_of ((open_line text ++ on.first) ∷ pieces) → lines_told text ≤ lines_told (text ++ more)
+    by : (pieces : Lines) → complete_lines (text ++ more) ≡ complete_lines text ++ map strip_carriage_return (but_last ((open_line text ++ on.first) ∷ pieces))
+        → open_line (text ++ more) ≡ last_of ((open_line text ++ on.first) ∷ pieces) → sure_lines text ≤ sure_lines (text ++ more)
     by [] told last =
-        let before = lines_told_is text in
-        let behind = lines_told_is (text ++ more) ∙ (λ i. length (told i) + (if nat_le 82 (length (last i)) then 1 else 0)) in
-        let size = length-append (told_lines text) [] in
+        let before = sure_lines_is text in
+        let behind = sure_lines_is (text ++ more) ∙ (λ i. length (told i) + (if nat_le 82 (length (last i)) then 1 else 0)) in
+        let size = length-append (complete_lines text) [] in
         let grown = longer (nat_le 82 (length (open_line text))) refl in
         omega arith
     by (next ∷ pieces) told last =
-        let before = lines_told_is text in
-        let behind = lines_told_is (text ++ more) in
-        let size = ap length told ∙ length-append (told_lines text) (map strip_carriage_return (but_last ((open_line text ++ on.first) ∷ next ∷ pieces))) in
+        let before = sure_lines_is text in
+        let behind = sure_lines_is (text ++ more) in
+        let size = ap length told ∙ length-append (complete_lines text) (map strip_carriage_return (but_last ((open_line text ++ on.first) ∷ next ∷ pieces))) in
         let grown = most (nat_le 82 (length (open_line text))) in
         omega arith

@@ -1,6 +1,6 @@
 -- `auto` proves these goals too. Written out, they let a wrong body fail without a long search.
 use Rattle.std.proofs.Common.{rules}
-use Rattle.state_index.proofs.walk.MarkWalkIterator.next.Goals as goal
+use Rattle.state_index.proofs.walk.PostingWalkIterator.next.Goals as goal
 
 pub returns-in-Some-clause-steps : goal.returns-in-Some-clause-steps
 returns-in-Some-clause-steps c = search rules

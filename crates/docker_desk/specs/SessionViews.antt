@@ -1,4 +1,4 @@
--- A session from moment to moment.
+-- A session from point to point.
 use Rattle.std.specs.Prelude.{ℕ, Bool, List, Option}
 use Rattle.docker_host.specs.History.{Event, Text}
 use Rattle.docker_desk.specs.Lines.{LineView}
@@ -18,24 +18,24 @@ abbrev pub setting : Text → Bool → Bool → Setting
 setting name may_write names_bytes =
     record { name = name; may_write = may_write; names_bytes = names_bytes }
 
--- a moment of a session: what the desk knows, and the look that saw the state's file, as the number
+-- a point of a session: what the desk knows, and the look that saw the state's file, as the number
 -- of its event. Then come what was asked of the folder so far, and how often the folder has failed
-pub record Moment : Type 0 where
+pub record SessionView : Type 0 where
   pub desk : DeskView
   pub look : ℕ
   pub history : List Event
   pub failures : ℕ
 
--- a moment, from its parts
-abbrev pub moment : DeskView → ℕ → List Event → ℕ → Moment
-moment desk look history failures =
+-- a point, from its parts
+abbrev pub session_view : DeskView → ℕ → List Event → ℕ → SessionView
+session_view desk look history failures =
     record { desk = desk; look = look; history = history; failures = failures }
 
 -- a step of a session: a line, what it asks for, if it asks for anything, its answer, and the
--- moments before and after
+-- points before and after
 pub record Step : Type 0 where
   pub line : LineView
   pub request : Option RequestView
-  pub before : Moment
+  pub before : SessionView
   pub answer : AnswerView
-  pub after : Moment
+  pub after : SessionView

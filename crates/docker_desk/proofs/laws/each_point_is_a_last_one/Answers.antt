@@ -1,5 +1,5 @@
 use Rattle.docker_desk.proofs.KnownLemmas.{steps_apart}
-use Rattle.docker_desk.proofs.laws.each_moment_is_a_last_one.Goals as goal
+use Rattle.docker_desk.proofs.laws.each_point_is_a_last_one.Goals as goal
 
 pub returns : goal.returns
 returns c = λ setting first last earlier later are.

@@ -31,8 +31,8 @@ abbrev pub open_line : List ℕ → List ℕ
 open_line text = last_of (pieces_of text)
 
 -- the complete lines: those ended by a line feed
-abbrev pub told_lines : List ℕ → Lines
-told_lines text = map strip_carriage_return (but_last (pieces_of text))
+abbrev pub complete_lines : List ℕ → Lines
+complete_lines text = map strip_carriage_return (but_last (pieces_of text))
 
 -- a list of the line in the last piece, or no line if that piece is empty
 abbrev pub line_left : List ℕ → Lines

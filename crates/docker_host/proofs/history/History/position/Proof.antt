@@ -1,4 +1,4 @@
--- A moment is the number of events before it. Assumes `Logic`.
+-- A position is the number of events before it. Assumes `Logic`.
 use Rattle.std.proofs.Common.{[], ◌∷◌, length, refl}
 use seplogic.Ra.Ura.{Ura}
 use base.Logic.{SProp}
@@ -25,11 +25,11 @@ use denote.Triple.Table.{entered}
 use denote.Triple.Walked.{says, Stays, stay_none_ref, walk_of, Walks, AllGo, Goes-none_ref, walked, ends_at, walk_Meets}
 use Rattle.docker_host.proofs.Making.{empty_struct, made_of_nothing}
 use Rattle.docker_host.specs.contracts.history.History as history
-use Rattle.docker_host.specs.contracts.history.Moment as type
-use Rattle.docker_host.specs.contracts.history.History.moment as clauses_of
-use Rattle.docker_host.specs.contracts.history.History.moment.Key.{name as #moment}
-use Rattle.docker_host.proofs.history.History.moment.Statement as goal
-use Rattle.docker_host.proofs.history.History.moment.Code as code
+use Rattle.docker_host.specs.contracts.history.Position as type
+use Rattle.docker_host.specs.contracts.history.History.position as clauses_of
+use Rattle.docker_host.specs.contracts.history.History.position.Key.{name as #position}
+use Rattle.docker_host.proofs.history.History.position.Statement as goal
+use Rattle.docker_host.proofs.history.History.position.Code as code
 
 abbrev ended : Ended
 ended = clauses_of.ended
@@ -53,7 +53,7 @@ module _ {M : Type 1} {𝓤 : Ura M} (𝓛 : Logic 𝓤) (memory : Memory → SP
       (λ κs qs bounds args g are.
       let values : Vals ended.signature κs = (shr_vals args.0, tt) in
       let y : (walk_of 𝓛 ended stays clauses).Ghost = ((κs, qs, bounds, args, values), g) in
-      let moment : (type.the_row).Denot = record { at = length args.0.now.events } in
+      let position : (type.the_row).Denot = record { at = length args.0.now.events } in
       qed 𝓛 ((raw (alive 𝓛 ended.signature κs qs) ⊛ ‵ (owns (types_at ended.signature.params κs) args values))
       ∷ raw ((clauses κs args).requires g) ∷ []) ∵
       keep ! (0 ∷ []) $ split ! $
@@ -62,7 +62,7 @@ module _ {M : Type 1} {𝓤 : Ura M} (𝓛 : Logic 𝓤) (memory : Memory → SP
       sets ! (agg ! (no_more !)) refl (tt, tt) $
       made_of_nothing ! $
       returns ! (look_at ! 0 refl) $ free_all ! refl $
-      suffices ! _ (ends_at 𝓛 ended stays clauses y empty_struct moment (tt, tt) (tt, tt)) $ says ! refl $
+      suffices ! _ (ends_at 𝓛 ended stays clauses y empty_struct position (tt, tt) (tt, tt)) $ says ! refl $
       move ! (1 ∷ 2 ∷ 0 ∷ []) $ done !))
 
   meets : (𝓣 : Tables 𝓤 H) → Meets 𝓛 ended.signature (WpFn 𝓤 H 𝓣.C 𝓣.Λ code.function) (closing 𝓛 ended clauses)
@@ -70,9 +70,9 @@ module _ {M : Type 1} {𝓤 : Ura M} (𝓛 : Logic 𝓤) (memory : Memory → SP
       walk_Meets 𝓛 ended stays goes clauses (WpFn 𝓤 H 𝓣.C 𝓣.Λ code.function)
       (WpFn-mono 𝓤 H 𝓛.laws 𝓣 code.function) (walks 𝓣.C 𝓣.Λ)
 
-pub moment_spec : {M : Type 1} → goal.statement M
+pub position_spec : {M : Type 1} → goal.statement M
 unfolding tables_of
-moment_spec 𝓤 𝓛 𝓜 𝓡 w =
+position_spec 𝓤 𝓛 𝓜 𝓡 w =
     let 𝓣 : Tables 𝓤 𝓛.H = tables_of 𝓤 𝓛.H 𝓜 (tables 𝓤 𝓛.H 𝓜 𝓡 𝓡.env) in
-    entered 𝓤 𝓛.H (triple_of 𝓛 ended.signature (closing 𝓛 ended (clauses 𝓛 𝓜.mem 𝓡.returns))) 𝓣.C 𝓣.Λ #moment code.function
+    entered 𝓤 𝓛.H (triple_of 𝓛 ended.signature (closing 𝓛 ended (clauses 𝓛 𝓜.mem 𝓡.returns))) 𝓣.C 𝓣.Λ #position code.function
     (code.unfolded 𝓤 𝓛.H 𝓜 𝓡 w) (meets 𝓛 𝓜.mem 𝓡.returns 𝓣)

@@ -1,4 +1,4 @@
--- Marks, moved to where their places and rows go in a join.
+-- Postings, moved to where their places and rows go in a join.
 use Rattle.std.proofs.Common.{◌≡◌, ℕ, suc, ◌≤◌, List, [], ◌∷◌, length, refl, ap, sym, ◌∙◌, subst, inl, inr, ◌⊎◌, Some, None, Contains, arith}
 use Rattle.std.specs.Prelude.{Option, ◌↔◌, slice_get, option_map, option_and_then}
 use Rattle.std.specs.List.{filter_map, cons_option}
@@ -10,12 +10,12 @@ use Rattle.std.proofs.lemmas.Cmp.{ranked}
 use Rattle.std.proofs.lemmas.Option.{slice_get-map}
 use Rattle.docker_model.specs.state.Order.{bytes_cmp, IsStrictlyAscending}
 use Rattle.state_index.specs.SpotOrder.{Spot}
-use Rattle.state_index.specs.declared.mark.Mark.{Mark}
-use Rattle.state_index.specs.MarkOrder.{mark_cmp}
-use Rattle.state_index.specs.Spots.{Places, spot_at, spots_of, mark_spot, spots_in, AreMarksOf}
-use Rattle.state_index.specs.Joined.{moved_spot, moved_spots, moved_mark, moved_marks, AreRanks, AreRising}
+use Rattle.state_index.specs.declared.posting.Posting.{Posting}
+use Rattle.state_index.specs.PostingOrder.{posting_cmp}
+use Rattle.state_index.specs.Spots.{Places, spot_at, spots_of, posting_spot, spots_in, ArePostingsOf}
+use Rattle.state_index.specs.Joined.{moved_spot, moved_spots, moved_posting, moved_postings, AreRanks, AreRising}
 use Rattle.state_index.proofs.Positions.{Keyed, some_is, chosen_from, chosen_to, chosen_ascends}
-use Rattle.state_index.proofs.MarkSpots.{place_order, spots_ascend}
+use Rattle.state_index.proofs.PostingSpots.{place_order, spots_ascend}
 use Rattle.state_index.proofs.MovedSpots.{joined_spots}
 
 none_some : {A : Type 0} (a : A) → None ≡ Some a → ⊥
@@ -31,12 +31,12 @@ fused {A} {B} {C} f g (x ∷ xs) = by (f x) (fused f g xs)
     by None rest = rest
     by (Some y) rest = ap (cons_option (g y)) rest
 
--- there are at most as many moved marks as marks
-pub moved_few : (ranks : List ℕ) (moves : List (Option ℕ)) (marks : List Mark) → length (moved_marks ranks moves marks) ≤ length marks
+-- there are at most as many moved postings as postings
+pub moved_few : (ranks : List ℕ) (moves : List (Option ℕ)) (postings : List Posting) → length (moved_postings ranks moves postings) ≤ length postings
 moved_few ranks moves [] = omega arith
-moved_few ranks moves (mark ∷ marks) = by (moved_mark ranks moves mark) (moved_few ranks moves marks)
+moved_few ranks moves (posting ∷ postings) = by (moved_posting ranks moves posting) (moved_few ranks moves postings)
   where
-    by : (o : Option Mark) → length (moved_marks ranks moves marks) ≤ length marks → length (cons_option o (moved_marks ranks moves marks)) ≤ suc (length marks)
+    by : (o : Option Posting) → length (moved_postings ranks moves postings) ≤ length postings → length (cons_option o (moved_postings ranks moves postings)) ≤ suc (length postings)
     by None rest = omega arith
     by (Some moved) rest = omega arith
 
@@ -44,55 +44,55 @@ module _ (names others : List (List ℕ)) (ranks : List ℕ) (are : AreRanks oth
   rank_at : (i : ℕ) → option_map (slice_get others) (slice_get ranks i) ≡ option_map Some (slice_get names i)
   rank_at i = sym (slice_get-map (slice_get others) ranks i) ∙ ap (λ (all : List (Option (List ℕ))). slice_get all i) are ∙ slice_get-map Some names i
 
-  -- a moved mark stands for the moved spot
-  same_move : (mark : Mark) → option_and_then (mark_spot others) (moved_mark ranks moves mark) ≡ option_and_then (moved_spot moves) (mark_spot names mark)
-  same_move mark = by (slice_get ranks mark.place) refl (slice_get names mark.place) refl
+  -- a moved posting stands for the moved spot
+  same_move : (posting : Posting) → option_and_then (posting_spot others) (moved_posting ranks moves posting) ≡ option_and_then (moved_spot moves) (posting_spot names posting)
+  same_move posting = by (slice_get ranks posting.place) refl (slice_get names posting.place) refl
     where
       there : Option ℕ → Option Spot
-      there rank = option_and_then (mark_spot others) (option_and_then
-          (λ r. option_map (λ at. record { place = r; at = at }) (option_and_then (λ (move : Option ℕ). move) (slice_get moves mark.at))) rank)
+      there rank = option_and_then (posting_spot others) (option_and_then
+          (λ r. option_map (λ at. record { place = r; at = at }) (option_and_then (λ (move : Option ℕ). move) (slice_get moves posting.at))) rank)
 
-      go : (rank : ℕ) (place : List ℕ) → slice_get others rank ≡ Some place → (move : Option (Option ℕ)) → slice_get moves mark.at ≡ move
-          → option_and_then (mark_spot others) (option_map (λ at. record { place = rank; at = at }) (option_and_then (λ (m : Option ℕ). m) move))
+      go : (rank : ℕ) (place : List ℕ) → slice_get others rank ≡ Some place → (move : Option (Option ℕ)) → slice_get moves posting.at ≡ move
+          → option_and_then (posting_spot others) (option_map (λ at. record { place = rank; at = at }) (option_and_then (λ (m : Option ℕ). m) move))
           ≡ option_map (λ at. record { place = place; at = at }) (option_and_then (λ (m : Option ℕ). m) move)
       go rank place at None is = refl
       go rank place at (Some None) is = refl
       go rank place at (Some (Some p)) is = ap (option_map (spot_at p)) at
 
-      by : (r : Option ℕ) → slice_get ranks mark.place ≡ r → (o : Option (List ℕ)) → slice_get names mark.place ≡ o
-          → there r ≡ option_and_then (moved_spot moves) (option_map (spot_at mark.at) o)
+      by : (r : Option ℕ) → slice_get ranks posting.place ≡ r → (o : Option (List ℕ)) → slice_get names posting.place ≡ o
+          → there r ≡ option_and_then (moved_spot moves) (option_map (spot_at posting.at) o)
       by None is None named = refl
       by None is (Some place) named =
-          absurd (none_some (Some place) (sym (ap (option_map (slice_get others)) is) ∙ rank_at mark.place ∙ ap (option_map Some) named))
+          absurd (none_some (Some place) (sym (ap (option_map (slice_get others)) is) ∙ rank_at posting.place ∙ ap (option_map Some) named))
       by (Some rank) is None named =
           absurd (none_some (slice_get others rank)
-          (sym (ap (option_map Some) named) ∙ sym (rank_at mark.place) ∙ ap (option_map (slice_get others)) is))
+          (sym (ap (option_map Some) named) ∙ sym (rank_at posting.place) ∙ ap (option_map (slice_get others)) is))
       by (Some rank) is (Some place) named =
           go rank place
           (some_is (slice_get others rank) (Some place)
-          (sym (ap (option_map (slice_get others)) is) ∙ rank_at mark.place ∙ ap (option_map Some) named))
-          (slice_get moves mark.at) refl
+          (sym (ap (option_map (slice_get others)) is) ∙ rank_at posting.place ∙ ap (option_map Some) named))
+          (slice_get moves posting.at) refl
 
-  pub moved_is : (marks : List Mark) → spots_in others (moved_marks ranks moves marks) ≡ moved_spots moves (spots_in names marks)
-  moved_is marks =
-      fused (moved_mark ranks moves) (mark_spot others) marks
-      ∙ (λ i. filter_map (λ mark. same_move mark i) marks)
-      ∙ sym (fused (mark_spot names) (moved_spot moves) marks)
+  pub moved_is : (postings : List Posting) → spots_in others (moved_postings ranks moves postings) ≡ moved_spots moves (spots_in names postings)
+  moved_is postings =
+      fused (moved_posting ranks moves) (posting_spot others) postings
+      ∙ (λ i. filter_map (λ posting. same_move posting i) postings)
+      ∙ sym (fused (posting_spot names) (moved_spot moves) postings)
 
-  -- a mark is moved only if its place has a rank and its row goes into the join
-  went : (mark moved : Mark) → moved_mark ranks moves mark ≡ Some moved
-      → (slice_get ranks mark.place ≡ Some moved.place) × (slice_get moves mark.at ≡ Some (Some moved.at))
-  went mark moved is = by (slice_get ranks mark.place) refl (slice_get moves mark.at) refl is
+  -- a posting is moved only if its place has a rank and its row goes into the join
+  went : (posting moved : Posting) → moved_posting ranks moves posting ≡ Some moved
+      → (slice_get ranks posting.place ≡ Some moved.place) × (slice_get moves posting.at ≡ Some (Some moved.at))
+  went posting moved is = by (slice_get ranks posting.place) refl (slice_get moves posting.at) refl is
     where
-      by : (r : Option ℕ) → slice_get ranks mark.place ≡ r → (move : Option (Option ℕ)) → slice_get moves mark.at ≡ move
+      by : (r : Option ℕ) → slice_get ranks posting.place ≡ r → (move : Option (Option ℕ)) → slice_get moves posting.at ≡ move
           → option_and_then (λ rank. option_map (λ at. record { place = rank; at = at }) (option_and_then (λ (m : Option ℕ). m) move)) r ≡ Some moved
-          → (slice_get ranks mark.place ≡ Some moved.place) × (slice_get moves mark.at ≡ Some (Some moved.at))
+          → (slice_get ranks posting.place ≡ Some moved.place) × (slice_get moves posting.at ≡ Some (Some moved.at))
       by None at move there told = absurd (none_some moved told)
       by (Some rank) at None there told = absurd (none_some moved told)
       by (Some rank) at (Some None) there told = absurd (none_some moved told)
       by (Some rank) at (Some (Some p)) there told =
           let same : record { place = rank; at = p } ≡ moved = some_is (record { place = rank; at = p }) moved told in
-          (at ∙ ap (λ (m : Mark). Some m.place) same, there ∙ ap (λ (m : Mark). Some (Some m.at)) same)
+          (at ∙ ap (λ (m : Posting). Some m.place) same, there ∙ ap (λ (m : Posting). Some (Some m.at)) same)
 
   -- a rank in the list of ranks belongs to a place that both lists of names have
   placed : (i rank : ℕ) → slice_get ranks i ≡ Some rank → (place : List ℕ) × (slice_get names i ≡ Some place) × (slice_get others rank ≡ Some place)
@@ -109,7 +109,7 @@ module _ (names others : List (List ℕ)) (ranks : List ℕ) (are : AreRanks oth
       )
 
   module _ (up : IsStrictlyAscending bytes_cmp names) (others_up : IsStrictlyAscending bytes_cmp others) (rise : AreRising moves) where
-    moved_below : (a b c d : Mark) → mark_cmp a b ≡ Less → moved_mark ranks moves a ≡ Some c → moved_mark ranks moves b ≡ Some d → mark_cmp c d ≡ Less
+    moved_below : (a b c d : Posting) → posting_cmp a b ≡ Less → moved_posting ranks moves a ≡ Some c → moved_posting ranks moves b ≡ Some d → posting_cmp c d ≡ Less
     moved_below a b c d below is_c is_d = by (nat_cmp a.place b.place) refl below
       where
         from_a : (slice_get ranks a.place ≡ Some c.place) × (slice_get moves a.at ≡ Some (Some c.at))
@@ -127,38 +127,38 @@ module _ (names others : List (List ℕ)) (ranks : List ℕ) (are : AreRanks oth
         same : nat_cmp c.place d.place ≡ nat_cmp a.place b.place
         same = sym (place_order others others_up c.place d.place at_a.0 at_b.0 at_a.2 at_b.2) ∙ place_order names up a.place b.place at_a.0 at_b.0 at_a.1 at_b.1
 
-        by : (o : Ordering) → nat_cmp a.place b.place ≡ o → ordering_then o (nat_cmp a.at b.at) ≡ Less → mark_cmp c d ≡ Less
+        by : (o : Ordering) → nat_cmp a.place b.place ≡ o → ordering_then o (nat_cmp a.at b.at) ≡ Less → posting_cmp c d ≡ Less
         by Less at told = λ i. ordering_then ((same ∙ at) i) (nat_cmp c.at d.at)
         by Greater at told = absurd (let bad : Greater ≡ Less = told in cc)
         by Equal at told =
             (λ i. ordering_then ((same ∙ at) i) (nat_cmp c.at d.at))
             ∙ sym (nat_cmp_is c.at d.at Less (rise a.at b.at c.at d.at (ranked a.at b.at Less (sym told)) from_a.1 from_b.1))
 
-    pub moved_ascends : (marks : List Mark) → IsStrictlyAscending mark_cmp marks → IsStrictlyAscending mark_cmp (moved_marks ranks moves marks)
-    moved_ascends marks rising = chosen_ascends (moved_mark ranks moves) mark_cmp mark_cmp moved_below marks rising
+    pub moved_ascends : (postings : List Posting) → IsStrictlyAscending posting_cmp postings → IsStrictlyAscending posting_cmp (moved_postings ranks moves postings)
+    moved_ascends postings rising = chosen_ascends (moved_posting ranks moves) posting_cmp posting_cmp moved_below postings rising
 
--- the moved marks of both tables, merged, are the marks of the joined rows
+-- the moved postings of both tables, merged, are the postings of the joined rows
 module _ (places : Places) (rows others joined : List Keyed) (moves other_moves : List (Option ℕ)) (names other_names all : List (List ℕ))
     (ranks other_ranks : List ℕ) (are : AreRanks all names ranks) (others_are : AreRanks all other_names other_ranks)
     (up : IsStrictlyAscending bytes_cmp names) (others_up : IsStrictlyAscending bytes_cmp other_names) (all_up : IsStrictlyAscending bytes_cmp all)
-    (rise : AreRising moves) (other_rise : AreRising other_moves) (first second : List Mark)
-    (of_first : AreMarksOf places rows names first) (of_second : AreMarksOf places others other_names second)
+    (rise : AreRising moves) (other_rise : AreRising other_moves) (first second : List Posting)
+    (of_first : ArePostingsOf places rows names first) (of_second : ArePostingsOf places others other_names second)
     (told : (spot : Spot) → Contains (spots_of places joined) spot
     ↔ (Contains (moved_spots moves (spots_of places rows)) spot ⊎ Contains (moved_spots other_moves (spots_of places others)) spot)) where
-  pub joined_marks : (left right merged : List Mark) → left ≡ moved_marks ranks moves first → right ≡ moved_marks other_ranks other_moves second
-      → (IsStrictlyAscending mark_cmp left → IsStrictlyAscending mark_cmp right → IsStrictlyAscending mark_cmp merged)
-      → ((mark : Mark) → Contains merged mark ↔ (Contains left mark ⊎ Contains right mark)) → AreMarksOf places joined all merged
-  joined_marks left right merged left_is right_is ascends members = record {
+  pub joined_postings : (left right merged : List Posting) → left ≡ moved_postings ranks moves first → right ≡ moved_postings other_ranks other_moves second
+      → (IsStrictlyAscending posting_cmp left → IsStrictlyAscending posting_cmp right → IsStrictlyAscending posting_cmp merged)
+      → ((posting : Posting) → Contains merged posting ↔ (Contains left posting ⊎ Contains right posting)) → ArePostingsOf places joined all merged
+  joined_postings left right merged left_is right_is ascends members = record {
     up = merged_up;
     are = joined_spots places rows others joined moves other_moves (spots_in names first) (spots_in other_names second) (spots_in all merged)
         rise other_rise of_first.are of_second.are told (λ a b c d. spots_ascend all all_up merged merged_up)
-        (λ spot. (λ among. forth spot (chosen_from (mark_spot all) merged spot among), back spot));
+        (λ spot. (λ among. forth spot (chosen_from (posting_spot all) merged spot among), back spot));
   }
     where
-      merged_up : IsStrictlyAscending mark_cmp merged
+      merged_up : IsStrictlyAscending posting_cmp merged
       merged_up = ascends
-          (subst (IsStrictlyAscending mark_cmp) (sym left_is) (moved_ascends names all ranks are moves up all_up rise first of_first.up))
-          (subst (IsStrictlyAscending mark_cmp) (sym right_is)
+          (subst (IsStrictlyAscending posting_cmp) (sym left_is) (moved_ascends names all ranks are moves up all_up rise first of_first.up))
+          (subst (IsStrictlyAscending posting_cmp) (sym right_is)
           (moved_ascends other_names all other_ranks others_are other_moves others_up all_up other_rise second of_second.up))
 
       left_spots : spots_in all left ≡ moved_spots moves (spots_in names first)
@@ -167,22 +167,22 @@ module _ (places : Places) (rows others joined : List Keyed) (moves other_moves 
       right_spots : spots_in all right ≡ moved_spots other_moves (spots_in other_names second)
       right_spots = ap (spots_in all) right_is ∙ moved_is other_names all other_ranks others_are other_moves second
 
-      side : (spot : Spot) (mark : Mark) → mark_spot all mark ≡ Some spot → Contains left mark ⊎ Contains right mark
+      side : (spot : Spot) (posting : Posting) → posting_spot all posting ≡ Some spot → Contains left posting ⊎ Contains right posting
           → Contains (moved_spots moves (spots_in names first)) spot ⊎ Contains (moved_spots other_moves (spots_in other_names second)) spot
-      side spot mark is (inl among) = inl (subst (λ zs. Contains zs spot) left_spots (chosen_to (mark_spot all) left mark spot among is))
-      side spot mark is (inr among) = inr (subst (λ zs. Contains zs spot) right_spots (chosen_to (mark_spot all) right mark spot among is))
+      side spot posting is (inl among) = inl (subst (λ zs. Contains zs spot) left_spots (chosen_to (posting_spot all) left posting spot among is))
+      side spot posting is (inr among) = inr (subst (λ zs. Contains zs spot) right_spots (chosen_to (posting_spot all) right posting spot among is))
 
-      forth : (spot : Spot) → (mark : Mark) × Contains merged mark × (mark_spot all mark ≡ Some spot)
+      forth : (spot : Spot) → (posting : Posting) × Contains merged posting × (posting_spot all posting ≡ Some spot)
           → Contains (moved_spots moves (spots_in names first)) spot ⊎ Contains (moved_spots other_moves (spots_in other_names second)) spot
       forth spot found = side spot found.0 found.2 ((members found.0).0 found.1)
 
-      from_left : (spot : Spot) → (mark : Mark) × Contains left mark × (mark_spot all mark ≡ Some spot) → Contains (spots_in all merged) spot
-      from_left spot found = chosen_to (mark_spot all) merged found.0 spot ((members found.0).1 (inl found.1)) found.2
+      from_left : (spot : Spot) → (posting : Posting) × Contains left posting × (posting_spot all posting ≡ Some spot) → Contains (spots_in all merged) spot
+      from_left spot found = chosen_to (posting_spot all) merged found.0 spot ((members found.0).1 (inl found.1)) found.2
 
-      from_right : (spot : Spot) → (mark : Mark) × Contains right mark × (mark_spot all mark ≡ Some spot) → Contains (spots_in all merged) spot
-      from_right spot found = chosen_to (mark_spot all) merged found.0 spot ((members found.0).1 (inr found.1)) found.2
+      from_right : (spot : Spot) → (posting : Posting) × Contains right posting × (posting_spot all posting ≡ Some spot) → Contains (spots_in all merged) spot
+      from_right spot found = chosen_to (posting_spot all) merged found.0 spot ((members found.0).1 (inr found.1)) found.2
 
       back : (spot : Spot) → Contains (moved_spots moves (spots_in names first)) spot ⊎ Contains (moved_spots other_moves (spots_in other_names second)) spot
           → Contains (spots_in all merged) spot
-      back spot (inl among) = from_left spot (chosen_from (mark_spot all) left spot (subst (λ zs. Contains zs spot) (sym left_spots) among))
-      back spot (inr among) = from_right spot (chosen_from (mark_spot all) right spot (subst (λ zs. Contains zs spot) (sym right_spots) among))
+      back spot (inl among) = from_left spot (chosen_from (posting_spot all) left spot (subst (λ zs. Contains zs spot) (sym left_spots) among))
+      back spot (inr among) = from_right spot (chosen_from (posting_spot all) right spot (subst (λ zs. Contains zs spot) (sym right_spots) among))

@@ -1,0 +1,166 @@
+-- Postings and the spots that they stand for.
+use Rattle.std.proofs.Common.{◌≡◌, ℕ, List, [], ◌∷◌, ◌++◌, refl, ap, sym, ◌∙◌, subst, Some, None, Contains, Bool, true, false, cond, append-nil}
+use Rattle.std.specs.Prelude.{Option, ◌↔◌, filter, slice_get, option_map, option_and_then}
+use Rattle.std.specs.List.{cons_option}
+use Rattle.std.specs.Option.{is_some}
+use Rattle.std.specs.declared.cmp.Ordering.{Ordering}
+use Rattle.std.specs.declared.cmp.Ordering.TheVariants.{Less, Equal, Greater}
+use Rattle.std.specs.Ordering.{ordering_then, ordering_reverse, nat_cmp}
+use Rattle.std.specs.Cmp.{tied_itself}
+use Rattle.std.specs.Cmp.Lexicographic.{nat_list_cmp_total}
+use Rattle.std.proofs.lemmas.Cmp.{ranked}
+use Rattle.std.proofs.lemmas.List.Elements.{filter_map-append}
+use Rattle.std.proofs.lemmas.Map.Lookups.{exact_unsigned}
+use Rattle.docker_model.specs.state.Order.{bytes_cmp, IsStrictlyAscending}
+use Rattle.cif_laws.proofs.lists.Membership.{nil-Contains, cons-Contains, cons-Contains-first}
+use Rattle.state_index.specs.SpotOrder.{Spot, spot_cmp}
+use Rattle.state_index.specs.declared.posting.Posting.{Posting}
+use Rattle.state_index.specs.PostingOrder.{posting_cmp}
+use Rattle.state_index.specs.Spots.{Places, spot_at, spots_of, posting_spot, spots_in, ArePostingsOf}
+use Rattle.state_index.specs.PlaceRows.{live_row, rows_at_spots, rows_at_postings, is_put_at, is_put_at_posting, IsPieceAt, IsPieceOf}
+use Rattle.state_index.proofs.Positions.{Keyed, some_is, at_member, at_ascends, chosen_from, chosen_to, chosen_ascends}
+
+none_some : {A : Type 0} (a : A) → None ≡ Some a → ⊥
+none_some a h = cc
+
+-- a posting names its spot's place and row
+pub spot_named : (names : List (List ℕ)) (posting : Posting) (spot : Spot) → posting_spot names posting ≡ Some spot
+    → (slice_get names posting.place ≡ Some spot.place) × (spot.at ≡ posting.at)
+spot_named names posting spot is = by (slice_get names posting.place) refl is
+  where
+    by : (o : Option (List ℕ)) → slice_get names posting.place ≡ o → option_map (spot_at posting.at) o ≡ Some spot
+        → (slice_get names posting.place ≡ Some spot.place) × (spot.at ≡ posting.at)
+    by None at told = absurd (none_some spot told)
+    by (Some place) at told =
+        let same : spot_at posting.at place ≡ spot = some_is (spot_at posting.at place) spot told in
+        (at ∙ ap (λ (s : Spot). Some s.place) same, sym (ap (λ (s : Spot). s.at) same))
+
+module _ (names : List (List ℕ)) (up : IsStrictlyAscending bytes_cmp names) where
+  -- ascending places compare like their indexes
+  pub place_order : (i j : ℕ) (x y : List ℕ) → slice_get names i ≡ Some x → slice_get names j ≡ Some y → bytes_cmp x y ≡ nat_cmp i j
+  place_order i j x y is_x is_y = by (nat_cmp i j) refl
+    where
+      by : (o : Ordering) → nat_cmp i j ≡ o → bytes_cmp x y ≡ nat_cmp i j
+      by Less at = at_ascends bytes_cmp names up i j x y (ranked i j Less (sym at)) is_x is_y ∙ sym at
+      by Equal at =
+          let one : i ≡ j = ranked i j Equal (sym at) in
+          let same : x ≡ y = some_is x y (sym is_x ∙ ap (slice_get names) one ∙ is_y) in
+          sym (ap (bytes_cmp x) same) ∙ tied_itself nat_list_cmp_total x ∙ sym at
+      by Greater at =
+          nat_list_cmp_total.antisymm x y ∙ ap ordering_reverse (at_ascends bytes_cmp names up j i y x (ranked i j Greater (sym at)) is_y is_x) ∙ sym at
+
+  -- spots compare like their postings
+  pub same_order : (a b : Posting) (x y : Spot) → posting_spot names a ≡ Some x → posting_spot names b ≡ Some y → bytes_cmp x.place y.place ≡ nat_cmp a.place b.place
+  same_order a b x y is_x is_y = place_order a.place b.place x.place y.place (spot_named names a x is_x).0 (spot_named names b y is_y).0
+
+  pub same_cmp : (a b : Posting) (x y : Spot) → posting_spot names a ≡ Some x → posting_spot names b ≡ Some y → spot_cmp x y ≡ posting_cmp a b
+  same_cmp a b x y is_x is_y =
+      let rows : nat_cmp x.at y.at ≡ nat_cmp a.at b.at = λ i. nat_cmp ((spot_named names a x is_x).1 i) ((spot_named names b y is_y).1 i) in
+      λ i. ordering_then (same_order a b x y is_x is_y i) (rows i)
+
+  -- the spots of ascending postings ascend
+  pub spots_ascend : (postings : List Posting) → IsStrictlyAscending posting_cmp postings → IsStrictlyAscending spot_cmp (spots_in names postings)
+  spots_ascend postings rise = chosen_ascends (posting_spot names) posting_cmp spot_cmp (λ a b c d below is_c is_d. same_cmp a b c d is_c is_d ∙ below) postings rise
+
+  -- a place has only one index
+  one_rank : (i j : ℕ) (place : List ℕ) → slice_get names i ≡ Some place → slice_get names j ≡ Some place → i ≡ j
+  one_rank i j place is_i is_j = exact_unsigned i j (sym (place_order i j place place is_i is_j) ∙ tied_itself nat_list_cmp_total place)
+
+  -- a place's postings stand for its spots
+  pub piece_at : (rank : ℕ) (place : List ℕ) (postings piece : List Posting) → slice_get names rank ≡ Some place → IsPieceOf rank postings piece
+      → IsPieceAt place (spots_in names postings) (spots_in names piece)
+  piece_at rank place postings piece at is = record {
+    before = spots_in names is.before;
+    behind = spots_in names is.behind;
+    whole = ap (spots_in names) is.whole ∙ filter_map-append (posting_spot names) (is.before ++ piece) is.behind
+        ∙ ap (λ (front : List Spot). front ++ spots_in names is.behind) (filter_map-append (posting_spot names) is.before piece);
+    none_before = λ spot among same.
+        let found = chosen_from (posting_spot names) is.before spot among in
+        is.none_before found.0 found.1 (one_rank found.0.place rank place ((spot_named names found.0 spot found.2).0 ∙ ap Some same) at);
+    here = λ spot among.
+        let found = chosen_from (posting_spot names) piece spot among in
+        some_is spot.place place
+        (sym (spot_named names found.0 spot found.2).0 ∙ ap (slice_get names) (is.here found.0 found.1) ∙ at);
+    none_behind = λ spot among same.
+        let found = chosen_from (posting_spot names) is.behind spot among in
+        is.none_behind found.0 found.1 (one_rank found.0.place rank place ((spot_named names found.0 spot found.2).0 ∙ ap Some same) at);
+  }
+
+-- a place without an index has no spot
+pub no_piece : (names : List (List ℕ)) (postings : List Posting) (place : List ℕ) → ¬ (Contains names place) → (all : List Spot) → all ≡ spots_in names postings
+    → IsPieceAt place all []
+no_piece names postings place never all all_is = record {
+  before = all;
+  behind = [];
+  whole = sym (append-nil (all ++ []) ∙ append-nil all);
+  none_before = λ spot among same.
+      let found = chosen_from (posting_spot names) postings spot (subst (λ zs. Contains zs spot) all_is among) in
+      never (subst (Contains names) same (at_member names found.0.place spot.place (spot_named names found.0 spot found.2).0));
+  here = λ spot among. absurd (nil-Contains spot among);
+  none_behind = λ spot among. absurd (nil-Contains spot among);
+}
+
+-- a place's postings name the same rows as its spots
+pub same_rows : (names : List (List ℕ)) (rank : ℕ) (place : List ℕ) → slice_get names rank ≡ Some place → (piece : List Posting)
+    → ((posting : Posting) → Contains piece posting → posting.place ≡ rank) → (rows : List Keyed) → rows_at_postings rows piece ≡ rows_at_spots rows (spots_in names piece)
+same_rows names rank place at [] here rows = refl
+same_rows names rank place at (posting ∷ piece) here rows =
+    by (posting_spot names posting) (ap (option_map (spot_at posting.at)) (ap (slice_get names) (here posting (cons-Contains-first posting piece)) ∙ at))
+    (same_rows names rank place at piece (λ m among. here m (cons-Contains posting piece m among)) rows)
+  where
+    by : (o : Option Spot) → o ≡ Some (spot_at posting.at place) → rows_at_postings rows piece ≡ rows_at_spots rows (spots_in names piece)
+        → rows_at_postings rows (posting ∷ piece) ≡ rows_at_spots rows (cons_option o (spots_in names piece))
+    by None told rest = absurd (none_some (spot_at posting.at place) told)
+    by (Some spot) told rest =
+        let same : spot ≡ spot_at posting.at place = some_is spot (spot_at posting.at place) told in
+        λ i. cons_option (option_and_then live_row (slice_get rows (sym (ap (λ (s : Spot). s.at) same) i))) (rest i)
+
+-- if all postings of a list are in another list, all its spots are in the other's spots
+pub same_spots : (names : List (List ℕ)) (postings others : List Posting) → ((posting : Posting) → Contains postings posting → Contains others posting) → (spot : Spot)
+    → Contains (spots_in names postings) spot → Contains (spots_in names others) spot
+same_spots names postings others same spot among =
+    let found = chosen_from (posting_spot names) postings spot among in
+    chosen_to (posting_spot names) others found.0 spot (same found.0 found.1) found.2
+
+-- sorted postings of some rows' spots are the postings of the rows
+pub postings_made : (places : Places) (rows : List Keyed) (names : List (List ℕ)) (made postings : List Posting) → IsStrictlyAscending bytes_cmp names
+    → spots_in names made ≡ spots_of places rows → IsStrictlyAscending posting_cmp postings → ((posting : Posting) → Contains postings posting ↔ Contains made posting)
+    → ArePostingsOf places rows names postings
+postings_made places rows names made postings named are up same = record {
+  up = up;
+  are = record {
+    ascending = spots_ascend names named postings up;
+    members = λ spot. (
+      λ among. subst (λ zs. Contains zs spot) are (same_spots names postings made (λ m. (same m).0) spot among),
+      λ among. same_spots names made postings (λ m. (same m).1) spot (subst (λ zs. Contains zs spot) (sym are) among),
+    );
+  };
+}
+
+-- after a lapse, the postings that stay stand for the spots that stay
+pub kept_spots : (names : List (List ℕ)) (rows : List Keyed) (postings : List Posting)
+    → spots_in names (filter (is_put_at_posting rows) postings) ≡ filter (is_put_at rows) (spots_in names postings)
+kept_spots names rows [] = refl
+kept_spots names rows (posting ∷ postings) = by (posting_spot names posting) refl (is_put_at_posting rows posting) refl (kept_spots names rows postings)
+  where
+    by : (o : Option Spot) → posting_spot names posting ≡ o → (b : Bool) → is_put_at_posting rows posting ≡ b
+        → spots_in names (filter (is_put_at_posting rows) postings) ≡ filter (is_put_at rows) (spots_in names postings)
+        → spots_in names (filter (is_put_at_posting rows) (posting ∷ postings)) ≡ filter (is_put_at rows) (cons_option o (spots_in names postings))
+    by None at true put rest =
+        (λ i. spots_in names (cond (put i) (posting ∷ filter (is_put_at_posting rows) postings) (filter (is_put_at_posting rows) postings)))
+        ∙ (λ i. cons_option (at i) (spots_in names (filter (is_put_at_posting rows) postings))) ∙ rest
+    by None at false put rest =
+        (λ i. spots_in names (cond (put i) (posting ∷ filter (is_put_at_posting rows) postings) (filter (is_put_at_posting rows) postings))) ∙ rest
+    by (Some spot) at true put rest =
+        let row : spot.at ≡ posting.at = (spot_named names posting spot at).1 in
+        let stays : is_put_at rows spot ≡ true = (λ i. is_some (option_and_then live_row (slice_get rows (row i)))) ∙ put in
+        (λ i. spots_in names (cond (put i) (posting ∷ filter (is_put_at_posting rows) postings) (filter (is_put_at_posting rows) postings)))
+        ∙ (λ i. cons_option (at i) (spots_in names (filter (is_put_at_posting rows) postings)))
+        ∙ (λ i. spot ∷ rest i)
+        ∙ sym (λ i. cond (stays i) (spot ∷ filter (is_put_at rows) (spots_in names postings)) (filter (is_put_at rows) (spots_in names postings)))
+    by (Some spot) at false put rest =
+        let row : spot.at ≡ posting.at = (spot_named names posting spot at).1 in
+        let goes : is_put_at rows spot ≡ false = (λ i. is_some (option_and_then live_row (slice_get rows (row i)))) ∙ put in
+        (λ i. spots_in names (cond (put i) (posting ∷ filter (is_put_at_posting rows) postings) (filter (is_put_at_posting rows) postings)))
+        ∙ rest
+        ∙ sym (λ i. cond (goes i) (spot ∷ filter (is_put_at rows) (spots_in names postings)) (filter (is_put_at rows) (spots_in names postings)))
