@@ -1,4 +1,4 @@
--- Writes and reads, one after another, and how often a device has failed.
+-- Several writes or reads, one after the other, and the number of failures of a device.
 use Rattle.std.proofs.Common.{◌≡◌, ℕ, ◌+◌, ◌-◌, List, ◌++◌, arith, length, take, drop, replicate, Option, None, Some, refl, ap, sym, subst, ◌∙◌, append_assoc}
 use Rattle.std.proofs.lemmas.Grind.{common_steps}
 use Rattle.std.specs.Prelude.{◌≢◌, true, false, Result, Ok, Err, IsErr, OnOk, OnErr}
@@ -22,17 +22,18 @@ pub Takes-take : (old middle new : Option (List ℕ)) (piece : List ℕ) (done n
 Takes-take old middle new piece done n first second =
     rw take-add (Takes-append old middle new (take done piece) (take n (drop done piece)) first second)
 
--- the elements from index `n` on are the rest
+-- the elements from index `n` on are the rest of the list
 pub take-drop_all : (n : ℕ) (xs : List ℕ) → take (length xs - n) (drop n xs) ≡ drop n xs
 take-drop_all n xs = grind (arith, common_steps)
 
--- a text repeated `m + n` times is the text repeated `m` times, and then `n` times
+-- a text repeated `m + n` times is the text repeated `m` times, followed by the text repeated `n`
+-- times
 concat-replicate_add : (m n : ℕ) (text : List ℕ) →
     concat (replicate (m + n) text) ≡ concat (replicate m text) ++ concat (replicate n text)
 concat-replicate_add m n text =
     ap concat (sym (replicate-append-replicate m n text)) ∙ concat-append (replicate m text) (replicate n text)
 
--- two reads of an endless source give their bytes one after the other
+-- two reads of an endless source, one after the other, give the bytes of both
 pub Goes-append : (old middle new : Round) (front back : List ℕ) →
     Goes old front middle → Goes middle back new → Goes old (front ++ back) new
 Goes-append old middle new front back (again, step, m, first) (again', step', n, second) =
@@ -49,7 +50,7 @@ Goes-append old middle new front back (again, step, m, first) (again', step', n,
         ∙ ap (λ more. front ++ more) then
         ∙ sym (append_assoc front back new.left)
 
--- ---- how often a device has failed
+-- ---- the number of failures of a device
 
 one_more_is_other : (before after : ℕ) → after ≡ before → after ≢ before + 1
 one_more_is_other before after same more = grind (arith, common_steps)
@@ -57,19 +58,19 @@ one_more_is_other before after same more = grind (arith, common_steps)
 false_is_not_true : false ≢ true
 false_is_not_true is = cc
 
--- a count that stays without an error, and rises by one with an error, counts failures
+-- a number counts failures if it stays without an error and rises by one with an error
 pub counts_error : {A E : Type 0} (result : Result A E) (before after : ℕ) →
     OnOk result (after ≡ before) → OnErr result (after ≡ before + 1) → CountsFailure (IsErr result) before after
 counts_error (Ok value) before after same more =
     ((λ error. absurd (false_is_not_true error), λ one_more. absurd (one_more_is_other before after same one_more)), λ no_error. same)
 counts_error (Err fault) before after same more = ((λ error. more, λ one_more. refl), λ no_error. absurd (no_error refl))
 
--- without an error, a count of failures stays the same
+-- without an error the number of failures stays
 pub same_if_ok : {A E : Type 0} (result : Result A E) (before after : ℕ) → CountsFailure (IsErr result) before after → OnOk result (after ≡ before)
 same_if_ok (Ok value) before after counted = counted.1 false_is_not_true
 same_if_ok (Err fault) before after counted = tt
 
--- with an error, a count of failures rises by one
+-- with an error the number of failures rises by one
 pub one_more_if_err : {A E : Type 0} (result : Result A E) (before after : ℕ) → CountsFailure (IsErr result) before after → OnErr result (after ≡ before + 1)
 one_more_if_err (Ok value) before after counted = tt
 one_more_if_err (Err fault) before after counted = counted.0.0 refl

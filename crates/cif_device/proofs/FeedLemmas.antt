@@ -1,4 +1,4 @@
--- Feeding a taker from a source: the taker has taken what the source gave.
+-- Feeding a taker from a source: the taker takes what the source gives.
 use Rattle.std.proofs.Common.{◌≡◌, ℕ, ◌+◌, ◌<◌, ◌≤◌, List, [], ◌∷◌, ◌++◌, length, take, drop, Some, None, refl, sym, ◌∙◌}
 use Rattle.std.proofs.Common.{ap, subst, arith, append_assoc, append-nil, length-append, ◌^◌, Err, Result, Fits, w64, Ok}
 use Rattle.std.specs.Prelude.{Option, option_map, Bool, true, false}
@@ -8,24 +8,24 @@ use Rattle.cif_device.specs.declared.feed.FeedFault.{FeedFault}
 use Rattle.cif_device.specs.declared.feed.FeedFault.TheVariants as feed
 use Rattle.cif_device.specs.Taken.{Taking, Refusing, HasFed, HasRefused, LosesOnePieceMore}
 
--- before the first read the source has given nothing
+-- before the first read the source has given no bytes
 pub lost_nothing : (left : Option (List ℕ)) → Reads left [] left
 lost_nothing None = refl
 lost_nothing (Some bytes) = refl
 
--- one more read adds its piece to what the source gave before
+-- one more read adds its piece to the bytes that the source gave before
 pub lost_more : (initial now next : Option (List ℕ)) (text piece : List ℕ) → Reads initial text now → Reads now piece next → Reads initial (text ++ piece) next
 lost_more initial now None text piece first more = first ∙ ap (option_map (λ rest. text ++ rest)) more
 lost_more initial now (Some rest) text piece first more =
     first ∙ ap (option_map (λ r. text ++ r)) more ∙ ap (λ t. Some t) (sym (append_assoc text piece rest))
 
--- before the first read the taker was fed nothing
+-- before the first read the taker was fed no bytes
 pub at_start : {T Terms : Type 0} (takes : Taking T Terms) (terms : Terms) (text : List ℕ) (left : Option (List ℕ)) (taker : T) → takes taker terms text
     → HasFed takes 0 terms text left left taker
 at_start takes terms text left taker taken =
     record { bytes = []; size = refl; lost = lost_nothing left; taken = subst (takes taker terms) (sym (append-nil text)) taken }
 
--- if the taker takes one more piece, it was fed the text so far and the piece
+-- a taker that takes one more piece was fed the bytes before it and this piece
 pub next_turn : {T Terms : Type 0} (takes : Taking T Terms) (fed n : ℕ) (terms : Terms) (text : List ℕ) (initial now next : Option (List ℕ)) (before after : T)
     (piece : List ℕ) → (at : HasFed takes fed terms text initial now before) → length piece ≡ n → Reads now piece next
     → takes after terms ((text ++ at.bytes) ++ piece) → HasFed takes (fed + n) terms text initial next after
@@ -36,7 +36,7 @@ next_turn takes fed n terms text initial now next before after piece at long mor
   taken = subst (takes after terms) (append_assoc text at.bytes piece) taken;
 }
 
--- a read of no byte changes nothing
+-- a read of no bytes changes nothing
 pub nothing_more : {T Terms : Type 0} (takes : Taking T Terms) (fed n : ℕ) (terms : Terms) (text : List ℕ) (initial now next : Option (List ℕ)) (taker : T)
     (into : List ℕ) → HasFed takes fed terms text initial now taker → n ≡ 0 → Reads now (take n into) next → HasFed takes fed terms text initial next taker
 nothing_more takes fed n terms text initial now next taker into at none more = record {
@@ -49,31 +49,31 @@ nothing_more takes fed n terms text initial now next taker into at none more = r
     last : Reads now [] next
     last = subst (λ m. Reads now (take m into) next) none more
 
--- a read that fails changes nothing of what the taker was fed
+-- a failed read changes nothing in what the taker was fed
 pub fed_where_failed : {T Terms : Type 0} (takes : Taking T Terms) (fed : ℕ) (terms : Terms) (text : List ℕ) (initial now next : Option (List ℕ)) (taker : T)
     → HasFed takes fed terms text initial now taker → next ≡ now → (count : ℕ) × HasFed takes count terms text initial next taker
 fed_where_failed takes fed terms text initial now next taker at same =
     (fed, subst (λ left. HasFed takes fed terms text initial left taker) (sym same) at)
 
--- if the source gives one more piece, it has lost at most one piece more than was taken
+-- after one more piece the source has given at most one piece more than the taker has taken
 pub one_more : {T Terms : Type 0} (takes : Taking T Terms) (fed : ℕ) (terms : Terms) (text : List ℕ) (initial now next : Option (List ℕ)) (taker : T)
     (piece : List ℕ) → HasFed takes fed terms text initial now taker → Reads now piece next → length piece ≤ 65536
     → LosesOnePieceMore takes 65536 terms text initial next
 one_more takes fed terms text initial now next taker piece at more few =
     record { bytes = at.bytes; piece = piece; lost = lost_more initial now next at.bytes piece at.lost more; few = few; taker = taker; taken = at.taken }
 
--- if the source gives no more, it has lost at most one piece more than was taken
+-- if no piece follows, the source has given at most one piece more than the taker has taken
 pub no_more : {T Terms : Type 0} (takes : Taking T Terms) (fed : ℕ) (terms : Terms) (text : List ℕ) (initial now next : Option (List ℕ)) (taker : T)
     → HasFed takes fed terms text initial now taker → next ≡ now → LosesOnePieceMore takes 65536 terms text initial next
 no_more takes fed terms text initial now next taker at same =
     one_more takes fed terms text initial now next taker [] at (subst (Reads now []) (sym same) (lost_nothing now)) (omega arith)
 
--- if nothing was read, the source has lost at most one piece more than was taken
+-- if no piece was read, the source has given at most one piece more than the taker has taken
 pub nothing_read : {T Terms : Type 0} (takes : Taking T Terms) (terms : Terms) (text : List ℕ) (left : Option (List ℕ)) (taker : T) → takes taker terms text
     → LosesOnePieceMore takes 65536 terms text left left
 nothing_read takes terms text left taker taken = no_more takes 0 terms text left left left taker (at_start takes terms text left taker taken) refl
 
--- if one more piece is refused, the taker has refused it after all that was taken
+-- a taker that refuses one more piece refused it after the text that it had taken
 pub refused_behind : {T Terms Fault : Type 0} (takes : Taking T Terms) (refuses : Refusing T Terms Fault) (fed : ℕ) (terms : Terms) (text : List ℕ)
     (initial now next : Option (List ℕ)) (before after : T) (piece : List ℕ) (fault : Fault) → (at : HasFed takes fed terms text initial now before)
     → Reads now piece next → length piece ≤ 65536 → refuses after terms (text ++ at.bytes) piece fault
@@ -82,7 +82,7 @@ unfolding one_more
 refused_behind takes refuses fed terms text initial now next before after piece fault at more few refused =
     record { more = one_more takes fed terms text initial now next before piece at more few; refused = refused }
 
--- the number of bytes that were fed fits in 64 bits, with one more piece
+-- with one more piece, the number of bytes that were fed still fits in 64 bits
 pub fits_still : (fed n : ℕ) (text bytes piece : List ℕ) → length bytes ≡ fed → length piece ≡ n → length ((text ++ bytes) ++ piece) < 2 ^ 64
     → Fits w64 (fed + n)
 fits_still fed n text bytes piece size long below =
@@ -90,18 +90,18 @@ fits_still fed n text bytes piece size long below =
     let whole = length-append (text ++ bytes) piece in
     omega (arith, front, whole, size, long, below)
 
--- one read gives at most as many bytes as the buffer has
+-- one read gives at most 65,536 bytes, the length of the buffer
 pub at_once : (n len : ℕ) (into : List ℕ) → length into ≡ len → len ≡ 65536 → n ≤ length into → length (take n into) ≤ 65536
 at_once n len into long room within = let size = length-take-le n into within in omega arith
 
--- after its end a source gives nothing
+-- a source that is at its end stays there
 pub end_stays : (now next : Option (List ℕ)) (piece : List ℕ) → Reads now piece next → IsEnd now → IsEnd next
 end_stays now None piece more end = tt
 end_stays None (Some rest) piece more end = cc
 end_stays (Some left) (Some rest) [] more end = cc
 end_stays (Some left) (Some rest) (byte ∷ piece) more end = let none : ⊥ = cc in absurd none
 
--- a read of no byte, into some room, reports the end
+-- a read of no bytes into a buffer with room reports the end
 pub ended_by : (n room : ℕ) (ended now_ended passed now_passed : Bool) → Ends n room ended now_ended passed now_passed → n ≡ 0 → 0 < room → now_ended ≡ true
 ended_by n room ended now_ended passed now_passed (reports, _, _, _) none some = reports none some
 
@@ -110,37 +110,37 @@ pub going_on : (n room : ℕ) (ended now_ended passed now_passed : Bool) → End
     → now_ended ≡ false
 going_on n room ended now_ended passed now_passed (_, going, _, _) some was = going (omega (arith, some)) ∙ was
 
--- a read before the end is reported doesn't set the mark for a read after the end
+-- a read before the end was reported isn't a read after the end
 pub not_passed_by : (n room : ℕ) (ended now_ended passed now_passed : Bool) → Ends n room ended now_ended passed now_passed → ended ≡ false
     → now_passed ≡ passed
 not_passed_by n room ended now_ended passed now_passed (_, _, _, stays) was = stays was
 
--- a read that fails changes neither mark
+-- a failed read reports no end, and isn't a read after the end
 pub still_going : (ended now_ended passed now_passed : Bool) → (now_ended ≡ ended) × (now_passed ≡ passed) → now_ended ≡ ended
 still_going ended now_ended passed now_passed (same, _) = same
 
 pub still_not_passed : (ended now_ended passed now_passed : Bool) → (now_ended ≡ ended) × (now_passed ≡ passed) → now_passed ≡ passed
 still_not_passed ended now_ended passed now_passed (_, same) = same
 
--- the first bytes of a buffer are those that were read
+-- the first bytes in the buffer are the bytes that were read
 pub same_front : (n len : ℕ) (piece into items : List ℕ) → piece ≡ take len (into ++ drop (length into) items) → length into ≡ len → n ≤ length into
     → take n piece ≡ take n into
 same_front n len piece into items is whole within =
     ap (take n) (is ∙ take-append-le len into (drop (length into) items) (omega arith)) ∙ take-take n len into (omega arith)
 
--- if the end was reported or a piece was refused, the source didn't fail
+-- if feeding ended without the error `Source`, the source didn't fail
 pub none_failed : {Fault : Type 0} (result : Result ℕ (FeedFault Fault)) (before now after : ℕ) → ¬ (result ≡ Err feed.Source) → after ≡ now → now ≡ before
     → (result ≡ Err feed.Source → after ≡ before + 1) × (after ≡ before + 1 → result ≡ Err feed.Source)
 none_failed result before now after other same kept = (λ is. absurd (other is), λ more. let none : ⊥ = omega (arith, same, kept, more) in absurd none)
 
--- a count isn't a failure of the source
+-- a number of bytes isn't the error `Source`
 pub count_told : {Fault : Type 0} (count : ℕ) → ¬ (◌≡◌ {A = Result ℕ (FeedFault Fault)} (Ok count) (Err feed.Source))
 count_told count is = cc
 
--- a refusal isn't a failure of the source
+-- a refusal isn't the error `Source`
 pub refusal_told : {Fault : Type 0} (fault : Fault) → ¬ (◌≡◌ {A = Result ℕ (FeedFault Fault)} (Err (feed.Refused fault)) (Err feed.Source))
 refusal_told fault is = cc
 
--- out of memory isn't a failure of the source
+-- out of memory isn't the error `Source`
 pub memory_answer : {Fault : Type 0} → ¬ (◌≡◌ {A = Result ℕ (FeedFault Fault)} (Err feed.Memory) (Err feed.Source))
 memory_answer is = cc

@@ -1,17 +1,18 @@
--- How the feeding of a taker by a source ends.
+-- How feeding a taker from a source ends.
 use Rattle.std.specs.Prelude.{◌≡◌, ℕ, List, Option, Result, Ok, Err}
 use Rattle.cif_device.specs.Device.{IsEnd}
 use Rattle.cif_device.specs.Taken.{AfterEach, HasFed, HasRefused, Refusing, Taking}
 use Rattle.cif_device.specs.declared.feed.FeedFault.{FeedFault}
 use Rattle.cif_device.specs.declared.feed.FeedFault.TheVariants as feed
 
--- the most bytes of a source that are read at once
+-- the most bytes that are read from a source at once
 abbrev pub most_at_once : ℕ
 most_at_once = 65536
 
--- how a taker and a source end up, by the result. `Ok`: the taker took this many bytes, up to the
--- end. `Source`: it took all that came before the source failed. `Refused`: it took all before a
--- piece that it refused. `Memory`: nothing was read
+-- how feeding ends, for each result. `Ok`: the taker has taken this number of bytes, up to the end
+-- of the source. `Source`: the source failed, and the taker has taken all bytes before that.
+-- `Refused`: the taker has taken all bytes before a piece, and refused the piece. `Memory`: nothing
+-- was read
 abbrev pub EndsFeeding : {T Terms Fault : Type 0} → Taking T Terms → Refusing T Terms Fault → T → T → Option (List ℕ) → Option (List ℕ)
     → Result ℕ (FeedFault Fault) → Type 0
 EndsFeeding takes refuses taker after left left_now (Ok count) =

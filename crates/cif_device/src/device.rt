@@ -1,4 +1,4 @@
-//! What a source and a sink of bytes promise, and how a whole piece is written.
+//! Sources and sinks of bytes, and how a whole piece is written.
 ghost use Rattle.std.specs.Prelude.{◌≡◌, ℕ, ◌+◌, ◌-◌, ◌^◌, ◌<◌, ◌≤◌, Bool, List, Option, length, take, IfOk, OnOk, OnErr};
 ghost use Rattle.cif_device.specs.Device.{Reads, IsEnd, Ends, Takes, TakesPart};
 
@@ -29,10 +29,10 @@ impl<T: Drop> From<AllocFailed<T>> for Memory {
 
 /// A device that bytes are read from.
 pub trait Source {
-    // The bytes that are left, or None if the device can't name them, as a file can't.
+    // The bytes that are left, or `None` if the device can't name its bytes, as a real file can't.
     ghost left: { Self → Option (List ℕ) };
 
-    // How often it has failed so far.
+    // The number of its failures.
     ghost failures: { Self → ℕ };
 
     // Whether it has reported its end.
@@ -41,8 +41,8 @@ pub trait Source {
     // Whether it was read after it reported its end.
     ghost passed: { Self → Bool };
 
-    /// Reads the next bytes into the front of the buffer and returns their number. If the buffer
-    /// has room, 0 means the end. The rest of the buffer may hold anything.
+    /// Reads the next bytes into the beginning of the buffer and returns their number. If the
+    /// buffer has room, 0 means the end. The rest of the buffer may hold anything.
     fn read(&mut self, into: &mut [u8]) -> Result<usize, Failed>
         requires { failures self.old < 2 ^ 64 - 1 }
         ensures within { IfOk result (λ n. n ≤ length into.new) }
@@ -57,21 +57,22 @@ pub trait Source {
         ensures still { OnErr result
             ((ended self.new ≡ ended self.old) × (passed self.new ≡ passed self.old)) };
 
-    /// How often it has failed so far.
+    /// The number of its failures.
     fn failures(&self) -> u64
         ensures { result ≡ failures self.now };
 }
 
 /// A device that bytes are written to.
 pub trait Sink {
-    // The bytes that it took, or None if the device can't name them, as a file can't.
+    // The bytes that it has taken, or `None` if the device can't name its bytes, as a real file
+    // can't.
     ghost taken: { Self → Option (List ℕ) };
 
-    // How often it has failed so far.
+    // The number of its failures.
     ghost failures: { Self → ℕ };
 
-    /// Writes some of the first bytes of the piece, at least one, and returns their number. It is
-    /// never called with an empty piece.
+    /// Writes some of the first bytes of the piece, at least one, and returns their number. The
+    /// piece must not be empty.
     fn write(&mut self, piece: &[u8]) -> Result<usize, Failed>
         requires failures { failures self.old < 2 ^ 64 - 1 }
         requires piece { 0 < length piece.now }
@@ -83,13 +84,13 @@ pub trait Sink {
         ensures counted { OnErr result (failures self.new ≡ failures self.old + 1) }
         ensures unmoved { OnErr result (taken self.new ≡ taken self.old) };
 
-    /// How often it has failed so far.
+    /// The number of its failures.
     fn failures(&self) -> u64
         ensures { result ≡ failures self.now };
 }
 
-/// Writes the whole piece, in as many writes as that takes. It stops at the first write that fails;
-/// the sink then has taken a part of the piece, from its start.
+/// Writes the whole piece, in as many writes as it takes. Stops at the first write that fails; the
+/// sink has then taken the beginning of the piece.
 pub fn write_all<K: Sink>(sink: &mut K, piece: &[u8]) -> Result<(), Failed>
     requires { K.failures sink.old < 2 ^ 64 - 1 }
     ensures whole { OnOk result (Takes (K.taken sink.old) piece.now (K.taken sink.new)) }

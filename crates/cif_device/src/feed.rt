@@ -1,4 +1,4 @@
-//! A taker, which takes a text in pieces, and how a source feeds it.
+//! Takers, which take a text in pieces, and how a source feeds a taker.
 ghost use Rattle.std.specs.Prelude.{◌≡◌, ℕ, ◌-◌, ◌^◌, ◌<◌, ◌++◌, true, false, List, length, IfErr, OnOk, OnErr, Err};
 ghost use Rattle.cif_device.specs.Device.{CountsFailure};
 ghost use Rattle.cif_device.specs.FeedEnds.{EndsFeeding, most_at_once};
@@ -7,17 +7,17 @@ ghost use Rattle.cif_device.specs.Taken.{AfterEach, IsTaking, LosesOnePieceMore}
 use crate::device::Source;
 use std::alloc::Global;
 
-/// How many bytes of a source are read at once.
+/// The number of bytes that are read from a source at once.
 pub const PIECE: usize = 65_536;
 
-/// Why a source wasn't fed to its end.
+/// Why a taker wasn't fed all of a source.
 #[derive(Clone, Copy, Debug, PartialEq, Eq)]
 pub enum FeedFault<F> {
     /// The source failed.
     Source,
-    /// The allocator refused memory, before a byte was read.
+    /// The allocator refused memory. No byte was read.
     Memory,
-    /// The taker refused a piece, for this reason.
+    /// The taker refused a piece, with this fault.
     Refused(F),
 }
 
@@ -29,10 +29,10 @@ pub trait Taker {
     // What stays the same while it takes, such as a limit on the text.
     ghost Terms: { Type 0 };
 
-    // It has taken this text under these terms, and refused no piece of it.
+    // This taker has taken this text under these terms, and refused no piece of it.
     ghost takes: { Self → Terms → List ℕ → Type 0 };
 
-    // It had taken this text under these terms, and then refused this piece with this fault.
+    // This taker took this text under these terms, and then refused this piece with this fault.
     ghost refuses: { Self → Terms → List ℕ → List ℕ → Self.Fault → Type 0 };
 
     /// Takes the next bytes of the text.
@@ -42,16 +42,16 @@ pub trait Taker {
         ensures refused { IfErr result (λ fault. AfterEach takes self.old (λ terms text.
             refuses self.new terms text piece.now fault)) };
 
-    // Any text that it has taken is shorter than this, so it refuses a piece of a source without
-    // end.
+    // Each text that it can take has fewer than 2^64 bytes. So it refuses a piece of an endless
+    // source.
     ghost bounded: { (taker : Self) (terms : Terms) (text : List ℕ) → takes taker terms text
         → length text < 2 ^ 64 };
 }
 
-/// Feeds a taker all that a source has left, in pieces of at most 65,536 bytes. Returns the number
-/// of bytes. Nothing is read after the source reports its end or the taker refuses a piece. It
-/// terminates for every source: what a taker accepts has a bound, so it refuses some piece of an
-/// endless source.
+/// Feeds a taker all that is left in a source, in pieces of at most 65,536 bytes, and returns the
+/// number of bytes. It reads nothing more after the source reports its end or the taker refuses a
+/// piece. It terminates for every source, because a taker can only take a bounded text, and so
+/// refuses a piece of an endless source.
 pub fn feed_all<S: Source, T: Taker>(
     alloc: Global,
     source: &mut S,

@@ -1,4 +1,4 @@
-//! A device in memory that fails at one chosen call.
+//! A device in memory that fails at one given call.
 ghost use Rattle.std.specs.Prelude.{◌≡◌, ◌⊎◌, ◌+◌, ◌-◌, ◌^◌, ◌<◌, ◌≤◌, ◌↔◌, min, [], ◌++◌, length, take, Some, IsTrue, IfOk, IsErr, OnOk, OnErr};
 ghost use Rattle.cif_device.specs.Device.{Ends, room_left};
 
@@ -6,7 +6,7 @@ use crate::device::{Failed, Sink, Source};
 use crate::memory::{Bytes, Kept};
 use std::marker::Model;
 
-/// A device in memory that passes at most one byte per call, and fails at one chosen call.
+/// A device in memory that transfers at most one byte in a call, and fails at one given call.
 #[derive(Debug, Drop)]
 pub struct Fuse<D> {
     device: D,
@@ -27,7 +27,7 @@ impl<D> Model for Fuse<D> {
 }
 
 impl<D> Fuse<D> {
-    /// Passes this device's bytes, one per call. It fails only at the call with this number,
+    /// Transfers the bytes of this device, one in each call. Only the call with this number fails,
     /// counted from 1.
     pub fn new(device: D, call: u64) -> Self
         requires { 0 < call }
@@ -84,7 +84,7 @@ impl Source for Fuse<Bytes<'_>> {
         ensures still { OnErr result ((self.new.device.ended ≡ self.old.device.ended)
             × (self.new.device.passed ≡ self.old.device.passed)) }
 
-        // Any source promises the clauses above. This one also promises the clauses below.
+        // A source promises the clauses above. This one promises the following clauses too.
         ensures count { IfOk result (λ n.
             n ≡ min (min 1 (length into.old)) (length self.old.device.left)) }
         ensures blows { IsErr result ↔ (self.old.calls ≡ 1) }
@@ -119,7 +119,7 @@ impl Sink for Fuse<Kept> {
         ensures counted { OnErr result (self.new.failures ≡ self.old.failures + 1) }
         ensures unmoved { OnErr result (self.new.device.taken ≡ self.old.device.taken) }
 
-        // Any sink promises the clauses above. This one also promises the clauses below.
+        // A sink promises the clauses above. This one promises the following clauses too.
         ensures count { IfOk result (λ n. n ≡ 1) }
         ensures fails { IsErr result ↔ ((self.old.calls ≡ 1) ⊎ (room_left self.old.device ≡ 0)) }
         ensures calls { self.new.calls ≡ self.old.calls - 1 }

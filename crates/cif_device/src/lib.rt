@@ -1,6 +1,6 @@
-//! The devices that bytes come from and go to: what a source and a sink promise, and a source and a
-//! sink in memory. `write_all` writes a whole piece, and `feed_all` feeds a source to whatever
-//! takes its text.
+//! The devices that bytes come from and go to: the traits `Source` and `Sink`, and implementations
+//! in memory. `write_all` writes a whole piece to a sink, and `feed_all` feeds all bytes of a
+//! source to a taker.
 #![tactic(auto)]
 
 mod device;

@@ -73,7 +73,7 @@ impl Source for Bytes<'_> {
         ensures ending { IfOk result (λ n. Ends n (length into.new)
             self.old.ended self.new.ended self.old.passed self.new.passed) }
 
-        // Any source promises the clauses above. This one also promises the clauses below.
+        // A source promises the clauses above. This one promises the following clauses too.
         ensures count { result ≡ Ok (read_count self.old (length into.old)) }
         ensures step { self.new.step ≡ self.old.step }
     {
@@ -90,7 +90,8 @@ impl Source for Bytes<'_> {
     }
 }
 
-/// A sink that keeps what it takes. Its room is reserved once, and it fails only if it is full.
+/// A sink that keeps the bytes it takes. Its room is reserved when it is made, and it fails only
+/// when it is full.
 #[derive(Debug, Drop)]
 pub struct Kept {
     bytes: Vec<u8>,
@@ -115,7 +116,7 @@ impl Model for Kept {
 }
 
 impl Kept {
-    /// An empty sink with room for this many bytes. Returns `Memory` if the allocator refuses that
+    /// An empty sink with room for `room` bytes. Returns `Memory` if the allocator refuses the
     /// room.
     pub fn new(alloc: Global, room: usize) -> Result<Kept, Memory>
         ensures empty { IfOk result (λ kept. kept.taken ≡ []) }
@@ -131,7 +132,7 @@ impl Kept {
         })
     }
 
-    /// The bytes that it took.
+    /// The bytes that it has taken.
     pub fn bytes(&self) -> &[u8]
         ensures bytes { result.now ≡ self.now.taken }
         ensures within { length self.now.taken ≤ self.now.room }
@@ -146,7 +147,7 @@ impl Kept {
         self.bytes.len() == self.room
     }
 
-    /// Takes one byte. It has to have room for it.
+    /// Takes one byte, for which it must have room.
     pub(crate) fn push(&mut self, byte: u8)
         requires { 0 < room_left self.old }
         ensures { self.new ≡ record self.old { taken = self.old.taken ++ byte ∷ [] } }
@@ -170,7 +171,7 @@ impl Sink for Kept {
         ensures counted { OnErr result (self.new.failures ≡ self.old.failures + 1) }
         ensures unmoved { OnErr result (self.new.taken ≡ self.old.taken) }
 
-        // Any sink promises the clauses above. This one also promises the clauses below.
+        // A sink promises the clauses above. This one promises the following clauses too.
         ensures count { IfOk result (λ n. n ≡ min (length piece.now) (room_left self.old)) }
         ensures full { IsErr result ↔ (room_left self.old ≡ 0) }
         ensures room { self.new.room ≡ self.old.room }

@@ -1,5 +1,5 @@
--- A text as it comes in: the complete lines, whose line feed has come, and the unfinished line
--- after them.
+-- A text whose bytes are still being read: its complete lines, each ended by a line feed, and the
+-- incomplete line after them.
 use Rattle.std.specs.Prelude.{◌≡◌, ℕ, List, false, All, [], ◌∷◌, map, ◌==◌, count_by}
 use Rattle.std.specs.List.{slice_split}
 use Rattle.std.specs.Str.Lines.{strip_carriage_return}
@@ -11,28 +11,29 @@ use Rattle.docker_model.specs.file.FaultSoFar.{last_of}
 abbrev pub HasNoFeed : List ℕ → Type 0
 HasNoFeed bytes = All (λ b. (b == 10) ≡ false) bytes
 
--- how many line feeds have come
+-- the number of line feeds in the text
 abbrev pub feeds : List ℕ → ℕ
 feeds text = count_by (λ b. b == 10) text
 
--- the pieces of a text, between its line feeds
+-- the pieces of a text between its line feeds. The last piece is empty if the text ends with a line
+-- feed
 abbrev pub pieces_of : List ℕ → Lines
 pieces_of text = slice_split (λ b. b == 10) text
 
--- the pieces without the last
+-- these pieces without the last one
 abbrev pub but_last : Lines → Lines
 but_last [] = []
 but_last (piece ∷ []) = []
 but_last (piece ∷ next ∷ pieces) = piece ∷ but_last (next ∷ pieces)
 
--- the unfinished line: the bytes after the last line feed
+-- the incomplete line: the bytes after the last line feed
 abbrev pub open_line : List ℕ → List ℕ
 open_line text = last_of (pieces_of text)
 
--- the complete lines: those whose line feed has come
+-- the complete lines: those ended by a line feed
 abbrev pub complete_lines : List ℕ → Lines
 complete_lines text = map strip_carriage_return (but_last (pieces_of text))
 
--- the last piece as a line, or no line if it is empty
+-- a list of the line in the last piece, or no line if that piece is empty
 abbrev pub line_left : List ℕ → Lines
 line_left piece = map strip_carriage_return (last_piece piece)

@@ -1,5 +1,5 @@
--- Where a reader of a schedule is after the lines so far: which line may come next, and whether the
--- lines are a schedule.
+-- The stage of a reader in a schedule, after the records that it has read: which record may come
+-- next, and whether the records are a schedule.
 use Rattle.std.specs.Prelude.{Some, None, ℕ, List, Bool, true, false, [], ◌∷◌, ◌++◌, Option, ◌==◌, ◌||◌, ◌&&◌, nat_le, option_and_then}
 use Rattle.std.proofs.Common.{cond}
 use Rattle.docker_model.specs.records.Record.{Kind, extra_details, origin_location, intermediate_location}
@@ -9,16 +9,16 @@ use Rattle.docker_model.specs.file.Journey.{midnights}
 use Rattle.docker_model.specs.file.File.{first_record}
 use Rattle.cif_laws.specs.RecordTest.{has_good_fields, is_record}
 
--- a stage of a schedule: after the basic schedule, after its extra details, inside its journey,
--- after its journey
+-- the stage of a reader in a schedule: after the basic schedule, after the extra details, inside
+-- the journey, or after the journey
 pub data Stage : Type 0 where
   after_basic : Stage
   after_details : Stage
   in_journey : Stage
   after_journey : Stage
 
--- the stage after one more record, by its kind only; none if a record of this kind doesn't continue
--- the schedule
+-- the stage after one more record, from its kind only, or `None` if no record of this kind
+-- continues the schedule
 abbrev pub stage_after : Stage → Option Kind → Option Stage
 stage_after after_basic (Some extra_details) = Some after_details
 stage_after after_basic (Some origin_location) = Some in_journey
@@ -28,39 +28,41 @@ stage_after in_journey (Some change_en_route) = Some in_journey
 stage_after in_journey (Some terminating_location) = Some after_journey
 stage_after _ _ = None
 
--- the schedule's journey may be missing: it is a deletion or a cancellation
+-- whether the journey may be missing: the schedule is a deletion or a cancellation
 abbrev pub may_lack : List ℕ → Bool
 may_lack basic = is_deletion basic || (column 80 basic == 67)
 
--- the lines so far may be a whole schedule
+-- whether these records may be a complete schedule, at this stage
 abbrev pub may_end : Stage → Lines → Bool
 may_end after_journey lines = true
 may_end in_journey lines = false
 may_end _ lines = may_lack (first_record lines)
 
--- the next line has good fields and makes no third fall. In a deletion fields and falls don't count
+-- whether the next record is sound: it has good fields and doesn't make the schedule pass midnight
+-- a third time. In a deletion neither counts
 abbrev pub is_sound_next : Lines → List ℕ → Bool
 is_sound_next lines line = is_deletion (first_record lines) || (has_good_fields line && nat_le (midnights (lines ++ line ∷ [])) 2)
 
--- the stage after one more line, or none if no schedule continues with it
+-- the stage after one more record, or `None` if no schedule continues with it
 abbrev pub next_stage : Stage → Lines → List ℕ → Option Stage
 next_stage stage lines line = cond (is_record line && is_sound_next lines line) (stage_after stage (kind_of line)) None
 
--- the kind is a basic schedule, which is a schedule's first line
+-- whether a record of this kind is a basic schedule, with which a schedule begins
 abbrev pub is_basic_kind : Option Kind → Bool
 is_basic_kind (Some basic_schedule) = true
 is_basic_kind _ = false
 
--- the line can be a schedule's first: a basic schedule with good fields
+-- whether the record can be the first of a schedule: a basic schedule with good fields
 abbrev pub is_first_line : List ℕ → Bool
 is_first_line line = is_record line && is_basic_kind (kind_of line) && has_good_fields line
 
--- the stage after more lines, or none. The lines so far are needed to count midnights
+-- the stage after more records, or `None` if no schedule continues with them. The records before
+-- them, `done`, are needed to count how often the schedule passes midnight
 abbrev pub stage_from : Stage → Lines → Lines → Option Stage
 stage_from stage done [] = Some stage
 stage_from stage done (line ∷ rest) = option_and_then (λ next. stage_from next (done ++ line ∷ []) rest) (next_stage stage done line)
 
--- the stage after some lines, or none if they begin no schedule. Without a line there is no stage
+-- the stage after these records, or `None` if they begin no schedule. The empty list has no stage
 abbrev pub stage_of : Lines → Option Stage
 stage_of [] = None
 stage_of (basic ∷ rest) = cond (is_first_line basic) (stage_from after_basic (basic ∷ []) rest) None

@@ -1,5 +1,5 @@
-//! Laws of files, their texts, their faults and their changes. Each law is the contract of a
-//! function without a body, and holds for everything that it names.
+//! Laws of files, their texts, their faults and their changes. A law is a function with an empty
+//! body whose contract states a fact. The fact holds for all values of its variables.
 ghost use Rattle.std.specs.Prelude.{◌≡◌, ℕ, ◌+◌, ◌*◌, List, [], ◌∷◌, ◌++◌, ◌↔◌, ◌≤◌, ◌⊎◌, All, Contains, length};
 ghost use Rattle.std.specs.List.{AllPairs};
 ghost use Rattle.docker_model.specs.records.Record.{IsRecord};
@@ -13,13 +13,14 @@ ghost use Rattle.docker_model.specs.state.State.{IsBodyOf};
 ghost use Rattle.docker_model.specs.file.File.{IsFile, IsSchedule, BeginsFile, BeginsSchedule, most_records};
 ghost use Rattle.cif_laws.specs.LawTerms.{BeginsWithin};
 
-/// Records are the lines of a text exactly if the text consists of them and their line ends.
+/// Records are the lines of a text exactly if the text consists of these records, each with its
+/// line end.
 pub fn text_of_records()
     ensures { (records : List (List ℕ)) (text : List ℕ) → All IsRecord records
         → IsTextOf records text ↔ (lines_of text ≡ records) }
 {}
 
-/// A text has at most one fault. The text of a file has none, if the file is within the limit.
+/// A text has at most one fault. The text of a file within the limit has none.
 pub fn one_file_fault()
     ensures one { (limit : ℕ) (text : List ℕ) (first second : FileFault)
         → IsFileFault limit text first → IsFileFault limit text second → first ≡ second }
@@ -27,14 +28,14 @@ pub fn one_file_fault()
         → IsFileText limit text file → ¬ IsFileFault limit text fault }
 {}
 
-/// Every text is a file's within the limit, or has a fault.
+/// Each text is the text of a file within the limit, or has a fault.
 pub fn file_or_fault()
     ensures { (limit : ℕ) (text : List ℕ) → ((file : List (List ℕ)) × IsFileText limit text file)
         ⊎ ((fault : FileFault) × IsFileFault limit text fault) }
 {}
 
-/// If a change of a file puts a schedule's body, the body's lines are a schedule. Any body that a
-/// change puts fits the change's key.
+/// If a change of a file puts the body of a schedule, the lines of the body are a schedule. Each
+/// body that a change puts belongs to the key of the change.
 pub fn schedule_body_is_schedule()
     ensures schedule { (file : List (List ℕ)) (change : Change) (lines : List (List ℕ))
         → IsFile file → length file ≤ most_records → Contains (changes file) change
@@ -44,8 +45,9 @@ pub fn schedule_body_is_schedule()
         → change.act ≡ put body → IsBodyOf change.key body }
 {}
 
-/// The units of a file, in order, make its changes. Each change has the number of its unit's first
-/// record, from 2 on. A schedule makes one change, with all its lines.
+/// The changes of a file are the changes of its units, in order. A change has the number of the
+/// first record of its unit, which is 2 for the first unit. A schedule makes one change, with all
+/// its records.
 pub fn changes_by_units()
     ensures units { (file : List (List ℕ)) (is : IsFile file)
         → changes file ≡ changes_of_units 2 is.units }
@@ -54,8 +56,8 @@ pub fn changes_by_units()
         → changes_of_unit number (basic ∷ others) ≡ change_of_schedule number basic others ∷ [] }
 {}
 
-/// Two changes of one record have different keys. This holds for a single record, whatever follows
-/// it, and for each record of a file.
+/// Two changes of one record have different keys. This holds for a record by itself, whatever
+/// follows it, and for each record of a file.
 pub fn keys_of_record_differ()
     ensures record { (number : ℕ) (line : List ℕ) (following : List (List ℕ))
         → AllPairs (λ (first second : Change). ¬ (first.key ≡ second.key))
@@ -65,8 +67,8 @@ pub fn keys_of_record_differ()
         → ¬ (first.key ≡ second.key)) (changes file) }
 {}
 
-/// It is decidable whether records begin some file, and whether they are a file. It is decidable
-/// whether lines begin some schedule, and whether they are a schedule.
+/// It can be decided whether records begin some file, and whether they are a file. The same holds
+/// for schedules.
 pub fn begins_or_not()
     ensures file { (records : List (List ℕ)) → BeginsFile records ⊎ ¬ BeginsFile records }
     ensures schedule { (lines : List (List ℕ)) → BeginsSchedule lines ⊎ ¬ BeginsSchedule lines }
@@ -74,8 +76,8 @@ pub fn begins_or_not()
     ensures whole_schedule { (lines : List (List ℕ)) → IsSchedule lines ⊎ ¬ IsSchedule lines }
 {}
 
-/// After lines that begin a schedule, a record either continues some schedule or is at fault, never
-/// both. A record at fault has one cause.
+/// After records that begin a schedule, one more record either continues a schedule or is at fault,
+/// never both. A record at fault has only one cause.
 pub fn schedule_goes_on_or_fault()
     ensures either { (earlier : List (List ℕ)) (line : List ℕ)
         → BeginsSchedule earlier → IsRecord line → BeginsSchedule (earlier ++ line ∷ [])
@@ -87,8 +89,8 @@ pub fn schedule_goes_on_or_fault()
         → BeginsSchedule (earlier ++ line ∷ []) → ¬ IsScheduleFault earlier line cause }
 {}
 
-/// A fault that the bytes so far show is the fault of every longer text. The bytes so far show at
-/// most one fault.
+/// A fault that the first bytes of a text show is the fault of the whole text. Bytes show at most
+/// one fault.
 pub fn reported_fault_stays()
     ensures so_far { (limit : ℕ) (text more : List ℕ) (fault : FileFault)
         → IsFaultSoFar limit text fault → IsFaultSoFar limit (text ++ more) fault }
@@ -98,8 +100,8 @@ pub fn reported_fault_stays()
         → IsFaultSoFar limit text first → IsFaultSoFar limit text second → first ≡ second }
 {}
 
-/// Bytes either show a fault or pass so far, never both. They pass if their complete lines begin
-/// some file and are within the limit, and at most 81 bytes follow the last line feed.
+/// Bytes either show a fault or may still become a file, never both. They may if their complete
+/// lines begin some file and are within the limit, and at most 81 bytes follow the last line feed.
 pub fn no_fault_in_complete_lines()
     ensures either { (limit : ℕ) (text : List ℕ)
         → ((fault : FileFault) × IsFaultSoFar limit text fault) ⊎ BeginsWithin limit text }

@@ -1,4 +1,4 @@
--- Making a struct whose fields are all ghosts: it takes no memory. Assumes `Logic`.
+-- How to make a struct that has only ghost fields. Such a struct takes no memory. Assumes `Logic`.
 use Rattle.std.proofs.Common.{List, [], ◌∷◌, refl}
 use seplogic.Ra.Ura.{Ura}
 use mir.Val.{Val, vstruct, vnil}
@@ -9,15 +9,15 @@ use denote.RattleType.{Valss}
 use denote.Steps.{nothing}
 use denote.Struct.Struct.{Shape, Struct, within}
 
--- the declaration of such a struct, which has no other fields
+-- the declaration of a struct without other fields
 abbrev pub no_fields : Shape
 no_fields = record { name = []; args = []; types = []; fields = [] }
 
--- the value of such a struct
+-- the value of a struct without other fields
 abbrev pub empty_struct : Val
 empty_struct = vstruct vnil
 
--- such a struct may be made of nothing, because its ghost fields own nothing
+-- such a struct can be made from nothing, since its ghost fields own nothing
 pub made_of_nothing : {M : Type 1} {𝓤 : Ura M} {𝓛 : Logic 𝓤} {K : Type 0} {Γ : List (Item 𝓤)} {G : Goal 𝓤 𝓛.H} → K
     → Step K 𝓛 (‵ (fsep ((Struct no_fields).own_val tt (empty_struct ∷ [])) ftrue) ∷ Γ) G Γ G
 made_of_nothing k = step (λ rest.

@@ -1,34 +1,38 @@
--- What was asked of a folder to store a text, by its history before and after.
+-- How a text is stored in a file, from the folder's history before and after. The number of a look
+-- is the number of its event, counted from 0.
 use Rattle.std.specs.Prelude.{◌≡◌, ℕ, Bool, ⊤, ◌⊎◌, List, [], ◌∷◌, ◌++◌, Result, Ok, Err}
 use Rattle.docker_host.specs.History.{Text, Event, drafted, undrafted, placed, unplaced, dropped, named_if}
 use Rattle.docker_host.specs.declared.folder.OpenFault.{OpenFault}
 use Rattle.docker_host.specs.declared.folder.OpenFault.TheVariants as opening
 
--- no draft was made from the look of this number
+-- no draft could be made from the look with this number
 abbrev pub IsUndrafted : Text → ℕ → List Event → List Event → Type 0
 IsUndrafted name look old new = new ≡ old ++ undrafted name look ∷ []
 
--- a draft was made from the look of this number, and then given up
+-- a draft was made from the look with this number, and was then given up
 abbrev pub IsDropped : Text → ℕ → List Event → List Event → Type 0
 IsDropped name look old new = new ≡ old ++ drafted name look ∷ dropped name ∷ []
 
--- a draft of this text was made from the look of this number, and took its file's place
+-- a draft of this text was made from the look with this number, and took the place of the file
 abbrev pub IsStored : Bool → Text → ℕ → Text → List Event → List Event → Type 0
 IsStored names_bytes name look text old new =
     new ≡ old ++ drafted name look ∷ placed name (named_if names_bytes text) ∷ []
 
--- a draft of this text was made from the look of this number, and failed to take its file's place
+-- a draft of this text was made from the look with this number, and failed to take the place of the
+-- file
 abbrev pub IsUnplaced : Bool → Text → ℕ → Text → List Event → List Event → Type 0
 IsUnplaced names_bytes name look text old new =
     new ≡ old ++ drafted name look ∷ unplaced name (named_if names_bytes text) ∷ []
 
--- a device failed: no draft was made, or it was given up, or it failed to take its file's place
+-- the text wasn't stored, because a device failed: no draft was made, the draft was given up, or it
+-- failed to take the place of the file
 abbrev pub FailsToStore : Bool → Text → ℕ → Text → List Event → List Event → Type 0
 FailsToStore names_bytes name look text old new =
     IsUndrafted name look old new
     ⊎ (IsDropped name look old new ⊎ IsUnplaced names_bytes name look text old new)
 
--- how the storing of a text in a named file ends, by a draft from the look of this number
+-- storing a text in the named file ended with this result. The draft was to be made from the look
+-- with this number
 abbrev pub EndsStoring : Bool → Text → ℕ → Text → List Event → List Event → Result ⊤ OpenFault → Type 0
 EndsStoring names_bytes name look text old new (Ok done) = IsStored names_bytes name look text old new
 EndsStoring names_bytes name look text old new (Err opening.Failed) = FailsToStore names_bytes name look text old new

@@ -1,8 +1,8 @@
--- What clauses see of a folder.
+-- What contracts say of a folder.
 use Rattle.std.specs.Prelude.{ℕ, List}
 use Rattle.docker_host.specs.History.{Event}
 
--- what was asked of it, in order, and how often it failed
+-- the events of the folder, oldest first, and the number of its failures
 pub record FolderView : Type 0 where
   pub events : List Event
   pub failures : ℕ

@@ -1,26 +1,26 @@
--- What a program runs on.
+-- All devices that a program uses.
 use Rattle.std.specs.Prelude.{ℕ, ◌^◌, ◌-◌, ◌<◌, Bool, List}
 use Rattle.docker_host.specs.History.{Bytes, Event}
 
--- All devices of a program at one position. Where a device can't name its bytes, they are None.
+-- All devices of a program at one position. The bytes of a device that can't name them are `None`.
 pub record HostView : Type 0 where
-  -- what is left of the input, whether its end was reported, and whether it was read past that
+  -- the bytes left in the input, whether its end was reported, and whether it was read after that
   pub input : Bytes
   pub ended : Bool
   pub passed : Bool
-  -- what was asked of the folder so far
+  -- the events of the folder, oldest first
   pub history : List Event
-  -- what the output took so far
+  -- the bytes that the output has taken
   pub output : Bytes
-  -- what the sink of faults took so far
+  -- the bytes that the sink of faults has taken
   pub faults : Bytes
-  -- how often each of them failed so far
+  -- the number of failures of each device
   pub input_failures : ℕ
   pub folder_failures : ℕ
   pub output_failures : ℕ
   pub faults_failures : ℕ
 
--- each device has failed so seldom that one more failure can be counted
+-- each device has failed less than 2^64 - 1 times, so one more failure can be counted
 pub record AreFew (host : HostView) : Type 0 where
   pub input : host.input_failures < 2 ^ 64 - 1
   pub folder : host.folder_failures < 2 ^ 64 - 1

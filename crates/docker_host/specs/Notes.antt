@@ -1,10 +1,11 @@
--- The event that a note stands for.
+-- The event that a note describes. A program passes a note to the history; only proofs see the
+-- event.
 use Rattle.std.specs.Prelude.{None, Some}
 use Rattle.docker_host.specs.History.{Event, looked, opened, unopened, closed, drafted, undrafted, placed, unplaced, dropped}
 use Rattle.docker_host.specs.declared.history.Note.{Note}
 use Rattle.docker_host.specs.declared.history.Note.TheVariants as note
 
--- the event of each note
+-- the event that each note describes
 abbrev pub event_of : Note → Event
 event_of (note.Looked name) = looked name.now
 event_of (note.OpenedUnnamed name) = opened name.now None

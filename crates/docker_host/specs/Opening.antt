@@ -1,8 +1,9 @@
--- Why a file isn't opened, or no draft is made.
+-- Why a file couldn't be opened, or no draft could be made.
 use Rattle.docker_host.specs.declared.folder.OpenFault.{OpenFault}
 use Rattle.docker_host.specs.declared.folder.OpenFault.TheVariants as opening
 
--- one of two values, by the fault: the first for a device that failed, the second for out of memory
+-- one of two values, chosen by the fault: the first if the device failed, the second if memory ran
+-- out
 abbrev pub one_of : {A : Type 0} → A → A → OpenFault → A
 one_of failed memory opening.Failed = failed
 one_of failed memory opening.Memory = memory

@@ -1,10 +1,10 @@
--- A shelf, whose history says what its files hold.
+-- What the history of a shelf says of the files on it.
 use Rattle.std.specs.Prelude.{◌≡◌, ℕ, min, length, Bool, ⊤, if◌then◌else◌, List, [], ◌∷◌, Option, None, Some, IsSome}
 use Rattle.std.specs.Str.{bytes_eq}
 use Rattle.docker_host.specs.History.{Text, Event, looked, opened, unopened, closed, drafted, undrafted, placed, unplaced, dropped}
 
--- A file that was opened: what is left of it, how many bytes it gives before it fails, and how often
--- it failed. Then whether its end was reported, and whether it was read after that.
+-- An opened file: the bytes left in it, the number of bytes that it gives before it fails, and the
+-- number of its failures. Also whether it has reported its end, and whether it was read after that.
 pub record PageView : Type 0 where
   pub left : List ℕ
   pub sound : ℕ
@@ -12,23 +12,23 @@ pub record PageView : Type 0 where
   pub ended : Bool
   pub passed : Bool
 
--- how many bytes a read gives into a buffer of this length, if it doesn't fail
+-- the number of bytes that a read gives into a buffer of length `room`, if it doesn't fail
 abbrev pub page_count : PageView → ℕ → ℕ
 page_count page room = min room (min (min page.sound 100) (length page.left))
 
--- what the file of each name holds, or None if there is none
+-- the text of each file, or `None` if there is no file of that name
 abbrev pub Texts : Type 0
 Texts = Text → Option Text
 
--- no files
+-- there are no files
 abbrev pub no_texts : Texts
 no_texts name = None
 
--- these files, with this text in the named file
+-- the files with this text in the named file
 abbrev pub with_text : Text → Text → Texts → Texts
 with_text name text texts other = if bytes_eq name other then Some text else texts other
 
--- the files after an event
+-- the files after an event. Only a placed text changes a file
 abbrev pub after_event : Texts → Event → Texts
 after_event texts (placed name (Some text)) = with_text name text texts
 after_event texts (placed name None) = texts
@@ -46,7 +46,7 @@ abbrev pub after_events : Texts → List Event → Texts
 after_events texts [] = texts
 after_events texts (event ∷ events) = after_events (after_event texts event) events
 
--- if the event opens a file, the file is one of these, and held its text
+-- if the event opens a file, there is such a file, and its text is what the event says
 abbrev pub IsMet : Texts → Event → Type 0
 IsMet texts (opened name bytes) = (bytes ≡ texts name) × IsSome bytes
 IsMet texts (placed name bytes) = ⊤
@@ -58,15 +58,16 @@ IsMet texts (undrafted name look) = ⊤
 IsMet texts (unplaced name bytes) = ⊤
 IsMet texts (dropped name) = ⊤
 
--- each file that is opened holds what was last placed under its name
+-- each file that is opened among these events holds what was last placed under its name
 abbrev pub AreMet : Texts → List Event → Type 0
 AreMet texts [] = ⊤
 AreMet texts (event ∷ events) = IsMet texts event × AreMet (after_event texts event) events
 
--- a shelf's history, from the empty shelf on
+-- these may be the events of a shelf that was empty at first
 abbrev pub IsShelfHistory : List Event → Type 0
 IsShelfHistory events = AreMet no_texts events
 
--- what the named file holds after these events on an empty shelf, or None if there is none
+-- the text of the named file after these events on a shelf that was empty at first, or `None` if
+-- there is no such file
 abbrev pub text_under : List Event → Text → Option Text
 text_under events name = after_events no_texts events name

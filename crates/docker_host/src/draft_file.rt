@@ -1,6 +1,6 @@
-//! Drafts of real files. The draft of a regular file is written beside it, and then renamed over
-//! it. So the file is always whole: it has the old text or the new one. A pipe or a device is
-//! written directly.
+//! Drafts of real files. The new text of a regular file goes to a draft next to it, which is then
+//! renamed over it. So the file is complete at any time: it has the old text or the new one. A pipe
+//! or a device is written directly.
 ghost use Rattle.std.specs.Prelude.{◌≡◌, None, IfOk};
 
 use crate::draft_place::DraftPlace;
@@ -13,7 +13,7 @@ use std::fs::{File, Metadata};
 use std::io::ErrorKind;
 use std::marker::Model;
 
-/// A new text of a file, as far as it is written.
+/// A new text for a file, while it is being written.
 #[derive(Drop)]
 pub struct DraftFile {
     name: String,
@@ -22,12 +22,12 @@ pub struct DraftFile {
     failures: u64,
 }
 
-/// A draft that took the place of a named file.
+/// A draft that has taken the place of a named file.
 #[derive(Drop)]
 pub(crate) struct Placed {
-    /// The name.
+    /// The name of the file.
     pub(crate) name: String,
-    /// The draft.
+    /// The draft, as a look would see it.
     pub(crate) version: Version,
 }
 
@@ -40,9 +40,9 @@ impl Model for DraftFile {
 }
 
 impl DraftFile {
-    /// Makes an empty draft for a named file, if what is there is still what was seen. A file that
-    /// isn't there yet has its draft beside its place too. But if a link leads nowhere, the file
-    /// that it names is made and written directly.
+    /// Makes an empty draft for the named file, if what is under the name is still what was seen. A
+    /// file that doesn't exist yet has its draft next to its future place. But if the name is a
+    /// link that leads nowhere, the file that the link names is made and written directly.
     pub(crate) fn make(
         rt: &HostRuntime,
         name: &str,
@@ -60,9 +60,9 @@ impl DraftFile {
         })
     }
 
-    /// Puts the draft in the place of its file. Returns what a look then sees of it, or `None` if
-    /// that can't be known, as of a file that was written directly. If that fails, the draft is
-    /// removed, as far as possible.
+    /// Puts the draft in the place of its file. Returns the draft as the next look will see it.
+    /// Returns `None` if that can't be known, as for a file that was written directly. If the draft
+    /// can't be put there, removes it as far as possible and returns `Failed`.
     pub(crate) fn place(self, rt: &HostRuntime) -> Result<Option<Placed>, Failed> {
         let DraftFile {
             name,
@@ -73,8 +73,8 @@ impl DraftFile {
         let Some(place) = place else {
             return Ok(None);
         };
-        // The draft is looked at while it is open and before it has the file's name, so that
-        // nothing but the draft is seen.
+        // The draft is looked at while it is open, and before it has the name of the file. So
+        // nothing but the draft can be seen.
         let version = Version::of_open(&file);
         if place.replace(rt, &file).is_err() {
             place.remove(rt);
@@ -94,7 +94,7 @@ impl DraftFile {
     }
 }
 
-/// Opens a draft for a named file, if what is there is still what was seen.
+/// Opens a draft for the named file, if what is under the name is still what was seen.
 fn open_draft(
     rt: &HostRuntime,
     name: &str,
@@ -125,7 +125,7 @@ fn open_draft(
     }
 }
 
-/// Opens a draft beside the file of this path, if what is under the name is still what was seen.
+/// Opens a draft next to the file with this path, if what is under the name is still what was seen.
 fn open_in_folder_of(
     rt: &HostRuntime,
     name: &str,
@@ -141,7 +141,7 @@ fn open_in_folder_of(
     Ok((file, Some(place)))
 }
 
-/// Whether what was seen is a pipe or a device, and the same one is there now.
+/// Whether what was seen is a pipe or a device that is still there.
 fn is_still_pipe(seen: Option<Version>, there: &Version) -> bool {
     match seen {
         Some(seen) => seen.is_same_pipe(there),

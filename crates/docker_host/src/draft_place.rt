@@ -1,21 +1,23 @@
-//! Drafts beside the files whose places they are to take. A draft is locked while its command is at
-//! work, and marked until it has taken its file's place. So a draft that is marked and not locked
-//! was left by a command that was ended, and the next command removes it.
+//! Drafts next to the files whose places they will take. A draft is locked while its command runs,
+//! and marked until it has taken the place of its file. So a marked draft without a lock was left
+//! over by a command that was stopped, and the next command removes it.
 use crate::folder::OpenFault;
 use std::fs::{File, Metadata, Permissions, TryLockError};
 use std::os::unix::fs::{MetadataExt, OpenOptionsExt, PermissionsExt};
 use std::{fs, io};
 
-/// What a draft's name has after the name of its file.
+/// What the name of a draft adds to the name of its file.
 const SUFFIX: &str = ".new";
 
-/// The permission bit that marks a draft: the sticky bit. On a regular file it means nothing else.
+/// The permission bit that marks a draft: the sticky bit, which means nothing else on a regular
+/// file.
 const MARK: u32 = 0o1000;
 
-/// The permissions of a new file, before the user's mask takes some away.
+/// The permissions of a new file, before the user's mask removes some.
 const NEW_FILE: u32 = 0o666;
 
-/// Where a draft is, the file whose place it is to take, and the permissions that it then has.
+/// The path of a draft, the path of the file whose place it will take, and the permissions that it
+/// has then.
 #[derive(Drop)]
 pub(crate) struct DraftPlace {
     draft: String,
@@ -24,9 +26,9 @@ pub(crate) struct DraftPlace {
 }
 
 impl DraftPlace {
-    /// Makes an empty draft beside the file of this path, held only by this command, with the old
-    /// file's permissions if there is an old file. A draft that can't be given them is removed
-    /// again. If the removal fails too, the fault is `Failed`.
+    /// Makes an empty draft next to the file with this path, and locks it. If there is an old file,
+    /// the draft gets its permissions. If that isn't possible, the draft is removed; if the removal
+    /// fails too, the fault is `Failed`.
     pub(crate) fn make(
         rt: &HostRuntime,
         file: String,
@@ -60,7 +62,7 @@ impl DraftPlace {
         }
     }
 
-    /// Writes the draft to the disk, renames it over the file, and only then removes its mark.
+    /// Writes the draft to the disk, renames it over the file, and then removes its mark.
     pub(crate) fn replace(&self, rt: &HostRuntime, made: &File) -> io::Result<()> {
         made.sync_all()?;
         fs::rename(rt, self.draft.as_str(), self.file.as_str())?;
@@ -68,24 +70,25 @@ impl DraftPlace {
         Ok(())
     }
 
-    /// Removes the draft, as far as possible. The caller has counted a failure.
+    /// Removes the draft, as far as possible. The caller has counted a failure already.
     pub(crate) fn remove(&self, rt: &HostRuntime) {
         let _ = fs::remove_file(rt, self.draft.as_str());
     }
 }
 
-/// The mark of a draft beside the file of this path. If the file is itself named like a draft, its
-/// draft has no mark. Otherwise, once in its place, it could be taken for a draft of another file.
+/// The mark of a draft next to the file with this path. A file whose name ends like the name of a
+/// draft gets an unmarked draft. Otherwise the file, once it is replaced, might look like a draft
+/// left over from another file.
 fn draft_bit_of(file: &str) -> u32 {
     if file.ends_with(SUFFIX) { 0 } else { MARK }
 }
 
-/// Whether a file is regular and marked as a draft.
+/// Whether a file is a regular file with the mark of a draft.
 fn has_draft_bit(file: &Metadata) -> bool {
     file.is_file() && file.permissions().mode() & MARK != 0
 }
 
-/// Whether an open file is the one under this name.
+/// Whether the open file is the one under this name.
 fn stands_under(rt: &HostRuntime, file: &File, name: &str) -> bool {
     let (Ok(held), Ok(there)) = (file.metadata(), fs::symlink_metadata(rt, name)) else {
         return false;
@@ -93,8 +96,8 @@ fn stands_under(rt: &HostRuntime, file: &File, name: &str) -> bool {
     held.dev() == there.dev() && held.ino() == there.ino()
 }
 
-/// Removes the file under the name of a draft, if a command that was ended left it there.
-/// Everything else stays.
+/// Removes the file with the name of a draft, if a stopped command left it over. Any other file
+/// stays.
 fn remove_left_over(rt: &HostRuntime, name: &str) {
     let Ok(there) = fs::symlink_metadata(rt, name) else {
         return;
@@ -110,8 +113,8 @@ fn remove_left_over(rt: &HostRuntime, name: &str) {
     }
 }
 
-/// Whether a file that this command has locked is still a marked draft under this name, and not the
-/// draft of a command that ended meanwhile.
+/// Whether a file that this command has locked is still a marked draft under this name. It isn't if
+/// another command, whose draft it was, has ended meanwhile.
 fn is_left_over(rt: &HostRuntime, left: &File, name: &str) -> bool {
     let Ok(held) = left.metadata() else {
         return false;
@@ -119,7 +122,7 @@ fn is_left_over(rt: &HostRuntime, left: &File, name: &str) -> bool {
     has_draft_bit(&held) && stands_under(rt, left, name)
 }
 
-/// Locks a draft that was just made. Fails if another command takes it for a left-over draft, and
+/// Locks a draft that was just made. Fails if another command took it for a left-over draft, and
 /// has locked or removed it. On a file system without locks no draft counts as left over.
 fn hold(rt: &HostRuntime, made: &File, name: &str) -> Result<(), OpenFault> {
     if let Err(TryLockError::WouldBlock) = made.try_lock() {
@@ -131,8 +134,8 @@ fn hold(rt: &HostRuntime, made: &File, name: &str) -> Result<(), OpenFault> {
     Ok(())
 }
 
-/// Gives a draft the permissions of the old file, if there is one, together with the draft's mark.
-/// Returns the permissions that the draft is to have in the end.
+/// Gives a draft the permissions of the old file, if there is one, and the mark of a draft. Returns
+/// the permissions that the file is to have in the end.
 fn give_permissions(made: &File, old: Option<Metadata>, draft_bit: u32) -> io::Result<u32> {
     let Some(file) = old else {
         return Ok(made.metadata()?.permissions().mode() & !MARK);

@@ -1,11 +1,11 @@
-//! What a program writes to its sink of faults.
+//! Writes a program's messages of faults.
 ghost use Rattle.std.specs.Prelude.{◌-◌, ◌^◌, ◌<◌};
 ghost use Rattle.docker_host.specs.FaultSink.{TellsText, faults_view};
 
 use cif_device::{Sink, write_all};
 
-/// Writes a text to the sink of faults. If the sink fails, nothing is left to report that to, so
-/// it isn't reported.
+/// Writes a text to the sink of faults. If that fails, there is no device left to report the
+/// failure to, so it isn't reported.
 pub fn tell_text<L: Sink>(text: &[u8], faults: &mut L)
     requires { L.failures faults.old < 2 ^ 64 - 1 }
     ensures { TellsText text.now

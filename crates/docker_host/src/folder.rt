@@ -1,4 +1,4 @@
-//! A folder: where files are looked at, opened, and written anew by drafts.
+//! A folder: a device whose files are looked at, opened, and replaced by drafts.
 ghost use Rattle.std.specs.Prelude.{◌≡◌, ℕ, ◌+◌, ◌-◌, ◌^◌, ◌<◌, Bool, false, List, [], ◌∷◌, ◌++◌, length, IfOk, IsErr, OnOk, OnErr, Err};
 ghost use Rattle.cif_device.specs.Device.{CountsFailure};
 ghost use Rattle.docker_host.specs.History.{Event, looked, opened, unopened, closed, drafted, undrafted, placed, unplaced, dropped, named_if};
@@ -8,11 +8,11 @@ use std::alloc::AllocError;
 use std::io;
 use std::io::ErrorKind;
 
-/// Why a file isn't opened, or no draft is made.
+/// Why a file couldn't be opened, or no draft could be made.
 #[derive(Clone, Copy, PartialEq, Eq, Debug)]
 pub enum OpenFault {
-    /// It isn't there, it may not be opened this way, it is no longer what was seen, or its device
-    /// failed.
+    /// The file doesn't exist, may not be opened in this way, is no longer the one that was seen,
+    /// or its device failed.
     Failed,
     /// Out of memory: an allocation was refused.
     Memory,
@@ -22,8 +22,8 @@ impl OpenFault {
     ghost use Rattle.docker_host.specs.Opening.{one_of};
     ghost use Rattle.std.specs.Prelude.{◌≡◌};
 
-    /// One of two values, by the fault: the first if the device failed, the second if memory ran
-    /// out.
+    /// One of two values, chosen by the fault: `failed` if the device failed, `memory` if memory
+    /// ran out.
     pub fn one_of<T: Copy>(self, failed: T, memory: T) -> T
         ensures { result ≡ one_of failed memory self }
     {
@@ -65,43 +65,44 @@ impl From<AllocError> for OpenFault {
 /// A draft for a named file.
 #[derive(Drop)]
 pub struct Drafted<'a, K> {
-    /// The name.
+    /// The name of the file.
     pub name: &'a str,
-    /// What is written so far.
+    /// The new text of the file, while it is being written.
     pub draft: K,
 }
 
-/// Where files are looked at, opened, and written anew.
+/// A device whose files are looked at, opened, and replaced by drafts.
 pub trait Folder {
     /// An opened file.
     type File: Source + Drop;
 
-    /// A new text, as far as it is written.
+    /// A new text for a file, while it is being written.
     type Draft: Sink + Drop;
 
-    /// What is seen of a file.
+    /// What a look saw of a file.
     type Seen: Drop;
 
-    // What was asked of it so far, in order.
+    // The events of the folder, oldest first.
     ghost history: { Self → List Event };
 
-    // How often it has failed so far, with the failures of what was given back to it.
+    // The number of its failures, including failures of the files and drafts that were given back
+    // to it.
     ghost failures: { Self → ℕ };
 
     // The look that saw this, as the number of its event, counted from 0.
     ghost look_of: { Self.Seen → ℕ };
 
-    // Whether its drafts name the bytes that they took.
+    // Whether its drafts can name the bytes that they have taken.
     ghost names_bytes: { Bool };
 
-    /// Looks at the named file. From what it saw, a draft for that file can be made.
+    /// Looks at the named file. A draft for the file can be made from what the look saw.
     fn look(&mut self, name: &str) -> Self::Seen
         ensures asked { history self.new ≡ history self.old ++ looked name.now ∷ [] }
         ensures look { look_of result ≡ length (history self.old) }
         ensures no_failure { failures self.new ≡ failures self.old };
 
-    /// Opens the named file, to be read from its first byte. What is left in it is what it held
-    /// then.
+    /// Opens the named file, to be read from its first byte. The bytes left in it are the bytes
+    /// that the file holds at this position.
     fn open(&mut self, name: &str) -> Result<Self::File, OpenFault>
         requires { failures self.old < 2 ^ 64 - 1 }
         ensures asked { IfOk result (λ file.
@@ -114,14 +115,14 @@ pub trait Folder {
         ensures failures { CountsFailure (result ≡ Err OpenFault.Failed)
             (failures self.old) (failures self.new) };
 
-    /// Takes an opened file back, with what is left of it, and counts its failures.
+    /// Takes back an opened file, notes what is left in it, and adds its failures to the folder's.
     fn close(&mut self, file: Self::File)
         requires { failures self.old + Self.File.failures file < 2 ^ 64 }
         ensures asked { history self.new ≡ history self.old ++ closed (Self.File.left file) ∷ [] }
         ensures counted { failures self.new ≡ failures self.old + Self.File.failures file };
 
     /// Makes an empty draft for the named file, from what a look saw of it. Fails if what is under
-    /// the name is no longer that.
+    /// the name is no longer what the look saw.
     fn create<'a>(
         &mut self,
         name: &'a str,
@@ -139,8 +140,8 @@ pub trait Folder {
         ensures failures { CountsFailure (result ≡ Err OpenFault.Failed)
             (failures self.old) (failures self.new) };
 
-    /// Puts a draft in the place of its file, which then holds what the draft took. If that fails,
-    /// the file holds this or what it held before.
+    /// Puts a draft in the place of its file, which then holds the bytes that the draft took. If
+    /// that fails, the file holds these bytes or what it held before.
     fn complete(&mut self, made: Drafted<'_, Self::Draft>) -> Result<(), Failed>
         requires { failures self.old + Self.Draft.failures made.draft < 2 ^ 64 - 1 }
         ensures asked { OnOk result (history self.new ≡ history self.old
@@ -150,14 +151,14 @@ pub trait Folder {
         ensures failures { CountsFailure (IsErr result)
             (failures self.old + Self.Draft.failures made.entry.draft) (failures self.new) };
 
-    /// Gives a draft up, and counts its failures.
+    /// Gives up a draft, and adds its failures to the folder's.
     fn discard(&mut self, made: Drafted<'_, Self::Draft>)
         requires { failures self.old + Self.Draft.failures made.draft < 2 ^ 64 }
         ensures asked { history self.new ≡ history self.old ++ dropped made.entry.name.now ∷ [] }
         ensures counted { failures self.new
             ≡ failures self.old + Self.Draft.failures made.entry.draft };
 
-    /// How often it has failed so far.
+    /// The number of failures of the folder.
     fn failures(&self) -> u64
         ensures { result ≡ failures self.now };
 }

@@ -1,11 +1,12 @@
-//! The history of a folder. It takes no memory, and its calls do nothing when they run.
+//! The history of a folder: its events, which only proofs see. It takes no memory, and its calls do
+//! nothing when they run.
 ghost use Rattle.std.specs.Prelude.{◌≡◌, ℕ, List, [], ◌∷◌, ◌++◌, length};
 ghost use Rattle.std.specs.Borrow.{ftrue};
 ghost use Rattle.docker_host.specs.History.{Event};
 
 use std::marker::Model;
 
-/// What was asked of a folder so far, in order. Only proofs see it.
+/// The events of a folder, oldest first. Only proofs see them.
 #[derive(Drop)]
 pub struct History {
     pub ghost events: { List Event },
@@ -15,7 +16,7 @@ impl Model for History {
     ghost also_owns = { λ _. ftrue };
 }
 
-/// A position of a history: how many events were before it. Only proofs see it.
+/// A position in a history: the number of events before it. Only proofs see it.
 #[derive(Drop)]
 pub struct Position {
     pub ghost at: { ℕ },
@@ -25,32 +26,32 @@ impl Model for Position {
     ghost also_owns = { λ _. ftrue };
 }
 
-/// An event that is to be noted.
+/// An event that is about to be added to a history.
 #[derive(Clone, Copy, Drop)]
 pub enum Note<'a> {
     /// A named file was looked at.
     Looked(&'a str),
     /// A named file was opened, and held these bytes.
     Opened(&'a str, &'a [u8]),
-    /// A named file was opened, and its bytes can't be named.
+    /// A named file was opened, and can't name its bytes.
     OpenedUnnamed(&'a str),
-    /// A named file wasn't opened.
+    /// A named file couldn't be opened.
     Unopened(&'a str),
-    /// An opened file was closed, and these bytes were left of it.
+    /// An opened file was closed, with these bytes still to be read.
     Closed(&'a [u8]),
-    /// An opened file was closed, and what was left of it can't be named.
+    /// An opened file that can't name its bytes was closed.
     ClosedUnnamed,
-    /// A draft was made for a named file, from the look of a position.
+    /// A draft was made for a named file, from the look at this position.
     Drafted(&'a str, &'a Position),
-    /// No draft was made for a named file, from the look of a position.
+    /// No draft could be made for a named file, from the look at this position.
     Undrafted(&'a str, &'a Position),
-    /// A draft took the place of a named file, which then held these bytes.
+    /// A draft took the place of a named file, which holds these bytes from then on.
     Placed(&'a str, &'a [u8]),
-    /// A draft whose bytes can't be named took the place of a named file.
+    /// A draft that can't name its bytes took the place of a named file.
     PlacedUnnamed(&'a str),
-    /// A draft of these bytes failed to take the place of a named file.
+    /// A draft with these bytes failed to take the place of a named file.
     Unplaced(&'a str, &'a [u8]),
-    /// A draft whose bytes can't be named failed to take the place of a named file.
+    /// A draft that can't name its bytes failed to take the place of a named file.
     UnplacedUnnamed(&'a str),
     /// A draft for a named file was given up.
     Dropped(&'a str),
@@ -66,7 +67,7 @@ impl History {
         History {}
     }
 
-    /// The history with one more event.
+    /// The history with this event as its last.
     pub fn then(&self, _note: &Note<'_>) -> History
         ensures { result.events ≡ self.now.events ++ event_of _note.now ∷ [] }
     {

@@ -1,18 +1,18 @@
-//! All devices of a program, in one value.
+//! All devices of a program, as one value.
 use crate::folder::Folder;
 use cif_device::{Sink, Source};
 use std::marker::Model;
 
-/// What a program runs on.
+/// All devices that a program uses.
 #[derive(Drop)]
 pub struct Host<S: Source, D: Folder, K: Sink, L: Sink> {
     /// Its input.
     pub input: S,
-    /// Where it looks at files, opens them and writes them anew.
+    /// Where it looks at files, opens them and replaces them.
     pub folder: D,
     /// Its output.
     pub output: K,
-    /// Where it writes its faults.
+    /// Where it writes its messages of faults.
     pub faults: L,
 }
 

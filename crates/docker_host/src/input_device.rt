@@ -1,4 +1,4 @@
-//! Standard input. Its bytes can't be named in a contract.
+//! Standard input. Contracts can't name its bytes.
 ghost use Rattle.std.specs.Prelude.{◌≡◌, None, false};
 
 use crate::transfers::read_some;
@@ -28,7 +28,7 @@ impl Model for InputDevice {
 }
 
 impl InputDevice {
-    /// Standard input, from where it stands.
+    /// Standard input, from its current position.
     pub fn stdin(rt: &HostRuntime) -> InputDevice
         ensures no_failure { result.failures ≡ 0 }
         ensures ended { result.ended ≡ false }

@@ -1,5 +1,5 @@
-//! A folder, whose one history says what was asked of it, in order, and what each request met.
-//! With it, all devices of a program in one value.
+//! A folder whose history says what it was asked to do, in order, and what it found. Also all
+//! devices of a program as one value.
 #![tactic(auto)]
 
 mod draft_file;

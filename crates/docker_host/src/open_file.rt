@@ -1,4 +1,4 @@
-//! A real file that was opened. Its bytes can't be named in a contract.
+//! A real file that was opened. Contracts can't name its bytes.
 ghost use Rattle.std.specs.Prelude.{◌≡◌, None, IfOk, false};
 
 use crate::folder::OpenFault;
@@ -7,7 +7,7 @@ use cif_device::{Failed, Source};
 use std::fs::File;
 use std::marker::Model;
 
-/// A file that was opened, to be read from its first byte.
+/// An opened file, to be read from its first byte.
 #[derive(Drop)]
 pub struct OpenFile {
     file: File,

@@ -1,4 +1,4 @@
-//! Standard output and standard error. Their bytes can't be named in a contract.
+//! Standard output and standard error. Contracts can't name their bytes.
 ghost use Rattle.std.specs.Prelude.{◌≡◌, None};
 
 use crate::transfers::write_some;
@@ -6,14 +6,14 @@ use cif_device::{Failed, Sink};
 use std::io::{Stderr, Stdout};
 use std::marker::Model;
 
-/// Standard output or standard error.
+/// Which stream an output device writes to.
 #[derive(Drop)]
 enum To {
     Stdout(Stdout),
     Stderr(Stderr),
 }
 
-/// A sink of real bytes. It isn't buffered: what it takes is written.
+/// A sink that writes real bytes at once, without a buffer.
 #[derive(Drop)]
 pub struct OutputDevice {
     to: To,
@@ -29,7 +29,7 @@ impl Model for OutputDevice {
 }
 
 impl OutputDevice {
-    /// Standard output, whether or not anybody reads it.
+    /// Standard output, even if nobody reads it.
     pub fn stdout(rt: &HostRuntime) -> OutputDevice
         ensures { result.failures ≡ 0 }
     {
@@ -37,7 +37,7 @@ impl OutputDevice {
         OutputDevice { to, failures: 0 }
     }
 
-    /// Standard error, whether or not anybody reads it.
+    /// Standard error, even if nobody reads it.
     pub fn stderr(rt: &HostRuntime) -> OutputDevice
         ensures { result.failures ≡ 0 }
     {

@@ -1,4 +1,4 @@
-//! A file that was opened, in memory.
+//! An opened file of a folder in memory.
 ghost use Rattle.std.specs.Prelude.{◌≡◌, ◌+◌, ◌-◌, ◌^◌, ◌<◌, ◌≤◌, ◌↔◌, min, [], ◌++◌, length, take, false, Some, IfOk, IsErr, OnOk, OnErr};
 ghost use Rattle.cif_device.specs.Device.{Ends};
 ghost use Rattle.docker_host.specs.Shelf.{page_count};
@@ -6,11 +6,11 @@ ghost use Rattle.docker_host.specs.Shelf.{page_count};
 use cif_device::{Failed, Source};
 use std::marker::Model;
 
-/// How many bytes one read gives at most.
+/// The most bytes that one read gives.
 const STEP: usize = 100;
 
-/// A source that owns its bytes. It gives at most 100 bytes per read, and fails once it has given a
-/// set number of bytes.
+/// A source that owns its bytes. One read gives at most 100 of them. After a given number of bytes
+/// each read fails.
 #[derive(Debug, Drop)]
 pub struct Page {
     bytes: Vec<u8>,
@@ -39,7 +39,7 @@ impl Model for Page {
 }
 
 impl Page {
-    /// A source of these bytes. Once it has given `sound` bytes, each read fails.
+    /// A source of these bytes. After `sound` of them each read fails.
     pub fn new(bytes: Vec<u8>, sound: usize) -> Page
         ensures left { result.left ≡ bytes.items }
         ensures sound { result.sound ≡ sound }
@@ -57,7 +57,7 @@ impl Page {
         }
     }
 
-    /// What is left of it.
+    /// The bytes that are left.
     pub fn rest(&self) -> &[u8]
         ensures { result.now ≡ self.now.left }
     {
@@ -87,7 +87,7 @@ impl Source for Page {
         ensures still { OnErr result
             ((self.new.ended ≡ self.old.ended) × (self.new.passed ≡ self.old.passed)) }
 
-        // Any source promises the clauses above. This one also promises the clauses below.
+        // A source promises the clauses above. This one promises the following clauses too.
         ensures count { IfOk result (λ n. n ≡ page_count self.old (length into.old)) }
         ensures sound { IfOk result (λ n. self.new.sound ≡ self.old.sound - n) }
         ensures fails { IsErr result ↔ (self.old.sound ≡ 0) }

@@ -1,5 +1,5 @@
-//! The real files. Their bytes can't be named. What was asked of them, and in which order, is
-//! known.
+//! The real files. Contracts can't name their bytes, but say what was asked of the files and in
+//! which order.
 ghost use Rattle.std.specs.Prelude.{◌≡◌, ◌+◌, ◌-◌, ◌^◌, ◌<◌, [], ◌∷◌, ◌++◌, false, None, IsErr, OnOk, OnErr};
 ghost use Rattle.cif_device.specs.Device.{CountsFailure};
 ghost use Rattle.docker_host.specs.History.{placed, unplaced, dropped};
@@ -19,8 +19,8 @@ pub struct Seen {
     position: Position,
 }
 
-/// The real files. Once a draft took the place of a file, the next look at its name sees the draft
-/// itself, even if another program has put another file there since. So the next draft never
+/// The real files. After a draft has taken the place of a file, the next look at that name sees the
+/// draft itself, even if another program has put another file there since. So the next draft never
 /// replaces that other file unseen.
 #[derive(Drop)]
 pub struct RealFolder {
@@ -42,7 +42,7 @@ impl Model for RealFolder {
 }
 
 impl RealFolder {
-    /// The real files, as seen from the working directory. Nothing was asked of them yet.
+    /// The real files, with names relative to the working directory. The history has no events yet.
     pub fn new(rt: &HostRuntime) -> RealFolder
         ensures events { result.events ≡ [] }
         ensures no_failure { result.failures ≡ 0 }
@@ -55,8 +55,8 @@ impl RealFolder {
         }
     }
 
-    /// What is seen of the draft that took the place of the file of this name, if no look has seen
-    /// it yet.
+    /// The draft that took the place of the named file, as the next look will see it. `None` if
+    /// there was no such draft, or a look has seen it already.
     fn take_placed(&mut self, name: &str) -> Option<Version>
         ensures { self.new ≡ self.old }
     {

@@ -12,42 +12,43 @@ use cif_device::{Failed, Kept, Memory, Sink, Source};
 use std::alloc::Global;
 use std::marker::Model;
 
-/// A file on a shelf.
+/// A file on a shelf: its name and its text.
 #[derive(Drop)]
 pub struct Place {
     name: String,
     text: Vec<u8>,
 }
 
-/// At which calls a shelf fails.
+/// The calls at which a shelf fails.
 #[derive(Clone, Copy, PartialEq, Eq, Debug)]
 pub enum Fails {
-    /// At none.
+    /// No call.
     Never,
-    /// When a file is opened.
+    /// Opening a file.
     AtOpen,
-    /// When a file is opened, because memory runs out.
+    /// Opening a file, because memory runs out.
     AtOpenForMemory,
-    /// When an opened file has given this many bytes, and is read again.
+    /// Reading an opened file that has given this many bytes.
     AfterReading(usize),
-    /// When a draft is made.
+    /// Making a draft.
     AtCreate,
-    /// When a draft is made, because memory runs out.
+    /// Making a draft, because memory runs out.
     AtCreateForMemory,
-    /// When a draft has taken this many bytes, and is written again.
+    /// Writing to a draft that has taken this many bytes.
     AfterWriting(usize),
-    /// When a draft is to take its file's place.
+    /// Putting a draft in the place of its file.
     AtComplete,
 }
 
-/// What a look at a file on a shelf saw: which of the texts that were placed, if any.
+/// What a look at a file on a shelf saw: which of the placed texts it was, or `None` if there was
+/// no file.
 #[derive(Drop)]
 pub struct Sight {
     text: Option<usize>,
     position: Position,
 }
 
-/// A folder in memory. Each text that is placed comes first, and hides the older one of its name.
+/// A folder in memory. A newly placed text comes first, and hides older texts of the same name.
 #[derive(Drop)]
 pub struct Shelf {
     alloc: Global,
@@ -72,7 +73,7 @@ impl Model for Shelf {
     ghost invariant = { λ shelf. IsKept shelf.places.items shelf.history.events };
 }
 
-/// The text of this name.
+/// The text of the file with this name, or `None` if there is no such file.
 fn text_among<'a>(places: &'a [Place], name: &str) -> Option<&'a [u8]>
     ensures { texts_of places.now name.now ≡ option_map (λ text. text.now) result }
 {
@@ -84,7 +85,8 @@ fn text_among<'a>(places: &'a [Place], name: &str) -> Option<&'a [u8]>
     None
 }
 
-/// The number of the text of this name, counted from the oldest place.
+/// The number of the text with this name, counted from the oldest place, or `None` if there is no
+/// such file.
 fn number_among(places: &[Place], name: &str) -> Option<usize> {
     places
         .iter()
@@ -93,7 +95,7 @@ fn number_among(places: &[Place], name: &str) -> Option<usize> {
 }
 
 impl Shelf {
-    /// An empty shelf, whose drafts have room for this many bytes. Nobody has asked it to fail yet.
+    /// An empty shelf that doesn't fail. Each of its drafts has room for `room` bytes.
     pub fn new(alloc: Global, room: usize) -> Shelf
         ensures events { result.events ≡ [] }
         ensures no_failure { result.failures ≡ 0 }
@@ -108,14 +110,15 @@ impl Shelf {
         }
     }
 
-    /// From now on it fails at these calls, and only there.
+    /// Makes the shelf fail at these calls from now on, and at no others.
     pub fn fail(&mut self, fails: Fails)
         ensures { self.new ≡ self.old }
     {
         self.fails = fails;
     }
 
-    /// Puts a text in a named file, as another program does. If there is no memory, nothing is put.
+    /// Puts a text in the named file, as if another program did. If memory runs out, nothing
+    /// changes.
     pub fn put(&mut self, name: &str, text: &[u8]) -> Result<(), Memory>
         ensures placed { OnOk result
             (self.new.events ≡ self.old.events ++ placed name.now (Some text.now) ∷ []) }
@@ -131,14 +134,14 @@ impl Shelf {
         Ok(())
     }
 
-    /// What a named file holds. `None` if there is none.
+    /// The text of the named file, or `None` if there is no such file.
     pub fn text(&self, name: &str) -> Option<&[u8]>
         ensures { option_map (λ text. text.now) result ≡ text_under self.now.events name.now }
     {
         text_among(self.places.as_slice(), name)
     }
 
-    /// Changes nothing: its contract says that each file that was opened held what was last placed
+    /// Changes nothing. Its contract says that each file that was opened held what was last placed
     /// under its name.
     pub fn tell(&self)
         ensures { IsShelfHistory self.now.events }
@@ -146,7 +149,7 @@ impl Shelf {
         let _ = &self.places;
     }
 
-    /// A copy of what a named file holds, if it can be opened.
+    /// A copy of the text of the named file, if the file can be opened.
     fn copy_of(&self, name: &str) -> Result<Vec<u8>, OpenFault>
         ensures { IfOk result (λ text. text_under self.now.events name.now ≡ Some text.items) }
     {
@@ -162,7 +165,7 @@ impl Shelf {
         }
     }
 
-    /// How many bytes an opened file gives before it fails.
+    /// The number of bytes that an opened file gives before it fails.
     fn sound(&self) -> usize {
         match self.fails {
             Fails::AfterReading(sound) => sound,
@@ -170,7 +173,7 @@ impl Shelf {
         }
     }
 
-    /// How many bytes a draft takes before it fails.
+    /// The number of bytes that a draft takes before it fails.
     fn draft_room(&self) -> usize {
         match self.fails {
             Fails::AfterWriting(room) => room,
@@ -178,7 +181,7 @@ impl Shelf {
         }
     }
 
-    /// An empty draft for a named file, if it still holds the text that was seen.
+    /// An empty draft for the named file, if the file still holds the text that was seen.
     fn draft_of(&self, name: &str, seen: &Sight) -> Result<Kept, OpenFault>
         ensures empty { IfOk result (λ draft. draft.taken ≡ []) }
         ensures sound { IfOk result (λ draft. draft.failures ≡ 0) }
@@ -197,7 +200,7 @@ impl Shelf {
         }
     }
 
-    /// Puts what a draft took in a named file. False if that fails.
+    /// Puts the text of a draft in the named file. Returns `false` if that fails.
     fn put_draft(&mut self, name: &str, text: &[u8]) -> bool
         ensures placed { result ≡ true
             → self.new.events ≡ self.old.events ++ placed name.now (Some text.now) ∷ [] }

@@ -1,26 +1,26 @@
-//! The numbers of the standard streams.
+//! The file descriptors of the standard streams.
 use std::fs::File;
 use std::os::fd::AsRawFd;
 
-/// The greatest number of a standard stream, which is standard error's.
+/// The highest file descriptor of a standard stream, which is standard error.
 const LAST_STANDARD: i32 = 2;
 
-/// What is held under the numbers of the standard streams that are closed. It can be neither read
-/// nor written.
+/// What is open under the descriptors of closed standard streams. It can be neither read nor
+/// written.
 #[derive(Drop)]
 pub struct Standard {
     _streams: [Option<File>; 3],
 }
 
-/// Takes the numbers of the standard streams that are closed, until what it returns is dropped. So
-/// no file is opened under such a number, and then read or written as that stream.
+/// Occupies the file descriptors of closed standard streams until the returned value is dropped. So
+/// no file that is opened gets such a descriptor, and is then read or written as a standard stream.
 pub fn hold_standard(rt: &HostRuntime) -> Standard {
     Standard {
         _streams: [hold_one(rt), hold_one(rt), hold_one(rt)],
     }
 }
 
-/// Takes the lowest free number, if it is a standard stream's.
+/// Occupies the lowest free file descriptor, if it belongs to a standard stream.
 fn hold_one(rt: &HostRuntime) -> Option<File> {
     let root = File::open(rt, "/").ok()?;
     if root.as_raw_fd() > LAST_STANDARD {

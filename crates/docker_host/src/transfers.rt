@@ -1,9 +1,9 @@
-//! One read and one write of a real device, which a signal may interrupt.
+//! One read from or one write to a real device, repeated if a signal interrupts it.
 ghost use Rattle.std.specs.Prelude.{◌<◌, ◌≤◌, IfSome, length};
 
 use std::io::{ErrorKind, Read, Write};
 
-/// Reads once, and again if a signal interrupts it. Returns `None` if the device fails.
+/// Reads once, and again if a signal interrupts the read. Returns `None` if the device fails.
 pub(crate) fn read_some<R: Read>(from: &mut R, into: &mut [u8]) -> Option<usize>
     ensures { IfSome result (λ n. n ≤ length into.new) }
 {
@@ -17,8 +17,8 @@ pub(crate) fn read_some<R: Read>(from: &mut R, into: &mut [u8]) -> Option<usize>
     None
 }
 
-/// Writes once, and again if a signal interrupts it. Returns `None` if the device fails, or takes
-/// nothing.
+/// Writes once, and again if a signal interrupts the write. Returns `None` if the device fails or
+/// takes no bytes.
 pub(crate) fn write_some<W: Write>(to: &mut W, piece: &[u8]) -> Option<usize>
     ensures within { IfSome result (λ n. n ≤ length piece.now) }
     ensures progress { IfSome result (λ n. 0 < n) }

@@ -3,7 +3,8 @@ use std::fs;
 use std::fs::{File, Metadata};
 use std::os::unix::fs::MetadataExt;
 
-/// A file, and when it was last written. That distinguishes it from a file that takes its place.
+/// The identity of a file, its size, and the time when it was last written. They distinguish the
+/// file from one that takes its place.
 #[derive(Clone, Copy, PartialEq, Eq)]
 pub(crate) struct Version {
     device: u64,
@@ -15,7 +16,7 @@ pub(crate) struct Version {
 }
 
 impl Version {
-    /// The file of this metadata.
+    /// The version of the file with this metadata.
     pub(crate) fn of(file: &Metadata) -> Version {
         Version {
             device: file.dev(),
@@ -27,18 +28,18 @@ impl Version {
         }
     }
 
-    /// The file that is open, if that can be found out.
+    /// The version of an open file, if its metadata can be read.
     pub(crate) fn of_open(file: &File) -> Option<Version> {
         file.metadata().ok().map(|file| Version::of(&file))
     }
 
-    /// The file under a name, if there is one. Links are followed.
+    /// The version of the file under a name, if there is one. Links are followed.
     pub(crate) fn under(rt: &HostRuntime, name: &str) -> Option<Version> {
         fs::metadata(rt, name).ok().map(|file| Version::of(&file))
     }
 
-    /// Whether this is a pipe or a device, and the other is the same one. When they were written
-    /// makes no difference.
+    /// Whether both are the same pipe or device. The times when they were written make no
+    /// difference.
     pub(crate) fn is_same_pipe(&self, other: &Version) -> bool {
         !self.regular && !other.regular && self.device == other.device && self.node == other.node
     }

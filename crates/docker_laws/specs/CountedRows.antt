@@ -1,19 +1,20 @@
--- The keys of a table that count, by a test, and the rows that have them.
+-- A table cut to the keys that pass a test, and the rows with these keys. For example, the test may
+-- ask whether a key is permanent.
 use Rattle.std.specs.Prelude.{Bool, if◌then◌else◌, None, List, filter}
 use Rattle.docker_model.specs.file.Change.{Key}
 use Rattle.docker_model.specs.state.State.{HasGoodBodies}
 use Rattle.docker_model.specs.state.Table.{Table}
 use Rattle.state_laws.specs.Row.{Row, AreRowsOf}
 
--- the table of the keys that count
+-- the table cut to the keys that pass the test
 abbrev pub counted_table : (Key → Bool) → Table → Table
 counted_table counts table key = if counts key then table key else None
 
--- the rows whose keys count
+-- the rows whose keys pass the test
 abbrev pub counted_rows : (Key → Bool) → List Row → List Row
 counted_rows counts rows = filter (λ (row : Row). counts row.0) rows
 
--- rows have the table, and each live body is well formed and agrees with its key
+-- the table has a list of rows, and each of its bodies is well formed and belongs to its key
 pub record IsOfGoodRows (live : Table) : Type 0 where
   pub rows : List Row
   pub are : AreRowsOf live rows

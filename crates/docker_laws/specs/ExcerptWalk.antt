@@ -1,5 +1,6 @@
--- The excerpt of a state for a place, made by a walk over its entries in key order. The entries of
--- one UID's schedules are a run, which is kept or dropped as a whole.
+-- The excerpt of a state for a place, made by a walk over the state's entries in key order. The
+-- schedules of one UID follow each other there: they are a run. A run is kept or dropped as a
+-- whole, at its end.
 use Rattle.std.specs.Prelude.{◌≡◌, ℕ, Bool, false, ◌||◌, if◌then◌else◌, List, [], ◌∷◌, ◌++◌, fold, Option, Some, None}
 use Rattle.std.specs.List.{filter_map, list_any}
 use Rattle.std.specs.Str.{bytes_eq}
@@ -8,64 +9,65 @@ use Rattle.docker_model.specs.file.Change.{Key, tiploc_key, association_key, sch
 use Rattle.docker_model.specs.state.Op.{Op, put_with, Entry}
 use Rattle.docker_model.specs.state.State.{State}
 
--- what a walk has kept so far, and the run that it is in, which may still be dropped
+-- what a walk has kept after some entries, without the run that it is in. The run may still be
+-- dropped
 pub record ExcerptSoFar : Type 0 where
   pub kept : List (Key × Entry)
   pub run : List (Key × Entry)
 
--- a walk before its first entry
+-- what a walk has kept before its first entry: nothing
 abbrev pub nothing_kept : ExcerptSoFar
 nothing_kept = record { kept = []; run = [] }
 
--- the key is a TIPLOC's or an association's, at the place
+-- whether the key is the place's TIPLOC, or an association at the place
 abbrev pub is_here : List ℕ → Key → Bool
 is_here place (tiploc_key code) = bytes_eq code place
 is_here place (association_key key) = bytes_eq key.location place
 is_here place (schedule_key key) = false
 
--- the key is of a schedule of this UID
+-- whether the key belongs to a schedule of this UID
 abbrev pub has_uid : List ℕ → Key → Bool
 has_uid uid (schedule_key key) = bytes_eq key.uid uid
 has_uid uid _ = false
 
--- the UID that a live association names as its associated train
+-- the UID of the associated train, if the entry is a live association
 abbrev pub name_in : Key → Op → Option (List ℕ)
 name_in (association_key key) (put_with (association_body line)) = Some key.associated
 name_in _ _ = None
 
--- the UIDs that live associations among the entries name
+-- the UIDs of the associated trains in all live associations among these entries
 abbrev pub names_in : List (Key × Entry) → List (List ℕ)
 names_in entries = filter_map (λ entry. name_in entry.0 entry.1.op) entries
 
--- the op is a live schedule that calls at the place
+-- whether the op puts a schedule that calls at the place
 abbrev pub is_call : List ℕ → Op → Bool
 is_call place (put_with (schedule_body lines)) = calls_at place lines
 is_call place _ = false
 
--- there is a run, and its UID is among the names
+-- whether the run's UID is among these names. Without a run it isn't
 abbrev pub is_run_named : List (List ℕ) → List (Key × Entry) → Bool
 is_run_named names [] = false
 is_run_named names (first ∷ run) = list_any (λ name. has_uid name first.0) names
 
--- a live schedule of the run calls at the place
+-- whether a live schedule of the run calls at the place
 abbrev pub is_run_calling : List ℕ → List (Key × Entry) → Bool
 is_run_calling place run = list_any (λ entry. is_call place entry.1.op) run
 
--- the run is needed: a kept association names its UID, or one of its live schedules calls at the
--- place
+-- whether the run is needed: a kept association names its UID, or one of its live schedules calls
+-- at the place
 abbrev pub is_run_needed : List ℕ → ExcerptSoFar → Bool
 is_run_needed place so_far = is_run_named (names_in so_far.kept) so_far.run || is_run_calling place so_far.run
 
--- what is kept after the run ends
+-- what is kept at the end of the run: the run is added if it is needed, and dropped if not
 abbrev pub kept_after_run : List ℕ → ExcerptSoFar → List (Key × Entry)
 kept_after_run place so_far = if is_run_needed place so_far then so_far.kept ++ so_far.run else so_far.kept
 
--- a schedule of this UID continues the run
+-- whether a schedule of this UID belongs to the run
 abbrev pub goes_on : List (Key × Entry) → List ℕ → Bool
 goes_on [] uid = false
 goes_on (first ∷ run) uid = has_uid uid first.0
 
--- the walk after one more entry, with this key
+-- the walk after one more entry, given as key and entry
 abbrev pub with_entry_of : List ℕ → ExcerptSoFar → Key → Entry → ExcerptSoFar
 with_entry_of place so_far (schedule_key key) entry =
     if goes_on so_far.run key.uid then record { kept = so_far.kept; run = so_far.run ++ (schedule_key key, entry) ∷ [] }
@@ -74,24 +76,24 @@ with_entry_of place so_far key entry =
     if is_here place key then record { kept = kept_after_run place so_far ++ (key, entry) ∷ []; run = [] }
     else record { kept = kept_after_run place so_far; run = [] }
 
--- the walk after one more entry
+-- the walk after one more entry, given as a pair
 abbrev pub next_kept : List ℕ → ExcerptSoFar → Key × Entry → ExcerptSoFar
 next_kept place so_far entry = with_entry_of place so_far entry.0 entry.1
 
--- what is kept in the end, if the walk has come this far and these entries are to come
+-- what is kept at the end of a walk that has come this far and still has these entries before it
 abbrev pub kept_from : List ℕ → ExcerptSoFar → List (Key × Entry) → List (Key × Entry)
 kept_from place so_far rest = kept_after_run place (fold (next_kept place) so_far rest)
 
--- the walk after these entries, from its start
+-- the walk from its start over these entries
 abbrev pub kept_so_far : List ℕ → List (Key × Entry) → ExcerptSoFar
 kept_so_far place entries = fold (next_kept place) nothing_kept entries
 
--- the excerpt of a state for the place
+-- the excerpt of a state for the place, as the walk makes it
 abbrev pub excerpt_for : List ℕ → State → State
 excerpt_for place state = record { horizon = state.horizon; ledger = state.ledger; entries = kept_after_run place (kept_so_far place state.entries) }
 
--- after these entries the walk has kept `kept` and is in this run. The flag says whether the run is
--- needed
+-- after these entries the walk has kept `kept` and is in the run `run`. The flag `needed` says
+-- whether the run is needed by what is known then
 pub record HasKept (place : List ℕ) (entries kept run : List (Key × Entry)) (needed : Bool) : Type 0 where
   pub so_far : kept_so_far place entries ≡ record { kept = kept; run = run }
   pub is_needed : is_run_needed place (record { kept = kept; run = run }) ≡ needed

@@ -1,4 +1,4 @@
--- The summary of one file, as a value.
+-- The summary of one file, computed from its changes.
 use Rattle.std.specs.Prelude.{List, [], ◌∷◌, map, ℕ}
 use Rattle.std.specs.declared.cmp.Ordering.{Ordering}
 use Rattle.std.specs.declared.cmp.Ordering.TheVariants.{Less, Equal, Greater}
@@ -8,24 +8,26 @@ use Rattle.docker_model.specs.state.Op.{Entry, key_cmp}
 use Rattle.docker_model.specs.state.State.{State}
 use Rattle.docker_model.specs.state.Summary.{entry_of}
 
--- the list with an entry placed by comparing its key with the first entry's. The entry goes before
--- the first one, is left out if the keys are equal, or goes further back
+-- the list `first ∷ entries` with one entry added, by how its key compares with the first key. A
+-- lower key goes to the front. An equal key isn't added. For a higher key, `rest` is what follows
+-- the first entry
 abbrev pub placed : Ordering → Key × Entry → Key × Entry → List (Key × Entry) → List (Key × Entry) → List (Key × Entry)
 placed Less entry first entries rest = entry ∷ first ∷ entries
 placed Equal entry first entries rest = first ∷ entries
 placed Greater entry first entries rest = first ∷ rest
 
--- entries in key order, with one made earlier, which is left out if they have an entry of its key
+-- entries in key order, with one older entry added. It is left out if they already have an entry
+-- with its key
 abbrev pub with_earlier : Key × Entry → List (Key × Entry) → List (Key × Entry)
 with_earlier entry [] = entry ∷ []
 with_earlier entry (first ∷ entries) = placed (key_cmp entry.0 first.0) entry first entries (with_earlier entry entries)
 
--- the entry of each key that was made last, in key order
+-- the last entry of each key in a list of entries, in key order
 abbrev pub latest_entries : List (Key × Entry) → List (Key × Entry)
 latest_entries [] = []
 latest_entries (entry ∷ entries) = with_earlier entry (latest_entries entries)
 
--- the summary of one file
+-- the summary of one file, without a horizon
 abbrev pub summary_of : List (List ℕ) → State
 summary_of file = record {
   horizon = 0;

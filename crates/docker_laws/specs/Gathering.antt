@@ -1,5 +1,6 @@
--- The lines of a docker, gathered by a walk over rows of the live table. Each schedule and each
--- association gives its lines, for each start day of a train that may be under way on the day.
+-- The lines of a docker, gathered by a walk over the rows of a live table. Each schedule and each
+-- association gives its lines. A train can have an event on the day only if it starts on that day
+-- or on one of the two days before it.
 use Rattle.std.specs.Prelude.{ℕ, List, ◌⊎◌, ◌-◌, nat_le, [], ◌∷◌, map, filter, ◌&&◌, ◌==◌, Bool}
 use Rattle.std.specs.Prelude.{false, Option, Some, None, if◌then◌else◌, codes, not, ◌≡◌, Contains}
 use Rattle.std.specs.List.{flat_map}
@@ -19,48 +20,50 @@ use Rattle.docker_model.specs.docker.Association.{IsAssociationLine, partner_sta
 use Rattle.docker_model.specs.docker.DockerList.{IsEventLine}
 use Rattle.docker_laws.specs.LiveRows.{Link}
 
--- a line of the docker: of an event, or of an association
+-- this is a line of the docker, for an event or for an association
 abbrev pub IsDockerLine : Table → List ℕ → ℕ → DockerLine → Type 0
 IsDockerLine live place day line = IsEventLine live place day line ⊎ IsAssociationLine live place day line
 
--- the start days of trains that may be under way on the day: the day and the two days before it,
--- from day 0 on. For day 10 they are 10, 9 and 8; for day 0 only 0
+-- the days on which a train with an event on the day may start: the day and the two days before it,
+-- but none before day 0. For example, for day 10 they are 10, 9 and 8, and for day 0 only 0
 abbrev pub start_days : ℕ → List ℕ
 start_days day = map (λ back. day - back) (filter (λ back. nat_le back day) (0 ∷ 1 ∷ 2 ∷ []))
 
--- the docker lines of a train's events at the place on the day
+-- the docker lines of a train's events at the place on the day. The train starts on the day `start`
+-- and runs by this schedule
 abbrev pub event_lines : List ℕ → ℕ → ℕ → ScheduleKey → List (List ℕ) → List DockerLine
 event_lines place day start key lines =
     map (line_of_event key start lines)
     (filter (λ event. bytes_eq (columns 3 9 (event_line lines event)) place && (event_day start lines event == day)) (events_of lines))
 
--- this train runs by the schedule with this key
+-- whether this train runs by the schedule with this key
 abbrev pub runs_by : Option Train → ScheduleKey → Bool
 runs_by None key = false
 runs_by (Some train) key = is_eq (schedule_key_cmp train.key key)
 
--- the docker lines of a schedule: its events on the day, for each start day on which the train runs
--- by this schedule
+-- the docker lines of a schedule at the place on the day: for each start day on which the train
+-- runs by this schedule, the lines of its events
 abbrev pub schedule_lines : (List ℕ → ℕ → Option Train) → List ℕ → ℕ → ScheduleKey → List (List ℕ) → List DockerLine
 schedule_lines trains place day key lines =
     flat_map (λ start. if runs_by (trains key.uid start) key then event_lines place day start key lines else []) (start_days day)
 
--- this association is the chosen one
+-- whether the chosen association is the one with this key
 abbrev pub counts_as : Option Link → AssociationKey → Bool
 counts_as None key = false
 counts_as (Some link) key = is_eq (association_key_cmp link.key key)
 
--- the identity of a train, or four question marks if there is none
+-- the identity that is printed for a train, or `????` without a train
 abbrev pub identity_of : Option Train → List ℕ
 identity_of None = codes "????"
 identity_of (Some train) = columns 33 36 (first_record train.lines)
 
--- the identity of a UID's train on a day; four question marks if there is no such day
+-- the identity that is printed for a UID's train on a day, or `????` without a day
 abbrev pub partner_identity : (List ℕ → ℕ → Option Train) → List ℕ → Option ℕ → List ℕ
 partner_identity trains uid None = codes "????"
 partner_identity trains uid (Some day) = identity_of (trains uid day)
 
--- the docker line of an association at this event of the base train, if the event is on the day
+-- the docker line of an association, which belongs to this event of the base train. There is none
+-- if the event is on another day, or if there is no event
 abbrev pub line_at : (List ℕ → ℕ → Option Train) → ℕ → ℕ → AssociationKey → List ℕ → Occasion → Train → Option Event → List DockerLine
 line_at trains day start key line occasion base None = []
 line_at trains day start key line occasion base (Some event) =
@@ -69,20 +72,22 @@ line_at trains day start key line occasion base (Some event) =
     (partner_identity trains key.associated (partner_start (column 37 line) start)) ∷ []
     else []
 
--- the docker line of an association, if its category gives one and the base train runs
+-- the docker line of an association with this occasion and this base train. There is none without
+-- an occasion, or if no base train runs
 abbrev pub line_with : (List ℕ → ℕ → Option Train) → ℕ → ℕ → AssociationKey → List ℕ → Option Occasion → Option Train → List DockerLine
 line_with trains day start key line None base = []
 line_with trains day start key line (Some occasion) None = []
 line_with trains day start key line (Some occasion) (Some base) =
     line_at trains day start key line occasion base (first_event_at base.lines key.location key.suffix)
 
--- the association gives a line: it is the chosen one on the base train's start day, isn't a
--- cancellation, and has a date indicator that gives a line
+-- whether the association may give a line for this start day of the base train. It does if it is
+-- the chosen one of its group, isn't a cancellation, and has a date indicator that gives a line
 abbrev pub is_in_force : (Group → ℕ → Option Link) → ℕ → AssociationKey → List ℕ → Bool
 is_in_force links start key line =
     counts_as (links (group_of key) start) key && not (key.indicator == 67) && is_date_indicator (column 37 line)
 
--- the docker lines of an association: for each start day of the base train at most one
+-- the docker lines of an association at the place on the day: at most one for each start day of the
+-- base train
 abbrev pub association_lines : (List ℕ → ℕ → Option Train) → (Group → ℕ → Option Link) → List ℕ → ℕ → AssociationKey → List ℕ → List DockerLine
 association_lines trains links place day key line =
     if bytes_eq key.location place
@@ -90,18 +95,19 @@ association_lines trains links place day key line =
     then line_with trains day start key line (category_occasion (columns 35 36 line)) (trains key.base start) else []) (start_days day)
     else []
 
--- the docker lines of a row: a TIPLOC has none
+-- the docker lines that a row gives for its schedule or its association. A TIPLOC gives none
 abbrev pub row_lines : (List ℕ → ℕ → Option Train) → (Group → ℕ → Option Link) → List ℕ → ℕ → Key → Body → List DockerLine
 row_lines trains links place day (schedule_key key) (schedule_body lines) = schedule_lines trains place day key lines
 row_lines trains links place day (association_key key) (association_body line) = association_lines trains links place day key line
 row_lines trains links place day _ _ = []
 
--- the docker lines of rows, row by row. Trains and chosen associations are given by functions
+-- the docker lines of all rows, row by row. The functions `trains` and `links` give the train of a
+-- UID on a day, and the chosen association of a group on a start day
 abbrev pub gathered : (List ℕ → ℕ → Option Train) → (Group → ℕ → Option Link) → List ℕ → ℕ → List Row → List DockerLine
 gathered trains links place day rows = flat_map (λ row. row_lines trains links place day row.0 row.1) rows
 
--- the rows are a walk that leaves out no row of the place. They are live, in key order, and have
--- each schedule that calls there and each association there
+-- a walk over these rows misses no line of the place. The rows are live and in key order. They
+-- include each schedule that calls at the place and each association there
 pub record IsWalk (live : Table) (place : List ℕ) (rows : List Row) : Type 0 where
   pub ascending : AreInKeyOrder rows
   pub each : (key : Key) (body : Body) → Contains rows (key, body) → live key ≡ Some body

@@ -1,4 +1,4 @@
--- Relations that several clauses of the laws state.
+-- Relations that several laws use.
 use Rattle.std.specs.Prelude.{◌≡◌, ℕ, ◌+◌, ◌≤◌, List, slice_set, Contains}
 use Rattle.docker_model.specs.state.State.{State}
 use Rattle.docker_model.specs.state.StateText.{Format}
@@ -9,15 +9,16 @@ use Rattle.docker_model.specs.run.Knowledge.{Holds}
 abbrev pub IsNear : ℕ → ℕ → Type 0
 IsNear start day = (start ≤ day) × (day ≤ start + 2)
 
--- each of these index rows is at the place
+-- every one of these index rows is for the place
 abbrev pub AreAt : {K : Type 0} → List ℕ → List (List ℕ × K) → Type 0
 AreAt {K} place rows = (row : List ℕ × K) → Contains rows row → row.0 ≡ place
 
--- none of these index rows is at the place
+-- none of these index rows is for the place
 abbrev pub AreElsewhere : {K : Type 0} → List ℕ → List (List ℕ × K) → Type 0
 AreElsewhere {K} place rows = (row : List ℕ × K) → Contains rows row → ¬ (row.0 ≡ place)
 
--- once the event is done and its office has this state, the exchange holds what is known
+-- the states and messages match what is known after an event that was done. The event gave its
+-- office the state `now`
 abbrev pub HoldsAfter : Format → KnownSets → RunEvent → List State → ℕ → State → List (List ℕ) → Type 0
 HoldsAfter format known event states office now messages =
     Holds format (after_reply known (event, done)) (slice_set states office now) messages

@@ -1,5 +1,5 @@
--- A live table as rows. The rows give the train of a UID on a day, and the chosen association of a
--- group on a start day of the base train.
+-- A live table as a list of rows. The rows determine the train of a UID on a day, and the chosen
+-- association of a group on a start day of the base train.
 use Rattle.std.specs.Prelude.{◌≡◌, ℕ, List, Some, Contains, Option, None, Bool, ◌&&◌, not, find, ◌==◌, if◌then◌else◌}
 use Rattle.std.specs.List.{filter_map, list_all}
 use Rattle.std.specs.Str.{bytes_eq}
@@ -12,23 +12,23 @@ use Rattle.docker_model.specs.docker.Choice.{Train, Group, group_of, schedule_ru
 use Rattle.docker_model.specs.docker.Choice.{association_choice_cmp, IsRunning, IsChosen, TrainRuns, IsChosenAssociation}
 use Rattle.docker_model.specs.docker.Association.{RunsNot}
 
--- the rows are live, and have each schedule of the UID
+-- the rows are live, and include every schedule of the UID
 pub record HasSchedulesOf (live : Table) (uid : List ℕ) (rows : List Row) : Type 0 where
   pub each : (key : Key) (body : Body) → Contains rows (key, body) → live key ≡ Some body
   pub all : (key : ScheduleKey) (lines : List (List ℕ)) → key.uid ≡ uid → live (schedule_key key) ≡ Some (schedule_body lines)
       → Contains rows (schedule_key key, schedule_body lines)
 
--- the rows are live, and have each association of the group
+-- the rows are live, and include every association of the group
 pub record HasAssociationsOf (live : Table) (group : Group) (rows : List Row) : Type 0 where
   pub each : (key : Key) (body : Body) → Contains rows (key, body) → live key ≡ Some body
   pub all : (key : AssociationKey) (line : List ℕ) → group_of key ≡ group → live (association_key key) ≡ Some (association_body line)
       → Contains rows (association_key key, association_body line)
 
--- no row is a schedule of the UID
+-- no row has a schedule of the UID
 abbrev pub HasNoScheduleOf : List ℕ → List Row → Type 0
 HasNoScheduleOf uid rows = (key : ScheduleKey) (body : Body) → Contains rows (schedule_key key, body) → ¬ (key.uid ≡ uid)
 
--- no row is an association of the group
+-- no row has an association of the group
 abbrev pub HasNoAssociationOf : Group → List Row → Type 0
 HasNoAssociationOf group rows = (key : AssociationKey) (body : Body) → Contains rows (association_key key, body) → ¬ (group_of key ≡ group)
 
@@ -37,80 +37,85 @@ pub record Link : Type 0 where
   pub key : AssociationKey
   pub line : List ℕ
 
--- the schedule in a row, if the row has one
+-- the schedule in a row, or `None` if the row has no schedule
 abbrev pub schedule_of : Key → Body → Option Train
 schedule_of (schedule_key key) (schedule_body lines) = Some (record { key = key; lines = lines })
 schedule_of _ _ = None
 
--- the association in a row, if the row has one
+-- the association in a row, or `None` if the row has no association
 abbrev pub association_of : Key → Body → Option Link
 association_of (association_key key) (association_body line) = Some (record { key = key; line = line })
 association_of _ _ = None
 
--- the schedules among the rows
+-- the schedules in these rows
 abbrev pub schedules_in : List Row → List Train
 schedules_in rows = filter_map (λ row. schedule_of row.0 row.1) rows
 
--- the associations among the rows
+-- the associations in these rows
 abbrev pub associations_in : List Row → List Link
 associations_in rows = filter_map (λ row. association_of row.0 row.1) rows
 
--- the schedule is of the UID and runs on the day
+-- whether the schedule belongs to the UID and runs on the day
 abbrev pub is_running : List ℕ → ℕ → Train → Bool
 is_running uid day train = bytes_eq train.key.uid uid && schedule_runs (first_record train.lines) day
 
--- the schedule runs on the day, and no other that runs comes before it in the order of choice
+-- whether the schedule is the one to choose for the UID on the day. It is if it runs and no other
+-- schedule of the UID that runs comes before it in the order of choice
 abbrev pub is_choice : List Train → List ℕ → ℕ → Train → Bool
 is_choice trains uid day train =
     is_running uid day train
     && list_all (λ other. not (is_running uid day other && is_gt (schedule_choice_cmp train.key other.key))) trains
 
--- the chosen schedule of the UID on the day, among the rows
+-- the chosen schedule of the UID on the day, from these rows, or `None` if none runs
 abbrev pub chosen_in : List Row → List ℕ → ℕ → Option Train
 chosen_in rows uid day = find (is_choice (schedules_in rows) uid day) (schedules_in rows)
 
--- the train that runs by the chosen schedule: none if that is a cancellation
+-- the train that runs by the chosen schedule, or `None` if that is a cancellation
 abbrev pub unless_cancelled : Option Train → Option Train
 unless_cancelled None = None
 unless_cancelled (Some train) = if train.key.indicator == 67 then None else Some train
 
--- the UID's train that starts on the day, among the rows
+-- the UID's train that starts on the day, from these rows, or `None` if no train runs
 abbrev pub train_in : List Row → List ℕ → ℕ → Option Train
 train_in rows uid day = unless_cancelled (chosen_in rows uid day)
 
--- the association is of the group
+-- whether the association belongs to the group
 abbrev pub is_of_group : Group → AssociationKey → Bool
 is_of_group group key =
     bytes_eq key.base group.base && bytes_eq key.associated group.associated && bytes_eq key.location group.location && (key.suffix == group.suffix)
 
--- the association is of the group, and runs on the base train's start day
+-- whether the association belongs to the group and runs on the base train's start day
 abbrev pub is_linked : Group → ℕ → Link → Bool
 is_linked group day link = is_of_group group link.key && association_runs link.line day
 
--- the association runs, and no other of its group that runs comes before it in the order of choice
+-- whether the association is the one to choose for the group. It is if it runs and no other
+-- association of the group that runs comes before it in the order of choice
 abbrev pub is_link_choice : List Link → Group → ℕ → Link → Bool
 is_link_choice links group day link =
     is_linked group day link
     && list_all (λ other. not (is_linked group day other && is_gt (association_choice_cmp link.key other.key))) links
 
--- the chosen association of the group on the base train's start day, among the rows
+-- the chosen association of the group on the base train's start day, from these rows, or `None` if
+-- none runs
 abbrev pub link_in : List Row → Group → ℕ → Option Link
 link_in rows group day = find (is_link_choice (associations_in rows) group day) (associations_in rows)
 
--- this is the UID's train that starts on the day, or none if none does
+-- this is the UID's train that starts on the day, or `None` if no train does
 abbrev pub IsTrainOn : Table → List ℕ → ℕ → Option Train → Type 0
 IsTrainOn live uid day None = RunsNot live uid day
 IsTrainOn live uid day (Some train) = TrainRuns live uid day train.key train.lines
 
--- for each UID and day the function gives the table's train
+-- the function gives the table's train for each UID and each day
 abbrev pub TellsTrains : Table → (List ℕ → ℕ → Option Train) → Type 0
 TellsTrains live trains = (uid : List ℕ) (day : ℕ) → IsTrainOn live uid day (trains uid day)
 
--- this is the chosen association of the group on the day, or none if none runs
+-- this is the chosen association of the group on the day, or `None` if no association of the group
+-- runs then
 abbrev pub IsLinkOn : Table → Group → ℕ → Option Link → Type 0
 IsLinkOn live group day None = (key : AssociationKey) (line : List ℕ) → ¬ IsChosenAssociation live group day key line
 IsLinkOn live group day (Some link) = IsChosenAssociation live group day link.key link.line
 
--- for each group and base train's start day the function gives the table's chosen association
+-- the function gives the table's chosen association for each group and each start day of the base
+-- train
 abbrev pub TellsLinks : Table → (Group → ℕ → Option Link) → Type 0
 TellsLinks live links = (group : Group) (day : ℕ) → IsLinkOn live group day (links group day)

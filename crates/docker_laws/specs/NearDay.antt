@@ -1,6 +1,6 @@
--- What may count in a state for the dockers of one day: everything but the schedules that run on no
--- start day near it. A train that starts on such a day can call somewhere on that day, or be the
--- partner of one that does.
+-- The entries of a state that may count for the dockers of one day: all but the schedules that run
+-- on no start day near it. A start day is near the day if a train that starts then can have an
+-- event on the day, or be the associated train of one that has.
 use Rattle.std.specs.Prelude.{ℕ, ◌+◌, ◌-◌, Bool, true, List, [], ◌∷◌, filter}
 use Rattle.std.specs.List.{list_any}
 use Rattle.docker_model.specs.file.Change.{Key, schedule_body}
@@ -10,16 +10,17 @@ use Rattle.docker_model.specs.state.State.{State}
 use Rattle.docker_model.specs.docker.Choice.{schedule_runs}
 use Rattle.docker_laws.specs.ExcerptWalk.{excerpt_for}
 
--- the start days near a day: from three days before it to the day after. Those near day 10 are 7 to
--- 11
+-- the start days near a day: from three days before it to one day after it. For example, the start
+-- days near day 10 are 7 to 11
 abbrev pub near_starts : ℕ → List ℕ
 near_starts day = (day + 1) ∷ day ∷ (day - 1) ∷ (day - 2) ∷ (day - 3) ∷ []
 
--- a basic schedule runs on a start day near the day. For a record
+-- whether a basic schedule runs on a start day near the day. For a whole record
 abbrev pub runs_near : ℕ → List ℕ → Bool
 runs_near day line = list_any (λ start. schedule_runs line start) (near_starts day)
 
--- an op may count on the day: it isn't a put of a schedule, or the schedule runs near the day
+-- whether an op may count on the day: a put of a schedule counts only if the schedule runs near the
+-- day, and any other op may count
 abbrev pub may_count : ℕ → Op → Bool
 may_count day (put_with (schedule_body lines)) = runs_near day (first_record lines)
 may_count day op = true

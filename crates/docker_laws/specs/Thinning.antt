@@ -1,7 +1,7 @@
--- Thinning leaves out of a table what the docker of one place on one day doesn't need. It judges
--- each change by itself. TIPLOCs and associations elsewhere are left out, and so are schedules that
--- run on no start day near the day. A schedule that doesn't call at the place keeps its first line
--- and its ends.
+-- Thinning leaves out of a table what the docker of one place on one day doesn't need. It can judge
+-- each change by itself. It leaves out TIPLOCs and associations of other places, and schedules that
+-- run on no start day near the day. A schedule that doesn't call at the place keeps only its basic
+-- schedule, its origin and its terminus.
 use Rattle.std.specs.Prelude.{◌≡◌, ℕ, Bool, true, false, if◌then◌else◌, List, [], ◌∷◌, map, filter}
 use Rattle.std.specs.Prelude.{fold, Option, Some, None, option_and_then, not, Contains, ◌↔◌}
 use Rattle.std.specs.Ordering.{is_eq}
@@ -18,48 +18,52 @@ use Rattle.docker_model.specs.state.Summary.{entry_of}
 use Rattle.docker_laws.specs.Excerpt.{IsSublist}
 use Rattle.docker_laws.specs.NearDay.{may_count}
 
--- an origin or a terminus
+-- whether a record of this kind is an end of a journey: its origin or its terminus
 abbrev pub is_end : Option Kind → Bool
 is_end (Some origin_location) = true
 is_end (Some terminating_location) = true
 is_end _ = false
 
--- the thin lines of a schedule: its basic schedule, its origin and its terminus. BS, BX, LO, LI and
--- LT become BS, LO and LT
+-- the thin records of a schedule: its basic schedule, origin and terminus. For example, of the
+-- records BS, BX, LO, LI, LT these are BS, LO, LT
 abbrev pub thin_lines : List (List ℕ) → List (List ℕ)
 thin_lines [] = []
 thin_lines (basic ∷ others) = basic ∷ filter (λ line. is_end (kind_of line)) others
 
--- the lines of a schedule that the place needs: all if it calls there, otherwise the thin ones
+-- the records of a schedule that the place needs: all if it calls there, and otherwise the thin
+-- ones
 abbrev pub lines_for : List ℕ → List (List ℕ) → List (List ℕ)
 lines_for place lines = if calls_at place lines then lines else thin_lines lines
 
--- the body that the place needs: thin if it is of a schedule that doesn't call there
+-- the body that the place needs: a schedule that doesn't call there keeps only its thin records,
+-- and any other body stays
 abbrev pub body_for : List ℕ → Body → Body
 body_for place (schedule_body lines) = schedule_body (lines_for place lines)
 body_for place body = body
 
--- the key may matter at the place: it is the place's TIPLOC, an association there, or any schedule
+-- whether the docker of the place may depend on this key, as far as the key itself shows: it is the
+-- place's TIPLOC, an association there, or any schedule
 abbrev pub may_matter : List ℕ → Key → Bool
 may_matter place (tiploc_key code) = bytes_eq code place
 may_matter place (association_key key) = bytes_eq key.location place
 may_matter place (schedule_key key) = true
 
--- the body that is left for the place and the day: none if it may not count
+-- a body, thinned for the place and the day, or `None` if the body can't count on the day
 abbrev pub thin_body : List ℕ → ℕ → Body → Option Body
 thin_body place day body = if may_count day (put_with body) then Some (body_for place body) else None
 
--- the table, thinned for the place and the day
+-- a table, thinned for the place and the day
 abbrev pub thinned : List ℕ → ℕ → Table → Table
 thinned place day live key = if may_matter place key then option_and_then (thin_body place day) (live key) else None
 
--- the thin form of an act. A put that may not count becomes a deletion; any other put has the body
--- that the place needs
+-- the thin form of what a change does. A put of a schedule that can't count on the day becomes a
+-- deletion, and any other put keeps the body that the place needs
 abbrev pub thin_act : List ℕ → ℕ → Act → Act
 thin_act place day delete = delete
 thin_act place day (put body) = if may_count day (put_with body) then put (body_for place body) else delete
 
--- the thin form of a change: only its act may differ
+-- the thin form of a change: it has the same record number and key, and the thin form of what the
+-- change does
 abbrev pub thin_change : List ℕ → ℕ → Change → Change
 thin_change place day change = record { number = change.number; key = change.key; act = thin_act place day change.act }
 
@@ -67,35 +71,35 @@ thin_change place day change = record { number = change.number; key = change.key
 abbrev pub thin_changes : List ℕ → ℕ → List Change → List Change
 thin_changes place day changes = map (thin_change place day) (filter (λ (change : Change). may_matter place change.key) changes)
 
--- the table that changes make
+-- the table after these changes, starting from the empty table
 abbrev pub table_of : List Change → Table
 table_of changes = fold after_change empty_table changes
 
--- the kept changes are enough for the place and the day: they make the thinned table of the table
--- that all changes make
+-- the kept changes are enough for the place and the day: applied to the empty table, they give the
+-- table after all changes, thinned
 abbrev pub AreEnough : List ℕ → ℕ → List Change → List Change → Type 0
 AreEnough place day changes kept = (key : Key) → table_of kept key ≡ thinned place day (table_of changes) key
 
--- these changes may be kept in place of all changes. They are the thin forms of some of the
--- changes, in their order, and they are enough
+-- for the place and the day, the kept changes may replace all changes. They are thin forms of some
+-- of the changes, in their order, and they are enough
 pub record IsThinning (place : List ℕ) (day : ℕ) (changes kept : List Change) : Type 0 where
   pub some : IsSublist kept (map (thin_change place day) changes)
   pub enough : AreEnough place day changes kept
 
--- no change is of this key
+-- no change in the list has this key
 abbrev pub HasNoChangeOf : Key → List Change → Type 0
 HasNoChangeOf key changes = (change : Change) → Contains changes change → ¬ (change.key ≡ key)
 
--- no change is of a key above this one
+-- no change in the list has a key above this one
 abbrev pub AreAtMost : Key → List Change → Type 0
 AreAtMost highest changes = (change : Change) → Contains changes change → IsAtMost key_cmp change.key highest
 
--- the changes of all other keys
+-- the changes without those that have this key
 abbrev pub without : Key → List Change → List Change
 without key changes = filter (λ (change : Change). not (is_eq (key_cmp change.key key))) changes
 
--- the state that some changes of a file make, thin or not. It has the file's ledger item and, for
--- each key, the greatest entry that the changes make
+-- this is the state that some changes of a file make; they may be thin. It has the file's ledger
+-- item and, at each key, the greatest of the entries that the changes leave
 pub record IsStateOfChanges (file : List (List ℕ)) (changes : List Change) (state : State) : Type 0 where
   pub horizon : state.horizon ≡ 0
   pub ledger : state.ledger ≡ ledger_item_of file ∷ []

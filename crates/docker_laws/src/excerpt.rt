@@ -1,5 +1,6 @@
-//! Laws of excerpts: the entries that are left out for a place change no docker there. Each is the
-//! contract of a function with an empty body, so it holds for all values of its variables.
+//! Laws of excerpts: which entries of a state the dockers of one place and one day don't need. A
+//! law is a function with an empty body whose contract states a fact. The fact holds for all values
+//! of its variables.
 ghost use Rattle.std.specs.Prelude.{◌≡◌, ℕ, List, [], ◌∷◌, ◌++◌, ◌↔◌, ◌||◌, ◌⊎◌, Contains, filter, Bool, true, false, if◌then◌else◌};
 ghost use Rattle.docker_model.specs.file.Change.{Key, schedule_key, ScheduleKey};
 ghost use Rattle.docker_model.specs.state.Stamp.{LedgerItem, Stamp};
@@ -16,7 +17,7 @@ ghost use Rattle.docker_laws.specs.Excerpt.{IsNeeded, IsExcerpt, IsSublist, IsEx
 ghost use Rattle.docker_laws.specs.ExcerptWalk.{ExcerptSoFar, nothing_kept, is_here, has_uid, names_in, is_call, is_run_calling, is_run_needed};
 ghost use Rattle.docker_laws.specs.ExcerptWalk.{kept_after_run, goes_on, next_kept, kept_from, kept_so_far, excerpt_for, HasKept};
 
-/// A table and any excerpt of it for a place have the same docker there on each day.
+/// A table and an excerpt of it for a place have the same docker of that place on each day.
 pub fn excerpt_has_one_docker()
     ensures list { (place : List ℕ) (live part : Table) (day : ℕ) (lines : List DockerLine)
         → IsExcerpt place live part
@@ -28,8 +29,9 @@ pub fn excerpt_has_one_docker()
         → IsExcerpt place live part → HasGoodBodies live → HasGoodBodies part }
 {}
 
-/// An excerpt of a valid state for a place is valid, refuses the same days and gives the same
-/// dockers there. An excerpt of an excerpt is an excerpt. A state is an excerpt of itself.
+/// An excerpt of a valid state for a place is valid, refuses the same days, and gives the same
+/// dockers of the place. An excerpt of an excerpt is an excerpt of the state. A state is an excerpt
+/// of itself.
 pub fn excerpt_of_state()
     ensures valid { (place : List ℕ) (state part : State)
         → IsValid state → IsExcerptState place state part → IsValid part }
@@ -50,9 +52,9 @@ pub fn excerpt_of_state()
         → IsExcerptState place state smaller }
 {}
 
-/// A walk over a state's entries in key order leaves an excerpt: the entries whose keys are needed
-/// at the place, and no others. If the state is valid, the excerpt is valid and gives the same
-/// dockers there.
+/// A walk over a state's entries in key order leaves an excerpt of the state. It has the entries
+/// whose keys the place needs, and no others. If the state is valid, so is the excerpt, and it
+/// gives the same dockers of the place.
 pub fn walk_leaves_excerpt()
     ensures is { (place : List ℕ) (state : State)
         → AreAscending state.entries → IsExcerptState place state (excerpt_for place state) }
@@ -69,8 +71,8 @@ pub fn walk_leaves_excerpt()
         ↔ IsDockerText (live_table (excerpt_for place state)) place day text }
 {}
 
-/// The walk entry by entry, from its start on and from any entry to its end. What it has kept, and
-/// then its run, are some of the entries so far.
+/// The walk that makes an excerpt, entry by entry, from its start or from any entry on. What it has
+/// kept and its run are some of the entries that it has passed, in the same order.
 pub fn excerpt_in_a_walk()
     ensures none { (place : List ℕ) → kept_so_far place [] ≡ nothing_kept }
     ensures more { (place : List ℕ) (entries : List (Key × Entry)) (entry : Key × Entry)
@@ -95,9 +97,9 @@ pub fn excerpt_in_a_walk()
         ++ (kept_so_far place entries).run) }
 {}
 
-/// One step of the walk. When a TIPLOC or an association comes, no run is open, because they come
-/// before all schedules. Such an entry is kept if it is at the place. A schedule joins the run of
-/// its UID, or ends the run and begins the next.
+/// One step of the walk that makes an excerpt. TIPLOCs and associations come before all schedules
+/// in key order, so there is no run when one of them comes. It is kept if it is at the place. A
+/// schedule joins the run if it has the run's UID, and otherwise ends the run and begins the next.
 pub fn excerpt_by_entry()
     ensures no_run { (place : List ℕ) (state : State) (key : Key)
         → IsAboveEntries state key → ((uid : List ℕ) → has_uid uid key ≡ false)
@@ -116,8 +118,8 @@ pub fn excerpt_by_entry()
         ≡ record { kept = kept_after_run place so_far; run = (schedule_key key, entry) ∷ [] } }
 {}
 
-/// The end of a run: all of it is kept if it is needed, and dropped otherwise. It is needed if a
-/// live association at the place names its UID, or if one of its live schedules calls there.
+/// The end of a run: the whole run is kept if it is needed, and dropped otherwise. It is needed if
+/// a live association at the place names its UID, or if one of its live schedules calls there.
 pub fn run_of_one_uid()
     ensures keeps { (place : List ℕ) (so_far : ExcerptSoFar)
         → is_run_needed place so_far ≡ true
@@ -147,8 +149,9 @@ pub fn run_of_one_uid()
         → Contains (kept_so_far place entries).run one → has_uid uid one.0 ≡ true }
 {}
 
-/// The same walk as a loop makes it: it carries the kept entries, the run, and whether the run is
-/// needed. It starts with nothing and ends with the excerpt.
+/// The same walk as a loop makes it. The loop carries the kept entries, the run, and a flag that
+/// says whether the run is needed. It starts with nothing, and at the end it has the entries of the
+/// excerpt.
 pub fn excerpt_in_a_loop()
     ensures first { (place : List ℕ) → HasKept place [] [] [] false }
     ensures alone { (place : List ℕ) (state : State) (kept run : List (Key × Entry))
@@ -186,8 +189,9 @@ pub fn excerpt_in_a_loop()
         → AreEntries ledger entries → AreEntries ledger (kept ++ run) }
 {}
 
-/// Some of a state's entries, in their order. An entry that may follow all of the state's entries
-/// may follow these too. Each of them may follow those before it.
+/// Some of a state's entries, in the same order. An entry that may follow all entries of the state
+/// may also follow these. Among good entries, each may follow the ones before it. A valid state
+/// with only some of its entries is valid.
 pub fn some_of_entries()
     ensures more { (state : State) (key : Key) (entry : Entry)
         → AreEntries state.ledger state.entries → IsStampHere state key entry.stamp
@@ -205,8 +209,8 @@ pub fn some_of_entries()
         → part.ledger ≡ state.ledger → IsSublist part.entries state.entries → IsValid part }
 {}
 
-/// Leave out of a valid state each schedule that runs on no start day near a day. The rest is
-/// valid, refuses the same days and gives the same dockers on that day.
+/// A valid state without the schedules that run on no start day near a day. It is still valid,
+/// refuses the same days, and gives the same dockers on the day.
 pub fn near_state_has_one_docker()
     ensures valid { (day : ℕ) (state : State) → IsValid state → IsValid (near_state day state) }
     ensures refused { (day other : ℕ) (state : State)
@@ -219,8 +223,8 @@ pub fn near_state_has_one_docker()
         ↔ IsDockerText (live_table (near_state day state)) place day text }
 {}
 
-/// The excerpt of a valid state for a place and a day is valid, refuses the same days and gives the
-/// same docker there on that day.
+/// The excerpt of a valid state for a place and a day. It is valid, refuses the same days, and
+/// gives the same docker of the place on the day.
 pub fn excerpt_on_has_one_docker()
     ensures valid { (place : List ℕ) (day : ℕ) (state : State)
         → IsValid state → IsValid (excerpt_on place day state) }
@@ -235,8 +239,7 @@ pub fn excerpt_on_has_one_docker()
         ↔ IsDockerText (live_table (excerpt_on place day state)) place day text }
 {}
 
-/// The walk that leaves out what can't count near a day, entry by entry: an entry stays if it may
-/// count.
+/// The walk that leaves out the entries that can't count on a day, entry by entry.
 pub fn near_by_entry()
     ensures none { (day : ℕ) → near_entries day [] ≡ [] }
     ensures stays { (day : ℕ) (entries : List (Key × Entry)) (entry : Key × Entry)

@@ -1,5 +1,6 @@
-//! Laws of permanent dockers: the dockers of a table without the short-term plan. Each is the
-//! contract of a function with an empty body, so it holds for all values of its variables.
+//! Laws of permanent dockers, which are dockers of a table without the short-term plan. A law is a
+//! function with an empty body whose contract states a fact. The fact holds for all values of its
+//! variables.
 ghost use Rattle.std.specs.Prelude.{◌≡◌, ℕ, List, ◌↔◌, filter, fold};
 ghost use Rattle.docker_model.specs.file.Change.{Change};
 ghost use Rattle.docker_model.specs.records.Date.{IsDay};
@@ -13,23 +14,23 @@ ghost use Rattle.docker_model.specs.docker.Permanent.{is_permanent, permanent_ta
 ghost use Rattle.docker_model.specs.run.Knowledge.{AreFiles, HaveSameFiles};
 ghost use Rattle.docker_laws.specs.Gathering.{IsDockerLine};
 
-/// The table that some changes leave, without its short-term entries, is the one that only the
-/// changes of permanent entries leave.
+/// To leave out the short-term plan after some changes gives the same table as to apply only the
+/// changes of permanent keys.
 pub fn permanent_table_of_changes()
     ensures { (table : Table) (changes : List Change)
         → permanent_table (fold after_change table changes) ≡ fold after_change
         (permanent_table table) (filter (λ (it : Change). is_permanent it.key) changes) }
 {}
 
-/// Each line of a permanent docker has the STP indicator `P`, whether it is of an event or of an
-/// association.
+/// Each line of a permanent docker has the STP indicator `P`, in an event's line as in an
+/// association's.
 pub fn permanent_lines_are_permanent()
     ensures { (live : Table) (place : List ℕ) (day : ℕ) (line : DockerLine)
         → IsDockerLine (permanent_table live) place day line → line.indicator ≡ 80 }
 {}
 
-/// Two summaries of the same files have one permanent docker for each place and each day that
-/// neither refuses, even if their horizons differ.
+/// Two summaries of the same files have the same permanent docker for each place and each day that
+/// neither refuses. Their horizons may differ.
 pub fn known_files_fix_permanent_dockers()
     ensures { (files others : List (List (List ℕ))) (horizon theirs : ℕ) (one two : State)
         → AreFiles files → AreFiles others → HaveSameFiles files others → IsDay horizon
@@ -39,8 +40,9 @@ pub fn known_files_fix_permanent_dockers()
         → IsDockerText (permanent_table (live_table two)) place day other → text ≡ other }
 {}
 
-/// If the files of a set have distinct moments, every permanent docker printed from their summary is
-/// the permanent docker of their plain table, whatever the horizon.
+/// If the files of a set have distinct moments, a permanent docker printed from their summary is
+/// the permanent docker of their plain table. This holds under any horizon that doesn't refuse the
+/// day.
 pub fn permanent_docker_is_plain()
     ensures { (files : List (List (List ℕ))) (horizon : ℕ) (state : State) (table : Table)
         (place : List ℕ) (day : ℕ) (text : List ℕ) → AreFiles files → IsDay horizon

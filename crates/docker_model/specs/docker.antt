@@ -1,4 +1,5 @@
--- Dockers: events, choice, associations, lines, lists and texts. The permanent entries.
+-- Dockers: events, the choice of schedules and associations, lines, lists and printed texts. The
+-- last module has the docker without the short-term plan.
 
 pub mod Event
 pub mod Choice

@@ -1,4 +1,4 @@
--- Files of records: journeys, schedules, texts, faults and changes.
+-- Files: journeys and schedules, texts, faults, and the changes that a file makes.
 
 pub mod Journey
 pub mod File

@@ -1,4 +1,4 @@
--- Records: their bytes, columns, dates, times and checked fields.
+-- Records: their bytes and columns, dates, times, checked fields and printed times.
 
 pub mod Record
 pub mod Date

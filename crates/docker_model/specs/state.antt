@@ -1,4 +1,5 @@
--- States: orders, stamps, ops, the lapse, joins, summaries, and the texts of states.
+-- States: orders, stamps and the floor, ops and entries, the plain table, the lapse, joins,
+-- summaries, and the texts of states.
 
 pub mod Order
 pub mod Stamp

@@ -1,4 +1,4 @@
-//! Texts of fixed width, put together piece by piece.
+//! Texts of a fixed width, put together from pieces.
 #![tactic(auto)]
 
 mod text;

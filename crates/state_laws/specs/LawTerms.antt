@@ -1,4 +1,4 @@
--- Relations that several clauses of the laws state.
+-- Relations that several laws use.
 use Rattle.std.specs.Prelude.{◌==◌, List, ◌++◌, Option, option_map, find}
 use Rattle.docker_model.specs.file.Change.{Key}
 use Rattle.docker_model.specs.state.Stamp.{FileStamp, LedgerItem, IsFloor}
@@ -6,12 +6,13 @@ use Rattle.docker_model.specs.state.Op.{Entry}
 use Rattle.docker_model.specs.state.State.{State, IsValid}
 use Rattle.state_laws.specs.Staging.{IsStaged, IsCommit}
 
--- the file stamp of a ledger's first full extract, if it has one
+-- the file stamp of the first full extract in a ledger, or `None` if it has no full extract
 abbrev pub first_full_stamp : List LedgerItem → Option FileStamp
 first_full_stamp ledger = option_map (λ (item : LedgerItem). item.stamp) (find (λ (item : LedgerItem). item.indicator == 70) ledger)
 
--- the fact holds for valid states if all entries of the received one were staged, under the floor
--- of the union, and then committed
+-- `Fact` holds when a valid state has received a valid state. All entries of the received one were
+-- offered for staging, under the floor of both ledgers, and the staged ones were committed. Here
+-- `after` is the state after the commit
 abbrev pub HoldsOnceCommitted : State → State → Option FileStamp → List (Key × Entry) → State → Type 0 → Type 0
 HoldsOnceCommitted own received floor staged after Fact =
     IsValid own → IsValid received → IsFloor (own.ledger ++ received.ledger) floor → IsStaged own floor received.entries staged

@@ -1,4 +1,4 @@
--- A live table as rows: each live key with its body, in key order.
+-- A live table as a list of rows: each live key with its body, in key order.
 use Rattle.std.specs.Ordering.{on}
 use Rattle.std.specs.Prelude.{List, ◌≡◌, ◌↔◌, Some, Contains}
 use Rattle.docker_model.specs.file.Change.{Key, Body}
@@ -6,15 +6,15 @@ use Rattle.docker_model.specs.state.Order.{IsStrictlyAscending}
 use Rattle.docker_model.specs.state.Op.{key_cmp}
 use Rattle.docker_model.specs.state.Table.{Table}
 
--- a row: a key, with the body that it is put with
+-- a row of a table: a key and its body
 abbrev pub Row : Type 0
 Row = Key × Body
 
--- the rows are in key order, no key twice
+-- the rows are in strictly ascending order of their keys
 abbrev pub AreInKeyOrder : List Row → Type 0
 AreInKeyOrder rows = IsStrictlyAscending (on (λ (row : Row). row.0) key_cmp) rows
 
--- the rows are the table: each live key once, with its body, in key order
+-- these rows are the live table: they have each live key once, with its body, in key order
 pub record AreRowsOf (live : Table) (rows : List Row) : Type 0 where
   pub ascending : AreInKeyOrder rows
   pub members : (key : Key) (body : Body) → Contains rows (key, body) ↔ (live key ≡ Some body)

@@ -1,5 +1,5 @@
--- Receiving from a stream: entries of a received state are staged as they come, and committed at
--- once.
+-- Receiving a state from a stream. Its entries are offered one by one and are staged, which means
+-- that they are set aside. At the end all staged entries are committed together.
 use Rattle.std.specs.Prelude.{◌≡◌, ◌↔◌, ◌⊎◌, List, ◌++◌, Option, Some, None, Contains, ⊤}
 use Rattle.docker_model.specs.file.Change.{Key}
 use Rattle.docker_model.specs.state.Order.{IsStrictlyAscending, IsBelow}
@@ -8,34 +8,35 @@ use Rattle.docker_model.specs.state.Op.{Entry, entry_cmp}
 use Rattle.docker_model.specs.state.Lapse.{lapse_entry}
 use Rattle.docker_model.specs.state.State.{State, AreAscending}
 
--- none of these entries has the key
+-- no entry in the list has the key
 abbrev pub HasNoEntryOf : List (Key × Entry) → Key → Type 0
 HasNoEntryOf entries key = (entry : Entry) → ¬ Contains entries (key, entry)
 
--- an offered entry is to be staged: it isn't below the floor of the union, and is greater than the
--- state's entry at its key, if there is one
+-- the offered entry is to be staged: it isn't below the floor of both ledgers, and it is greater
+-- than the state's entry at its key, if there is one
 pub record IsToStage (own : State) (floor : Option FileStamp) (key : Key) (entry : Entry) : Type 0 where
   pub kept : IsKept floor entry.stamp.file
   pub greater : (other : Entry) → Contains own.entries (key, other) → IsBelow entry_cmp other entry
 
--- the entry is greater than this other one, if there is one
+-- the entry is greater than the other one, or there is no other one
 abbrev pub IsGreaterThan : Option Entry → Entry → Type 0
 IsGreaterThan None entry = ⊤
 IsGreaterThan (Some mine) entry = IsBelow entry_cmp mine entry
 
--- the staged entries: the offered entries that are to be staged, in key order
+-- these are the staged entries: the offered entries that are to be staged, in key order
 pub record IsStaged (own : State) (floor : Option FileStamp) (offered staged : List (Key × Entry)) : Type 0 where
   pub ascending : AreAscending staged
   pub members : (key : Key) (entry : Entry) → Contains staged (key, entry) ↔ (Contains offered (key, entry) × IsToStage own floor key entry)
 
--- the entry is there after a commit: it was staged, or it is a kept entry of the state at whose key
--- none was staged
+-- before the lapse, the commit leaves this entry. It was staged, or it is an entry of the state
+-- that isn't below the floor, and nothing was staged at its key
 abbrev pub IsPutIn : State → List (Key × Entry) → Option FileStamp → Key → Entry → Type 0
 IsPutIn own staged floor key entry =
     Contains staged (key, entry) ⊎ (Contains own.entries (key, entry) × IsKept floor entry.stamp.file × HasNoEntryOf staged key)
 
--- what a commit leaves. The horizon stays, and the ledger is the union, kept under its floor. Each
--- staged entry is at its key; elsewhere kept entries stay. All lapse under the horizon
+-- this is the state after a commit. The horizon stays. The ledger is the union of both ledgers
+-- without what is below their floor. Each staged entry is at its key, and at all other keys the
+-- entries of the state stay if they aren't below the floor. All entries lapse under the horizon
 pub record IsCommit (own : State) (items : List LedgerItem) (staged : List (Key × Entry)) (after : State) : Type 0 where
   pub horizon : after.horizon ≡ own.horizon
   pub floor : Option FileStamp
@@ -46,6 +47,6 @@ pub record IsCommit (own : State) (items : List LedgerItem) (staged : List (Key 
   pub entries : (key : Key) (entry : Entry) → Contains after.entries (key, entry)
       ↔ ((before : Entry) × IsPutIn own staged floor key before × (lapse_entry after.horizon before ≡ entry))
 
--- a state of these items and entries, without a horizon
+-- the state with these ledger items and entries, without a horizon
 abbrev pub staged_state : List LedgerItem → List (Key × Entry) → State
 staged_state items staged = record { horizon = 0; ledger = items; entries = staged }

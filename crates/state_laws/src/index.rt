@@ -1,5 +1,5 @@
-//! Laws of the two indexes of a live table. Each is the contract of a function with an empty body,
-//! so it holds for all values of its variables.
+//! Laws of the two indexes of a live table. A law is a function with an empty body whose contract
+//! states a fact. The fact holds for all values of its variables.
 ghost use Rattle.std.specs.Prelude.{◌≡◌, ℕ, List, ◌↔◌, Contains};
 ghost use Rattle.std.specs.List.{flat_map};
 ghost use Rattle.docker_model.specs.state.Order.{IsStrictlyAscending};
@@ -10,8 +10,8 @@ ghost use Rattle.state_laws.specs.Row.{Row, AreRowsOf};
 ghost use Rattle.state_laws.specs.Index.{CallingRow, LinkedRow, calling_cmp, linked_cmp, calls_of, links_of, IsCallingIndex, IsLinkedIndex};
 ghost use Rattle.state_laws.specs.Index.{IsFromEither, IsCallingFromEither, IsLinkedFromEither, AreCalling, AreLinked, AreOfUid};
 
-/// A live table has one index of each kind, and one list of rows for each walk. An index is what
-/// all rows give, sorted and without duplicates.
+/// A live table has only one index of each kind, and only one list of rows for each walk. The index
+/// rows that all rows of the table give, sorted and without duplicates, are the index.
 pub fn one_index()
     ensures calling { (live : Table) (first second : List CallingRow)
         → IsCallingIndex live first → IsCallingIndex live second → first ≡ second }
@@ -34,8 +34,9 @@ pub fn one_index()
         ↔ Contains (flat_map (λ (r : Row). links_of r.0 r.1) rows) row) → IsLinkedIndex live index }
 {}
 
-/// The indexes of a join, made from the indexes of the two states: an index row stays if the join
-/// has the same body at its key. If a horizon is set, an index row stays if its key keeps its body.
+/// The indexes of a join can be made from the indexes of the two states. An index row stays if the
+/// join has the same body at its key as the state that it comes from. When a horizon is set, an
+/// index row stays if its key keeps its body.
 pub fn index_of_join()
     ensures either { (own other joined : State) → AreAscending own.entries
         → AreAscending other.entries → IsJoin own other joined → IsFromEither (live_table own)

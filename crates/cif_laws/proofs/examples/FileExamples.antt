@@ -1,4 +1,4 @@
--- The worked file is a file, and its text has no fault. Some other texts have a fault.
+-- The worked file is a CIF file, and its text has no fault. Two other texts have a fault.
 use Rattle.std.proofs.Common.{◌≡◌, ℕ, List, [], ◌∷◌, ◌++◌, refl, inl, inr, lit≤, ◌<◌, arith, ap, sym, ◌∙◌}
 use Rattle.std.proofs.lemmas.List.Elements.{All-from_recursion}
 use Rattle.docker_model.specs.records.Record.{HasKind, header, kind_of}
@@ -9,7 +9,7 @@ use Rattle.docker_model.specs.file.FileFault.{bad_length, bad_byte, bad_kind, ba
 use Rattle.cif_laws.proofs.records.Builders.{f2, f2_header, f2_basic, f2_origin, f2_terminus, f2_schedule, zz}
 use Rattle.cif_laws.proofs.schedules.WorkedSchedule.{record_by_test, f2_is_schedule}
 
--- the worked file is a file
+-- the worked file is a CIF file
 pub f2_is_file : IsFile f2
 f2_is_file = record {
   first = f2_header;
@@ -24,7 +24,7 @@ f2_is_file = record {
   trailer_kind = refl;
 }
 
--- the worked text: each record with a line feed after it
+-- the worked text: the records of the worked file, each followed by a line feed
 abbrev pub f2_text : List ℕ
 f2_text = f2_header ++ 10 ∷ f2_basic ++ 10 ∷ f2_origin ++ 10 ∷ f2_terminus ++ 10 ∷ zz ++ 10 ∷ []
 
@@ -35,7 +35,7 @@ lines_of_f2 = refl
 pub f2_text_is : IsFileText 5 f2_text f2
 f2_text_is = record { lines = refl; is = f2_is_file; within = lit≤ tt }
 
--- the empty list of records begins some file
+-- the empty list of records is the beginning of some file
 pub empty_begins : BeginsFile []
 empty_begins = (f2, f2_is_file)
 
@@ -43,11 +43,11 @@ empty_begins = (f2, f2_is_file)
 pub empty_is_no_file : ¬ IsFile []
 empty_is_no_file file = let whole = file.whole in cc
 
--- the empty text ends where record 1, the header, should stand
+-- the empty text has the fault `no_end`, at the missing record 1
 pub empty_text_unended : IsFileFault 10 [] (record { number = 1; cause = no_end })
 empty_text_unended = inr (record { within = lit≤ tt; begin = empty_begins; unended = empty_is_no_file; number = refl; cause = refl })
 
--- the first record of a list, or the default if the list is empty
+-- the first record of a list, or `default` if the list is empty
 first_or : List ℕ → List (List ℕ) → List ℕ
 first_or default [] = default
 first_or default (line ∷ lines) = line
@@ -75,7 +75,7 @@ basic_is_cause (bad_field at) below holds = omega arith
 basic_is_cause third_midnight below holds = omega arith
 basic_is_cause no_end below holds = holds
 
--- a basic schedule as record 1 is out of place
+-- a basic schedule as the first record has the cause `bad_place`
 pub basic_first : IsFileFault 10 (f2_basic ++ 10 ∷ []) (record { number = 1; cause = bad_place })
 basic_first = inl (record {
   earlier = [];

@@ -1,4 +1,4 @@
--- Worked examples of records, fields, dates, times and changes, as the definitions compute them.
+-- Worked examples of records, fields, dates, times and changes, as computed from the definitions.
 use Rattle.std.proofs.Common.{◌≡◌, ℕ, List, [], ◌∷◌, ◌++◌, length, refl, map, Some, None, true, false}
 use Rattle.std.specs.Prelude.{codes}
 use Rattle.jiff_core.specs.Calendar.{days_from_civil, day_count, days_of_years, days_of_months}
@@ -56,7 +56,7 @@ bad_departure = refl
 bad_runs_from : leftmost_bad_field (bs (codes "N") (codes "C10001") (codes "230229") (codes "240614") (codes "1111100") (codes "1A10") (codes "P")) ≡ Some 10
 bad_runs_from = refl
 
--- a deletion's end date and days run aren't checked
+-- in a deletion the end date and the days run aren't checked
 good_deletion : leftmost_bad_field (bs (codes "D") (codes "C10001") (codes "240610") no_text no_text no_text (codes "P")) ≡ None
 good_deletion = refl
 
@@ -91,14 +91,15 @@ half_minute = refl
 public_times : map public_time (codes "0000" ∷ codes "    " ∷ codes "0932" ∷ []) ≡ None ∷ None ∷ Some 572 ∷ []
 public_times = refl
 
--- the times 23:55, 00:00½ twice, 00:10 and 00:20 fall once
+-- the times 23:55, 00:00½ twice, 00:10 and 00:20 pass midnight once
 night_times : times_along night_schedule ≡ 2870 ∷ 1 ∷ 1 ∷ 20 ∷ 40 ∷ []
 night_times = refl
 
 one_midnight : midnights night_schedule ≡ 1
 one_midnight = refl
 
--- lines that end in a line feed, in a carriage return and line feed, and a last line without either
+-- a line may end in a line feed, or in a carriage return and a line feed, and the last line may
+-- have no end
 line_ends : map lines_of ((codes "ab" ++ 10 ∷ codes "c" ++ 10 ∷ []) ∷ (codes "ab" ++ 13 ∷ 10 ∷ codes "c" ++ 13 ∷ 10 ∷ []) ∷ (codes "ab" ++ 10 ∷ codes "c") ∷
     (codes "ab" ++ 10 ∷ codes "c" ++ 13 ∷ []) ∷ [])
     ≡ (codes "ab" ∷ codes "c" ∷ []) ∷ (codes "ab" ∷ codes "c" ∷ []) ∷ (codes "ab" ∷ codes "c" ∷ []) ∷ (codes "ab" ∷ codes "c" ∷ []) ∷ []
@@ -115,7 +116,7 @@ changes_of_rename : changes rename
     ∷ record { number = 2; key = tiploc_key (codes "ASHFLDN"); act = put (tiploc_body (columns 10 72 rename_amend)) } ∷ []
 changes_of_rename = refl
 
--- an amendment that gives the same code again is one put
+-- an amendment that states the same code again puts the key once
 changes_of_same_code : changes (f2_header ∷ ta (codes "ASHFELD") (codes "ASHFIELD CENTRAL") (codes "ASHFELD") ∷ zz ∷ [])
     ≡ record {
       number = 2;
@@ -124,8 +125,8 @@ changes_of_same_code : changes (f2_header ∷ ta (codes "ASHFELD") (codes "ASHFI
     } ∷ []
 changes_of_same_code = refl
 
--- two amendments, one before and one after a schedule of three lines: a unit's change has the
--- number of its first record
+-- two amendments, one before and one after a schedule of three records: the change of each unit has
+-- the number of its first record
 numbers_of_units : map (λ (change : Change). change.number) (changes_of_units 2 ((rename_amend ∷ []) ∷ f2_schedule ∷ (rename_amend ∷ []) ∷ []))
     ≡ 2 ∷ 2 ∷ 3 ∷ 6 ∷ 6 ∷ []
 numbers_of_units = refl
@@ -133,12 +134,12 @@ numbers_of_units = refl
 units_of_f2 : changes_of_units 2 (f2_schedule ∷ []) ≡ changes f2
 units_of_f2 = refl
 
--- a deletion with a journey makes one change too
+-- a deletion with a journey also makes only one change
 change_of_deletion : changes_of_unit 2 (bs (codes "D") (codes "C10001") (codes "240610") no_text no_text no_text (codes "P") ∷ f2_origin ∷ f2_terminus ∷ [])
     ≡ record { number = 2; key = schedule_named f2_basic; act = delete } ∷ []
 change_of_deletion = refl
 
--- a journey passes midnight a third time if its last arrival is at 00:01, and not if it is at 00:06
+-- a journey passes midnight a third time if its last arrival is at 00:01, but not if it is at 00:06
 abbrev late_schedule : List ℕ → List (List ℕ)
 late_schedule arrives =
     bs (codes "N") (codes "C20001") (codes "240610") (codes "240610") (codes "1000000") (codes "2B20") (codes "P")

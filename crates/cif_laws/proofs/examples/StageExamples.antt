@@ -1,4 +1,4 @@
--- Worked places in files, and worked causes of faults.
+-- Worked places of a reader in files, and worked causes of faults.
 use Rattle.std.proofs.Common.{◌≡◌, ℕ, List, [], ◌∷◌, ◌++◌, refl, Some, None}
 use Rattle.std.specs.Prelude.{codes}
 use Rattle.docker_model.specs.file.FileFault.{too_many, after_trailer, bad_length, bad_byte, bad_kind, bad_place, bad_field, third_midnight}
@@ -22,7 +22,7 @@ no_header = refl
 whole_schedule : stage_of f2_schedule ≡ Some after_journey
 whole_schedule = refl
 
--- records for which several causes hold: the first is reported
+-- if several causes hold for a record, the first in their order is reported
 over_limit : cause_of 5 5 after_end zz ≡ too_many
 over_limit = refl
 
@@ -47,7 +47,7 @@ trailer_early = refl
 bad_time : cause_of 6 2 (in_schedule after_basic (f2_basic ∷ [])) (lo (codes "ASHFELD") no_text (codes "2400") no_text no_text no_text) ≡ bad_field 11
 bad_time = refl
 
--- in a deletion the journey's fields aren't checked, and the journey may be missing
+-- in a deletion the fields of the journey aren't checked, and the journey may be missing
 abbrev deleted_basic : List ℕ
 deleted_basic = bs (codes "D") (codes "C10001") (codes "240610") no_text no_text no_text (codes "P")
 
@@ -58,7 +58,7 @@ deleted_time = refl
 deleted_alone : place_at (f2_header ∷ deleted_basic ∷ zz ∷ []) ≡ Some after_end
 deleted_alone = refl
 
--- records at which the schedule passes midnight a third time
+-- records with which a schedule passes midnight for the third time
 abbrev call_at : List ℕ → List ℕ
 call_at time = li (codes "COLWELL") no_text no_text no_text time no_text no_text no_text no_text no_text
 

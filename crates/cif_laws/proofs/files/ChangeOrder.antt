@@ -1,5 +1,5 @@
--- If two changes of a file have one key, the second belongs to a later record. Two changes of one
--- record have different keys.
+-- If two changes of a file have the same key, the second belongs to a later record. Two changes of
+-- one record have different keys.
 use Rattle.std.proofs.Common.{◌≡◌, ℕ, ◌+◌, ◌<◌, ◌≤◌, List, [], ◌∷◌, map, inl, inr, ◌⊎◌, refl, arith, ap, sym, Bool, true, false, Some}
 use Rattle.std.specs.Prelude.{Option, ◌||◌}
 use Rattle.std.specs.List.{AllByRecursion, AllPairs}
@@ -11,7 +11,7 @@ use Rattle.docker_model.specs.file.Change.{keeps_code, acts_by_kind, changes_of_
 use Rattle.cif_laws.proofs.lists.Later.{AllLater, later_append_all, later_weaker_always, pairs_from_later}
 use Rattle.cif_laws.proofs.lists.AllOf.{all_append, all_weaker}
 
--- the second change belongs to a later record, or has another key
+-- the second change belongs to a later record or has another key
 abbrev pub Apart : Change → Change → Type 0
 Apart first second = (first.number < second.number) ⊎ ¬ (first.key ≡ second.key)
 
@@ -31,7 +31,7 @@ number_from n (line ∷ lines) =
     (all_weaker (λ (c : Change). n + 1 ≤ c.number) (λ (c : Change). n ≤ c.number) (λ c more. omega arith) (changes_from (n + 1) lines)
     (number_from (n + 1) lines))
 
--- if neither of two tests passes, the second doesn't
+-- if `a || b` is false, so is `b`
 second_of : (a b : Bool) → (a || b) ≡ false → b ≡ false
 second_of true b h = cc
 second_of false b h = h
@@ -67,8 +67,7 @@ acts_apart n kind line following =
     later_weaker_always KeysDiffer Apart (λ first second differ. inr differ)
     (changes_of_acts n (acts_by_kind kind line following)) (acts_differ n kind line following)
 
--- the changes of these records are apart: each later one has another key or belongs to a later
--- record
+-- of two changes of these records, the later one has another key or belongs to a later record
 pub changes_apart : (n : ℕ) (lines : List (List ℕ)) → AllLater Apart (changes_from n lines)
 changes_apart n [] = tt
 changes_apart n (line ∷ lines) =
@@ -78,12 +77,12 @@ changes_apart n (line ∷ lines) =
     (λ c same. all_weaker (λ (d : Change). n + 1 ≤ d.number) (Apart c) (λ d more. inl (omega arith)) (changes_from (n + 1) lines) (number_from (n + 1) lines))
     (changes_of_record n line lines) (number_in n (acts_by_kind (kind_of line) line lines)))
 
--- the changes of one record have different keys
+-- two changes of one record have different keys
 pub record_keys_differ : (number : ℕ) (line : List ℕ) (following : List (List ℕ)) → AllPairs KeysDiffer (changes_of_record number line following)
 record_keys_differ number line following =
     pairs_from_later KeysDiffer (changes_of_record number line following) (acts_differ number (kind_of line) line following)
 
--- two changes of a file that belong to one record have different keys
+-- two changes of a file that belong to the same record have different keys
 pub file_keys_differ : (file : List (List ℕ)) → AllPairs (λ (first second : Change). first.number ≡ second.number → ¬ (first.key ≡ second.key)) (changes file)
 file_keys_differ file = pairs_from_later _ (changes file) (later_weaker_always Apart _ by (changes file) (changes_apart 1 file))
   where

@@ -1,5 +1,5 @@
--- The cause of a record at fault, by the place to which the earlier records lead. A text that isn't
--- the text of a file has a fault.
+-- The cause of a record at fault, from the place of the reader before it. A text that isn't the
+-- text of a file has a fault.
 use Rattle.std.proofs.Common.{◌≡◌, refl, true, [], ◌∷◌, Some, None, ℕ, ◌+◌, List, ◌++◌, sym, ◌∙◌, Bool, false, cond, ◌⊎◌, inl, inr}
 use Rattle.std.proofs.Common.{Contains, ap, subst, ◌<◌, ◌≤◌, length, arith, eqb-true, append_assoc, append-nil, length-append}
 use Rattle.std.specs.Prelude.{Any, Option, is_some, ◌&&◌, ◌||◌, nat_le, is_none, ◌==◌}
@@ -29,7 +29,7 @@ use Rattle.cif_laws.proofs.schedules.ScheduleStages.{HasShape, details_of, IsSou
 use Rattle.cif_laws.proofs.files.FileStages.{next_by_test, stage_stops, IsWithin, IsAt, next_at, at_of_place, witness_next, at_begins}
 use Rattle.cif_laws.proofs.files.FileStages.{begins_iff_place, file_iff_place, place_of_more, begins_next_iff, one_place}
 
--- ---- trailers
+-- ---- after a trailer
 
 end_by_test : (place : Place) → is_after_end place ≡ true → place ≡ after_end
 end_by_test after_end h = refl
@@ -54,7 +54,7 @@ trailer_place (in_schedule stage lines) next line found = by (may_end stage line
     by false h = let none : None ≡ Some next = (λ i. cond (sym h i) (Some after_end) None) ∙ reached in cc
 trailer_place after_end next line found = cc
 
--- if records with a trailer among them lead to a place, it is the place after the trailer
+-- if one of the records is a trailer, the place that the records lead to is after the trailer
 trailer_leads : (records : Lines) (place final : Place) (line : List ℕ) → place_from place records ≡ Some final → Contains records line → HasKind trailer line
     → final ≡ after_end
 trailer_leads [] place final line found among kind = absurd (nil-Contains line among)
@@ -71,14 +71,14 @@ trailer_leads (first ∷ rest) place final line found among kind =
         end_stays rest final (ap (λ p. place_from p rest) (sym reached) ∙ step.2)
     by step later (inr inside) = later step.0 step.2 inside
 
--- a file has a trailer among its records
+-- one of the records of a file is a trailer
 trailer_among : (records : Lines) → IsFile records → Any (HasKind trailer) records
 trailer_among records is =
     subst (λ r. Any (HasKind trailer) r) (sym is.whole)
     (let among = Contains-append_right (is.first ∷ flat_map (λ unit. unit) is.units) (is.last ∷ []) is.last (cons-Contains-first is.last []) in
     (among.0, is.last, among.1, among.2, is.trailer_kind))
 
--- ---- kinds in place
+-- ---- which kinds are in place
 
 same_unit_by_kind : (kind : Option Kind) (first second : List ℕ) → is_some (unit_by_kind kind first) ≡ is_some (unit_by_kind kind second)
 same_unit_by_kind None first second = refl
@@ -103,7 +103,7 @@ same_place_by_kind (in_schedule stage lines) kind first second = by (stage_after
         ended false = refl
 same_place_by_kind after_end kind first second = refl
 
--- ---- third falls
+-- ---- a schedule that passes midnight a third time
 
 no_basic : (line : List ℕ) → Follows line → ¬ HasKind basic_schedule line
 no_basic line follows basic = let bad : false ≡ true = sym (ap follows_basic basic) ∙ follows in cc
@@ -125,7 +125,7 @@ details_follow : (extra : Lines) → AreExtraDetails extra → AllByRecursion Fo
 details_follow extra (inl none) = subst (AllByRecursion Follows) (sym none) tt
 details_follow extra (inr one) = subst (AllByRecursion Follows) (sym one.1) (follows_by extra_details one.0 one.2 refl, tt)
 
--- the lines of an unfinished schedule are the last schedule among the records
+-- the records of an incomplete schedule are the last schedule among all records
 pub ends_in_schedule : (stage : Stage) (lines records : Lines) → IsWithin stage lines records → EndsInSchedule records lines
 ends_in_schedule stage lines records within = record {
   before = within.before;
@@ -141,7 +141,8 @@ ends_in_schedule stage lines records within = record {
       (shape_follows stage within.front.extra within.front.journey within.front.shape)));
 }
 
--- if a line has good fields but isn't sound, the schedule passes midnight a third time there
+-- if a record has good fields but fails `is_sound_next`, the schedule passes midnight with it for
+-- the third time
 third_fall : (stage : Stage) (lines records : Lines) (line : List ℕ) → IsWithin stage lines records → HasGoodFields line → is_sound_next lines line ≡ false
     → HasThirdFall records line
 third_fall stage lines records line within fields test = (lines, ends_in_schedule stage lines records within, few within.front.sound, third)
@@ -169,13 +170,13 @@ third_fall stage lines records line within fields test = (lines, ends_in_schedul
         subst (λ n. n ≤ 2) (sym (ap midnights front.whole ∙ midnights_of_journey front.basic front.extra front.journey front.kind
         (details_of stage front.extra front.journey front.shape))) good.falls
 
--- ---- the cause
+-- ---- the cause of a record at fault
 
 module _ (limit : ℕ) (earlier : Lines) (place : Place) (line : List ℕ) (found : IsPlaceOf earlier place) where
   at : IsAt place earlier
   at = at_of_place earlier place found
 
-  -- no cause with a lower rank holds, if each such cause is excluded
+  -- if each cause of a lower rank is excluded, none of them holds
   none_below : (rank : ℕ) → rank ≤ 7 → (0 < rank → ¬ (limit ≤ length earlier)) → (1 < rank → ¬ Any (HasKind trailer) earlier) → (2 < rank → length line ≡ 80)
       → (3 < rank → leftmost_bad_byte line ≡ None) → (4 < rank → ¬ (kind_of line ≡ None)) → (5 < rank → ¬ IsOutOfPlace earlier line)
       → (6 < rank → leftmost_bad_field line ≡ None)
@@ -212,8 +213,8 @@ module _ (limit : ℕ) (earlier : Lines) (place : Place) (line : List ℕ) (foun
           (at_begins there.0 (earlier ++ witness kind ∷ [])
           (next_at place earlier (witness kind) there.0 at (witness_next place earlier kind there.0 at there.1)))
 
-  -- if a record is in place and has good fields, but leads nowhere, its schedule passes midnight a
-  -- third time
+  -- if a record is in place and has good fields, but leads to no place, its schedule passes
+  -- midnight with it for the third time
   third : (next : Place) → IsRecord line → place_by_kind place (kind_of line) line ≡ Some next → HasGoodFields line → next_place place line ≡ None
       → HasThirdFall earlier line
   third next is told fields nowhere = by place at unsound
@@ -239,7 +240,7 @@ module _ (limit : ℕ) (earlier : Lines) (place : Place) (line : List ℕ) (foun
           staged None t = let bad : true ≡ false = sym good ∙ t in cc
       by _ here test = let bad : true ≡ false = sym good ∙ test in cc
 
-  -- from the last cause to the first: each is the record's cause if no cause before it holds
+  -- each cause, from the last to the first, is the record's cause if no cause before it holds
   field_is : ¬ (limit ≤ length earlier) → ¬ Any (HasKind trailer) earlier → length line ≡ 80 → leftmost_bad_byte line ≡ None → ¬ (kind_of line ≡ None)
       → (next : Place) → place_by_kind place (kind_of line) line ≡ Some next → next_place place line ≡ None → IsCause limit earlier line (field_cause line)
   field_is r0 r1 r2 r3 r4 next told nowhere = by (leftmost_bad_field line) refl
@@ -320,7 +321,7 @@ module _ (limit : ℕ) (earlier : Lines) (place : Place) (line : List ℕ) (foun
           let reached = trailer_leads earlier before_header place any.1 found (any.0, any.2, any.3) any.4 in
           let bad : true ≡ false = sym (ap is_after_end reached) ∙ h in cc) nowhere
 
-  -- the cause computed from the place is the record's cause
+  -- the cause computed from the reader's place is the cause of the record
   pub cause_is : (limit ≤ length earlier) ⊎ (next_place place line ≡ None) → IsCause limit earlier line (cause_of limit (length earlier) place line)
   cause_is here = by (nat_le limit (length earlier)) refl here
     where
@@ -330,7 +331,7 @@ module _ (limit : ℕ) (earlier : Lines) (place : Place) (line : List ℕ) (foun
       by false h (inl over) = let under = leb-false limit (length earlier) h in absurd (omega arith)
       by false h (inr nowhere) = let under = leb-false limit (length earlier) h in end_is (λ over. omega arith) nowhere
 
-  -- the record is the first at fault
+  -- this record is the first at fault
   pub record_fault : (records later : Lines) → records ≡ earlier ++ line ∷ later → length earlier ≤ limit → (limit ≤ length earlier)
       ⊎ (next_place place line ≡ None)
       → IsRecordFault limit records (record { number = length earlier + 1; cause = cause_of limit (length earlier) place line })
@@ -352,7 +353,7 @@ module _ (limit : ℕ) (earlier : Lines) (place : Place) (line : List ℕ) (foun
           let reached = (begins_iff_place (earlier ++ line ∷ [])).0 begins in
           let bad : None ≡ Some reached.0 = sym nowhere ∙ sym (place_of_more earlier place line found) ∙ reached.1 in cc)
 
--- if records lead to a place before the end, the fault is that the file doesn't end
+-- if records lead to a place before the trailer, their fault is `no_end`
 pub no_end_behind : (limit : ℕ) (records : Lines) (place : Place) → IsPlaceOf records place → is_after_end place ≡ false → length records ≤ limit
     → IsUnended limit records (record { number = length records + 1; cause = no_end })
 no_end_behind limit records place found open_end within = record {
@@ -365,9 +366,9 @@ no_end_behind limit records place found open_end within = record {
   cause = refl;
 }
 
--- ---- a file, or a fault
+-- ---- a text is the text of a file, or has a fault
 
--- the records pass: they are within the limit, and lead to a place
+-- no record is at fault: the records are within the limit and lead to a place
 abbrev pub Pass : ℕ → Lines → Type 0
 Pass limit records = (place : Place) × IsPlaceOf records place × (length records ≤ limit)
 
@@ -398,7 +399,7 @@ pass_from (line ∷ rest) limit records earlier place found within whole =
         let size = length-append earlier (line ∷ []) in
         later next (place_of_more earlier place line found ∙ told) (omega arith)
 
--- records pass, or one of them is at fault
+-- no record is at fault, or one is
 pub pass_or_fault : (limit : ℕ) (records : Lines) → Pass limit records ⊎ HasRecordFault limit records
 pass_or_fault limit records = pass_from records limit records [] before_header refl (omega arith) refl
 

@@ -1,4 +1,5 @@
--- The changes of a file within the limit: each is well formed, and what it puts fits its key.
+-- The changes of a file within the limit: each is well formed, and a body that it puts belongs to
+-- its key.
 use Rattle.std.proofs.Common.{◌≡◌, ℕ, ◌+◌, ◌-◌, ◌^◌, ◌<◌, ◌≤◌, List, [], ◌∷◌, ◌++◌, map, length, Contains, subst, ap, refl, arith, length-append}
 use Rattle.std.specs.List.{AllByRecursion, flat_map}
 use Rattle.std.proofs.lemmas.List.Elements.{recursion_from_All}
@@ -12,7 +13,7 @@ use Rattle.cif_laws.proofs.lists.Membership.{below_by_recursion}
 use Rattle.cif_laws.proofs.lists.AllOf.{all_append, all_weaker}
 use Rattle.cif_laws.proofs.files.GoodChanges.{IsGoodChange, units_changes}
 
--- the change has the number of one of these records
+-- the change has the number of one of `count` records, the first of which has the number `first`
 abbrev IsNumbered : ℕ → ℕ → Change → Type 0
 IsNumbered first count change = (first ≤ change.number) × (change.number < first + count)
 
@@ -30,7 +31,7 @@ numbers_within n (line ∷ lines) =
     (all_weaker (IsNumbered (n + 1) (length lines)) (IsNumbered n (length (line ∷ lines))) (λ c inside. (omega arith, omega arith)) (changes_from (n + 1) lines)
     (numbers_within (n + 1) lines))
 
--- a change is well formed, and has the number of a record after the header
+-- the change is well formed, and has the number of a record after the header
 pub record IsFileChange (change : Change) : Type 0 where
   pub good : IsGoodChange change
   pub low : 2 ≤ change.number
@@ -61,12 +62,12 @@ file_change file is few change among =
         subst (λ k. Contains (map (λ (act : Key × Act). record { number = 1; key = act.0; act = act.1 })
         (acts_by_kind k is.first rest) ++ changes_from 2 rest) change) is.header_kind inside
 
--- the body that a change puts fits its key
+-- a body that a change puts belongs to the key of the change
 pub body_of_file : (file : List (List ℕ)) → IsFile file → length file ≤ most_records → (change : Change) → Contains (changes file) change → (body : Body)
     → change.act ≡ put body → IsBodyOf change.key body
 body_of_file file is few change among body puts = subst (λ act. IsOpOf change.key (op_of act)) puts (file_change file is few change among).good.1
 
--- the lines of a schedule's body are a schedule
+-- the records of a well-formed schedule body are a schedule
 pub kept_schedule : (key : Key) (lines : List (List ℕ)) → IsBodyOf key (schedule_body lines) → IsSchedule lines
 kept_schedule (tiploc_key code) lines none = absurd none
 kept_schedule (association_key key) lines none = absurd none

@@ -1,5 +1,5 @@
--- Where a reader of a file is after the records so far: which record may come next, and whether the
--- records are a file.
+-- The place of a reader in a file: which record may come next, and whether the records read are a
+-- file.
 use Rattle.std.proofs.Common.{◌≡◌, ℕ, List, ◌∷◌, ◌++◌, [], true, Some, refl, Bool, false, cond, None, ◌∙◌, ap, sym}
 use Rattle.std.proofs.Common.{append-nil, inl, inr, subst, append_assoc, ◌<◌, length, arith, length-append, ◌⊎◌}
 use Rattle.std.specs.Prelude.{◌&&◌, Option, is_some, option_and_then, ◌↔◌, ⊤}
@@ -26,9 +26,9 @@ use Rattle.cif_laws.proofs.schedules.ScheduleStages.{IsFront, front_of_basic, sc
 use Rattle.cif_laws.proofs.schedules.ScheduleStages.{witness, witness_kind, witness_record, witness_fields, witness_sound}
 use Rattle.cif_laws.proofs.schedules.ScheduleStages.{next_line_by_test, IsNextLine, first_line_iff_test, stage_of_schedule, stage_of_more}
 
--- ---- what a place means for the records
+-- ---- the form of the records read, for each place
 
--- the records are a header and whole units
+-- the records are a header and complete units
 pub record IsBetween (records : Lines) : Type 0 where
   pub first : List ℕ
   pub units : List Lines
@@ -38,21 +38,21 @@ pub record IsBetween (records : Lines) : Type 0 where
   pub header_fields : HasGoodFields first
   pub each : AllByRecursion IsUnit units
 
--- the records are a header, whole units, and then these lines of a schedule
+-- the records are a header, complete units, and then these records of a schedule
 pub record IsWithin (stage : Stage) (lines records : Lines) : Type 0 where
   pub before : Lines
   pub whole : records ≡ before ++ lines
   pub between : IsBetween before
   pub front : IsFront stage lines
 
--- what a place means for the records that lead there
+-- the records that have been read have the form that belongs to this place
 abbrev pub IsAt : Place → Lines → Type 0
 IsAt before_header records = records ≡ []
 IsAt between_units records = IsBetween records
 IsAt (in_schedule stage lines) records = IsWithin stage lines records
 IsAt after_end records = IsFile records
 
--- ---- the parts of the test of a next record
+-- ---- the parts of the test of the next record
 
 -- the record is sound at the place, and its kind leads to the next place
 pub record IsNext (place : Place) (line : List ℕ) (next : Place) : Type 0 where
@@ -89,7 +89,7 @@ between_more records unit between is = record {
   each = all_append IsUnit between.units (unit ∷ []) between.each (is, tt);
 }
 
--- records between units and one more record of this kind are at the place that the kind gives
+-- after complete units, one more record of this kind leads to the place that its kind gives
 unit_more : (records : Lines) (kind : Kind) (line : List ℕ) (next : Place) → IsBetween records → IsRecord line → HasKind kind line → HasGoodFields line
     → unit_by_kind (Some kind) line ≡ Some next
     → IsAt next (records ++ line ∷ [])
@@ -125,7 +125,7 @@ unit_more records trailer line next between is kind fields found =
     })
 unit_more records _ line next between is kind fields found = cc
 
--- records between units and one more record are at the place that the record's kind gives
+-- after complete units, one more record leads to the place that its kind gives
 unit_more_of : (records : Lines) (line : List ℕ) (next : Place) → IsBetween records → IsRecord line → HasGoodFields line
     → unit_by_kind (kind_of line) line ≡ Some next → IsAt next (records ++ line ∷ [])
 unit_more_of records line next between is fields found = by (kind_of line) refl found
@@ -134,7 +134,7 @@ unit_more_of records line next between is fields found = by (kind_of line) refl 
     by None h told = cc
     by (Some kind) h told = unit_more records kind line next between is h fields told
 
--- records that end with a whole schedule are a header and whole units
+-- records that end with a complete schedule are a header and complete units
 within_ended : (stage : Stage) (lines records : Lines) → IsWithin stage lines records → may_end stage lines ≡ true → IsBetween records
 within_ended stage lines records within may =
     subst IsBetween (sym within.whole) (between_more within.before lines within.between (inr (schedule_of_front stage lines within.front may)))
@@ -154,7 +154,8 @@ within_more stage lines records line next within found = record {
   front = next_front stage lines line next within.front found;
 }
 
--- if a record leads to a next place, the records up to and including it are at that place
+-- if records have the form of a place, and one more leads to a next place, all of them have the
+-- form of the next place
 pub next_at : (place : Place) (records : Lines) (line : List ℕ) (next : Place) → IsAt place records → next_place place line ≡ Some next
     → IsAt next (records ++ line ∷ [])
 next_at before_header records line next at found = by (next_by_test before_header line next found) (kind_of line) refl
@@ -211,13 +212,13 @@ at_from (line ∷ rest) place records final at found =
     subst (IsAt final) (append_assoc records (line ∷ []) rest)
     (at_from rest step.0 (records ++ line ∷ []) final (next_at place records line step.0 at step.1) step.2)
 
--- records that lead to a place are at that place
+-- records that lead to a place have the form of that place
 pub at_of_place : (records : Lines) (place : Place) → IsPlaceOf records place → IsAt place records
 at_of_place records place found = at_from records before_header [] place refl found
 
--- ---- records at a place begin some file
+-- ---- records that lead to a place begin some file
 
--- for each kind that may come next, some good record leads to a next place
+-- for each kind that may come next there is a good record that leads to a next place
 pub witness_next : (place : Place) (records : Lines) (kind : Kind) (next : Place) → IsAt place records → place_by_kind place (Some kind)
     (witness kind) ≡ Some next → next_place place (witness kind) ≡ Some next
 witness_next place records kind next at found = test_by_next place (witness kind) next (record {
@@ -256,7 +257,7 @@ journey_begins lines records at =
     begins_front records (witness terminating_location ∷ [])
     (between_begins (records ++ witness terminating_location ∷ []) (leads (in_schedule in_journey lines) records terminating_location between_units at refl))
 
--- records at a place begin some file
+-- records with the form of a place begin some file
 pub at_begins : (place : Place) (records : Lines) → IsAt place records → BeginsFile records
 at_begins before_header records at =
     begins_front records (witness header ∷ []) (between_begins (records ++ witness header ∷ []) (leads before_header records header between_units at refl))
@@ -271,7 +272,7 @@ at_begins (in_schedule in_journey lines) records at = journey_begins lines recor
 at_begins (in_schedule after_journey lines) records at = between_begins records (within_ended after_journey lines records at refl)
 at_begins after_end records at = file_begins records at
 
--- ---- a file leads to the place after its trailer
+-- ---- the records of a file lead to the place after the trailer
 
 place_from_append : (front : Lines) (place middle : Place) (more : Lines) → place_from place front ≡ Some middle
     → place_from place (front ++ more) ≡ place_from middle more
@@ -280,7 +281,7 @@ place_from_append (line ∷ front) place middle more found =
     let step = then_some (λ next. place_from next front) (next_place place line) middle found in
     (λ i. option_and_then (λ next. place_from next (front ++ more)) (step.1 i)) ∙ place_from_append front step.0 middle more step.2
 
--- a line that leads a schedule to a next stage leads to the place of that stage
+-- a record that leads a schedule to a next stage leads the file to the place with that stage
 pub next_of_stage : (stage : Stage) (lines : Lines) (line : List ℕ) (next : Stage) → next_stage stage lines line ≡ Some next
     → next_place (in_schedule stage lines) line ≡ Some (place_in next (lines ++ line ∷ []))
 next_of_stage stage lines line next found =
@@ -291,7 +292,7 @@ next_of_stage stage lines line next found =
       place_is = λ i. in_stage_or (lines ++ line ∷ []) (told.stage_is i) (cond (may_end stage lines) (unit_by_kind (kind_of line) line) None);
     })
 
--- like `next_of_stage`, for a schedule whose journey may be whole
+-- like `next_of_stage`, for a schedule whose journey may be complete
 next_in : (stage : Stage) (lines : Lines) (line : List ℕ) (next : Stage) → next_stage stage lines line ≡ Some next
     → next_place (place_in stage lines) line ≡ Some (place_in next (lines ++ line ∷ []))
 next_in stage lines line next found = by stage (next_line_by_test stage lines line next found)
@@ -347,8 +348,8 @@ stage_stops in_journey (Some change_en_route) h = cc
 stage_stops in_journey (Some terminating_location) h = cc
 stage_stops _ _ h = refl
 
--- after lines that may be a whole schedule, a record that can't follow a basic schedule is placed
--- like one between units
+-- after a schedule that may end, a record that can't follow a basic schedule leads to the same
+-- place as between units
 pub next_behind : (stage : Stage) (lines : Lines) (line : List ℕ) → may_end stage lines ≡ true → follows_basic (kind_of line) ≡ false
     → next_place (in_schedule stage lines) line ≡ next_place between_units line
 next_behind stage lines line may anew =
@@ -415,26 +416,26 @@ place_from_front (line ∷ front) rest place final found =
     let more = place_from_front front rest step.0 final step.2 in
     (more.0, (λ i. option_and_then (λ next. place_from next front) (step.1 i)) ∙ more.1)
 
--- records begin a file if and only if they lead to a place
+-- records begin a file exactly if they lead to a place
 pub begins_iff_place : (records : Lines) → BeginsFile records ↔ ((place : Place) × IsPlaceOf records place)
 begins_iff_place records = (
   λ begins. place_from_front records begins.0 before_header after_end (place_of_file (records ++ begins.0) begins.1),
   λ at. at_begins at.0 records (at_of_place records at.0 at.1),
 )
 
--- records are a file if and only if they lead to the place after the trailer
+-- records are a file exactly if they lead to the place after the trailer
 pub file_iff_place : (records : Lines) → IsFile records ↔ IsPlaceOf records after_end
 file_iff_place records = (place_of_file records, at_of_place records after_end)
 
--- records lead to one place only
+-- records lead to at most one place
 pub one_place : (records : Lines) (first second : Place) → IsPlaceOf records first → IsPlaceOf records second → first ≡ second
 one_place records first second one two = let both_are : Some first ≡ Some second = sym one ∙ two in cc
 
--- after one more record, the place is the next place from where the records were
+-- the place after one more record is the one that this record leads to
 pub place_of_more : (records : Lines) (place : Place) (line : List ℕ) → IsPlaceOf records place → place_at (records ++ line ∷ []) ≡ next_place place line
 place_of_more records place line found = place_from_append records before_header place (line ∷ []) found ∙ some_then (next_place place line)
 
--- records and one more begin a file if and only if the last one leads to a next place
+-- records and one more begin a file exactly if the last one leads to a next place
 pub begins_next_iff : (records : Lines) (place : Place) (line : List ℕ) → IsPlaceOf records place → BeginsFile (records ++ line ∷ [])
     ↔ ((next : Place) × IsNext place line next)
 begins_next_iff records place line found = (
@@ -451,9 +452,10 @@ begins_file_or_not records = by (place_at records) refl
     by None h = inr (λ begins. let at = (begins_iff_place records).0 begins in let bad : None ≡ Some at.0 = sym h ∙ at.1 in cc)
     by (Some place) h = inl ((begins_iff_place records).1 (place, h))
 
--- ---- the schedule of a place
+-- ---- the stage of the schedule at a place
 
--- a place in a schedule has the stage of the schedule's lines, and its journey isn't whole
+-- a place inside a schedule has the stage of that schedule's records, and the journey isn't
+-- complete
 abbrev pub IsTracked : Place → Type 0
 IsTracked (in_schedule stage lines) = (stage_of lines ≡ Some stage) × ¬ (stage ≡ after_journey)
 IsTracked _ = ⊤
@@ -505,6 +507,6 @@ tracked_from (line ∷ rest) place final tracked found =
     let step = then_some (λ next. place_from next rest) (next_place place line) final found in
     tracked_from rest step.0 final (next_tracked place line step.0 tracked (next_by_test place line step.0 step.1)) step.2
 
--- a place that records lead to has the stage of its schedule's lines
+-- a place inside a schedule, if records lead to it, has the stage of that schedule's records
 pub tracked_place : (records : Lines) (place : Place) → IsPlaceOf records place → IsTracked place
 tracked_place records place found = tracked_from records before_header place tt found

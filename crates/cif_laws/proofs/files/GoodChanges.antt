@@ -1,4 +1,4 @@
--- The changes of a file within the limit have well formed keys and bodies. The lines of a
+-- The changes of a file within the limit have well-formed keys and bodies, and the records of a
 -- schedule's body are a schedule.
 use Rattle.std.proofs.Common.{◌≡◌, ℕ, ◌+◌, ◌-◌, ◌^◌, ◌<◌, ◌⊎◌, inl, inr, List, [], ◌∷◌, ◌++◌, length, take, All, subst}
 use Rattle.std.proofs.Common.{refl, ap, sym, ◌∙◌, Bool, true, false, cond, Some, arith, append_assoc, length-append}
@@ -24,7 +24,7 @@ use Rattle.cif_laws.proofs.records.Columns.{IsGoodIn, good_fields, fields_good, 
 use Rattle.cif_laws.proofs.records.Columns.{new_columns, new_column, new_kind, new_record, is_new}
 use Rattle.cif_laws.proofs.records.GoodFields.{date_is_day, tiploc_starts, new_tiploc_starts}
 
--- the key and the op of a change are well formed and fit
+-- the key and the op are well formed, and the op belongs to the key
 abbrev pub IsGoodAct : Key × Act → Type 0
 IsGoodAct act = IsGoodKey act.0 × IsOpOf act.0 (op_of act.1)
 
@@ -36,7 +36,7 @@ letter_at line is = ap is_stp_letter (sym (one_column line 80 (omega arith))) �
 tiploc_at : (line : List ℕ) → IsRecord line → is_tiploc (columns 3 9 line) ≡ true → IsTiploc (columns 3 9 line)
 tiploc_at line is good = (text_in line 3 9 is (omega arith) (omega arith), tiploc_starts (columns 3 9 line) good)
 
--- the fields of an association that its key and its deletion need, each good
+-- the fields of an association that its key and its deletion use are good
 record AssociationFields (line : List ℕ) : Type 0 where
   pub start : is_date (columns 16 21 line) ≡ true
   pub location : is_tiploc (columns 38 44 line) ≡ true
@@ -81,7 +81,7 @@ schedule_key_good line is kind good =
       indicator = letter_at line fields.indicator;
     }
 
--- ---- a line with the transaction N has the same key and good fields
+-- ---- a record keeps its key and its good fields when its transaction is set to N
 
 same_association : (line : List ℕ) → association_named (as_new line) ≡ association_named line
 same_association line = λ i. association_key (record {
@@ -93,7 +93,7 @@ same_association line = λ i. association_key (record {
   indicator = new_column line 80 (omega arith) i;
 })
 
--- setting the transaction to N keeps the schedule's key
+-- a basic schedule keeps its key when its transaction is set to N
 pub same_schedule : (line : List ℕ) → schedule_named (as_new line) ≡ schedule_named line
 same_schedule line = λ i. schedule_key (record {
   uid = new_columns line 4 9 (omega arith) i;
@@ -111,7 +111,7 @@ still_good line first last test behind good = ap test (new_columns line first la
 transaction_good : (line : List ℕ) → IsRecord line → IsGoodIn (as_new line) (checked 3 3 is_transaction)
 transaction_good line is = ap (λ b. (b == 78) || (b == 68) || (b == 82)) (one_column (as_new line) 3 (omega arith) ∙ is_new line is)
 
--- setting the transaction to N leaves an association's fields good
+-- an association keeps its good fields when its transaction is set to N, unless it was a deletion
 pub new_association_fields : (line : List ℕ) → IsRecord line → HasKind association line → HasGoodFields line → is_deletion line ≡ false
     → HasGoodFields (as_new line)
 new_association_fields line is kind good kept = fields_good association (as_new line) (new_kind line ∙ kind) (by (good_fields association line kind good))
@@ -136,7 +136,7 @@ new_association_fields line is kind good kept = fields_good association (as_new 
           ),
         )
 
--- setting the transaction to N leaves a basic schedule's fields good
+-- a basic schedule keeps its good fields when its transaction is set to N, unless it was a deletion
 pub new_basic_fields : (line : List ℕ) → IsRecord line → HasKind basic_schedule line → HasGoodFields line → is_deletion line ≡ false
     → HasGoodFields (as_new line)
 new_basic_fields line is kind good kept = fields_good basic_schedule (as_new line) (new_kind line ∙ kind) (by (good_fields basic_schedule line kind good))
@@ -159,7 +159,7 @@ new_basic_fields line is kind good kept = fields_good basic_schedule (as_new lin
           ),
         )
 
--- ---- the acts of single records
+-- ---- what single records do
 
 kept_or : (a b : Bool) → (a || b) ≡ false → a ≡ false
 kept_or true b h = h
@@ -211,7 +211,7 @@ single_acts line following is (inr (inr (inr kind))) good =
 
 -- ---- schedules
 
--- a schedule that isn't a deletion is still a schedule if its transaction is set to N
+-- a schedule that isn't a deletion is still a schedule when its transaction is set to N
 pub new_is_schedule : (lines : List (List ℕ)) (schedule : IsSchedule lines) → is_deletion schedule.basic ≡ false
     → IsSchedule (as_new schedule.basic ∷ schedule.extra ++ schedule.journey)
 new_is_schedule lines schedule kept =
@@ -243,13 +243,13 @@ new_is_schedule lines schedule kept =
     sound (inl deletion) = let bad : false ≡ true = sym kept ∙ deletion in cc
     sound (inr good) = inr good
 
--- the first of these records, if there is one, can't follow a basic schedule, so a schedule before
--- them ends there
+-- a schedule that comes before these records ends where they begin: there are no records, or the
+-- first can't follow a basic schedule
 abbrev pub StopsHere : List (List ℕ) → Type 0
 StopsHere [] = ⊤
 StopsHere (line ∷ lines) = follows_basic (kind_of line) ≡ false
 
--- the record is of a kind that can follow a basic schedule
+-- the record can follow a basic schedule within a schedule
 abbrev pub Follows : List ℕ → Type 0
 Follows line = follows_basic (kind_of line) ≡ true
 
@@ -260,7 +260,8 @@ prefix_is [] (line ∷ rest) all stops = λ i. cond (stops i) (1 + prefix_len (�
 prefix_is (line ∷ lines) rest all stops =
     (λ i. cond (all.0 i) (1 + prefix_len (λ line. follows_basic (kind_of line)) (lines ++ rest)) 0) ∙ (let e = prefix_is lines rest all.1 stops in omega arith)
 
--- the rest of a schedule goes up to the next record that can't follow a basic schedule
+-- the records of a schedule after its basic schedule are those before the first that can't follow
+-- it
 pub rest_is : (lines rest : List (List ℕ)) → AllByRecursion Follows lines → StopsHere rest → schedule_rest (lines ++ rest) ≡ lines
 rest_is lines rest all stops = ap (λ n. take n (lines ++ rest)) (prefix_is lines rest all stops) ∙ take-append_seam lines rest
 
@@ -268,7 +269,7 @@ rest_is lines rest all stops = ap (λ n. take n (lines ++ rest)) (prefix_is line
 pub follows_by : (kind : Kind) (line : List ℕ) → HasKind kind line → follows_basic (Some kind) ≡ true → Follows line
 follows_by kind line is follows = ap follows_basic is ∙ follows
 
--- each line of a journey can follow a basic schedule
+-- each record of a journey can follow a basic schedule
 pub journey_follows : (lines : List (List ℕ)) → IsJourney lines → AllByRecursion Follows lines
 journey_follows lines journey =
     subst (AllByRecursion Follows) (sym journey.whole) (
@@ -282,7 +283,7 @@ journey_follows lines journey =
     within line (inl call) = follows_by intermediate_location line call refl
     within line (inr change) = follows_by change_en_route line change refl
 
--- each line of a schedule after the first can follow a basic schedule
+-- each record of a schedule after the first can follow a basic schedule
 pub schedule_follows : (lines : List (List ℕ)) (schedule : IsSchedule lines) → AllByRecursion Follows (schedule.extra ++ schedule.journey)
 schedule_follows lines schedule = all_append Follows schedule.extra schedule.journey (details schedule.details) (journey schedule.journey_or_none)
   where
@@ -325,7 +326,7 @@ schedule_acts lines schedule rest stops few =
 
 -- ---- files
 
--- the key and the body of a change are well formed
+-- the key of the change is well formed, and so is the body that it puts
 abbrev pub IsGoodChange : Change → Type 0
 IsGoodChange change = IsGoodAct (change.key, change.act)
 
@@ -379,14 +380,14 @@ unit_stops unit rest (inl single) = subst (λ u. StopsHere (u ++ rest)) (sym sin
     by (inr (inr (inr kind))) = stops_by association single.0 kind refl
 unit_stops unit rest (inr schedule) = subst (λ u. StopsHere (u ++ rest)) (sym schedule.whole) (stops_by basic_schedule schedule.basic schedule.kind refl)
 
--- the first record of units and a trailer can't follow a basic schedule
+-- the first of units and a trailer can't follow a basic schedule
 pub units_stop : (units : List (List (List ℕ))) (last : List ℕ) → AllByRecursion IsUnit units → HasKind trailer last
     → StopsHere (flat_map (λ unit. unit) units ++ last ∷ [])
 units_stop [] last all end = stops_by trailer last end refl
 units_stop (unit ∷ units) last all end =
     subst StopsHere (sym (append_assoc unit (flat_map (λ u. u) units) (last ∷ []))) (unit_stops unit (flat_map (λ u. u) units ++ last ∷ []) all.0)
 
--- the changes of units within the limit are good
+-- the changes of units within the limit are well formed
 pub units_changes : (units : List (List (List ℕ))) (last : List ℕ) → AllByRecursion IsUnit units → HasKind trailer last
     → length (flat_map (λ unit. unit) units) < 2 ^ 32 - 1
     → AllChangesGood (flat_map (λ unit. unit) units ++ last ∷ [])

@@ -1,4 +1,4 @@
--- A text has at most one fault. The text of a file has none.
+-- A text has at most one fault, and the text of a file has none.
 use Rattle.std.proofs.Common.{ℕ, List, [], ◌∷◌, ◌≡◌, ◌+◌, ◌++◌, ◌⊎◌, inl, inr, refl, ap, sym, subst}
 use Rattle.std.proofs.Common.{append_assoc, ◌≤◌, length, arith, length-append, ◌∙◌, ◌<◌, append-nil}
 use Rattle.std.specs.Prelude.{◌==◌, if◌then◌else◌, unwrap_or}
@@ -10,8 +10,8 @@ use Rattle.docker_model.specs.file.Text.{lines_of}
 use Rattle.docker_model.specs.file.FileFault.{FileFault, IsRecordFault, FileCause, bad_byte, bad_field, too_many, after_trailer, bad_length, bad_kind}
 use Rattle.docker_model.specs.file.FileFault.{bad_place, third_midnight, no_end, cause_rank, HoldsOf, IsCause, IsUnended, IsFileFault, IsFileText}
 
--- of two records of a list, each given with the records before it, either both are the same or one
--- is earlier
+-- for two records of one list, each given with the records before it, either both are the same or
+-- one is earlier
 head_or : List ℕ → Lines → List ℕ
 head_or line [] = line
 head_or line (first ∷ rest) = first
@@ -39,11 +39,11 @@ same_place (first ∷ firsts) (second ∷ seconds) line other rest more e =
     by heads (inr (inl told)) = inr (inl (told.0, λ i. sym heads i ∷ told.1 i))
     by heads (inr (inr told)) = inr (inr (told.0, λ i. heads i ∷ told.1 i))
 
--- if records begin a file, so does each prefix of them
+-- if records begin a file, so do the first of them
 pub begins_front : (front rest : Lines) → BeginsFile (front ++ rest) → BeginsFile front
 begins_front front rest begins = (rest ++ begins.0, subst IsFile (append_assoc front rest begins.0) begins.1)
 
--- if the records begin a file within the limit, none of them is at fault
+-- if records begin a file within the limit, no record of them is at fault
 not_within : (limit : ℕ) (records : Lines) (fault : FileFault) (is : IsRecordFault limit records fault) (more : Lines)
     → BeginsFile (is.earlier ++ is.line ∷ more) → length (is.earlier ++ is.line ∷ more) ≤ limit → ⊥
 not_within limit records fault is more begins within = by is.here
@@ -52,7 +52,7 @@ not_within limit records fault is more begins within = by is.here
     by (inl over) = let size = length-append is.earlier (is.line ∷ more) in omega arith
     by (inr none) = none (begins_front (is.earlier ++ is.line ∷ []) more (subst BeginsFile (sym (append_assoc is.earlier (is.line ∷ []) more)) begins))
 
--- the column of a cause; 0 if it has none. A cause is determined by its rank and its column
+-- the column of a cause, or 0 if it has none. The rank and the column determine the cause
 unfoldable pub column_of : FileCause → ℕ
 column_of (bad_byte at) = at
 column_of (bad_field at) = at
@@ -76,11 +76,11 @@ cause_again (bad_field at) = refl
 cause_again third_midnight = refl
 cause_again no_end = refl
 
--- causes with the same rank and column are equal
+-- two causes with the same rank and the same column are equal
 pub same_cause : (first second : FileCause) → cause_rank first ≡ cause_rank second → column_of first ≡ column_of second → first ≡ second
 same_cause first second same columns = sym (cause_again first) ∙ (λ i. cause_at (same i) (columns i)) ∙ cause_again second
 
--- the column that a cause of this rank has for a line
+-- the column that a cause with this rank has for a line
 unfoldable pub column_told : ℕ → List ℕ → ℕ
 column_told rank line = if rank == 3 then unwrap_or (leftmost_bad_byte line) 0 else (if rank == 6 then unwrap_or (leftmost_bad_field line) 0 else 0)
 
@@ -110,7 +110,7 @@ one_cause limit earlier line first second is_first is_second = by (cases_order (
     by (inr (inl below)) = absurd (is_second.first first below is_first.holds)
     by (inr (inr above)) = absurd (is_first.first second above is_second.holds)
 
--- two faults of one list of records are equal
+-- a list of records has at most one record fault
 record_fault_unique : (limit : ℕ) (records : Lines) (first second : FileFault) → IsRecordFault limit records first → IsRecordFault limit records second
     → first ≡ second
 record_fault_unique limit records first second one two =

@@ -1,5 +1,5 @@
--- Bytes that show no fault are few. Each complete line has at most 82 bytes with its line feed, and
--- the unfinished line has at most 81.
+-- Bytes that show no fault are few: at most 82 for each complete line with its line feed, and at
+-- most 81 for the incomplete line after them.
 use Rattle.std.proofs.Common.{◌≡◌, ℕ, List, length, [], ◌∷◌, Some, ◌+◌, ◌<◌, arith, refl, ap, Bool, true, false, ◌*◌, ◌≤◌, map, ◌⊎◌, inl, inr}
 use Rattle.std.specs.Prelude.{◌==◌}
 use Rattle.std.specs.List.{AllByRecursion, onto_first, slice_split}
@@ -18,14 +18,14 @@ use Rattle.cif_laws.proofs.files.ReportedFaults.{strip_long, TellsNoFault, fault
 abbrev Has80 : List ℕ → Type 0
 Has80 line = length line ≡ 80
 
--- records that lead to a place have 80 bytes each
+-- each of the records that lead to a place has 80 bytes
 records_of_80 : (records : Lines) (place final : Place) → place_from place records ≡ Some final → AllByRecursion Has80 records
 records_of_80 [] place final reached = tt
 records_of_80 (line ∷ rest) place final reached =
     let next = then_some (λ (n : Place). place_from n rest) (next_place place line) final reached in
     ((next_by_test place line next.0 next.1).is.0, records_of_80 rest next.0 final next.2)
 
--- how many bytes the pieces have, with one more for each piece
+-- the number of bytes in these pieces, plus one for each piece
 bytes_in : Lines → ℕ
 bytes_in [] = 0
 bytes_in (piece ∷ pieces) = length piece + 1 + bytes_in pieces
@@ -35,7 +35,8 @@ unfolding bytes_in
 bytes_more b [] some = absurd (omega arith)
 bytes_more b (piece ∷ pieces) some = omega arith
 
--- the pieces of a text count one byte more than the text, as no line feed follows the last piece
+-- the pieces of a text give one more than its number of bytes, since no line feed follows the last
+-- piece
 bytes_of_split : (p : ℕ → Bool) (text : List ℕ) → bytes_in (slice_split p text) ≡ length text + 1
 unfolding bytes_in
 bytes_of_split p [] = refl
@@ -49,14 +50,14 @@ bytes_of_split p (b ∷ text) = by (p b) refl (bytes_of_split p text)
         let more = bytes_more b (slice_split p text) (omega arith) in
         omega arith
 
--- the count of pieces is the count of all but the last, plus the last one's bytes and one
+-- the number for all pieces is the number for all but the last, plus the bytes of the last and one
 bytes_but_last : (pieces : Lines) → 0 < length pieces → bytes_in pieces ≡ bytes_in (but_last pieces) + length (last_of pieces) + 1
 unfolding bytes_in
 bytes_but_last [] some = absurd (omega arith)
 bytes_but_last (piece ∷ []) some = omega arith
 bytes_but_last (piece ∷ next ∷ pieces) some = let rest = bytes_but_last (next ∷ pieces) (omega arith) in omega arith
 
--- pieces whose lines have 80 bytes have at most 82 bytes each
+-- pieces whose lines have 80 bytes have at most 82 bytes each, with a line feed
 few_bytes : (pieces : Lines) → AllByRecursion Has80 (map strip_carriage_return pieces) → bytes_in pieces ≤ 82 * length pieces
 unfolding bytes_in
 few_bytes [] all = omega arith
@@ -78,7 +79,7 @@ bound_of_none limit text none =
     let short = none.short in
     omega arith
 
--- bytes that show no fault are few, by the limit on records
+-- bytes that show no fault are at most 82 for each record that the limit allows, and 81 more
 pub text_without_fault_is_bounded : (limit : ℕ) (text : List ℕ) → ((fault : FileFault) → ¬ IsFaultSoFar limit text fault) → length text ≤ 82 * limit + 81
 text_without_fault_is_bounded limit text never = by (fault_so_far_or_none limit text)
   where

@@ -1,5 +1,5 @@
--- The units of a file, in order, make its changes. A schedule ends before the first record that
--- can't follow a basic schedule.
+-- The changes of a file are the changes of its units, in order. A schedule ends before the first
+-- record that can't follow a basic schedule.
 use Rattle.std.proofs.Common.{◌≡◌, ℕ, ◌+◌, inl, inr, List, [], ◌∷◌, ◌++◌, length, map, subst, refl, ap, sym, ◌∙◌, true, Some, arith, append_assoc, append-nil}
 use Rattle.std.specs.Prelude.{Option}
 use Rattle.std.specs.List.{AllByRecursion, flat_map}
@@ -11,19 +11,19 @@ use Rattle.docker_model.specs.file.Change.{Key, Act, Change, schedule_rest, acts
 use Rattle.cif_laws.specs.UnitChange.{changes_of_unit, changes_of_units, change_of_schedule}
 use Rattle.cif_laws.proofs.files.GoodChanges.{StopsHere, Follows, rest_is, schedule_follows, units_stop}
 
--- an act as the change of a record with this number
+-- what a record with this number does to a key, as a change
 abbrev change_of_act : ℕ → Key × Act → Change
 change_of_act n act = record { number = n; key = act.0; act = act.1 }
 
 -- ---- the first record of a unit
 
--- if two records have equal acts, their changes are equal
+-- two records that do the same make the same changes
 alike_by : (n : ℕ) (kind : Kind) (line : List ℕ) (following others : List (List ℕ)) → HasKind kind line
     → acts_by_kind (Some kind) line following ≡ acts_by_kind (Some kind) line others → changes_of_record n line following ≡ changes_of_record n line others
 alike_by n kind line following others is same =
     ap (map (change_of_act n)) (subst (λ k. acts_by_kind k line following ≡ acts_by_kind k line others) (sym is) same)
 
--- the changes of a single record don't depend on what follows it
+-- the changes of a single record don't depend on the records after it
 single_alike : (n : ℕ) (line : List ℕ) (following others : List (List ℕ)) → IsSingleKind line
     → changes_of_record n line following ≡ changes_of_record n line others
 single_alike n line following others (inl is) = alike_by n tiploc_insert line following others is refl
@@ -31,7 +31,7 @@ single_alike n line following others (inr (inl is)) = alike_by n tiploc_amend li
 single_alike n line following others (inr (inr (inl is))) = alike_by n tiploc_delete line following others is refl
 single_alike n line following others (inr (inr (inr is))) = alike_by n association line following others is refl
 
--- a basic schedule's change depends only on the records up to one that can't follow it
+-- the change of a basic schedule depends only on the records before the first that can't follow it
 basic_alike : (n : ℕ) (basic : List ℕ) (following others : List (List ℕ)) → HasKind basic_schedule basic → schedule_rest following ≡ others
     → changes_of_record n basic following ≡ change_of_schedule n basic others ∷ []
 basic_alike n basic following others is run =
@@ -59,7 +59,7 @@ behind_followers n (line ∷ lines) rest all =
 
 -- ---- units
 
--- each line after the first of a schedule can follow a basic schedule
+-- each record of a schedule after the first can follow a basic schedule
 others_follow : (basic : List ℕ) (others : List (List ℕ)) → IsSchedule (basic ∷ others) → AllByRecursion Follows others
 others_follow basic others is =
     let same : others ≡ is.extra ++ is.journey = ap tail is.whole in
@@ -76,7 +76,7 @@ is_basic basic others is = subst (HasKind basic_schedule) (sym (ap head is.whole
     head [] = []
     head (line ∷ lines) = line
 
--- a schedule makes one change, with all its lines
+-- a schedule makes one change, with all its records
 pub schedule_change : (n : ℕ) (basic : List ℕ) (others : List (List ℕ)) → IsSchedule (basic ∷ others)
     → changes_of_unit n (basic ∷ others) ≡ change_of_schedule n basic others ∷ []
 schedule_change n basic others is =
@@ -93,7 +93,7 @@ schedule_then n basic others rest is stops =
     follow : AllByRecursion Follows others
     follow = others_follow basic others is
 
--- the changes of a unit come first, and then the changes of the records after the unit
+-- the changes of a unit come first, then the changes of the records after it
 pub unit_then : (n : ℕ) (unit rest : List (List ℕ)) → IsUnit unit → StopsHere rest → changes_from n (unit ++ rest) ≡ changes_of_unit n unit ++ changes_from
     (n + length unit) rest
 unit_then n unit rest (inl single) stops =
@@ -106,7 +106,7 @@ unit_then n unit rest (inr schedule) stops = by unit schedule schedule.whole
     by [] is whole = absurd (let size = ap length whole in omega arith)
     by (basic ∷ others) is whole = schedule_then n basic others rest is stops
 
--- units and a trailer make the changes of the units
+-- units and a trailer make only the changes of the units
 units_then : (n : ℕ) (units : List (List (List ℕ))) (last : List ℕ) → AllByRecursion IsUnit units → HasKind trailer last
     → changes_from n (flat_map (λ unit. unit) units ++ last ∷ []) ≡ changes_of_units n units
 units_then n [] last all end = λ i. map (change_of_act n) (acts_by_kind (end i) last []) ++ []
@@ -115,7 +115,7 @@ units_then n (unit ∷ units) last all end =
     ∙ unit_then n unit (flat_map (λ u. u) units ++ last ∷ []) all.0 (units_stop units last all.1 end)
     ∙ ap (λ later. changes_of_unit n unit ++ later) (units_then (n + length unit) units last all.1 end)
 
--- the units of a file, in order, make its changes
+-- the changes of a file are the changes of its units, in order
 pub changes_by_units : (file : List (List ℕ)) (is : IsFile file) → changes file ≡ changes_of_units 2 is.units
 changes_by_units file is =
     ap changes is.whole

@@ -1,37 +1,37 @@
--- Tests and optional values.
+-- Facts about tests and about optional values.
 use Rattle.std.proofs.Common.{◌≡◌, refl, Bool, true, false, ◌⊎◌, inl, inr, Some, None}
 use Rattle.std.specs.Prelude.{◌&&◌, ◌||◌, not, Option, is_none, option_and_then, is_some}
 
--- if two tests pass together, each passes
+-- if `a && b` is true, so are `a` and `b`
 pub both : (a b : Bool) → (a && b) ≡ true → (a ≡ true) × (b ≡ true)
 both true b h = (refl, h)
 both false b h = (cc, cc)
 
--- if one of two tests passes, the first or the second does
+-- if `a || b` is true, so is `a` or `b`
 pub either : (a b : Bool) → (a || b) ≡ true → (a ≡ true) ⊎ (b ≡ true)
 either true b h = inl refl
 either false b h = inr h
 
--- if a test's negation passes, the test fails
+-- if `not b` is true, `b` is false
 pub not_true : (b : Bool) → not b ≡ true → b ≡ false
 not_true true h = cc
 not_true false h = refl
 
--- an option that passes `is_none` is none
+-- an option that passes `is_none` is `None`
 pub none_by_test : {A : Type 0} (o : Option A) → is_none o ≡ true → o ≡ None
 none_by_test None h = refl
 none_by_test (Some x) h = cc
 
--- an option that is none passes `is_none`
+-- an option that is `None` passes `is_none`
 pub test_by_none : {A : Type 0} (o : Option A) → o ≡ None → is_none o ≡ true
 test_by_none o none = λ i. is_none (none i)
 
--- if each of two tests passes, they pass together
+-- if `a` and `b` are true, so is `a && b`
 pub and_true : (a b : Bool) → a ≡ true → b ≡ true → (a && b) ≡ true
 and_true true b h g = g
 and_true false b h g = h
 
--- if `option_and_then` gives a value, there was a value for it
+-- if `option_and_then` gives a value, the option had a value that `f` took to it
 pub then_some : {A B : Type 0} (f : A → Option B) (o : Option A) (y : B) → option_and_then f o ≡ Some y → (x : A) × (o ≡ Some x) × (f x ≡ Some y)
 then_some f None y found = cc
 then_some f (Some x) y found = (x, refl, found)
@@ -41,15 +41,15 @@ pub some_then : {A : Type 0} (o : Option A) → option_and_then (λ x. Some x) o
 some_then None = refl
 some_then (Some x) = refl
 
--- an option that passes the test of having a value has one
+-- an option that passes `is_some` has a value
 pub some_by_test : {A : Type 0} (o : Option A) → is_some o ≡ true → (x : A) × (o ≡ Some x)
 some_by_test None h = cc
 some_by_test (Some x) h = (x, refl)
 
--- true isn't false
+-- `true` isn't `false`
 pub true_is_not : true ≡ false → ⊥
 true_is_not same = cc
 
--- none isn't a value
+-- anything follows if `None` is a value
 pub none_some : {A B : Type 0} (x : A) → None ≡ Some x → B
 none_some x same = absurd cc

@@ -1,4 +1,4 @@
--- Decided facts: each holds, or it doesn't.
+-- Facts that are decided: for each there is a proof that it holds, or that it doesn't.
 use Rattle.std.proofs.Common.{◌≡◌, ℕ, suc, ◌<◌, ◌≤◌, List, [], ◌∷◌, length, refl, ap, sym, ◌∙◌, subst, inl, inr}
 use Rattle.std.proofs.Common.{◌⊎◌, arith, Bool, true, false, nat_le, ◌==◌, ◌≢◌, if◌then◌else◌, All, Some, None}
 use Rattle.std.specs.Prelude.{Option}
@@ -16,13 +16,13 @@ use Rattle.docker_model.specs.records.Record.{origin_location, intermediate_loca
 abbrev pub Decided : Type 0 → Type 0
 Decided P = P ⊎ ¬ P
 
--- it is decided whether both of two decided facts hold
+-- if each of two facts is decided, so is whether both hold
 pub both_decided : {P Q : Type 0} → Decided P → Decided Q → Decided (P × Q)
 both_decided (inl p) (inl q) = inl (p, q)
 both_decided (inl p) (inr none) = inr (λ h. none h.1)
 both_decided (inr none) q = inr (λ h. none h.0)
 
--- it is decided whether one of two decided facts holds
+-- if each of two facts is decided, so is whether one of them holds
 pub either_decided : {P Q : Type 0} → Decided P → Decided Q → Decided (P ⊎ Q)
 either_decided (inl p) q = inl (inl p)
 either_decided (inr never) (inl q) = inl (inr q)
@@ -42,12 +42,12 @@ pub decided_along : {P Q : Type 0} → (P → Q) → (Q → P) → Decided P →
 decided_along to back (inl p) = inl (to p)
 decided_along to back (inr none) = inr (λ q. none (back q))
 
--- a test passes, or it doesn't
+-- it is decided whether a test passes
 pub bool_decided : (b : Bool) → Decided (b ≡ true)
 bool_decided true = inl refl
 bool_decided false = inr (λ e. cc)
 
--- two numbers are equal or not
+-- it is decided whether two numbers are equal
 pub nat_decided : (a b : ℕ) → Decided (a ≡ b)
 nat_decided a b = by (eqb_tells a b)
   where
@@ -55,7 +55,7 @@ nat_decided a b = by (eqb_tells a b)
     by (inl told) = inl told.1
     by (inr told) = inr told.1
 
--- a number is at most another, or it isn't
+-- it is decided whether a number is at most another
 pub le_decided : (a b : ℕ) → Decided (a ≤ b)
 le_decided a b = by (leb_tells a b)
   where
@@ -63,11 +63,11 @@ le_decided a b = by (leb_tells a b)
     by (inl told) = inl told.1
     by (inr told) = let above = told.1 in inr (λ low. omega arith)
 
--- a number is below another, or it isn't
+-- it is decided whether a number is below another
 pub lt_decided : (a b : ℕ) → Decided (a < b)
 lt_decided a b = le_decided (suc a) b
 
--- if a property is decided for each element, it is decided whether all have it
+-- if a property is decided for each element, so is whether all elements have it
 pub all_decided : {A : Type 0} (P : A → Type 0) → ((x : A) → Decided (P x)) → (xs : List A) → Decided (AllByRecursion P xs)
 all_decided P test [] = inl tt
 all_decided P test (x ∷ xs) = both_decided (test x) (all_decided P test xs)
@@ -76,34 +76,34 @@ all_decided P test (x ∷ xs) = both_decided (test x) (all_decided P test xs)
 pub All_decided : {A : Type 0} (P : A → Type 0) → ((x : A) → Decided (P x)) → (xs : List A) → Decided (All P xs)
 All_decided P test xs = decided_along (All-from_recursion P xs) (recursion_from_All P xs) (all_decided P test xs)
 
--- whether two values compare as Less is decided
+-- it is decided whether a comparison gives `Less`
 pub less_decided : (o : Ordering) → Decided (o ≡ Less)
 less_decided Less = inl refl
 less_decided Equal = inr (λ e. cc)
 less_decided Greater = inr (λ e. cc)
 
--- whether two values compare as Equal is decided
+-- it is decided whether a comparison gives `Equal`
 pub equal_decided : (o : Ordering) → Decided (o ≡ Equal)
 equal_decided Less = inr (λ e. cc)
 equal_decided Equal = inl refl
 equal_decided Greater = inr (λ e. cc)
 
--- if an order is total and distinguishes values, it is decided whether two are equal
+-- in a total order that distinguishes different values, it is decided whether two values are equal
 pub same_decided : {A : Type 0} {cmp : A → A → Ordering} → IsTotalOrder cmp → CmpEqualImpliesEq cmp → (a b : A) → Decided (a ≡ b)
 same_decided {A} {cmp} total exact a b =
     decided_along (exact a b) (λ same. subst (λ x. cmp a x ≡ Equal) same (tied_itself total a)) (equal_decided (cmp a b))
 
--- an option is none, or it has a value
+-- it is decided whether an option is `None`
 pub none_decided : {A : Type 0} (o : Option A) → Decided (o ≡ None)
 none_decided None = inl refl
 none_decided (Some x) = inr (λ e. cc)
 
--- a list is empty or not
+-- it is decided whether a list is empty
 pub empty_decided : {A : Type 0} (xs : List A) → Decided (xs ≡ [])
 empty_decided [] = inl refl
 empty_decided (x ∷ xs) = inr (λ e. (let size = ap length e in omega arith))
 
--- a number for each kind, so that kinds can be compared
+-- a number for each kind of record, by which kinds are compared
 kind_rank : Option Kind → ℕ
 kind_rank None = 0
 kind_rank (Some header) = 1
@@ -142,7 +142,7 @@ kind_again (Some terminating_location) = refl
 kind_again (Some change_en_route) = refl
 kind_again (Some trailer) = refl
 
--- two kinds are equal or not
+-- it is decided whether two kinds of record are equal
 pub kind_decided : (first second : Option Kind) → Decided (first ≡ second)
 kind_decided first second =
     decided_along (λ same. sym (kind_again first) ∙ ap kind_at same ∙ kind_again second) (ap kind_rank) (nat_decided (kind_rank first) (kind_rank second))

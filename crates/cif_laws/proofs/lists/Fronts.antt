@@ -1,7 +1,7 @@
 -- Two prefixes of one list that have the same length are equal.
 use Rattle.std.proofs.Common.{◌≡◌, ℕ, List, ◌++◌, length, [], ◌∷◌, ap, refl, arith}
 
--- prefixes of the same length are equal, and so are the rests
+-- two prefixes of one list that have the same length are equal, and so is what follows them
 pub same_front : (xs ys more rest : List ℕ) → length xs ≡ length ys → xs ++ more ≡ ys ++ rest → (xs ≡ ys) × (more ≡ rest)
 same_front [] [] more rest size same = (refl, same)
 same_front [] (y ∷ ys) more rest size same = absurd (omega arith)

@@ -1,4 +1,4 @@
--- A sorted list is strictly ascending if no two of its elements tie.
+-- A sorted list is strictly ascending if no two of its elements tie, that is, compare as equal.
 use Rattle.std.proofs.Common.{◌≡◌, ℕ, suc, ◌+◌, ◌≤◌, List, [], ◌∷◌, get_or, refl, ap, sym, ◌∙◌, subst, true, false, cond, arith}
 use Rattle.std.specs.List.{AllByRecursion, sum_by}
 use Rattle.std.specs.List.Sorted.{IsSorted, IsPermutation}
@@ -17,11 +17,11 @@ abbrev pub AreApart : {A : Type 0} → (A → A → Ordering) → List A → Typ
 AreApart cmp xs = AllLater (λ a b. ¬ (cmp a b ≡ Equal)) xs
 
 module _ {A : Type 0} {cmp : A → A → Ordering} (total : IsTotalOrder cmp) where
-  -- 1 if two elements tie in the order, else 0
+  -- 1 if the two values tie, and otherwise 0
   tie : A → A → ℕ
   tie x y = cond (is_eq (cmp x y)) 1 0
 
-  -- how many elements tie with this one
+  -- the number of elements that tie with `x`
   ties : A → List A → ℕ
   ties x xs = sum_by (tie x) xs
 
@@ -50,7 +50,7 @@ module _ {A : Type 0} {cmp : A → A → Ordering} (total : IsTotalOrder cmp) wh
   no_ties x [] all = ties_nil x
   no_ties x (y ∷ ys) all = let first = tie_apart x y all.0 in let rest = no_ties x ys all.1 in let whole = ties_cons x y ys in omega arith
 
-  -- if no two elements tie, any value ties with at most one
+  -- if no two elements tie, each value ties with at most one element
   one_tie : (x : A) (xs : List A) → AreApart cmp xs → ties x xs ≤ 1
   one_tie x [] apart = let none = ties_nil x in omega arith
   one_tie x (y ∷ ys) apart = by (one_tie x ys apart.1) (cmp x y) refl
@@ -72,7 +72,7 @@ module _ {A : Type 0} {cmp : A → A → Ordering} (total : IsTotalOrder cmp) wh
       let at : suc k + 1 ≡ suc (k + 1) = omega arith in
       subst (λ n. is_lt (cmp (get_or (x ∷ xs) n d) (get_or xs k d)) ≡ false) at (sorted (suc k) d (omega arith) (omega arith))
 
-  -- a sorted list is strictly ascending if any value ties with at most one element
+  -- a sorted list is strictly ascending if each value ties with at most one element
   strictly : (xs : List A) → IsSorted cmp xs → ((x : A) → ties x xs ≤ 1) → IsStrictlyAscending cmp xs
   strictly [] sorted one = tt
   strictly (x ∷ []) sorted one = (tt, tt)
@@ -93,7 +93,7 @@ module _ {A : Type 0} {cmp : A → A → Ordering} (total : IsTotalOrder cmp) wh
           let bad : true ≡ false = sym (ap is_lt back) ∙ sorted 0 x (omega arith) (omega arith) in
           cc
 
-  -- sorting elements of which no two tie gives a strictly ascending list
+  -- a sorted list of elements of which no two tie is strictly ascending
   pub sort_ascends : (xs ys : List A) → AreApart cmp xs → IsPermutation xs ys → IsSorted cmp ys → IsStrictlyAscending cmp ys
   unfolding ties
   sort_ascends xs ys apart same sorted =

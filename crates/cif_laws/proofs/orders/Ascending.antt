@@ -11,7 +11,7 @@ use Rattle.cif_laws.proofs.lists.Later.{AllLater}
 use Rattle.cif_laws.proofs.lists.Membership.{below_by_recursion, nil-Contains, Contains-cons, cons-Contains-first, cons-Contains}
 
 module _ {A : Type 0} {cmp : A → A → Ordering} (total : IsTotalOrder cmp) where
-  -- nothing is below itself
+  -- no value is below itself
   pub irreflexive : (x : A) → ¬ IsBelow cmp x x
   irreflexive x below = let tied = tied_itself total x in cc
 
@@ -19,7 +19,7 @@ module _ {A : Type 0} {cmp : A → A → Ordering} (total : IsTotalOrder cmp) wh
   pub not_both : (x y : A) → IsBelow cmp x y → ¬ IsBelow cmp y x
   not_both x y below above = irreflexive x (total.trans x y x below above)
 
-  -- if two ascending lists have the same members, they have the same first element
+  -- two ascending lists with the same members have the same first element
   same_heads : (x y : A) (xs ys : List A) → AllByRecursion (IsBelow cmp x) xs → AllByRecursion (IsBelow cmp y) ys
       → (x ≡ y) ⊎ Contains ys x → (y ≡ x) ⊎ Contains xs y → x ≡ y
   same_heads x y xs ys above_x above_y (inl same) other = same
@@ -27,7 +27,8 @@ module _ {A : Type 0} {cmp : A → A → Ordering} (total : IsTotalOrder cmp) wh
   same_heads x y xs ys above_x above_y (inr inside) (inr among) =
       absurd (not_both x y (below_by_recursion (IsBelow cmp x) xs y above_x among) (below_by_recursion (IsBelow cmp y) ys x above_y inside))
 
-  -- if the first elements are equal, a member of one rest is a member of the other
+  -- if two ascending lists with the same members have equal first elements, the rests have the same
+  -- members
   in_tail : (x y z : A) (xs ys : List A) → x ≡ y → AllByRecursion (IsBelow cmp x) xs → Contains xs z → (y ≡ z) ⊎ Contains ys z → Contains ys z
   in_tail x y z xs ys heads above_x among (inl same) =
       absurd (irreflexive x (subst (IsBelow cmp x) (sym (heads ∙ same)) (below_by_recursion (IsBelow cmp x) xs z above_x among)))
@@ -62,13 +63,13 @@ pub ascending_of : {A : Type 0} (cmp : A → A → Ordering) (xs : List A) → A
 ascending_of cmp [] up = tt
 ascending_of cmp (x ∷ xs) up = (up.0, ascending_of cmp xs up.1)
 
--- an ascending list stays ascending if it gets a last element above all others
+-- an ascending list with one more element at its end, above all others, is ascending
 pub ascending_last : {A : Type 0} (cmp : A → A → Ordering) (xs : List A) (y : A) → IsStrictlyAscending cmp xs → AllByRecursion (λ x. IsBelow cmp x y) xs
     → IsStrictlyAscending cmp (xs ++ y ∷ [])
 ascending_last cmp [] y up below = (tt, tt)
 ascending_last cmp (x ∷ xs) y up below = (all_append (IsBelow cmp x) xs (y ∷ []) up.0 (below.0, tt), ascending_last cmp xs y up.1 below.1)
 
--- in an ascending list, each element before another one is below it
+-- in an ascending list each element is below an element that comes later
 pub below_next : {A : Type 0} (cmp : A → A → Ordering) (xs : List A) (y : A) (ys : List A) → IsStrictlyAscending cmp (xs ++ y ∷ ys)
     → AllByRecursion (λ x. IsBelow cmp x y) xs
 below_next cmp [] y ys up = tt

@@ -1,4 +1,4 @@
--- The relation "at most" of a total order.
+-- The relation "at most" in a total order.
 use Rattle.std.proofs.Common.{◌≡◌, refl, true, inl, inr, ◌⊎◌, ap, ◌∙◌, sym}
 use Rattle.std.specs.Cmp.{IsTotalOrder, tied_itself}
 use Rattle.std.specs.Ordering.{is_eq, ordering_reverse}
@@ -6,17 +6,17 @@ use Rattle.std.specs.declared.cmp.Ordering.{Ordering}
 use Rattle.std.specs.declared.cmp.Ordering.TheVariants.{Less, Equal, Greater}
 use Rattle.docker_model.specs.state.Order.{IsAtMost, IsBelow}
 
--- a comparison that passes the test of being Equal is Equal
+-- an ordering that passes the test `is_eq` is `Equal`
 pub eq_is : (o : Ordering) → is_eq o ≡ true → o ≡ Equal
 eq_is Less h = cc
 eq_is Equal h = refl
 eq_is Greater h = cc
 
--- a comparison that is Less isn't Greater
+-- an ordering that is `Less` isn't `Greater`
 pub less_not_greater : (o : Ordering) → o ≡ Less → ¬ (o ≡ Greater)
 less_not_greater o less greater = cc
 
--- if each of two values is at most the other, they compare as Equal
+-- two values that are each at most the other compare as `Equal`
 pub level : {A : Type 0} {cmp : A → A → Ordering} → IsTotalOrder cmp → (a b : A) → IsAtMost cmp a b → IsAtMost cmp b a → cmp a b ≡ Equal
 level {A} {cmp} total a b up down = by (cmp a b) (cmp b a) (total.antisymm a b) up down
   where
@@ -27,15 +27,15 @@ level {A} {cmp} total a b up down = by (cmp a b) (cmp b a) (total.antisymm a b) 
     by Less Equal e high low = cc
     by Less Greater e high low = absurd (low refl)
 
--- a value is at most itself
+-- each value is at most itself
 pub at_most_itself : {A : Type 0} {cmp : A → A → Ordering} → IsTotalOrder cmp → (a : A) → IsAtMost cmp a a
 at_most_itself total a greater = let tied = tied_itself total a in cc
 
--- if a value is below another, it is at most the other
+-- a value below another is at most the other
 pub at_most_below : {A : Type 0} (cmp : A → A → Ordering) (a b : A) → IsBelow cmp a b → IsAtMost cmp a b
 at_most_below cmp a b below greater = cc
 
--- the first of two values is at most the second, or the second is below the first
+-- of two values, the first is at most the second or the second is below the first
 pub at_most_or : {A : Type 0} {cmp : A → A → Ordering} → IsTotalOrder cmp → (a b : A) → IsAtMost cmp a b ⊎ IsBelow cmp b a
 at_most_or {A} {cmp} total a b = by (cmp a b) refl
   where
@@ -44,7 +44,7 @@ at_most_or {A} {cmp} total a b = by (cmp a b) refl
     by Equal e = inl (λ greater. cc)
     by Greater e = inr (total.antisymm b a ∙ ap ordering_reverse e)
 
--- at most is transitive
+-- the relation "at most" is transitive
 pub at_most_trans : {A : Type 0} {cmp : A → A → Ordering} → IsTotalOrder cmp → (a b c : A) → IsAtMost cmp a b → IsAtMost cmp b c → IsAtMost cmp a c
 at_most_trans {A} {cmp} total a b c first second above = by (cmp a b) (cmp b c) refl refl
   where

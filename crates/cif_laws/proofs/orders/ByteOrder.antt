@@ -1,4 +1,4 @@
--- The order of good keys, and of good ledger items, is the order of their bytes.
+-- Good keys and good ledger items are in the same order as their bytes.
 use Rattle.std.proofs.Common.{◌≡◌, ℕ, ◌<◌, ◌^◌, ◌/◌, ◌%◌, List, [], ◌∷◌, ◌++◌, length, refl, ap, sym, ◌∙◌, arith, append_assoc, length-append}
 use Rattle.std.specs.Int.{w16, to_be_bytes}
 use Rattle.std.specs.declared.cmp.Ordering.{Ordering}
@@ -14,13 +14,13 @@ use Rattle.docker_model.specs.state.State.{IsGoodItem, IsGoodKey, IsGoodAssociat
 use Rattle.docker_model.specs.state.StateText.{item_bytes, key_bytes}
 use Rattle.cif_laws.proofs.orders.Orders.{then_equal_right}
 
--- if three orders are applied one after the other, it doesn't matter how they are grouped
+-- three orders, one after the other, may be grouped in either way
 then_assoc : (a b c : Ordering) → ordering_then (ordering_then a b) c ≡ ordering_then a (ordering_then b c)
 then_assoc Less b c = refl
 then_assoc Equal b c = refl
 then_assoc Greater b c = refl
 
--- lists compare by prefixes of the same length first, and then by what follows them
+-- two lists compare by their first bytes, and if these are equal, by what follows
 pub fronts_first : (xs ys more others : List ℕ) (behind : Ordering) → length xs ≡ length ys → bytes_cmp more others ≡ behind
     → bytes_cmp (xs ++ more) (ys ++ others) ≡ ordering_then (bytes_cmp xs ys) behind
 fronts_first [] [] more others behind same is = is
@@ -29,7 +29,7 @@ fronts_first (x ∷ xs) [] more others behind same is = absurd (omega arith)
 fronts_first (x ∷ xs) (y ∷ ys) more others behind same is =
     ap (ordering_then (nat_cmp x y)) (fronts_first xs ys more others behind (omega arith) is) ∙ sym (then_assoc (nat_cmp x y) (bytes_cmp xs ys) behind)
 
--- numbers of two bytes compare by their high bytes first, and then by their low bytes
+-- two numbers below 2^16 compare by their high bytes, and if these are equal, by their low bytes
 digits_cmp : (m n : ℕ) → m < 2 ^ 16 → n < 2 ^ 16 → (high low : Ordering) → high ≡ nat_cmp (m / 256 % 256) (n / 256 % 256) → low ≡ nat_cmp (m % 256) (n % 256)
     → ordering_then high low ≡ nat_cmp m n
 digits_cmp m n few others Less low above behind = nat_cmp_is m n Less (let it = ranked (m / 256 % 256) (n / 256 % 256) Less above in omega arith)
@@ -44,7 +44,7 @@ digits_cmp m n few others Equal low above behind = by low behind
     by Equal is = nat_cmp_is m n Equal (let it = level in let rest = ranked (m % 256) (n % 256) Equal is in omega arith)
     by Greater is = nat_cmp_is m n Greater (let it = level in let rest = ranked (m % 256) (n % 256) Greater is in omega arith)
 
--- numbers compare like their two bytes
+-- two numbers below 2^16 compare like their two bytes, high byte first
 pub two_bytes_cmp : (m n : ℕ) → m < 2 ^ 16 → n < 2 ^ 16 → bytes_cmp (to_be_bytes w16 m) (to_be_bytes w16 n) ≡ nat_cmp m n
 two_bytes_cmp m n few others =
     ap (ordering_then (nat_cmp (m / 256 % 256) (n / 256 % 256))) (then_equal_right (nat_cmp (m % 256) (n % 256))) ∙ digits_cmp m n few others _ _ refl refl
@@ -55,7 +55,7 @@ day_first : (m n : ℕ) (more others : List ℕ) (behind : Ordering) → m < 2 ^
 day_first m n more others behind few least is =
     fronts_first (to_be_bytes w16 m) (to_be_bytes w16 n) more others behind refl is ∙ ap (λ o. ordering_then o behind) (two_bytes_cmp m n few least)
 
--- good ledger items are ordered like their 19 bytes
+-- good ledger items are in the same order as their 19 bytes
 pub item_order : (first second : LedgerItem) → IsGoodItem first → IsGoodItem second → ledger_item_cmp first second ≡ bytes_cmp (item_bytes first)
     (item_bytes second)
 item_order first second good other =
@@ -82,7 +82,7 @@ item_order first second good other =
     sym (fronts_first (front_a ++ a.reference) (front_b ++ b.reference) rest_a rest_b _ (omega arith) refl
     ∙ ap (λ o. ordering_then o (bytes_cmp rest_a rest_b)) stamps)
 
--- three lists may be concatenated from the left or from the right
+-- three lists, one after the other, may be grouped in either way
 of_three : (a b c : List ℕ) → a ++ b ++ c ≡ a ++ (b ++ c)
 of_three a b c = append_assoc a b c
 
@@ -131,7 +131,7 @@ schedule_order a b good other =
     let right = of_three b.uid (to_be_bytes w16 b.runs_from) (b.indicator ∷ []) in
     sym ((λ i. bytes_cmp (left i) (right i)) ∙ whole)
 
--- good keys compare like their bytes, with the tag first
+-- good keys are in the same order as their bytes, tag first
 pub key_order : (first second : Key) → IsGoodKey first → IsGoodKey second
     → key_cmp first second ≡ bytes_cmp (key_tag first ∷ key_bytes first) (key_tag second ∷ key_bytes second)
 key_order (tiploc_key a) (tiploc_key b) good other = refl

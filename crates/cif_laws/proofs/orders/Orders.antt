@@ -1,5 +1,5 @@
--- The orders are total. Each distinguishes different values, except the orders of bodies, ops and
--- entries. Those distinguish values whose lines are records.
+-- The orders of the model are total. Each distinguishes different values, with three exceptions:
+-- the orders of bodies, ops and entries do so only for values whose lines are records.
 use mathlib.Core.Path.{fun_ext}
 use Rattle.std.proofs.Common.{◌≡◌, subst, sym, refl, ℕ, List, [], ap, true, false}
 use Rattle.std.specs.declared.cmp.Ordering.{Ordering}
@@ -38,7 +38,7 @@ ledger_item_total =
     then_total (on_total (λ i. i.stamp) file_stamp_total)
     (then_total (on_total (λ i. i.indicator) nat_cmp_total) (on_total (λ i. i.last_reference) nat_list_cmp_total))
 
--- if two orders, one after the other, give Equal, each gives Equal
+-- if two orders, one after the other, give `Equal`, each of them gives `Equal`
 pub then_equal : (a b : Ordering) → ordering_then a b ≡ Equal → (a ≡ Equal) × (b ≡ Equal)
 then_equal Less b e = (e, absurd (less_is_not_equal e))
   where
@@ -50,25 +50,25 @@ then_equal Greater b e = (e, absurd (greater_is_not_equal e))
     greater_is_not_equal : Greater ≡ Equal → ⊥
     greater_is_not_equal h = cc
 
--- the order distinguishes different moments
+-- different moments don't compare as equal
 pub exact_moment : CmpEqualImpliesEq moment_cmp
 exact_moment a b e =
     let parts = then_equal (nat_cmp a.day b.day) (nat_cmp a.minute b.minute) e in
     λ i. record { day = exact_unsigned a.day b.day parts.0 i; minute = exact_unsigned a.minute b.minute parts.1 i }
 
--- the order distinguishes different file stamps
+-- different file stamps don't compare as equal
 pub exact_file_stamp : CmpEqualImpliesEq file_stamp_cmp
 exact_file_stamp a b e =
     let parts = then_equal (moment_cmp a.moment b.moment) (bytes_cmp a.reference b.reference) e in
     λ i. record { moment = exact_moment a.moment b.moment parts.0 i; reference = exact_bytes a.reference b.reference parts.1 i }
 
--- the order distinguishes different stamps
+-- different stamps don't compare as equal
 pub exact_stamp : CmpEqualImpliesEq stamp_cmp
 exact_stamp a b e =
     let parts = then_equal (file_stamp_cmp a.file b.file) (nat_cmp a.number b.number) e in
     λ i. record { file = exact_file_stamp a.file b.file parts.0 i; number = exact_unsigned a.number b.number parts.1 i }
 
--- the order distinguishes different ledger items
+-- different ledger items don't compare as equal
 pub exact_ledger_item : CmpEqualImpliesEq ledger_item_cmp
 exact_ledger_item a b e =
     let parts = then_equal (file_stamp_cmp a.stamp b.stamp) _ e in
@@ -79,20 +79,20 @@ exact_ledger_item a b e =
       last_reference = exact_bytes a.last_reference b.last_reference others.1 i;
     }
 
--- the order of associations' keys is total
+-- the order of association keys is total
 pub association_key_total : IsTotalOrder association_key_cmp
 association_key_total =
     then_total (on_total (λ k. k.base) nat_list_cmp_total) (then_total (on_total (λ k. k.associated) nat_list_cmp_total)
     (then_total (on_total (λ k. k.start) nat_cmp_total) (then_total (on_total (λ k. k.location) nat_list_cmp_total)
     (then_total (on_total (λ k. k.suffix) nat_cmp_total) (on_total (λ k. k.indicator) nat_cmp_total)))))
 
--- the order of schedules' keys is total
+-- the order of schedule keys is total
 pub schedule_key_total : IsTotalOrder schedule_key_cmp
 schedule_key_total =
     then_total (on_total (λ k. k.uid) nat_list_cmp_total)
     (then_total (on_total (λ k. k.runs_from) nat_cmp_total) (on_total (λ k. k.indicator) nat_cmp_total))
 
--- the order distinguishes different associations' keys
+-- different association keys don't compare as equal
 pub exact_association_key : CmpEqualImpliesEq association_key_cmp
 exact_association_key a b e =
     let p = then_equal (bytes_cmp a.base b.base) _ e in
@@ -109,7 +109,7 @@ exact_association_key a b e =
       indicator = exact_unsigned a.indicator b.indicator t.1 i;
     }
 
--- the order distinguishes different schedules' keys
+-- different schedule keys don't compare as equal
 pub exact_schedule_key : CmpEqualImpliesEq schedule_key_cmp
 exact_schedule_key a b e =
     let p = then_equal (bytes_cmp a.uid b.uid) _ e in
@@ -120,7 +120,7 @@ exact_schedule_key a b e =
       indicator = exact_unsigned a.indicator b.indicator q.1 i;
     }
 
--- the parts of a key, each empty or 0 in a key of another tag
+-- the parts of a key. A part that keys with its tag don't have is empty or 0
 abbrev code_in : Key → List ℕ
 code_in (tiploc_key code) = code
 code_in _ = []
@@ -136,7 +136,7 @@ schedule_in _ = record { uid = []; runs_from = 0; indicator = 0 }
 abbrev by_parts : Key → Key → Ordering
 by_parts = then_cmp (on key_tag nat_cmp) (then_cmp (on code_in bytes_cmp) (then_cmp (on association_in association_key_cmp) (on schedule_in schedule_key_cmp)))
 
--- a second order that gives Equal doesn't change the comparison
+-- a comparison followed by `Equal` is that comparison
 pub then_equal_right : (a : Ordering) → ordering_then a Equal ≡ a
 then_equal_right Less = refl
 then_equal_right Equal = refl
@@ -160,7 +160,7 @@ key_total =
     (then_total (on_total key_tag nat_cmp_total) (then_total (on_total code_in nat_list_cmp_total)
     (then_total (on_total association_in association_key_total) (on_total schedule_in schedule_key_total))))
 
--- the order distinguishes different keys
+-- different keys don't compare as equal
 pub exact_key : CmpEqualImpliesEq key_cmp
 exact_key (tiploc_key a) (tiploc_key b) e = ap tiploc_key (exact_bytes a b e)
 exact_key (tiploc_key a) (association_key b) e = cc
@@ -172,8 +172,8 @@ exact_key (schedule_key a) (tiploc_key b) e = cc
 exact_key (schedule_key a) (association_key b) e = cc
 exact_key (schedule_key a) (schedule_key b) e = ap schedule_key (exact_schedule_key a b e)
 
--- the order of bodies is total. It can't distinguish schedules with different lines that
--- concatenate to the same bytes
+-- the order of bodies is total. It can't distinguish two schedules with different lines that join
+-- to the same bytes
 pub body_total : IsTotalOrder body_cmp
 body_total = then_total (on_total body_end nat_cmp_total) (then_total (on_total body_bytes nat_list_cmp_total) (on_total body_tag nat_cmp_total))
 
@@ -225,15 +225,15 @@ entry_total = then_total (on_total (λ e. e.stamp) stamp_total) (on_total (λ e.
 key_tied : (key : Key) → is_eq (key_cmp key key) ≡ true
 key_tied key = ap is_eq (tied_itself key_total key)
 
--- keys that pass the test of being equal are equal
+-- keys that compare as equal are equal
 pub same_key : (a b : Key) → is_eq (key_cmp a b) ≡ true → a ≡ b
 same_key a b h = exact_key a b (eq_is (key_cmp a b) h)
 
--- keys that fail the test are different
+-- keys that don't compare as equal are different
 pub other_key : (a b : Key) → is_eq (key_cmp a b) ≡ false → ¬ (a ≡ b)
 other_key a b h same = let tied : is_eq (key_cmp a b) ≡ true = subst (λ k. is_eq (key_cmp a k) ≡ true) same (key_tied a) in cc
 
--- the order of docker lines is total, so their list is determined by its lines
+-- the order of docker lines is total, so the lines of a docker determine its list
 pub docker_line_total : IsTotalOrder docker_line_cmp
 docker_line_total =
     then_total (on_total (λ l. l.time) nat_cmp_total) (then_total (on_total (λ l. occasion_rank l.occasion) nat_cmp_total)

@@ -1,5 +1,5 @@
--- Records of 80 bytes for the examples, built from fields. Each argument is padded with spaces to
--- its field's width.
+-- Records of 80 bytes for the examples, built from their fields. Each argument is padded with
+-- spaces to the width of its field.
 use Rattle.std.proofs.Common.{ℕ, ◌-◌, List, [], ◌∷◌, ◌++◌, length, replicate}
 use Rattle.std.specs.Prelude.{codes}
 
@@ -7,41 +7,41 @@ use Rattle.std.specs.Prelude.{codes}
 abbrev pub wide : ℕ → List ℕ → List ℕ
 wide width text = text ++ replicate (width - length text) 32
 
--- no bytes
+-- no bytes, for a blank field
 abbrev pub no_text : List ℕ
 no_text = []
 
--- a header of these fields
+-- a header with these fields
 abbrev pub hd : List ℕ → List ℕ → List ℕ → List ℕ → List ℕ → List ℕ
 hd date time reference last indicator =
     wide 80 (codes "HDTPS.UDFROC1.PD240609" ++ wide 6 date ++ wide 4 time ++ wide 7 reference ++ wide 7 last ++ wide 1 indicator ++ codes "A")
 
--- a TIPLOC insert of these fields
+-- a TIPLOC insert with these fields
 abbrev pub ti : List ℕ → List ℕ → List ℕ
 ti code text = wide 80 (codes "TI" ++ wide 7 code ++ wide 9 no_text ++ wide 26 text)
 
--- a TIPLOC amendment of these fields
+-- a TIPLOC amendment with these fields
 abbrev pub ta : List ℕ → List ℕ → List ℕ → List ℕ
 ta code text new = wide 80 (codes "TA" ++ wide 7 code ++ wide 9 no_text ++ wide 26 text ++ wide 28 no_text ++ wide 7 new)
 
--- a basic schedule of these fields
+-- a basic schedule with these fields
 abbrev pub bs : List ℕ → List ℕ → List ℕ → List ℕ → List ℕ → List ℕ → List ℕ → List ℕ
 bs transaction uid first last days identity indicator =
     wide 79
     (codes "BS" ++ wide 1 transaction ++ wide 6 uid ++ wide 6 first ++ wide 6 last ++ wide 7 days ++ codes " POO" ++ wide 4 identity) ++ wide 1 indicator
 
--- an origin of these fields
+-- an origin with these fields
 abbrev pub lo : List ℕ → List ℕ → List ℕ → List ℕ → List ℕ → List ℕ → List ℕ
 lo code suffix departs public platform track =
     wide 80 (codes "LO" ++ wide 7 code ++ wide 1 suffix ++ wide 5 departs ++ wide 4 public ++ wide 3 platform ++ wide 3 track)
 
--- an intermediate location of these fields
+-- an intermediate location with these fields
 abbrev pub li : List ℕ → List ℕ → List ℕ → List ℕ → List ℕ → List ℕ → List ℕ → List ℕ → List ℕ → List ℕ → List ℕ
 li code suffix arrives departs passes public_arrival public_departure platform track path =
     wide 80 (codes "LI" ++ wide 7 code ++ wide 1 suffix ++ wide 5 arrives ++ wide 5 departs ++ wide 5 passes
     ++ wide 4 public_arrival ++ wide 4 public_departure ++ wide 3 platform ++ wide 3 track ++ wide 3 path)
 
--- a terminating location of these fields
+-- a terminus with these fields
 abbrev pub lt : List ℕ → List ℕ → List ℕ → List ℕ → List ℕ → List ℕ → List ℕ
 lt code suffix arrives public platform path =
     wide 80 (codes "LT" ++ wide 7 code ++ wide 1 suffix ++ wide 5 arrives ++ wide 4 public ++ wide 3 platform ++ wide 3 path)
@@ -66,17 +66,17 @@ f2_origin = lo (codes "ASHFELD") no_text (codes "0900") (codes "0900") (codes "1
 abbrev pub f2_terminus : List ℕ
 f2_terminus = lt (codes "BRAYTON") no_text (codes "0930") (codes "0932") (codes "2") (codes "FL")
 
--- the worked file: one schedule from an origin to a terminus
+-- the worked file: one schedule from ASHFELD to BRAYTON
 abbrev pub f2 : List (List ℕ)
 f2 = f2_header ∷ f2_basic ∷ f2_origin ∷ f2_terminus ∷ zz ∷ []
 
--- an association of these fields
+-- an association with these fields
 abbrev pub aa : List ℕ → List ℕ → List ℕ → List ℕ → List ℕ → List ℕ → List ℕ → List ℕ → List ℕ → List ℕ → List ℕ → List ℕ → List ℕ
 aa transaction base associated first last days category indicator location base_suffix associated_suffix stp =
     wide 79 (codes "AA" ++ wide 1 transaction ++ wide 6 base ++ wide 6 associated ++ wide 6 first ++ wide 6 last ++ wide 7 days
     ++ wide 2 category ++ wide 1 indicator ++ wide 7 location ++ wide 1 base_suffix ++ wide 1 associated_suffix ++ codes "TP") ++ wide 1 stp
 
--- a change en route of these fields
+-- a change en route with these fields
 abbrev pub cr : List ℕ → List ℕ → List ℕ → List ℕ
 cr code suffix identity = wide 80 (codes "CR" ++ wide 7 code ++ wide 1 suffix ++ codes "OO" ++ wide 4 identity)
 
@@ -88,11 +88,11 @@ f2_schedule = f2_basic ∷ f2_origin ∷ f2_terminus ∷ []
 abbrev pub rename_header : List ℕ
 rename_header = hd (codes "100624") (codes "2100") (codes "DFROC1B") (codes "DFROC1A") (codes "U")
 
--- an amendment with a new code
+-- a TIPLOC amendment with a new code
 abbrev pub rename_amend : List ℕ
 rename_amend = ta (codes "ASHFELD") (codes "ASHFIELD NEW") (codes "ASHFLDN")
 
--- the file with that amendment
+-- a file whose only unit is that amendment
 abbrev pub rename : List (List ℕ)
 rename = rename_header ∷ rename_amend ∷ zz ∷ []
 

@@ -1,4 +1,4 @@
--- Columns of a record and its good fields, also of a line whose transaction is set to N.
+-- The columns of a record and its good fields, also after its transaction is set to N.
 use Rattle.std.proofs.Common.{◌≡◌, ℕ, zero, suc, ◌+◌, ◌-◌, ◌<◌, ◌≤◌, List, [], ◌∷◌, take, drop, set, get_or, subst, refl}
 use Rattle.std.proofs.Common.{ap, sym, ◌∙◌, Bool, true, false, cond, Some, None, arith, length-drop, length-set}
 use Rattle.std.specs.Prelude.{not, option_map, find, slice_index}
@@ -9,11 +9,11 @@ use Rattle.std.specs.Str.{bytes_eq}
 use Rattle.docker_model.specs.records.Record.{Kind, IsRecord, is_printable, columns, column, kind_of, HasKind, identities, IsTextOfLength}
 use Rattle.docker_model.specs.records.Field.{CheckedField, HasGoodFields, checked_fields, fields_of, as_new, HasNewTransaction}
 
--- the field is good in this line
+-- the field is good in this record
 abbrev pub IsGoodIn : List ℕ → CheckedField → Type 0
 IsGoodIn line field = field.is_good (columns field.first field.last line) ≡ true
 
--- no bad field is found if and only if each field is good
+-- the search for a bad field finds none exactly if each field is good
 none_found : (line : List ℕ) (fields : List CheckedField)
     → option_map (λ (field : CheckedField). field.first) (find (λ field. not (field.is_good (columns field.first field.last line))) fields) ≡ None
     → AllByRecursion (IsGoodIn line) fields
@@ -35,15 +35,15 @@ all_found line (field ∷ fields) all =
     (λ i. option_map (λ (f : CheckedField). f.first) (cond (not (all.0 i)) (Some field) (find (λ f. not (f.is_good (columns f.first f.last line))) fields)))
     ∙ all_found line fields all.1
 
--- in a line with good fields, each checked field is good
+-- in a record with good fields each checked field is good
 pub good_fields : (kind : Kind) (line : List ℕ) → HasKind kind line → HasGoodFields line → AllByRecursion (IsGoodIn line) (checked_fields kind line)
 good_fields kind line is good = subst (λ k. AllByRecursion (IsGoodIn line) (fields_of k line)) is (none_found line (fields_of (kind_of line) line) good)
 
--- a line whose checked fields are all good has good fields
+-- a record in which each checked field is good has good fields
 pub fields_good : (kind : Kind) (line : List ℕ) → HasKind kind line → AllByRecursion (IsGoodIn line) (checked_fields kind line) → HasGoodFields line
 fields_good kind line is all = all_found line (fields_of (kind_of line) line) (subst (λ k. AllByRecursion (IsGoodIn line) (fields_of k line)) (sym is) all)
 
--- a range of a record's columns is a text of its width
+-- a range of columns of a record is a text of its width
 pub text_in : (line : List ℕ) (first last : ℕ) → IsRecord line → first - 1 ≤ last → last ≤ 80 → IsTextOfLength (last - (first - 1)) (columns first last line)
 text_in line first last is order within =
     let size = is.0 in
@@ -52,7 +52,7 @@ text_in line first last is order within =
       All-take (λ b. is_printable b ≡ true) (last - (first - 1)) (drop (first - 1) line) (All-drop (λ b. is_printable b ≡ true) (first - 1) line is.1),
     )
 
--- a field of one column is the byte there
+-- the only byte of a field of one column is the byte in that column
 pub one_column : (line : List ℕ) (n : ℕ) → 0 < n → slice_index (columns n n line) 0 ≡ column n line
 one_column line n some =
     get_or-take (n - (n - 1)) (drop (n - 1) line) 0 0 (omega arith) ∙ get_or-drop (n - 1) line 0 0 ∙ (let e : (n - 1) + 0 ≡ n - 1 = omega arith in
@@ -62,7 +62,7 @@ one_column line n some =
 pub printable_column : (line : List ℕ) (n : ℕ) → IsRecord line → n - 1 < 80 → is_printable (column n line) ≡ true
 printable_column line n is within = let size = is.0 in is.1 (n - 1) 0 (omega arith)
 
--- ---- a line with its transaction set to N
+-- ---- a record after its transaction is set to N
 
 drop_set : (i k : ℕ) (xs : List ℕ) (y : ℕ) → i < k → drop k (set xs i y) ≡ drop k xs
 drop_set i k [] y below = refl
@@ -70,20 +70,20 @@ drop_set i zero (x ∷ xs) y below = absurd (omega arith)
 drop_set zero (suc k) (x ∷ xs) y below = refl
 drop_set (suc i) (suc k) (x ∷ xs) y below = drop_set i k xs y (omega arith)
 
--- the columns after the transaction stay as they are
+-- the columns after the transaction stay the same when it is set to N
 pub new_columns : (line : List ℕ) (first last : ℕ) → 3 < first → columns first last (as_new line) ≡ columns first last line
 new_columns line first last behind = ap (λ rest. take (last - (first - 1)) rest) (drop_set 2 (first - 1) line 78 (omega arith))
 
--- each column after the transaction stays as it is
+-- each column after the transaction stays the same when it is set to N
 pub new_column : (line : List ℕ) (n : ℕ) → 3 < n → column n (as_new line) ≡ column n line
 new_column line n behind = get_or-set_other line 2 (n - 1) 78 0 (omega arith)
 
--- setting the transaction to N leaves the kind
+-- a record keeps its kind when its transaction is set to N
 pub new_kind : (line : List ℕ) → kind_of (as_new line) ≡ kind_of line
 new_kind line =
     ap (λ field. option_map (λ (pair : List ℕ × Kind). pair.1) (find (λ (pair : List ℕ × Kind). bytes_eq pair.0 field) identities)) (take-set line 2 78)
 
--- setting the transaction to N leaves a record a record
+-- a record whose transaction is set to N is a record
 pub new_record : (line : List ℕ) → IsRecord line → IsRecord (as_new line)
 new_record line is = (length-set line 2 78 ∙ is.0, All-set (λ b. is_printable b ≡ true) line 2 78 refl is.1)
 

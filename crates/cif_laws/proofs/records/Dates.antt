@@ -1,4 +1,4 @@
--- Day numbers, and the calendar of the library.
+-- Day numbers, and their relation to the calendar of the crate `jiff`.
 use Rattle.std.proofs.Common.{◌≡◌, ℕ, ◌≤◌, true, pos, arith, zero, suc, ◌+◌, ◌<◌, ◌∙◌, subst, Bool, false, cond, refl, ◌⊎◌, inl, inr, sym, ℤ, ap, ◌-◌, ◌+ℤ◌}
 use Rattle.std.specs.Prelude.{◌↔◌, nat_le, count_by, unsigned_abs}
 use Rattle.std.specs.List.{range_with_len}
@@ -12,7 +12,8 @@ use Rattle.docker_model.specs.records.Date.{is_calendar_day, day_number, year_of
 use Rattle.docker_model.specs.records.PrintedTime.{day_text, date_text}
 use Rattle.cif_laws.proofs.lists.BoolsAndOptions.{and_true as and_both, both}
 
--- a date passes the test if and only if the library's calendar has it
+-- a year, month and day pass the test `is_calendar_day` exactly if they are a date of the crate's
+-- calendar
 pub is_calendar_day-IsDate : (year month day : ℕ) → year ≤ 9999 → (is_calendar_day year month day ≡ true) ↔ IsDate (pos year) (pos month) (pos day)
 is_calendar_day-IsDate year month day low = (
   λ h.
@@ -32,7 +33,7 @@ is_calendar_day-IsDate year month day low = (
       and_both _ _ (and_both _ _ (le-leb 1 month m1) (le-leb month 12 m2)) (and_both _ _ (le-leb 1 day d1) (le-leb day _ d2)),
 )
 
--- if the first k numbers of a range pass a test and no other does, the count is k
+-- if the first `k` numbers of a range pass a test and no others do, `k` numbers pass
 count_prefix : (p : ℕ → Bool) (a n k : ℕ) → k ≤ n → ((i : ℕ) → i < k → p (a + i) ≡ true) → ((i : ℕ) → k ≤ i → i < n → p (a + i) ≡ false)
     → count_by p (range_with_len a n) ≡ k
 count_prefix p a zero k within passes fails = omega arith
@@ -63,7 +64,7 @@ count_prefix p a (suc n) (suc k) within passes fails =
     one_more : 1 + k ≡ suc k
     one_more = omega arith
 
--- the library's count of days for 1 January 1960
+-- the number of days that the crate counts up to 1 January 1960
 start_of_1960 : day_count (pos 1960) 1 1 ≡ 4_368_300
 unfolding day_count days_of_years days_of_months
 start_of_1960 = refl
@@ -74,7 +75,7 @@ civil_start y low = (omega (arith, signed_arith), (omega arith, omega arith), (o
 later_year : (y y₂ m d m₂ d₂ : ℕ) → IsCivilDate (pos y) m d → 1 ≤ d₂ → y < y₂ → day_count (pos y) m d < day_count (pos y₂) m₂ d₂
 later_year y y₂ m d m₂ d₂ civil day lt = day_count-lt_year (pos y) m d (pos y₂) m₂ d₂ civil day (omega (arith, signed_arith))
 
--- 1 January is no later than any day of its year
+-- 1 January isn't later than any other day of its year
 first_of_year : (y m d : ℕ) → y ≤ 9999 → 1 ≤ m → 1 ≤ d → day_count (pos y) 1 1 ≤ day_count (pos y) m d
 first_of_year y m d low month day = by (cases_order 1 m)
   where
@@ -103,7 +104,7 @@ from_1960 y m d year low month day =
 abs_is : (z : ℤ) (n : ℕ) → z ≡ pos n → unsigned_abs z ≡ n
 abs_is z n e = ap unsigned_abs e
 
--- a day number is the library's count of days, less the count for 1 January 1960
+-- a day number is the crate's count of days, minus its count for 1 January 1960
 pub day_number-day_count : (y m d : ℕ) → 1960 ≤ y → y ≤ 9999 → 1 ≤ m → 1 ≤ d → day_number y m d + 4_368_300 ≡ day_count (pos y) m d
 day_number-day_count y m d year low month day =
     let start = from_1960 y m d year low month day in
@@ -112,7 +113,7 @@ day_number-day_count y m d year low month day =
     let number = abs_is (days_from_civil (pos y) m d +ℤ pos 3653) (day_count (pos y) m d - 4_368_300) signed in
     omega arith
 
--- from the number of a date, its year, month and day are found again
+-- year, month and day can be found again from the number of a date
 module _ (y m d : ℕ) (year : 1960 ≤ y) (last : y ≤ 2059) (civil : IsCivilDate (pos y) m d) where
   number_here : day_number y m d + 4_368_300 ≡ day_count (pos y) m d
   number_here = day_number-day_count y m d year (omega arith) civil.1.0 civil.2.0
@@ -140,7 +141,7 @@ module _ (y m d : ℕ) (year : 1960 ≤ y) (last : y ≤ 2059) (civil : IsCivilD
       let here = number_here in
       lt-leb (day_number (1960 + i) 1 1) (day_number y m d) (omega arith)
 
-  -- the year of a date's number is the date's year
+  -- the year of a date's number is the year of the date
   pub year_of-day_number : year_of (day_number y m d) ≡ y
   year_of-day_number =
       let counted = count_prefix (λ v. nat_le (day_number v 1 1) (day_number y m d)) 1960 100 (y - 1959) (omega arith) year_passes year_fails in
@@ -173,13 +174,13 @@ module _ (y m d : ℕ) (year : 1960 ≤ y) (last : y ≤ 2059) (civil : IsCivilD
       let here = number_here in
       lt-leb (day_number y (1 + i) 1) (day_number y m d) (omega arith)
 
-  -- the month of a date's number is the date's month
+  -- the month of a date's number is the month of the date
   pub month_of-day_number : month_of (day_number y m d) ≡ m
   month_of-day_number =
       let counted = count_prefix (λ v. nat_le (day_number y v 1) (day_number y m d)) 1 12 m civil.1.1 month_passes month_fails in
       (λ i. count_by (λ v. nat_le (day_number (year_of-day_number i) v 1) (day_number y m d)) (range_with_len 1 12)) ∙ counted
 
-  -- the day of the month of a date's number is the date's day
+  -- the day of the month of a date's number is the day of the date
   pub day_of_month-day_number : day_of_month (day_number y m d) ≡ d
   day_of_month-day_number =
       let there = day_number-day_count y m 1 year (omega arith) civil.1.0 (omega arith) in
@@ -191,11 +192,11 @@ module _ (y m d : ℕ) (year : 1960 ≤ y) (last : y ≤ 2059) (civil : IsCivilD
           → day_count (pos y) m 1 + d ≡ day_count (pos y) m d + 1 → day_number y m d + 1 - day_number y m 1 ≡ d
       counted there here step = omega arith
 
-  -- a date's number is printed as the date
+  -- the number of a date is printed as the date
   pub day_text-day_number : day_text (day_number y m d) ≡ date_text y m d
   day_text-day_number = λ i. date_text (year_of-day_number i) (month_of-day_number i) (day_of_month-day_number i)
 
--- like `day_text-day_number`, for a date that passes the test
+-- like `day_text-day_number`, for a date that passes the test `is_calendar_day`
 pub day_text-of_calendar : (year month day : ℕ) → 1960 ≤ year → year ≤ 2059 → is_calendar_day year month day ≡ true
     → day_text (day_number year month day) ≡ date_text year month day
 day_text-of_calendar year month day low high h =

@@ -1,4 +1,4 @@
--- What good fields give: days, minutes, TIPLOCs, letters.
+-- What good fields mean: they give day numbers, minutes, TIPLOCs and letters.
 use Rattle.std.proofs.Common.{◌≡◌, ℕ, zero, suc, ◌≤◌, List, [], ◌∷◌, true, arith, ◌+◌, refl, Bool}
 use Rattle.std.proofs.Common.{false, cond, pos, ◌<◌, take, sym, ◌∙◌, ◌⊎◌, inl, inr, eqb-true}
 use Rattle.std.specs.Prelude.{slice_index, nat_le, ◌&&◌, nat_lt, not, ◌==◌, ◌||◌}
@@ -49,14 +49,14 @@ day_within year month day first last is =
     let end = new_year_2060 in
     omega arith
 
--- a good date's number is from 0 to 36524
+-- the number of a good date is from 0 to 36524
 pub date_is_day : (field : List ℕ) → is_date field ≡ true → IsDay (date_number field)
 date_is_day field is =
     let parts = both (list_all is_ascii_digit field) _ is in
     let year = year_is (two_digits field 0) (pair_below field 0 parts.0) in
     day_within (full_year (two_digits field 0)) (two_digits field 2) (two_digits field 4) year.0 year.1 parts.1
 
--- a good date's number is from 0 to 36524, for a date with the day first
+-- the number of a good date with the day first is from 0 to 36524
 pub date_day_first_is_day : (field : List ℕ) → is_date_day_first field ≡ true → IsDay (date_number_day_first field)
 date_day_first_is_day field is =
     let parts = both (list_all is_ascii_digit field) _ is in
@@ -65,7 +65,7 @@ date_day_first_is_day field is =
 
 -- ---- times and TIPLOCs
 
--- a good clock gives a minute of the day
+-- a good clock time gives a minute below 1440
 pub clock_minute : (field : List ℕ) → is_clock field ≡ true → minute_of field < 1440
 clock_minute field is =
     let parts = both (list_all is_ascii_digit (take 4 field) && nat_lt (two_digits field 0) 24) _ is in

@@ -2,6 +2,6 @@
 use Rattle.std.proofs.Common.{ℕ, List, ◌⊎◌}
 use Rattle.docker_model.specs.records.Record.{origin_location, intermediate_location, terminating_location, HasKind}
 
--- the line is a location record
+-- the record is a location record
 abbrev pub IsLocation : List ℕ → Type 0
 IsLocation line = HasKind origin_location line ⊎ HasKind intermediate_location line ⊎ HasKind terminating_location line

@@ -1,4 +1,4 @@
--- The kind of a record and its first two columns.
+-- The kind of a record, and its record identity in the first two columns.
 use Rattle.std.proofs.Common.{◌≡◌, ℕ, List, [], ◌∷◌, refl, ap, sym, ◌∙◌, Some, Bool, true, false, cond}
 use Rattle.std.specs.Prelude.{option_map, find, codes}
 use Rattle.std.specs.List.{AllByRecursion}
@@ -24,7 +24,7 @@ identity_of terminating_location = codes "LT"
 identity_of change_en_route = codes "CR"
 identity_of trailer = codes "ZZ"
 
--- a pair of an identity and a kind has the kind's identity
+-- the identity in the pair belongs to the kind in it
 abbrev IsBeside : List ℕ × Kind → Type 0
 IsBeside pair = pair.0 ≡ identity_of pair.1
 
@@ -43,10 +43,10 @@ by_identity field (pair ∷ pairs) kind all found = by (bytes_eq pair.0 field) r
     by true same here rest = let which : pair.1 ≡ kind = cc in sym ((bytes_eq-Decides pair.0 field).0 same) ∙ all.0 ∙ ap identity_of which
     by false same here rest = rest here
 
--- a record of a kind begins with its identity
+-- a record of a kind begins with the identity of that kind
 pub begins_with : (kind : Kind) (line : List ℕ) → HasKind kind line → columns 1 2 line ≡ identity_of kind
 begins_with kind line is = by_identity (columns 1 2 line) identities kind each_beside is
 
--- a record has the identity of its kind, and no other
+-- a record of a kind has the identity of that kind, and no other
 pub has_identity_is : (kind : Kind) (identity line : List ℕ) → HasKind kind line → has_identity identity line ≡ bytes_eq (identity_of kind) identity
 has_identity_is kind identity line is = ap (λ field. bytes_eq field identity) (begins_with kind line is)

@@ -1,4 +1,4 @@
--- Tests of a record, and how often a schedule passes midnight as its lines come in.
+-- Tests of a record, and how often a schedule passes midnight, counted record by record.
 use Rattle.std.proofs.Common.{ℕ, List, ◌≡◌, refl, true, ◌+◌, [], ◌∷◌, length, ◌∙◌, cond, arith, Bool, false}
 use Rattle.std.proofs.Common.{suc, ◌≤◌, Some, None, sym, ap, eqb-true, ◌++◌, map, subst, ◌*◌, ◌⊎◌, inl, inr}
 use Rattle.std.specs.Prelude.{not, option_map, nat_lt, ◌==◌, ◌↔◌, Option, slice_index, ◌||◌}
@@ -60,7 +60,7 @@ printable_by_none bytes none = by (nat_lt (printable_front bytes) (length bytes)
     by false h =
         let most = ltb-false (printable_front bytes) (length bytes) h in All-from_recursion (λ b. is_printable b ≡ true) bytes (whole_front bytes (omega arith))
 
--- bytes are a record if and only if they pass the test
+-- bytes are a record exactly if they pass the test `is_record`
 pub record_iff_test : (line : List ℕ) → IsRecord line ↔ (is_record line ≡ true)
 record_iff_test line = (
   λ is. and_true (length line == 80) _ (ap (λ n. n == 80) is.0) (test_by_none (leftmost_bad_byte line) (no_bad_byte line is.1)),
@@ -69,27 +69,27 @@ record_iff_test line = (
       (eqb-true (length line) 80 parts.0, printable_by_none line (none_by_test (leftmost_bad_byte line) parts.1)),
 )
 
--- ---- midnights
+-- ---- how often a schedule passes midnight
 
--- times in two parts fall as often as the first part falls, plus the falls of the second part after
--- the first part's last time
+-- the falls in two lists of times, one after the other, are those in the first, then those in the
+-- second after the last time of the first. A fall is a time that is earlier than the time before it
 pub fall_count-append : (times later : List ℕ) → fall_count (times ++ later) ≡ fall_count times + falls_after (last_of times) later
 fall_count-append [] later = omega arith
 fall_count-append (time ∷ []) later = omega arith
 fall_count-append (time ∷ next ∷ times) later = let rest = fall_count-append (next ∷ times) later in omega arith
 
--- further times never make fewer falls, if there is a first time
+-- more times never make fewer falls, if there is a first time
 pub fall_count_behind : (time : ℕ) (times later : List ℕ) → fall_count (time ∷ times) ≤ fall_count ((time ∷ times) ++ later)
 fall_count_behind time [] later = omega arith
 fall_count_behind time (next ∷ times) later = let rest = fall_count_behind next times later in omega arith
 
--- further times never make fewer falls
+-- more times never make fewer falls
 pub fewer_falls : (times later : List ℕ) → fall_count times ≤ fall_count (times ++ later)
 fewer_falls [] later = omega arith
 fewer_falls (time ∷ times) later = fall_count_behind time times later
 
--- the last of two lists of times is the second list's last time, or the first list's if the second
--- is empty
+-- the last time of two lists, one after the other, is the last of the second, or of the first if
+-- the second is empty
 pub last_of-append : (times later : List ℕ) → last_of (times ++ later) ≡ later_or (last_of later) (last_of times)
 last_of-append [] later = by (last_of later)
   where
@@ -117,29 +117,29 @@ no_fall_behind time [] all = by (nat_lt last_time time) refl
     by false h = λ i. cond (h i) 1 0 + 0
 no_fall_behind time (next ∷ times) all = ap (λ n. cond (nat_lt next time) 1 0 + n) (no_fall_behind next times all.1)
 
--- the last half minute of a day adds no fall
+-- a last time of 23:59½ adds no fall
 pub no_fall_last : (times : List ℕ) → AllByRecursion (λ t. t ≤ last_time) times → fall_count (times ++ last_time ∷ []) ≡ fall_count times
 no_fall_last [] all = refl
 no_fall_last (time ∷ times) all = no_fall_behind time times all
 
--- the times of concatenated lines are the times of the first lines, then of the others
+-- the times of records and more records are the times of the first, then the times of the others
 pub times_append : (lines more : List (List ℕ)) → times_along (lines ++ more) ≡ times_along lines ++ times_along more
 times_append lines more =
     ap (map (λ (time : Occasion × ℕ). time.1)) (flat_map-append times_of lines more) ∙ map-append (λ (time : Occasion × ℕ). time.1) (flat_map times_of lines)
     (flat_map times_of more)
 
--- a schedule never passes midnight less often when lines are added
+-- more records never make a schedule pass midnight less often
 pub fewer_midnights : (lines more : List (List ℕ)) → midnights lines ≤ midnights (lines ++ more)
 fewer_midnights lines more =
     subst (λ times. midnights lines ≤ fall_count times) (sym (times_append lines more)) (fewer_falls (times_along lines) (times_along more))
 
--- one more record adds as many midnights as its times fall, starting from the last time so far
+-- one more record adds the falls in its times, starting from the last time before it
 pub midnights_step : (lines : List (List ℕ)) (line : List ℕ) → midnights (lines ++ line ∷ []) ≡ midnights lines + falls_after (last_of (times_along lines))
     (times_along (line ∷ []))
 midnights_step lines line = ap fall_count (times_append lines (line ∷ [])) ∙ fall_count-append (times_along lines) (times_along (line ∷ []))
 
--- the last time after one more record is the record's last time, or the one so far if the record
--- has no time
+-- the last time after one more record is the record's last time, or the time before it if the
+-- record has no time
 pub last_time_step : (lines : List (List ℕ)) (line : List ℕ) → last_of (times_along (lines ++ line ∷ [])) ≡ later_or (last_of (times_along (line ∷ [])))
     (last_of (times_along lines))
 last_time_step lines line = ap last_of (times_append lines (line ∷ [])) ∙ last_of-append (times_along lines) (times_along (line ∷ []))
@@ -152,7 +152,7 @@ no_times kind line is none = ap (λ k. times_by_kind k line) is ∙ none
 pub no_times_before : (line : List ℕ) (lines : List (List ℕ)) → times_of line ≡ [] → times_along (line ∷ lines) ≡ times_along lines
 no_times_before line lines none = ap (λ times. map (λ (time : Occasion × ℕ). time.1) (times ++ flat_map times_of lines)) none
 
--- the times of a record with good fields are from 0 to the day's last half minute
+-- the time is within a day: from 0 to 2879 half minutes
 abbrev IsWithinDay : Occasion × ℕ → Type 0
 IsWithinDay time = time.1 ≤ last_time
 
@@ -204,6 +204,6 @@ lines_within : (lines : List (List ℕ)) → AllByRecursion HasGoodFields lines 
 lines_within [] all = tt
 lines_within (line ∷ lines) all = all_append IsWithinDay (times_of line) (flat_map times_of lines) (times_within line all.0) (lines_within lines all.1)
 
--- the times of lines with good fields are from 0 to the day's last half minute
+-- the times of records with good fields are within a day
 pub along_within : (lines : List (List ℕ)) → AllByRecursion HasGoodFields lines → AllByRecursion (λ t. t ≤ last_time) (times_along lines)
 along_within lines all = all_map (λ (time : Occasion × ℕ). time.1) (λ t. t ≤ last_time) (flat_map times_of lines) (lines_within lines all)

@@ -8,7 +8,7 @@ use Rattle.docker_model.specs.records.Date.{two_digits}
 use Rattle.docker_model.specs.records.Clock.{is_blank, is_clock, is_present_time, half_minutes, scheduled_time}
 use Rattle.cif_laws.proofs.lists.BoolsAndOptions.{both}
 
--- a time that is present isn't blank
+-- a scheduled time that is present isn't blank
 pub present_not_blank : (field : List ℕ) → is_present_time field ≡ true → is_blank field ≡ false
 present_not_blank [] is = cc
 present_not_blank (b ∷ rest) is = by (b == 32) refl
@@ -23,6 +23,6 @@ present_not_blank (b ∷ rest) is = by (b == 32) refl
     by true h = let bad : is_ascii_digit 32 ≡ true = subst (λ x. is_ascii_digit x ≡ true) (eqb-true b 32 h) digit in cc
     by false h = rw h refl
 
--- the field of a time that is present gives that time
+-- the field of a scheduled time that is present gives that time
 pub time_there : (field : List ℕ) → is_present_time field ≡ true → scheduled_time field ≡ Some (half_minutes field)
 time_there field is = (λ i. cond (present_not_blank field is i) None (Some (half_minutes field)))

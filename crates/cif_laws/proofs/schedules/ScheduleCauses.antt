@@ -1,5 +1,5 @@
--- The cause of a record that can't continue a schedule, by the stage of the earlier lines. A file's
--- record at such a place has the same cause.
+-- The cause of a record that can't continue a schedule, from the stage before it. In a file such a
+-- record has the same cause.
 use Rattle.std.proofs.Common.{◌≡◌, ℕ, List, refl, ap, ◌<◌, ◌⊎◌, inl, inr, sym, ◌∙◌, ◌≤◌, None}
 use Rattle.std.proofs.Common.{arith, [], ◌∷◌, Bool, true, false, cond, Some, ◌++◌, subst, length}
 use Rattle.std.specs.Prelude.{unwrap_or, Option, is_none, is_some, option_map, ◌&&◌, ◌==◌}
@@ -53,7 +53,7 @@ one_schedule_cause earlier line first second is_first is_second = by (cases_orde
 
 -- ---- the first line
 
--- no cause with a lower rank holds, if each such cause is excluded
+-- if each cause of a lower rank is excluded, none of them holds
 none_below : (earlier : Lines) (line : List ℕ) (rank : ℕ) → rank ≤ 7 → (4 < rank → ¬ (kind_of line ≡ None)) → (5 < rank → ¬ IsOutOfSchedule earlier line)
     → (6 < rank → leftmost_bad_field line ≡ None)
     → (other : FileCause) → cause_rank other < rank → ¬ HoldsInSchedule earlier line other
@@ -67,7 +67,7 @@ none_below earlier line rank most r4 r5 r6 (bad_field column) below holds = let 
 none_below earlier line rank most r4 r5 r6 third_midnight below holds = absurd (omega arith)
 none_below earlier line rank most r4 r5 r6 no_end below holds = holds
 
--- a line that begins a schedule passes the test of a first line
+-- a record that begins a schedule passes the test `is_first_line`
 begins_first : (line : List ℕ) → BeginsSchedule (line ∷ []) → is_first_line line ≡ true
 begins_first line begins = by (is_first_line line) ((begins_iff_stage line []).0 begins).1
   where
@@ -90,7 +90,7 @@ witness_begins = front_begins after_basic (witness basic_schedule ∷ []) (front
 kind_is_known : (line : List ℕ) (kind : Kind) → kind_of line ≡ Some kind → ¬ (kind_of line ≡ None)
 kind_is_known line kind is none = let bad : None ≡ Some kind = sym none ∙ is in cc
 
--- the cause of a record that can't be the first line of a schedule is `first_line_cause`
+-- if a record can't be the first of a schedule, its cause is `first_line_cause`
 pub first_line_fault : (line : List ℕ) → IsRecord line → is_first_line line ≡ false → IsScheduleFault [] line (first_line_cause line)
 first_line_fault line is test = by (kind_of line) refl
   where
@@ -137,16 +137,16 @@ first_line_fault line is test = by (kind_of line) refl
     }
     by (Some kind) h = placed kind h (is_basic_kind (Some kind)) refl
 
--- ---- a later line
+-- ---- a later record
 
--- if a line leads to a next stage, the lines so far and this one begin a schedule
+-- if a record leads to a next stage, the records up to and including it begin a schedule
 pub begins_next_stage : (lines : Lines) (stage : Stage) (line : List ℕ) (next : Stage) → stage_of lines ≡ Some stage → next_stage stage lines line ≡ Some next
     → BeginsSchedule (lines ++ line ∷ [])
 begins_next_stage [] stage line next at found = cc
 begins_next_stage (basic ∷ rest) stage line next at found =
     (begins_more_iff basic rest stage line at).1 (next, next_line_by_test stage (basic ∷ rest) line next found)
 
--- if the lines so far and one more begin no schedule, the last one leads to no next stage
+-- if records and one more begin no schedule, the last one leads to no next stage
 pub no_next_stage : (lines : Lines) (stage : Stage) (line : List ℕ) → stage_of lines ≡ Some stage → ¬ BeginsSchedule (lines ++ line ∷ [])
     → next_stage stage lines line ≡ None
 no_next_stage lines stage line at here = by (next_stage stage lines line) refl
@@ -155,7 +155,7 @@ no_next_stage lines stage line at here = by (next_stage stage lines line) refl
     by None h = h
     by (Some next) h = absurd (here (begins_next_stage lines stage line next at h))
 
--- the cause of a record that leads to no next stage is `schedule_cause`
+-- if a record leads to no next stage, its cause is `schedule_cause`
 pub schedule_fault : (earlier : Lines) (stage : Stage) (line : List ℕ) → stage_of earlier ≡ Some stage → IsRecord line → next_stage stage earlier line ≡ None
     → IsScheduleFault earlier line (schedule_cause stage line)
 schedule_fault [] stage line at is nowhere = cc
@@ -239,7 +239,7 @@ goes_on_or_fault (basic ∷ rest) line begins is = by ((begins_iff_stage basic r
         staged None h = inr (schedule_cause at.0 line, schedule_fault (basic ∷ rest) at.0 line at.1 is h)
         staged (Some next) h = inl (begins_next_stage (basic ∷ rest) at.0 line next at.1 h)
 
--- ---- a file's record at a place in a schedule
+-- ---- a record of a file inside a schedule
 
 -- a record that can follow a basic schedule begins no unit
 pub no_unit_by_kind : (kind : Option Kind) (line : List ℕ) → follows_basic kind ≡ true → unit_by_kind kind line ≡ None
@@ -264,7 +264,7 @@ no_other stage lines line (inr none) = by (may_end stage lines)
     by true = none
     by false = refl
 
--- the place after a record that can only belong to the schedule has the schedule's next stage
+-- a record that can only belong to the schedule leads to the place with the schedule's next stage
 pub next_place_of_stage : (stage : Stage) (lines : Lines) (line : List ℕ) → IsOfSchedule stage lines line
     → next_place (in_schedule stage lines) line ≡ option_map (λ next. place_in next (lines ++ line ∷ [])) (next_stage stage lines line)
 next_place_of_stage stage lines line of =
@@ -289,7 +289,8 @@ next_place_of_stage stage lines line of =
     by None = none (is_record line && has_good_fields line) (is_record line && is_sound_next lines line)
     by (Some next) = tested (is_record line && is_sound_next lines line) next
 
--- a record within the limit and before a trailer has the cause that its kind, place and fields give
+-- the cause of a record within the limit and before the trailer comes from its kind, its place and
+-- its fields
 pub cause_of_record : (limit count : ℕ) (place : Place) (line : List ℕ) → count < limit → is_after_end place ≡ false → IsRecord line
     → cause_of limit count place line ≡ kind_cause place line
 cause_of_record limit count place line under open_end is =
@@ -298,7 +299,7 @@ cause_of_record limit count place line under open_end is =
     ∙ (λ i. cond (ap (λ n. n == 80) is.0 i) (byte_cause place line) bad_length)
     ∙ (λ i. with_column bad_byte (no_bad_byte line is.1 i) (kind_cause place line))
 
--- a record that can only belong to the schedule has the same cause in a file as in a schedule
+-- a record that can only belong to the schedule has the same cause in the file as in the schedule
 pub cause_in_schedule : (limit count : ℕ) (stage : Stage) (lines : Lines) (line : List ℕ) → count < limit → IsRecord line → IsOfSchedule stage lines line
     → cause_of limit count (in_schedule stage lines) line ≡ schedule_cause stage line
 cause_in_schedule limit count stage lines line under is of =
@@ -311,8 +312,8 @@ cause_in_schedule limit count stage lines line under is of =
     by None = refl
     by (Some next) = refl
 
--- after a schedule that may end, a record that can't follow a basic schedule has the cause that it
--- has between units
+-- after a schedule that may end, a record that can't follow a basic schedule has the same cause as
+-- between units
 pub cause_behind_schedule : (limit count : ℕ) (stage : Stage) (lines : Lines) (line : List ℕ) → count < limit → IsRecord line → may_end stage lines ≡ true
     → follows_basic (kind_of line) ≡ false
     → cause_of limit count (in_schedule stage lines) line ≡ cause_of limit count between_units line
@@ -324,7 +325,8 @@ cause_behind_schedule limit count stage lines line under is may anew =
     (field_cause line)))
     ∙ sym (cause_of_record limit count between_units line under refl is)
 
--- a record at fault for a schedule's reader is at fault in the file, for the same cause
+-- a record that is at fault for a reader of the schedule is at fault in the file, for the same
+-- cause
 pub fault_of_schedule : (limit : ℕ) (earlier : Lines) (stage : Stage) (lines : Lines) (line : List ℕ) (cause : FileCause)
     → IsPlaceOf earlier (in_schedule stage lines) → length earlier < limit → IsRecord line
     → IsOfSchedule stage lines line → IsScheduleFault lines line cause

@@ -1,4 +1,4 @@
--- It is decided whether lines are a schedule, and whether they begin one.
+-- It is decided whether records are a schedule, and whether they begin one.
 use Rattle.std.proofs.Common.{◌≡◌, ℕ, List, length, true, Some, [], ◌∷◌, ◌⊎◌, inr, inl, ◌+◌, ◌++◌, ap, refl, sym, subst, ◌≤◌, IsTrue, All}
 use Rattle.std.proofs.Common.{Bool, false, arith, if◌then◌else◌, nat_lt, map, ◌||◌, None, cond, not, find, ◌∙◌, codes, append-nil, lit≤}
 use Rattle.std.specs.Prelude.{⊤, slice_index, ◌==◌, option_map, Option}
@@ -25,22 +25,22 @@ use Rattle.cif_laws.proofs.lists.BoolsAndOptions.{both}
 abbrev AreRecords : Lines → Type 0
 AreRecords lines = AllByRecursion IsRecord lines
 
--- bytes are a record, or they aren't
+-- it is decided whether bytes are a record
 pub record_decided : (line : List ℕ) → Decided (IsRecord line)
 record_decided line = both_decided (nat_decided (length line) 80) (All_decided (λ b. is_printable b ≡ true) (λ b. bool_decided (is_printable b)) line)
 
--- a line has this kind, or it doesn't
+-- it is decided whether a record has this kind
 pub has_kind_decided : (kind : Kind) (line : List ℕ) → Decided (HasKind kind line)
 has_kind_decided kind line = kind_decided (kind_of line) (Some kind)
 
--- a line has good fields, or it doesn't
+-- it is decided whether a record has good fields
 pub good_fields_decided : (line : List ℕ) → Decided (HasGoodFields line)
 good_fields_decided line = none_decided (leftmost_bad_field line)
 
 within_decided : (line : List ℕ) → Decided (IsWithinJourney line)
 within_decided line = either_decided (has_kind_decided intermediate_location line) (has_kind_decided change_en_route line)
 
--- a journey after its origin, and a prefix of it, both by recursion
+-- the records are the rest of a journey after its origin, by recursion
 abbrev WholeCalls : Lines → Type 0
 WholeCalls [] = ⊥
 WholeCalls (line ∷ lines) = (HasKind terminating_location line × (lines ≡ [])) ⊎ (IsWithinJourney line × WholeCalls lines)
@@ -61,7 +61,7 @@ front_of_calls_decided (line ∷ lines) =
     either_decided (both_decided (has_kind_decided terminating_location line) (empty_decided lines))
     (both_decided (within_decided line) (front_of_calls_decided lines))
 
--- a journey, by recursion
+-- the records are a journey, by recursion
 abbrev JourneyHere : Lines → Type 0
 JourneyHere [] = ⊥
 JourneyHere (first ∷ lines) = HasKind origin_location first × WholeCalls lines
@@ -107,7 +107,8 @@ journey_here_decided : (lines : Lines) → Decided (JourneyHere lines)
 journey_here_decided [] = inr (λ h. h)
 journey_here_decided (first ∷ lines) = both_decided (has_kind_decided origin_location first) (whole_calls_decided lines)
 
--- the lines after the extra details: a sound journey, or no lines if it may be missing
+-- the records after the extra details are sound: the schedule is a deletion, or they have good
+-- fields and pass midnight at most twice
 abbrev SoundHere : List ℕ → Lines → Type 0
 SoundHere basic lines = IsTrue (is_deletion basic) ⊎ (AllByRecursion HasGoodFields lines × (midnights lines ≤ 2))
 
@@ -133,7 +134,7 @@ extra_and_journey_decided : (basic : List ℕ) (lines : Lines) → Decided (Extr
 extra_and_journey_decided basic [] = inr (λ h. h)
 extra_and_journey_decided basic (extra ∷ lines) = both_decided (has_kind_decided extra_details extra) (journey_part_decided basic lines)
 
--- the parts of a schedule, each by recursion
+-- the parts of a schedule, each by recursion. Here: a basic schedule with good fields
 abbrev BasicHere : List ℕ → Type 0
 BasicHere basic = HasKind basic_schedule basic × HasGoodFields basic
 
@@ -211,7 +212,7 @@ is_schedule lines is =
         subst (λ xs. AreRecords (is.basic ∷ xs ++ is.journey) → ScheduleHere (is.basic ∷ xs ++ is.journey)) (sym one.1)
         (λ r. ((r, (is.kind, is.fields)), inr (one.2, part))) records
 
--- lines are a schedule, or they aren't
+-- it is decided whether records are a schedule
 pub schedule_decided : (lines : Lines) → Decided (IsSchedule lines)
 schedule_decided lines = decided_along (schedule_is lines) (is_schedule lines) (schedule_here_decided lines)
 
@@ -258,7 +259,7 @@ scheduled_from_present field present = by (is_blank field)
 some_is_not_none : (n : ℕ) → Some n ≡ None → ⊥
 some_is_not_none n h = cc
 
--- if no field is the leftmost bad one, all fields are good
+-- if the search for a bad field finds none, all fields are good
 all_good : (line : List ℕ) (fields : List CheckedField)
     → option_map (λ (field : CheckedField). field.first) (find (λ field. not (field.is_good (columns field.first field.last line))) fields) ≡ None
     → AllByRecursion (λ (field : CheckedField). field.is_good (columns field.first field.last line) ≡ true) fields
@@ -326,7 +327,7 @@ small_along (line ∷ lines) good =
     times_of-times : List ℕ → List ℕ
     times_of-times l = times_in (times_of l)
 
--- a prefix of some times has no more falls than all the times. The day's last half minute adds no
+-- the first of some times have no more falls than all of them, and a last time of 23:59½ adds no
 -- fall
 falls_front : (times more : List ℕ) → fall_count times ≤ fall_count (times ++ more)
 falls_front [] more = omega arith
@@ -342,7 +343,7 @@ midnights_front : (lines more : Lines) → midnights lines ≤ midnights (lines 
 midnights_front lines more =
     subst (λ times. midnights lines ≤ fall_count times) (sym (times_along-append lines more)) (falls_front (times_along lines) (times_along more))
 
--- a terminus in the day's last half minute
+-- a terminus with the arrival 23:59½
 abbrev last_terminus : List ℕ
 last_terminus = lt (codes "BRAYTON") no_text (codes "2359H") no_text no_text no_text
 
@@ -350,7 +351,7 @@ midnights_last : (lines : Lines) → AllByRecursion HasGoodFields lines → midn
 midnights_last lines good =
     ap fall_count (times_along-append lines (last_terminus ∷ [])) ∙ falls_last (times_along lines) (small_along lines good)
 
--- a prefix of a schedule, by recursion
+-- the records after the extra details may begin a journey, by recursion
 abbrev FrontPart : List ℕ → Lines → Type 0
 FrontPart basic [] = ⊤
 FrontPart basic (first ∷ lines) = (HasKind origin_location first × FrontOfCalls lines) × SoundHere basic (first ∷ lines)
@@ -378,7 +379,7 @@ front_here_decided (basic ∷ lines) =
     both_decided (both_decided (records_decided (basic ∷ lines)) (basic_decided basic))
     (either_decided (front_part_decided basic lines) (extra_and_front_decided basic lines))
 
--- lines that begin a schedule have the form `FrontHere`
+-- records that begin a schedule have the form `FrontHere`
 front_of_whole : (lines rest : Lines) → WholeCalls (lines ++ rest) → FrontOfCalls lines
 front_of_whole [] rest calls = tt
 front_of_whole (line ∷ lines) rest (inl told) = inl (told.0, nothing lines told.1)
@@ -410,7 +411,7 @@ front_of_schedule (basic ∷ lines) rest here = ((all_front IsRecord (basic ∷ 
     by [] (inr part) = inl tt
     by (extra ∷ others) (inr part) = inr (part.0, front_of_part basic others rest part.1)
 
--- lines that complete a prefix to a schedule
+-- the records `rest` complete a beginning to a schedule
 record Ending (basic : List ℕ) (lines : Lines) : Type 0 where
   rest : Lines
   records : AreRecords rest
@@ -464,7 +465,7 @@ begins_of_front (basic ∷ lines) here = by lines here.0.0 here.1
           ),
         )
 
--- lines begin some schedule, or they don't
+-- it is decided whether records begin some schedule
 pub begins_decided : (lines : Lines) → Decided (BeginsSchedule lines)
 begins_decided lines =
     decided_along (begins_of_front lines) (λ begins. front_of_schedule lines begins.0 (is_schedule (lines ++ begins.0) begins.1)) (front_here_decided lines)

@@ -1,5 +1,5 @@
--- Where a reader of a schedule is after the lines so far: which line may come next, and whether the
--- lines are a schedule.
+-- The stage of a reader in a schedule: which record may come next, and whether the records read are
+-- a schedule.
 use Rattle.std.proofs.Common.{◌≡◌, ℕ, List, ◌∷◌, [], ◌⊎◌, true, ◌+◌, ◌++◌, inl, refl, Some, ap, inr, arith, ◌∙◌, ◌≤◌}
 use Rattle.std.proofs.Common.{Bool, false, subst, append_assoc, cond, None, sym, eqb-true, append-nil, All, ◌<◌}
 use Rattle.std.specs.Prelude.{Option, ◌&&◌, ◌↔◌, nat_le, ◌||◌, ◌==◌, codes, option_and_then, is_none}
@@ -23,25 +23,25 @@ use Rattle.cif_laws.proofs.lists.BoolsAndOptions.{both, none_by_test, test_by_no
 use Rattle.cif_laws.proofs.records.RecordTests.{record_iff_test, no_times, no_times_before, midnights_step, last_time}
 use Rattle.cif_laws.proofs.records.RecordTests.{no_fall_last, times_append, along_within, fewer_midnights}
 
--- ---- what a stage means for the lines
+-- ---- the form of the records read, for each stage
 
--- an origin, and then any intermediate locations and changes en route
+-- the records are an origin, then any number of intermediate locations and changes en route
 abbrev pub IsOpenJourney : Lines → Type 0
 IsOpenJourney journey =
     (first : List ℕ) × (between : Lines) × (journey ≡ first ∷ between) × HasKind origin_location first × AllByRecursion IsWithinJourney between
 
--- what the stage means for the extra details and the journey so far
+-- the extra details and the journey that have been read have the form that belongs to this stage
 abbrev pub HasShape : Stage → Lines → Lines → Type 0
 HasShape after_basic extra journey = (extra ≡ []) × (journey ≡ [])
 HasShape after_details extra journey = AreExtraDetails extra × (journey ≡ [])
 HasShape in_journey extra journey = AreExtraDetails extra × IsOpenJourney journey
 HasShape after_journey extra journey = AreExtraDetails extra × IsJourney journey
 
--- the schedule is a deletion, or its journey so far is sound
+-- the schedule is a deletion, or the journey read is sound
 abbrev pub IsSound : List ℕ → Lines → Type 0
 IsSound basic journey = (is_deletion basic ≡ true) ⊎ IsSoundJourney journey
 
--- the lines are an unfinished or whole schedule at this stage
+-- the records are a schedule, complete or not, at this stage
 pub record IsFront (stage : Stage) (lines : Lines) : Type 0 where
   pub basic : List ℕ
   pub extra : Lines
@@ -53,26 +53,26 @@ pub record IsFront (stage : Stage) (lines : Lines) : Type 0 where
   pub shape : HasShape stage extra journey
   pub sound : IsSound basic journey
 
--- at each stage there is at most one record of extra details
+-- at each stage at most one record of extra details has been read
 pub details_of : (stage : Stage) (extra journey : Lines) → HasShape stage extra journey → AreExtraDetails extra
 details_of after_basic extra journey shape = inl shape.0
 details_of after_details extra journey shape = shape.0
 details_of in_journey extra journey shape = shape.0
 details_of after_journey extra journey shape = shape.0
 
--- ---- the first line
+-- ---- the first record
 
 basic_by_test : (kind : Option Kind) → is_basic_kind kind ≡ true → kind ≡ Some basic_schedule
 basic_by_test (Some basic_schedule) h = refl
 basic_by_test _ h = cc
 
--- a schedule's first line: a basic schedule with good fields
+-- the record can be the first of a schedule: a basic schedule with good fields
 pub record IsFirstLine (line : List ℕ) : Type 0 where
   pub is : IsRecord line
   pub kind : HasKind basic_schedule line
   pub fields : HasGoodFields line
 
--- a line is a first line if and only if it passes the test
+-- a record can be the first of a schedule exactly if it passes the test `is_first_line`
 pub first_line_iff_test : (line : List ℕ) → IsFirstLine line ↔ (is_first_line line ≡ true)
 first_line_iff_test line = (
   λ told.
@@ -84,7 +84,7 @@ first_line_iff_test line = (
       record { is = (record_iff_test line).1 first.0; kind = basic_by_test (kind_of line) first.1; fields = none_by_test (leftmost_bad_field line) parts.1 },
 )
 
--- a first line by itself is at the stage after the basic schedule
+-- the first record by itself is at the stage after the basic schedule
 pub front_of_basic : (line : List ℕ) → IsFirstLine line → IsFront after_basic (line ∷ [])
 front_of_basic line told = record {
   basic = line;
@@ -98,14 +98,14 @@ front_of_basic line told = record {
   sound = inr (record { fields = All-from_recursion HasGoodFields [] tt; falls = omega arith });
 }
 
--- ---- midnights
+-- ---- how often a schedule passes midnight
 
 -- extra details have no times
 details_no_times : (extra journey : Lines) → AreExtraDetails extra → times_along (extra ++ journey) ≡ times_along journey
 details_no_times extra journey (inl none) = ap (λ e. times_along (e ++ journey)) none
 details_no_times extra journey (inr one) = ap (λ e. times_along (e ++ journey)) one.1 ∙ no_times_before one.0 journey (no_times extra_details one.0 one.2 refl)
 
--- a schedule has the times of its journey
+-- the times of a schedule are the times of its journey
 pub times_of_journey : (basic : List ℕ) (extra journey : Lines) → HasKind basic_schedule basic → AreExtraDetails extra
     → times_along (basic ∷ extra ++ journey) ≡ times_along journey
 times_of_journey basic extra journey kind details =
@@ -117,18 +117,18 @@ pub midnights_of_journey : (basic : List ℕ) (extra journey : Lines) → HasKin
 midnights_of_journey basic extra journey kind details =
     ap fall_count (times_of_journey basic extra journey kind details)
 
--- ---- one more line
+-- ---- one more record
 
 -- a record of extra details has no bad field
 pub no_extra_fields : (line : List ℕ) → HasKind extra_details line → HasGoodFields line
 no_extra_fields line kind = fields_good extra_details line kind tt
 
--- the next line has good fields, and the lines up to and including it pass midnight at most twice
+-- the next record has good fields, and the schedule passes midnight at most twice up to it
 pub record IsSoundNext (lines : Lines) (line : List ℕ) : Type 0 where
   pub fields : HasGoodFields line
   pub falls : midnights (lines ++ line ∷ []) ≤ 2
 
--- if a line passes the test, the schedule is a deletion or the line is sound
+-- if a record passes the test `is_sound_next`, the schedule is a deletion or the record is sound
 pub sound_next_by_test : (lines : Lines) (line : List ℕ) → is_sound_next lines line ≡ true → (is_deletion (first_record lines) ≡ true) ⊎ IsSoundNext lines line
 sound_next_by_test lines line test = by (either (is_deletion (first_record lines)) _ test)
   where
@@ -139,7 +139,7 @@ sound_next_by_test lines line test = by (either (is_deletion (first_record lines
         let parts = both (has_good_fields line) _ good in
         inr (record { fields = none_by_test (leftmost_bad_field line) parts.0; falls = leb-true (midnights (lines ++ line ∷ [])) 2 parts.1 })
 
--- if the schedule is a deletion or the line is sound, the line passes the test
+-- if the schedule is a deletion or the record is sound, the record passes the test `is_sound_next`
 pub test_by_sound_next : (lines : Lines) (line : List ℕ) → (is_deletion (first_record lines) ≡ true) ⊎ IsSoundNext lines line → is_sound_next lines line ≡ true
 test_by_sound_next lines line (inl deletion) = ap (λ b. b || (has_good_fields line && nat_le (midnights (lines ++ line ∷ [])) 2)) deletion
 test_by_sound_next lines line (inr good) = by (is_deletion (first_record lines))
@@ -148,15 +148,15 @@ test_by_sound_next lines line (inr good) = by (is_deletion (first_record lines))
     by true = refl
     by false = and_true (has_good_fields line) _ (test_by_none (leftmost_bad_field line) good.fields) (le-leb (midnights (lines ++ line ∷ [])) 2 good.falls)
 
--- the test is computed from what a reader keeps: whether the schedule is a deletion, how often it
--- has passed midnight, and the last time
+-- the test `is_sound_next` can be computed from three things that a reader keeps: whether the
+-- schedule is a deletion, how often it has passed midnight, and the last time
 pub sound_next_by_count : (lines : Lines) (line : List ℕ)
     → is_sound_next lines line
     ≡ (is_deletion (first_record lines) || (has_good_fields line && nat_le (midnights lines + falls_after (last_of (times_along lines))
     (times_along (line ∷ []))) 2))
 sound_next_by_count lines line = λ i. is_deletion (first_record lines) || (has_good_fields line && nat_le (midnights_step lines line i) 2)
 
--- a journey stays sound after a line that passes the test
+-- a journey stays sound with one more record that passes the test
 sound_more : (stage : Stage) (lines : Lines) (line : List ℕ) (front : IsFront stage lines) → is_sound_next lines line ≡ true
     → IsSound front.basic (front.journey ++ line ∷ [])
 sound_more stage lines line front test = by (sound_next_by_test lines line test) front.sound
@@ -179,13 +179,14 @@ sound_more stage lines line front test = by (sound_next_by_test lines line test)
           falls = omega arith;
         })
 
--- the parts of the test of a next line
+-- the parts of the test of the next record: it is a record, it is sound, and its kind leads to the
+-- next stage
 pub record IsNextLine (stage : Stage) (lines : Lines) (line : List ℕ) (next : Stage) : Type 0 where
   pub is : IsRecord line
   pub sound : is_sound_next lines line ≡ true
   pub stage_is : stage_after stage (kind_of line) ≡ Some next
 
--- a line that leads to a next stage passes each part of the test
+-- a record that leads to a next stage passes each part of the test
 pub next_line_by_test : (stage : Stage) (lines : Lines) (line : List ℕ) (next : Stage) → next_stage stage lines line ≡ Some next
     → IsNextLine stage lines line next
 next_line_by_test stage lines line next is = by (is_record line && is_sound_next lines line) refl is
@@ -195,13 +196,13 @@ next_line_by_test stage lines line next is = by (is_record line && is_sound_next
     by true h found = let parts = both (is_record line) _ h in record { is = (record_iff_test line).1 parts.0; sound = parts.1; stage_is = found }
     by false h found = cc
 
--- a line that passes each part of the test leads to the next stage
+-- a record that passes each part of the test leads to the next stage
 pub test_by_next_line : (stage : Stage) (lines : Lines) (line : List ℕ) (next : Stage) → IsNextLine stage lines line next
     → next_stage stage lines line ≡ Some next
 test_by_next_line stage lines line next told =
     (λ i. cond (and_true (is_record line) _ ((record_iff_test line).0 told.is) told.sound i) (stage_after stage (kind_of line)) None) ∙ told.stage_is
 
--- an open journey stays open after a line within the journey
+-- an incomplete journey is still one after an intermediate location or a change en route
 journey_more : (journey : Lines) (line : List ℕ) → IsOpenJourney journey → IsWithinJourney line → IsOpenJourney (journey ++ line ∷ [])
 journey_more journey line so_far is = (
   so_far.0,
@@ -211,7 +212,7 @@ journey_more journey line so_far is = (
   all_append IsWithinJourney so_far.1 (line ∷ []) so_far.4 (is, tt),
 )
 
--- after one more line, the schedule has the shape of the stage to which the line's kind leads
+-- after one more record the schedule has the shape of the stage that the record's kind leads to
 shape_more : (stage : Stage) (kind : Kind) (next : Stage) (extra journey : Lines) (line : List ℕ) → HasShape stage extra journey → HasKind kind line
     → stage_after stage (Some kind) ≡ Some next
     → (HasShape next extra (journey ++ line ∷ [])) ⊎ (HasShape next (line ∷ []) journey × (extra ≡ []) × (journey ≡ []))
@@ -246,15 +247,14 @@ shape_more in_journey terminating_location next extra journey line shape is afte
     ))
 shape_more _ _ next extra journey line shape is after = cc
 
--- a record without a kind leads to no stage
+-- a record of an unknown kind leads to no stage
 pub no_stage_of_none : (stage : Stage) → stage_after stage None ≡ None
 no_stage_of_none after_basic = refl
 no_stage_of_none after_details = refl
 no_stage_of_none in_journey = refl
 no_stage_of_none after_journey = refl
 
--- if lines are at a stage, and one more line leads to a next stage, all of them are at the next
--- stage
+-- if records are at a stage and one more leads to a next stage, all of them are at the next stage
 pub next_front : (stage : Stage) (lines : Lines) (line : List ℕ) (next : Stage) → IsFront stage lines → next_stage stage lines line ≡ Some next
     → IsFront next (lines ++ line ∷ [])
 next_front stage lines line next front test = by (kind_of line) refl (next_line_by_test stage lines line next test)
@@ -290,7 +290,7 @@ next_front stage lines line next front test = by (kind_of line) refl (next_line_
 
 -- ---- the end
 
--- if a basic schedule passes the test, its journey may be missing
+-- if a basic schedule passes the test `may_lack`, its journey may be missing
 pub lack_by_test : (basic : List ℕ) → may_lack basic ≡ true → MayLackJourney basic
 lack_by_test basic test = by (either (is_deletion basic) _ test)
   where
@@ -298,7 +298,7 @@ lack_by_test basic test = by (either (is_deletion basic) _ test)
     by (inl deletion) = inl deletion
     by (inr letter) = inr (eqb-true (column 80 basic) 67 letter)
 
--- if the journey of a basic schedule may be missing, the basic schedule passes the test
+-- if the journey of a basic schedule may be missing, it passes the test `may_lack`
 pub test_by_lack : (basic : List ℕ) → MayLackJourney basic → may_lack basic ≡ true
 test_by_lack basic (inl deletion) = ap (λ b. b || (column 80 basic == 67)) deletion
 test_by_lack basic (inr letter) = or_right (is_deletion basic) (ap (λ n. n == 67) letter)
@@ -307,7 +307,7 @@ test_by_lack basic (inr letter) = or_right (is_deletion basic) (ap (λ n. n == 6
     or_right true h = refl
     or_right false h = h
 
--- lines that may end at their stage are a schedule
+-- records that may end at their stage are a schedule
 pub schedule_of_front : (stage : Stage) (lines : Lines) → IsFront stage lines → may_end stage lines ≡ true → IsSchedule lines
 schedule_of_front stage lines front test = record {
   basic = front.basic;
@@ -331,7 +331,7 @@ schedule_of_front stage lines front test = record {
 
 -- ---- a record of each kind that may come next
 
--- some record of each kind, with good fields
+-- a record of each kind, with good fields
 pub witness : Kind → List ℕ
 witness header = hd (codes "090624") (codes "2100") (codes "DFROC1A") (codes "DFROC1Z") (codes "U")
 witness tiploc_insert = ti (codes "ASHFELD") (codes "ASHFIELD")
@@ -411,7 +411,7 @@ witness_times intermediate_location = inl refl
 witness_times change_en_route = inl refl
 witness_times trailer = inl refl
 
--- the record that `witness` gives is a sound next line after lines at any stage
+-- the record that `witness` gives is sound after the records at any stage
 pub witness_sound : (stage : Stage) (lines : Lines) (kind : Kind) → IsFront stage lines → is_sound_next lines (witness kind) ≡ true
 witness_sound stage lines kind front = test_by_sound_next lines (witness kind) (by front.sound)
   where
@@ -437,7 +437,7 @@ witness_sound stage lines kind front = test_by_sound_next lines (witness kind) (
             (along_within front.journey (recursion_from_All HasGoodFields front.journey good.fields)) in
             let falls = good.falls in omega arith
 
--- the record that `witness` gives leads to the stage to which its kind leads
+-- the record that `witness` gives leads to the stage that its kind leads to
 pub witness_front : (stage : Stage) (lines : Lines) (kind : Kind) (next : Stage) → IsFront stage lines → stage_after stage (Some kind) ≡ Some next
     → IsFront next (lines ++ witness kind ∷ [])
 witness_front stage lines kind next front after =
@@ -447,11 +447,11 @@ witness_front stage lines kind next front after =
       stage_is = ap (stage_after stage) (witness_kind kind) ∙ after;
     }))
 
--- if lines begin a schedule, so does each prefix of them
+-- if records begin a schedule, so do the first of them
 pub begins_shorter : (front rest : Lines) → BeginsSchedule (front ++ rest) → BeginsSchedule front
 begins_shorter front rest begins = (rest ++ begins.0, subst IsSchedule (append_assoc front rest begins.0) begins.1)
 
--- lines at a stage begin some schedule
+-- records at a stage begin some schedule
 pub front_begins : (stage : Stage) (lines : Lines) → IsFront stage lines → BeginsSchedule lines
 front_begins stage lines front = by stage lines front
   where
@@ -473,7 +473,7 @@ front_begins stage lines front = by stage lines front
     by in_journey l f = inside l f
     by after_journey l f = ended l f
 
--- ---- the stage of lines
+-- ---- the stage that records lead to
 
 front_from : (rest : Lines) (stage : Stage) (done : Lines) (final : Stage) → IsFront stage done → stage_from stage done rest ≡ Some final
     → IsFront final (done ++ rest)
@@ -484,7 +484,7 @@ front_from (line ∷ rest) stage done final front found =
     subst (IsFront final) (append_assoc done (line ∷ []) rest)
     (front_from rest step.0 (done ++ line ∷ []) final (next_front stage done line step.0 front step.1) step.2)
 
--- lines that have a stage are at that stage
+-- records that lead to a stage are at that stage
 pub front_of_stage : (lines : Lines) (stage : Stage) → stage_of lines ≡ Some stage → IsFront stage lines
 front_of_stage [] stage found = cc
 front_of_stage (basic ∷ rest) stage found = by (is_first_line basic) refl found
@@ -502,7 +502,7 @@ stage_from_append (line ∷ front) stage done middle more found =
     ∙ stage_from_append front step.0 (done ++ line ∷ []) middle more step.2
     ∙ (λ i. stage_from middle (append_assoc done (line ∷ []) front i) more)
 
--- the stage after more lines follows from the first lines' stage
+-- the stage after records and more records follows from the stage after the first
 pub stage_of_append : (front : Lines) (stage : Stage) (more : Lines) → stage_of front ≡ Some stage → stage_of (front ++ more) ≡ stage_from stage front more
 stage_of_append [] stage more found = cc
 stage_of_append (basic ∷ rest) stage more found = by (is_first_line basic) refl found
@@ -513,11 +513,12 @@ stage_of_append (basic ∷ rest) stage more found = by (is_first_line basic) ref
         (λ i. cond (h i) (stage_from after_basic (basic ∷ []) (rest ++ more)) None) ∙ stage_from_append rest after_basic (basic ∷ []) stage more told
     by false h told = cc
 
--- one more line leads from the lines' stage to its next stage
+-- the stage after one more record is the one that this record leads to
 pub stage_of_more : (lines : Lines) (stage : Stage) (line : List ℕ) → stage_of lines ≡ Some stage → stage_of (lines ++ line ∷ []) ≡ next_stage stage lines line
 stage_of_more lines stage line found = stage_of_append lines stage (line ∷ []) found ∙ some_then (next_stage stage lines line)
 
--- a first line is at the stage after the basic schedule, and any other single line at none
+-- a single record leads to the stage after the basic schedule if it can be the first of a schedule,
+-- and otherwise to none
 pub stage_of_first : (line : List ℕ) → stage_of (line ∷ []) ≡ cond (is_first_line line) (Some after_basic) None
 stage_of_first line = refl
 
@@ -529,7 +530,7 @@ stage_from_front (line ∷ front) rest stage done final found =
     let more = stage_from_front front rest step.0 (done ++ line ∷ []) final step.2 in
     (more.0, (λ i. option_and_then (λ next. stage_from next (done ++ line ∷ []) front) (step.1 i)) ∙ more.1)
 
--- if lines have a stage, each prefix with the first line has a stage too
+-- if records lead to a stage, so do the first of them, however many
 pub stage_of_front : (basic : List ℕ) (front rest : Lines) (final : Stage) → stage_of (basic ∷ front ++ rest) ≡ Some final
     → (stage : Stage) × (stage_of (basic ∷ front) ≡ Some stage)
 stage_of_front basic front rest final found = by (is_first_line basic) refl found
@@ -541,14 +542,14 @@ stage_of_front basic front rest final found = by (is_first_line basic) refl foun
         (more.0, (λ i. cond (h i) (stage_from after_basic (basic ∷ []) front) None) ∙ more.1)
     by false h told = cc
 
--- ---- a schedule has a stage
+-- ---- the records of a schedule lead to a stage
 
--- the stage after lines, by their kinds only
+-- the stage after records, from their kinds only
 abbrev pub stage_along : Stage → Lines → Option Stage
 stage_along stage [] = Some stage
 stage_along stage (line ∷ rest) = option_and_then (λ next. stage_along next rest) (stage_after stage (kind_of line))
 
--- the lines to come are sound: the schedule is a deletion, or they have good fields and the
+-- the records that follow are sound: the schedule is a deletion, or they have good fields and the
 -- schedule passes midnight at most twice
 abbrev IsSoundRest : List ℕ → Lines → Lines → Type 0
 IsSoundRest basic done rest = (is_deletion basic ≡ true) ⊎ (AllByRecursion HasGoodFields rest × (midnights (basic ∷ done ++ rest) ≤ 2))
@@ -594,12 +595,12 @@ journey_along stage journey starts is =
     ∙ (λ i. option_and_then (λ next. stage_along next (is.between ++ is.last ∷ [])) (starts i))
     ∙ calls_along is.between is.last (recursion_from_All IsWithinJourney is.between is.calls) is.terminus
 
--- the lines have this stage, and may be a whole schedule
+-- the records lead to this stage, and may be a complete schedule there
 pub record IsWholeBy (lines : Lines) (stage : Stage) : Type 0 where
   pub found : stage_of lines ≡ Some stage
   pub may : may_end stage lines ≡ true
 
--- the kinds of the schedule's other lines lead to the stage where the schedule ends
+-- the kinds of the records after the first lead to a stage at which the schedule may end
 record LeadsToEnd (basic : List ℕ) (rest : Lines) : Type 0 where
   pub final : Stage
   pub along : stage_along after_basic rest ≡ Some final
@@ -629,7 +630,7 @@ extra_fields : (extra : Lines) → AreExtraDetails extra → AllByRecursion HasG
 extra_fields extra (inl none) = subst (AllByRecursion HasGoodFields) (sym none) tt
 extra_fields extra (inr one) = subst (AllByRecursion HasGoodFields) (sym one.1) (no_extra_fields one.0 one.2, tt)
 
--- a schedule has a stage, and may end there
+-- the records of a schedule lead to a stage at which it may end
 pub stage_of_schedule : (lines : Lines) → IsSchedule lines → (stage : Stage) × IsWholeBy lines stage
 stage_of_schedule lines is = subst (λ l. (stage : Stage) × IsWholeBy l stage) (sym is.whole) (lead.final, record { found = found; may = lead.may })
   where
@@ -654,18 +655,18 @@ stage_of_schedule lines is = subst (λ l. (stage : Stage) × IsWholeBy l stage) 
 
 -- ---- the laws
 
--- lines are a schedule if and only if they have a stage and may end there
+-- records are a schedule exactly if they lead to a stage and may end there
 pub schedule_iff_stage : (lines : Lines) → IsSchedule lines ↔ ((stage : Stage) × IsWholeBy lines stage)
 schedule_iff_stage lines = (stage_of_schedule lines, λ whole. schedule_of_front whole.0 lines (front_of_stage lines whole.0 whole.1.found) whole.1.may)
 
--- lines begin a schedule if and only if they have a stage
+-- records begin a schedule exactly if they lead to a stage
 pub begins_iff_stage : (basic : List ℕ) (rest : Lines) → BeginsSchedule (basic ∷ rest) ↔ ((stage : Stage) × (stage_of (basic ∷ rest) ≡ Some stage))
 begins_iff_stage basic rest = (
   λ begins. let whole = stage_of_schedule ((basic ∷ rest) ++ begins.0) begins.1 in stage_of_front basic rest begins.0 whole.0 whole.1.found,
   λ at. front_begins at.0 (basic ∷ rest) (front_of_stage (basic ∷ rest) at.0 at.1),
 )
 
--- the empty list of lines begins some schedule
+-- the empty list of records begins some schedule
 pub no_lines_begin : BeginsSchedule []
 no_lines_begin =
     begins_shorter [] (witness basic_schedule ∷ []) (front_begins after_basic (witness basic_schedule ∷ []) (front_of_basic (witness basic_schedule) (record {
@@ -674,7 +675,7 @@ no_lines_begin =
       fields = witness_fields basic_schedule;
     })))
 
--- lines and one more begin a schedule if and only if the last one leads to a next stage
+-- records and one more begin a schedule exactly if the last one leads to a next stage
 pub begins_more_iff : (basic : List ℕ) (rest : Lines) (stage : Stage) (line : List ℕ) → stage_of (basic ∷ rest) ≡ Some stage
     → BeginsSchedule (basic ∷ rest ++ line ∷ []) ↔ ((next : Stage) × IsNextLine stage (basic ∷ rest) line next)
 begins_more_iff basic rest stage line at = (
@@ -689,7 +690,7 @@ begins_more_iff basic rest stage line at = (
       ),
 )
 
--- lines begin some schedule, or they don't
+-- records begin some schedule, or they don't
 pub begins_schedule_or_not : (lines : Lines) → BeginsSchedule lines ⊎ ¬ BeginsSchedule lines
 begins_schedule_or_not [] = inl no_lines_begin
 begins_schedule_or_not (basic ∷ rest) = by (stage_of (basic ∷ rest)) refl
@@ -698,7 +699,7 @@ begins_schedule_or_not (basic ∷ rest) = by (stage_of (basic ∷ rest)) refl
     by None h = inr (λ begins. let at = (begins_iff_stage basic rest).0 begins in let bad : None ≡ Some at.0 = sym h ∙ at.1 in cc)
     by (Some stage) h = inl ((begins_iff_stage basic rest).1 (stage, h))
 
--- lines are a schedule, or they aren't
+-- records are a schedule, or they aren't
 pub schedule_or_not : (lines : Lines) → IsSchedule lines ⊎ ¬ IsSchedule lines
 schedule_or_not lines = by (stage_of lines) refl
   where
@@ -716,8 +717,8 @@ schedule_or_not lines = by (stage_of lines) refl
 
 -- ---- which kinds are in place
 
--- a line whose kind leads to no stage is out of place: no schedule has a line of this kind after
--- these lines
+-- a record whose kind leads to no stage is out of place: no schedule has a record of this kind
+-- after the others
 pub schedule_out_of_place : (basic : List ℕ) (rest : Lines) (stage : Stage) (line : List ℕ) → stage_of (basic ∷ rest) ≡ Some stage
     → stage_after stage (kind_of line) ≡ None
     → (next : List ℕ) → kind_of next ≡ kind_of line → ¬ BeginsSchedule (basic ∷ rest ++ next ∷ [])
@@ -725,7 +726,7 @@ schedule_out_of_place basic rest stage line at none next same begins =
     let told = (begins_more_iff basic rest stage next at).0 begins in
     let bad : None ≡ Some told.0 = sym none ∙ ap (stage_after stage) (sym same) ∙ told.1.stage_is in cc
 
--- if a kind leads to a stage, some line of this kind may come next
+-- if a kind leads to a stage, some record of this kind may come next
 pub schedule_in_place : (basic : List ℕ) (rest : Lines) (stage : Stage) (kind : Kind) (next : Stage) → stage_of (basic ∷ rest) ≡ Some stage
     → stage_after stage (Some kind) ≡ Some next
     → BeginsSchedule (basic ∷ rest ++ witness kind ∷ [])
@@ -734,7 +735,7 @@ schedule_in_place basic rest stage kind next at found =
 
 -- ---- why a record leads to no next stage
 
--- the record's kind is out of place, a field isn't good, or the schedule passes midnight a third
+-- the record's kind is out of place, a field is bad, or the schedule passes midnight for the third
 -- time. In a deletion only the kind counts
 abbrev pub IsNoNextLine : Stage → Lines → List ℕ → Type 0
 IsNoNextLine stage lines line =

@@ -1,5 +1,5 @@
--- The docker line that an association gives for one start day of the base train. The docker has
--- these lines, and no other lines of associations.
+-- The docker line that an association gives for one start day of the base train. All lines of this
+-- kind are in the docker, and the docker has no other lines of associations.
 use Rattle.std.proofs.Common.{◌≡◌, ℕ, List, [], ◌∷◌, refl, ap, sym, ◌∙◌, subst, inl, inr, Some, None, Bool, true, false, cond, Contains, eqb-true, arith}
 use Rattle.std.specs.Prelude.{Option, not, ◌&&◌, ◌==◌}
 use Rattle.std.specs.Ordering.{is_eq}
@@ -27,18 +27,19 @@ use Rattle.docker_laws.proofs.dockers.OneDockerLine.{one_identity}
 use Rattle.cif_laws.proofs.orders.AtMost.{eq_is}
 use Rattle.docker_laws.proofs.dockers.ScheduleLines.{number_itself}
 
--- the docker lines for one start day of the base train: one or none
+-- the docker lines of an association for one start day of the base train: at most one
 abbrev pub link_piece : (List ℕ → ℕ → Option Train) → (Group → ℕ → Option Link) → ℕ → AssociationKey → List ℕ → ℕ → List DockerLine
 link_piece trains links day key line start =
     cond (is_in_force links start key line) (line_with trains day start key line (category_occasion (columns 35 36 line)) (trains key.base start)) []
 
--- a docker line of this association and this start day
+-- the line is a docker line of this association, for this start day of the base train
 pub record IsOfAssociation (live : Table) (place : List ℕ) (day : ℕ) (key : AssociationKey) (start : ℕ) (line : DockerLine) : Type 0 where
   pub made : IsAssociationLine live place day line
   pub of_key : made.key ≡ key
   pub of_start : made.start ≡ start
 
--- the association is in force: chosen, no cancellation, with a date indicator
+-- the association may give a line for this start day: it is the chosen one, isn't a cancellation,
+-- and has a date indicator that gives a line
 pub record IsInForce (live : Table) (start : ℕ) (key : AssociationKey) (line : List ℕ) : Type 0 where
   pub chosen : IsChosenAssociation live (group_of key) start key line
   pub no_cancellation : ¬ (key.indicator ≡ 67)
@@ -46,7 +47,8 @@ pub record IsInForce (live : Table) (start : ℕ) (key : AssociationKey) (line :
 
 module _ (live : Table) (trains : List ℕ → ℕ → Option Train) (links : Group → ℕ → Option Link) (tell : TellsTrains live trains)
     (tell_links : TellsLinks live links) (place : List ℕ) (day : ℕ) where
-  -- the identity in the line is the associated train's
+  -- the function `partner_identity` gives the identity that the line must have for the associated
+  -- train
   partner_is : (uid : List ℕ) (start : Option ℕ) → IsPartnerIdentity live uid start (partner_identity trains uid start)
   partner_is uid None = refl
   partner_is uid (Some start) = by (trains uid start) (tell uid start)
@@ -55,7 +57,7 @@ module _ (live : Table) (trains : List ℕ → ℕ → Option Train) (links : Gr
       by None none = inr (none, refl)
       by (Some train) runs = inl (train.key, train.lines, runs, refl)
 
-  -- ---- in force
+  -- ---- associations that may give a line
 
   counts : (key : AssociationKey) (line : List ℕ) (start : ℕ) → live (association_key key) ≡ Some (association_body line)
       → counts_as (links (group_of key) start) key ≡ true
@@ -149,7 +151,7 @@ module _ (live : Table) (trains : List ℕ → ℕ → Option Train) (links : Gr
         of_start = refl;
       }
 
-  -- the line that an association gives for a start day is in the docker
+  -- a line that `link_piece` gives for a start day is in the docker
   pub link_piece_back : (key : AssociationKey) (line : List ℕ) (start : ℕ) → live (association_key key) ≡ Some (association_body line) → key.location ≡ place
       → (docker_line : DockerLine) → Contains (link_piece trains links day key line start) docker_line → IsOfAssociation live place day key start docker_line
   link_piece_back key line start is_live here docker_line among = by (is_in_force links start key line) refl among
@@ -172,7 +174,7 @@ module _ (live : Table) (trains : List ℕ → ℕ → Option Train) (links : Gr
       by false h inside = absurd (nil-Contains docker_line inside)
       by true h inside = with_category (in_force_back key line start is_live h) (category_occasion (columns 35 36 line)) refl inside
 
-  -- each docker line of an association is the line that the association gives for the start day
+  -- each docker line of an association is the one that `link_piece` gives for its start day
   pub link_piece_forth : (docker_line : DockerLine) (made : IsAssociationLine live place day docker_line)
       → Contains (link_piece trains links day made.key made.association made.start) docker_line
   link_piece_forth docker_line made =
@@ -213,7 +215,7 @@ module _ (live : Table) (trains : List ℕ → ℕ → Option Train) (links : Gr
           subst (λ at. Contains (line_at trains day made.start made.key made.association made.occasion base at) docker_line) (sym first)
           (at_day base same.0 same.1)
 
-  -- no two lines that an association gives for one start day tie
+  -- no two lines of one association and one start day tie in the order of lines
   pub link_piece_apart : (key : AssociationKey) (line : List ℕ) (start : ℕ) → AreApart docker_line_cmp (link_piece trains links day key line start)
   link_piece_apart key line start = by (is_in_force links start key line) (category_occasion (columns 35 36 line)) (trains key.base start)
     where
@@ -234,7 +236,7 @@ module _ (live : Table) (trains : List ℕ → ℕ → Option Train) (links : Gr
       by true (Some occasion) None = tt
       by true (Some occasion) (Some base) = at_day occasion base (first_event_at base.lines key.location key.suffix)
 
-  -- the base train starts on one of the three start days
+  -- for a docker line of an association, the base train starts on one of the three start days
   pub association_starts : HasGoodBodies live → (docker_line : DockerLine) (made : IsAssociationLine live place day docker_line)
       → Contains (start_days day) made.start
   association_starts good docker_line made =

@@ -1,4 +1,4 @@
--- The rows whose keys count are to the table of these keys what all rows are to the whole table.
+-- The rows whose keys pass a test are the rows of the table cut to these keys.
 use Rattle.std.proofs.Common.{◌≡◌, ℕ, List, refl, ap, sym, ◌∙◌, Bool, true, false, cond, Some, None, Contains}
 use Rattle.std.specs.Prelude.{◌↔◌}
 use Rattle.std.specs.Ordering.{on}
@@ -18,13 +18,13 @@ module _ (counts : Key → Bool) where
   abbrev row_counts : Row → Bool
   row_counts row = counts row.0
 
-  -- rows that count are in key order if all rows are
+  -- if all rows are in key order, the rows that pass are in key order
   counted_ascend : (rows : List Row) → AreInKeyOrder rows → AreInKeyOrder (counted_rows counts rows)
   counted_ascend rows up =
       ascending_of (on (λ (row : Row). row.0) key_cmp) (counted_rows counts rows)
       (later_filter (IsBelow (on (λ (row : Row). row.0) key_cmp)) row_counts rows (later_of (on (λ (row : Row). row.0) key_cmp) rows up))
 
-  -- what is live in the table of the keys that count is live, and its key counts
+  -- a body in the cut table is in the whole table at the same key, and the key passes
   pub was_counted : (live : Table) (key : Key) (body : Body) → counted_table counts live key ≡ Some body → (counts key ≡ true) × (live key ≡ Some body)
   was_counted live key body is = by (counts key) refl is
     where
@@ -32,7 +32,7 @@ module _ (counts : Key → Bool) where
       by true h told = (h, told)
       by false h none = absurd (let bad : None ≡ Some body = none in cc)
 
-  -- what is live under a key that counts is live in the table of these keys
+  -- a body of the whole table is in the cut table if its key passes
   stays_counted : (live : Table) (key : Key) (body : Body) → counts key ≡ true → live key ≡ Some body → counted_table counts live key ≡ Some body
   stays_counted live key body passes is = (λ i. cond (passes i) (live key) None) ∙ is
 
@@ -108,11 +108,11 @@ module _ (counts : Key → Bool) where
     );
   }
 
-  -- live bodies of keys that count are good if all are
+  -- if the bodies of the whole table are well formed, so are the bodies of the cut table
   pub counted_bodies : (live : Table) → HasGoodBodies live → HasGoodBodies (counted_table counts live)
   counted_bodies live good key body is = good key body (was_counted live key body is).1
 
-  -- rows that have a table give rows that have the table of the keys that count
+  -- if the whole table has a list of good rows, so has the cut table
   pub counted_good : (live : Table) → IsOfGoodRows live → IsOfGoodRows (counted_table counts live)
   counted_good live good = record {
     rows = counted_rows counts good.rows;

@@ -1,5 +1,5 @@
--- The events of a schedule, as a walk over its lines meets them. The walk carries along the falls
--- and the last change en route.
+-- The events of a schedule, found by a walk over its records. The walk keeps the number of falls
+-- and the last change en route. A fall is a time that is earlier than the time before it.
 use Rattle.std.proofs.Common.{◌≡◌, ℕ, zero, suc, ◌+◌, ◌<◌, ◌≤◌, Bool, true, false, cond, List, [], ◌∷◌, ◌++◌, map, length, get_or}
 use Rattle.std.proofs.Common.{take, refl, ap, sym, ◌∙◌, subst, arith, Contains, Some, None, append_assoc, append-nil, length-append}
 use Rattle.std.specs.Prelude.{Option, ◌↔◌, nat_lt, filter, codes}
@@ -23,7 +23,7 @@ as_event counted = record { number = counted.0; place = counted.1.0; occasion = 
 abbrev times_at : ℕ × List ℕ → List Placed
 times_at placed = map (λ time. (placed.0, time)) (times_of placed.1)
 
--- ---- the events in order
+-- ---- the order of events
 
 numbered_append : {A : Type 0} (n : ℕ) (xs ys : List A) → enumerate_from n (xs ++ ys) ≡ enumerate_from n xs ++ enumerate_from (n + length xs) ys
 numbered_append n [] ys = (let e : n ≡ n + 0 = omega arith in ap (λ k. enumerate_from k ys) e)
@@ -46,19 +46,19 @@ from_is n place (line ∷ lines) =
     ∙ (λ i. here_is n place (times_of line) i ++ (ap (λ k. map as_event (enumerate_from (n + k) (flat_map times_at (enumerate_from (place + 1) lines)))) long
     ∙ from_is (n + length (times_of line)) (place + 1) lines) i)
 
--- the events of a schedule are the events that a walk meets
+-- the events of a schedule are the events that the walk finds
 pub events_walked : (lines : List (List ℕ)) → events_of lines ≡ events_from 1 0 lines
 events_walked lines = from_is 1 0 lines
 
 -- ---- falls
 
--- one more time adds a fall if it is below the last time so far
+-- one more time adds one fall if it is earlier than the last time, and otherwise none
 pub falls_more : (times : List ℕ) (time : ℕ) → fall_count (times ++ time ∷ []) ≡ fall_count times + fall_at (last_time times) time
 falls_more [] time = refl
 falls_more (first ∷ []) time = (let e : cond (nat_lt time first) 1 0 + 0 ≡ 0 + cond (nat_lt time first) 1 0 = omega arith in e)
 falls_more (first ∷ second ∷ times) time = let rest = falls_more (second ∷ times) time in omega arith
 
--- the falls up to an event are counted from the earlier times and the event's own
+-- the number of falls up to an event depends only on the times before it and its time
 pub falls_here : (lines : List (List ℕ)) (before later : List ℕ) (time : ℕ) (number : ℕ) → times_along lines ≡ (before ++ time ∷ []) ++ later
     → number ≡ length before + 1
     → falls_to lines number ≡ fall_count before + fall_at (last_time before) time
@@ -70,7 +70,8 @@ falls_here lines before later time number whole is =
     front : (xs : List ℕ) (x : ℕ) (ys : List ℕ) → take (length xs + 1) ((xs ++ x ∷ []) ++ ys) ≡ xs ++ x ∷ []
     front xs x ys = ap (take (length xs + 1)) (append_assoc xs (x ∷ []) ys) ∙ take-append-add xs (x ∷ ys) 1
 
--- the times of all lines are the times before a line, the line's times, and the times after it
+-- the times of a schedule, split at a record: the times before it, the times in it, and the times
+-- after it
 pub times_split : (front : List (List ℕ)) (line : List ℕ) (rest : List (List ℕ))
     → times_along (front ++ line ∷ rest) ≡ times_along front ++ (map (λ (time : Occasion × ℕ). time.1) (times_of line) ++ times_along rest)
 times_split front line rest =
@@ -78,14 +79,14 @@ times_split front line rest =
     ∙ map-append (λ (time : Occasion × ℕ). time.1) (flat_map times_of front) (times_of line ++ flat_map times_of rest)
     ∙ ap (λ more. times_along front ++ more) (map-append (λ (time : Occasion × ℕ). time.1) (times_of line) (flat_map times_of rest))
 
--- ---- the line and the identity at an event
+-- ---- the record and the train identity at an event
 
--- an event at the walk's place has the line that the walk has reached
+-- the record of an event is the one that the walk has reached
 pub line_here : (front : List (List ℕ)) (line : List ℕ) (rest : List (List ℕ)) (event : Event) → event.place ≡ length front
     → event_line (front ++ line ∷ rest) event ≡ line
 line_here front line rest event is = ap (λ n. get_or (front ++ line ∷ rest) n []) is ∙ get_or-append_seam front line rest []
 
--- the identity at an event is the one in the last change en route before its line
+-- the train identity at an event comes from the last change en route before its record
 pub identity_here : (front rest : List (List ℕ)) (event : Event) → event.place ≡ length front → event_identity (front ++ rest) event ≡ changed_identity
     (last_change front) (first_record (front ++ rest))
 identity_here front rest event is =
@@ -96,7 +97,8 @@ last_behind : {A : Type 0} (o : Option A) (xs : List A) (x : A) → last_or o (x
 last_behind o [] x = refl
 last_behind o (y ∷ xs) x = last_behind (Some y) xs x
 
--- one more line becomes the last change en route if it is one; otherwise the last change stays
+-- the last change en route after one more record is that record if it is a CR record, and otherwise
+-- stays
 pub change_more : (front : List (List ℕ)) (line : List ℕ) → last_change (front ++ line ∷ []) ≡ cond (has_identity (codes "CR") line) (Some line)
     (last_change front)
 change_more front line =
@@ -110,9 +112,9 @@ change_more front line =
     by true = last_behind None kept line
     by false = ap (last_or None) (append-nil kept)
 
--- ---- how many events
+-- ---- the number of events
 
--- a schedule has as many events as its lines have times
+-- a schedule has as many events as times
 pub as_many : (lines : List (List ℕ)) → length (events_of lines) ≡ length (times_along lines)
 as_many lines =
     length-map (enumerate_from 1 (placed_times lines)) as_event ∙ length-enumerate_from 1 (placed_times lines)
@@ -126,7 +128,7 @@ as_many lines =
         ∙ (λ i. length-map {B = Placed} (times_of l) (λ (time : Occasion × ℕ). (n, time)) i + placed_long (n + 1) ls i)
         ∙ sym (length-append (times_of l) (flat_map times_of ls))
 
--- an event has a given number if and only if the number is from 1 to the count of times
+-- there is an event with a number exactly if the number is from 1 to the number of times
 pub number_there : (lines : List (List ℕ)) (number : ℕ) → ((event : Event) × Contains (events_of lines) event × (event.number ≡ number))
     ↔ ((1 ≤ number) × (number ≤ length (times_along lines)))
 number_there lines number = (forth, back)

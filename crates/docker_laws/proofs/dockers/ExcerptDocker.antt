@@ -1,4 +1,4 @@
--- A table and each excerpt of it for a place have the same docker there.
+-- A table and each of its excerpts for a place have the same docker of the place.
 use Rattle.std.proofs.Common.{◌≡◌, ℕ, List, subst, inl, inr, ◌⊎◌, refl, ap, sym, ◌∙◌, Some, None}
 use Rattle.std.specs.Prelude.{Option, ◌↔◌}
 use Rattle.docker_model.specs.records.Record.{column}
@@ -17,7 +17,7 @@ use Rattle.docker_laws.proofs.dockers.Events.{event_calls}
 use Rattle.docker_laws.proofs.dockers.OneDockerLine.{first_event_is}
 use Rattle.docker_laws.proofs.dockers.LapsedDocker.{text_with}
 
--- ---- two tables with the same schedules of a UID
+-- ---- two tables with the same schedules for a UID
 
 abbrev HaveSameSchedules : Table → Table → List ℕ → Type 0
 HaveSameSchedules one other uid = (key : ScheduleKey) → key.uid ≡ uid → one (schedule_key key) ≡ other (schedule_key key)
@@ -51,7 +51,7 @@ partner_over : (one other : Table) (uid : List ℕ) (day : Option ℕ) (identity
 partner_over one other uid None identity same is = is
 partner_over one other uid (Some day) identity same is = identity_over one other uid identity day same is
 
--- ---- two tables with the same associations of a group
+-- ---- two tables with the same associations for a group
 
 abbrev HaveSameAssociations : Table → Table → Group → Type 0
 HaveSameAssociations one other group = (key : AssociationKey) → group_of key ≡ group → one (association_key key) ≡ other (association_key key)
@@ -69,10 +69,10 @@ association_over one other group day key line same is = record {
       (associated_over other one group day another others (λ link of. sym (same link of)) runs);
 }
 
--- ---- docker lines of one table that are in another's docker
+-- ---- from the docker of one table to the docker of another
 
--- the other table has each schedule of each UID that is concerned, and each association of each
--- group at the place
+-- the table `other` has all that the docker of the place in `one` depends on. It has all schedules
+-- of each UID that matters there, and all associations of each group there
 record Covers (one other : Table) (place : List ℕ) : Type 0 where
   calls : (key : ScheduleKey) (lines : List (List ℕ)) → one (schedule_key key) ≡ Some (schedule_body lines) → CallsAt place lines
       → HaveSameSchedules one other key.uid
@@ -142,7 +142,7 @@ list_over one other place day forth back lines is = record {
 -- ---- a table and its excerpt
 
 module _ (place : List ℕ) (live part : Table) (is : IsExcerpt place live part) where
-  -- at each key that is needed, the excerpt has what the table has
+  -- the excerpt agrees with the table at each key that the place needs
   pub same_where_needed : (key : Key) → IsNeeded live place key → part key ≡ live key
   same_where_needed key needed = by (is key)
     where
@@ -190,20 +190,20 @@ module _ (place : List ℕ) (live part : Table) (is : IsExcerpt place live part)
     links = λ group here key of. sym (same_links group here key of);
   }
 
-  -- a table and its excerpt have the same docker list at the place
+  -- a table and its excerpt have the same docker list for the place
   pub excerpt_list_iff : (day : ℕ) (lines : List DockerLine) → IsDockerList live place day lines ↔ IsDockerList part place day lines
   excerpt_list_iff day lines = (list_over live part place day forth back lines, list_over part live place day back forth lines)
 
   text_same : (day : ℕ) (lines : List DockerLine) → docker_text part place day lines ≡ docker_text live place day lines
   text_same day lines = ap (text_with place day lines) (ap description_in (same_where_needed (tiploc_key place) refl))
 
-  -- a table and its excerpt have the same docker text at the place
+  -- a table and its excerpt have the same docker text for the place
   pub excerpt_text_iff : (day : ℕ) (text : List ℕ) → IsDockerText live place day text ↔ IsDockerText part place day text
   excerpt_text_iff day text = (
     λ told. (told.0, (excerpt_list_iff day told.0).0 told.1, told.2 ∙ sym (text_same day told.0)),
     λ told. (told.0, (excerpt_list_iff day told.0).1 told.1, told.2 ∙ text_same day told.0),
   )
 
-  -- if the table has good bodies, so has the excerpt
+  -- if all bodies of the table are well formed, so are the bodies of the excerpt
   pub excerpt_good : HasGoodBodies live → HasGoodBodies part
   excerpt_good good key body there = good key body (was_there key body there)

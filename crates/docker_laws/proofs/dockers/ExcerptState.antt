@@ -1,5 +1,5 @@
--- An excerpt of a valid state for a place is valid, refuses the same days and gives the same
--- dockers there. The entries whose keys are needed are an excerpt.
+-- An excerpt of a valid state for a place is valid, refuses the same days, and gives the same
+-- dockers of the place. The entries whose keys the place needs are an excerpt.
 use Rattle.std.proofs.Common.{◌++◌, ◌≡◌, ℕ, List, [], ◌∷◌, subst, inl, inr, ◌⊎◌, refl, ap, sym, ◌∙◌, Bool, true, false, cond, Some, None}
 use Rattle.std.specs.Prelude.{Option, ◌↔◌, ◌&&◌, ◌||◌, filter, find, option_and_then}
 use Rattle.std.specs.List.{list_any}
@@ -32,7 +32,7 @@ use Rattle.state_laws.proofs.indexes.CallsTest.{any_forth, calls_test}
 
 -- ---- an excerpt of a state
 
--- some of a ledger's entries are good entries over the ledger
+-- if all entries of a ledger are good, so are some of them, in the same order
 pub some_entries : (ledger : List LedgerItem) (some all : List Keyed) → AreEntries ledger all → IsSublist some all → AreEntries ledger some
 some_entries ledger some all are is = (
   sublist_all (IsGoodEntry ledger) some all is are.0,
@@ -42,7 +42,7 @@ some_entries ledger some all are is = (
     by_key : Keyed → Keyed → Ordering
     by_key = on (λ (entry : Keyed). entry.0) key_cmp
 
--- an entry that may follow all entries of a state may follow some of them
+-- an entry that may follow all entries of a state may also follow some of them
 pub still_here : (state part : State) (key : Key) (stamp : Stamp) → IsSublist part.entries state.entries → part.ledger ≡ state.ledger
     → IsStampHere state key stamp → IsStampHere part key stamp
 still_here state part key stamp is same here = (
@@ -50,7 +50,7 @@ still_here state part key stamp is same here = (
   subst (λ ledger. IsStampIn ledger stamp) (sym same) here.1,
 )
 
--- entries over a ledger, with one more that may follow them, are good
+-- good entries and one more that may follow them are good entries
 pub entries_more : (state : State) (key : Key) (entry : Entry) → AreEntries state.ledger state.entries → IsStampHere state key entry.stamp
     → IsOpOf key entry.op
     → AreEntries state.ledger (state.entries ++ (key, entry) ∷ [])
@@ -62,7 +62,7 @@ entries_more state key entry are here of = (
       (recursion_from_All (λ (e : Keyed). IsBelow key_cmp e.0 key) state.entries here.0.1),
 )
 
--- each entry may follow those before it
+-- among good entries each one may follow those before it
 pub entry_behind : (state : State) (key : Key) (entry : Entry) (rest : List Keyed) → AreEntries state.ledger (state.entries ++ (key, entry) ∷ rest)
     → IsStampHere state key entry.stamp × IsOpOf key entry.op
 entry_behind state key entry rest are =
@@ -99,7 +99,7 @@ excerpt_valid place state part valid is = some_valid state part valid is.horizon
 pub excerpt_itself : (place : List ℕ) (state : State) → IsExcerptState place state state
 excerpt_itself place state = record { horizon = refl; ledger = refl; entries = sublist_itself state.entries; live = λ key. inl refl }
 
--- an excerpt of an excerpt is an excerpt
+-- an excerpt of an excerpt is an excerpt of the first state
 pub excerpt_again : (place : List ℕ) (state part smaller : State) → IsExcerptState place state part → IsExcerptState place part smaller
     → IsExcerptState place state smaller
 excerpt_again place state part smaller is further = record {
@@ -143,7 +143,7 @@ excerpt_again place state part smaller is further = record {
     by key (inl same) = inner key same (is.live key)
     by key (inr none) = inr (none.0, λ needed. none.1 (needed_still key needed))
 
--- an excerpt refuses the same days
+-- an excerpt refuses the same days as its state
 pub excerpt_refuses : (place : List ℕ) (state part : State) (day : ℕ) → IsExcerptState place state part
     → IsDayRefused state.horizon day ↔ IsDayRefused part.horizon day
 excerpt_refuses place state part day is =
@@ -152,7 +152,7 @@ excerpt_refuses place state part day is =
 -- ---- the entries whose keys pass a test
 
 module _ (test : Key → Bool) where
-  -- a key that passes the test is found among the entries that pass
+  -- a search for a key that passes the test finds the same entry among the entries that pass
   find_kept : (key : Key) → test key ≡ true → (xs : List Keyed) → find (λ entry. is_eq (key_cmp entry.0 key)) (filter (λ entry. test entry.0) xs)
       ≡ find (λ entry. is_eq (key_cmp entry.0 key)) xs
   find_kept key passes [] = refl
@@ -168,7 +168,7 @@ module _ (test : Key → Bool) where
       by false true h g rest = absurd (let bad : false ≡ true = sym h ∙ ap test (same_key x.0 key g) ∙ passes in cc)
       by false false h g rest = rest
 
-  -- a key that fails the test isn't found among the entries that pass
+  -- a search for a key that fails the test finds nothing among the entries that pass
   find_dropped : (key : Key) → test key ≡ false → (xs : List Keyed)
       → find (λ entry. is_eq (key_cmp entry.0 key)) (filter (λ entry. test entry.0) xs) ≡ None
   find_dropped key fails xs = by (find (λ entry. is_eq (key_cmp entry.0 key)) (filter (λ entry. test entry.0) xs)) refl
@@ -181,56 +181,57 @@ module _ (test : Key → Bool) where
           let passed = filter_back (λ (entry : Keyed). test entry.0) xs pair told.0 in
           absurd (let bad : false ≡ true = sym fails ∙ sym (ap test (same_key pair.0 key told.1)) ∙ passed.1 in cc)
 
-  -- the state with only the entries whose keys pass
+  -- the state with only the entries whose keys pass the test
   abbrev pub with_passing : State → State
   with_passing state = record { horizon = state.horizon; ledger = state.ledger; entries = filter (λ (entry : Keyed). test entry.0) state.entries }
 
-  -- at a key that passes, the state of the passing entries has what the whole state has
+  -- at a key that passes the test, the state with only the passing entries has the same body as the
+  -- whole state
   pub live_kept : (state : State) (key : Key) → test key ≡ true → live_table (with_passing state) key ≡ live_table state key
   live_kept state key passes =
       ap (λ (found : Option Keyed).
       option_and_then (λ (entry : Entry). body_of entry.op) (option_and_then (λ (pair : Keyed). Some pair.1) found)) (find_kept key passes state.entries)
 
-  -- at a key that fails, the state of the passing entries has nothing
+  -- at a key that fails the test, the state with only the passing entries has no body
   pub live_dropped : (state : State) (key : Key) → test key ≡ false → live_table (with_passing state) key ≡ None
   live_dropped state key fails = live_none (with_passing state) key (find_dropped key fails state.entries)
 
--- ---- the keys that are needed, found from the entries
+-- ---- the keys that a place needs, found from the entries
 
--- the entry is a live schedule of the UID that calls at the place
+-- whether the entry is a live schedule of the UID that calls at the place
 abbrev pub calls_as : List ℕ → List ℕ → Keyed → Bool
 calls_as place uid entry = has_uid uid entry.0 && is_call place entry.1.op
 
--- there is a name, and it is the UID
+-- whether there is a name and it is the UID
 abbrev pub is_name : List ℕ → Option (List ℕ) → Bool
 is_name uid None = false
 is_name uid (Some name) = bytes_eq name uid
 
--- the entry is a live association at the place that names the UID
+-- whether the entry is a live association at the place whose associated train has the UID
 abbrev pub names_as : List ℕ → List ℕ → Keyed → Bool
 names_as place uid entry = is_here place entry.0 && is_name uid (name_in entry.0 entry.1.op)
 
--- whether the UID is concerned, found from the entries
+-- whether the UID matters at the place, by a test of the entries
 abbrev pub is_concerned : List ℕ → List Keyed → List ℕ → Bool
 is_concerned place entries uid = list_any (names_as place uid) entries || list_any (calls_as place uid) entries
 
--- whether the key is needed, found from the entries
+-- whether the place needs the key, by a test of the entries
 abbrev pub is_needed : List ℕ → List Keyed → Key → Bool
 is_needed place entries (tiploc_key code) = bytes_eq code place
 is_needed place entries (association_key key) = bytes_eq key.location place
 is_needed place entries (schedule_key key) = is_concerned place entries key.uid
 
--- if the second of two tests passes, one of the tests passes
+-- one of two tests passes if the second passes
 pub or_right : (a b : Bool) → b ≡ true → (a || b) ≡ true
 or_right true b h = refl
 or_right false b h = h
 
--- if the first of two tests passes, one of the tests passes
+-- one of two tests passes if the first passes
 pub or_left : (a b : Bool) → a ≡ true → (a || b) ≡ true
 or_left true b h = refl
 or_left false b h = absurd (let bad : false ≡ true = h in cc)
 
--- a key that is needed passes the test
+-- a key that the place needs passes the test `is_needed`
 pub needed_passes : (place : List ℕ) (state : State) (key : Key) → IsNeeded (live_table state) place key → is_needed place state.entries key ≡ true
 needed_passes place state (tiploc_key code) here = (bytes_eq-Decides code place).1 here
 needed_passes place state (association_key key) here = (bytes_eq-Decides key.location place).1 here
@@ -253,7 +254,7 @@ needed_passes place state (schedule_key key) concerned = by concerned
         or_left (list_any (names_as place key.uid) state.entries) (list_any (calls_as place key.uid) state.entries)
         (any_forth (names_as place key.uid) state.entries (association_key named.key, found.0) found.1 passes)
 
--- the entries whose keys pass are an excerpt
+-- the entries whose keys pass the test `is_needed` are an excerpt
 pub passing_is_excerpt : (place : List ℕ) (state : State) → IsExcerptState place state (with_passing (is_needed place state.entries) state)
 passing_is_excerpt place state = record {
   horizon = refl;

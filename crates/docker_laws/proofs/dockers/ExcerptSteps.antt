@@ -1,4 +1,4 @@
--- The walk that makes an excerpt: what the walk has after each entry, and what it keeps in the end.
+-- The walk that makes an excerpt: what it has kept after each entry and at the end.
 use Rattle.std.proofs.Common.{All, ◌≡◌, ℕ, List, [], ◌∷◌, ◌++◌, subst, inl, inr, ◌⊎◌, refl, ap, sym}
 use Rattle.std.proofs.Common.{◌∙◌, Bool, true, false, cond, Some, Contains, append-nil, append_assoc}
 use Rattle.std.specs.Prelude.{Option, ◌||◌, ◌↔◌, filter, fold, option_and_then}
@@ -29,23 +29,24 @@ use Rattle.state_laws.proofs.indexes.CallsTest.{any_back, any_forth, calls_test,
 use Rattle.docker_laws.proofs.dockers.ExcerptState.{calls_as, names_as, is_name, is_needed, needed_passes, some_entries, or_left, or_right}
 use Rattle.docker_laws.proofs.dockers.ExcerptWalk.{false_true, uid_once, above_uid, name_of, walk_keeps}
 
--- ---- along a walk
+-- ---- what holds at each point of a walk
 
 fold_more : {A B : Type 0} (f : B → A → B) (first : B) (xs ys : List A) → fold f first (xs ++ ys) ≡ fold f (fold f first xs) ys
 fold_more f first [] ys = refl
 fold_more f first (x ∷ xs) ys = fold_more f (f first x) xs ys
 
--- one more entry takes the walk to where `next_kept` leads
+-- the walk after one more entry is the step `next_kept` from the walk before it
 pub so_far_more : (place : List ℕ) (entries : List Keyed) (entry : Keyed)
     → kept_so_far place (entries ++ entry ∷ []) ≡ next_kept place (kept_so_far place entries) entry
 so_far_more place entries entry = fold_more (next_kept place) nothing_kept entries (entry ∷ [])
 
--- a walk that goes on from any entry keeps in the end what the whole walk keeps
+-- a walk that is continued from any entry keeps the same in the end as the whole walk
 pub kept_from_there : (place : List ℕ) (front rest : List Keyed)
     → kept_from place (kept_so_far place front) rest ≡ kept_after_run place (kept_so_far place (front ++ rest))
 kept_from_there place front rest = ap (kept_after_run place) (sym (fold_more (next_kept place) nothing_kept front rest))
 
--- a fact that holds at the start, and stays true with each entry, holds throughout
+-- a property that holds before the first entry, and that each entry preserves, holds at each point
+-- of the walk
 module _ (place : List ℕ) (P : List Keyed → ExcerptSoFar → Type 0)
     (step : (done : List Keyed) (so_far : ExcerptSoFar) (x : Keyed) → P done so_far → P (done ++ x ∷ []) (next_kept place so_far x)) where
   onward : (rest done : List Keyed) (so_far : ExcerptSoFar) → P done so_far → P (done ++ rest) (fold (next_kept place) so_far rest)
@@ -57,9 +58,9 @@ module _ (place : List ℕ) (P : List Keyed → ExcerptSoFar → Type 0)
   all_along : P [] nothing_kept → (entries : List Keyed) → P entries (kept_so_far place entries)
   all_along first entries = onward entries [] nothing_kept first
 
--- ---- what is kept, and then the run, are some of the entries so far
+-- ---- the kept entries and the run are some of the entries passed
 
--- after a run, the kept entries are a sublist of the entries kept before and the run
+-- at the end of a run, the kept entries are some of the entries kept before and the run's
 pub after_run_within : (place : List ℕ) (so_far : ExcerptSoFar) → IsSublist (kept_after_run place so_far) (so_far.kept ++ so_far.run)
 after_run_within place so_far = by (is_run_needed place so_far)
   where
@@ -114,17 +115,17 @@ module _ (place : List ℕ) where
   within_more done so_far (tiploc_key code) entry here = within_other done so_far (tiploc_key code, entry) (is_here place (tiploc_key code)) here
   within_more done so_far (association_key key) entry here = within_other done so_far (association_key key, entry) (is_here place (association_key key)) here
 
-  -- the kept entries, and then the run, are a sublist of the entries so far
+  -- the kept entries and the run are some of the entries passed, in the same order
   pub so_far_within : (entries : List Keyed) → IsSublist ((kept_so_far place entries).kept ++ (kept_so_far place entries).run) entries
   so_far_within = all_along place Within (λ done so_far x here. within_more done so_far x.0 x.1 here) tt
 
-  -- if all entries so far are good, so are those that are kept or in the run
+  -- if all entries passed are good, so are the kept ones with the run
   pub so_far_good : (ledger : List LedgerItem) (entries : List Keyed) → AreEntries ledger entries
       → AreEntries ledger ((kept_so_far place entries).kept ++ (kept_so_far place entries).run)
   so_far_good ledger entries are =
       some_entries ledger ((kept_so_far place entries).kept ++ (kept_so_far place entries).run) entries are (so_far_within entries)
 
-  -- ---- the run is of one UID
+  -- ---- the entries of a run have one UID
 
   abbrev OfOneUid : List Keyed → ExcerptSoFar → Type 0
   OfOneUid done so_far = (uid : List ℕ) × ((r : Keyed) → Contains so_far.run r → has_uid uid r.0 ≡ true)
@@ -168,7 +169,7 @@ module _ (place : List ℕ) where
   run_of_one_uid : (entries : List Keyed) → OfOneUid entries (kept_so_far place entries)
   run_of_one_uid = all_along place OfOneUid (λ done so_far x here. one_uid_more done so_far x.0 x.1 here) ([], λ r among. absurd (nil-Contains r among))
 
-  -- if a schedule of this UID continues the run, all entries of the run have the UID
+  -- if a schedule of this UID may join the run, all entries of the run have the UID
   pub run_uid : (entries : List Keyed) (uid : List ℕ) (r : Keyed) → goes_on (kept_so_far place entries).run uid ≡ true
       → Contains (kept_so_far place entries).run r → has_uid uid r.0 ≡ true
   run_uid entries uid r goes among =
@@ -176,7 +177,8 @@ module _ (place : List ℕ) where
       let first = goes_first (kept_so_far place entries).run uid goes in
       subst (λ other. has_uid other r.0 ≡ true) (uid_once of.0 uid first.0.0 (of.1 first.0 first.1) first.2) (of.1 r among)
 
-  -- when a TIPLOC or an association comes, in key order, no schedules of a UID are being gathered
+  -- in key order there is no run when a TIPLOC or an association comes, because these come before
+  -- all schedules
   pub no_run_before : (entries : List Keyed) (key : Key) → All (λ (e : Keyed). IsBelow key_cmp e.0 key) entries
       → ((uid : List ℕ) → has_uid uid key ≡ false) → (kept_so_far place entries).run ≡ []
   no_run_before entries key above never =
@@ -187,7 +189,7 @@ module _ (place : List ℕ) where
       let is = above_uid r.0 key of.0 (member_of (λ (e : Keyed). IsBelow key_cmp e.0 key) entries r above inside) (of.1 r among) in
       false_true (sym (never is.0) ∙ is.1))
 
-  -- ---- the names
+  -- ---- the UIDs that kept associations name
 
   abbrev at_place : List Keyed → List Keyed
   at_place entries = filter (λ (entry : Keyed). is_here place entry.0) entries
@@ -251,12 +253,13 @@ module _ (place : List ℕ) where
   named_more done so_far (tiploc_key code) entry here = named_other done so_far (tiploc_key code, entry) (is_here place (tiploc_key code)) refl here
   named_more done so_far (association_key key) entry here = named_other done so_far (association_key key, entry) (is_here place (association_key key)) refl here
 
-  -- the kept associations name the same UIDs as all live associations at the place so far
+  -- the kept associations name the same UIDs as all live associations at the place that the walk
+  -- has passed
   pub names_so_far : (entries : List Keyed)
       → names_in (kept_so_far place entries).kept ≡ names_in (filter (λ (entry : Keyed). is_here place entry.0) entries)
   names_so_far entries = (all_along place AreNamed (λ done so_far x here. named_more done so_far x.0 x.1 here) (refl, refl) entries).0
 
-  -- one more schedule adds no name
+  -- one more schedule names no UID
   pub names_stay : (entries : List Keyed) (key : ScheduleKey) (entry : Entry)
       → names_in (kept_so_far place (entries ++ (schedule_key key, entry) ∷ [])).kept ≡ names_in (kept_so_far place entries).kept
   names_stay entries key entry =
@@ -289,7 +292,7 @@ module _ (place : List ℕ) (so_far : ExcerptSoFar) where
   pub drops_run : is_run_needed place so_far ≡ false → kept_after_run place so_far ≡ so_far.kept
   drops_run unneeded = λ i. cond (unneeded i) (so_far.kept ++ so_far.run) so_far.kept
 
-  -- if no run is open, the kept entries stay as they are
+  -- without a run the kept entries stay as they are
   pub ends_none : so_far.run ≡ [] → kept_after_run place so_far ≡ so_far.kept
   ends_none none = subst (λ (run : List Keyed). kept_after_run place (record { kept = so_far.kept; run = run }) ≡ so_far.kept) (sym none) refl
 
@@ -312,7 +315,7 @@ module _ (place : List ℕ) (so_far : ExcerptSoFar) where
   elsewhere_then x true h none = absurd (let bad : true ≡ false = h in cc)
   elsewhere_then x false h none = let back : [] ≡ so_far.run = sym none in λ i. record { kept = ends_none none i; run = back i }
 
-  -- a TIPLOC or an association elsewhere changes nothing
+  -- a TIPLOC or an association of another place changes nothing
   pub drops_elsewhere : (key : Key) (entry : Entry) → ((uid : List ℕ) → has_uid uid key ≡ false) → is_here place key ≡ false → so_far.run ≡ []
       → next_kept place so_far (key, entry) ≡ so_far
   drops_elsewhere (schedule_key key) entry never elsewhere none = false_true (sym (never key.uid) ∙ (bytes_eq-Decides key.uid key.uid).1 refl)
@@ -320,7 +323,7 @@ module _ (place : List ℕ) (so_far : ExcerptSoFar) where
   drops_elsewhere (association_key key) entry never elsewhere none =
       elsewhere_then (association_key key, entry) (is_here place (association_key key)) elsewhere none
 
--- a run is named if and only if the UID of its first schedule is among the names
+-- a run's UID is among the names exactly if the UID of its first schedule is
 pub named_iff : (names : List (List ℕ)) (key : ScheduleKey) (entry : Entry) (others : List Keyed)
     → (is_run_named names ((schedule_key key, entry) ∷ others) ≡ true) ↔ Contains names key.uid
 named_iff names key entry others = (
@@ -330,8 +333,8 @@ named_iff names key entry others = (
   λ among. any_forth (λ name. bytes_eq key.uid name) names key.uid among ((bytes_eq-Decides key.uid key.uid).1 refl),
 )
 
--- a run is needed if and only if a kept association names its UID or a live schedule of the run
--- calls at the place
+-- a run is needed exactly if a kept association names its UID or one of its live schedules calls at
+-- the place
 pub run_needed_iff : (place : List ℕ) (so_far : ExcerptSoFar) (key : ScheduleKey) (entry : Entry) (others : List Keyed)
     → so_far.run ≡ (schedule_key key, entry) ∷ others
     → (is_run_needed place so_far ≡ true)
@@ -356,25 +359,26 @@ run_needed_iff place so_far key entry others is =
         or_right (is_run_named (names_in so_far.kept) so_far.run) (is_run_calling place so_far.run)
         (any_forth (λ (e : Keyed). is_call place e.1.op) so_far.run call.0 call.1 call.2)
 
--- joining a test with false by `or` leaves the test as it is
+-- for any test `b`, "`b` or false" is `b`
 pub or_false : (b : Bool) → (b || false) ≡ b
 or_false true = refl
 or_false false = refl
 
--- a run with one more schedule calls at the place if it did before or the schedule does
+-- a run with one more schedule calls at the place if it did before or if that schedule does
 pub calls_more : (place : List ℕ) (run : List Keyed) (entry : Keyed)
     → is_run_calling place (run ++ entry ∷ []) ≡ (is_run_calling place run || is_call place entry.1.op)
 calls_more place run entry =
     list_any-append (λ (e : Keyed). is_call place e.1.op) run (entry ∷ [])
     ∙ ap (λ b. is_run_calling place run || b) (or_false (is_call place entry.1.op))
 
--- the names in entries and one more are the names in the entries, and the name in the last entry
+-- the names in entries and one more entry are the names in the entries, then the name in the last
+-- one
 pub names_with : (xs : List Keyed) (entry : Keyed) → names_in (xs ++ entry ∷ []) ≡ names_in xs ++ names_in (entry ∷ [])
 names_with xs entry = filter_map-append (λ (e : Keyed). name_in e.0 e.1.op) xs (entry ∷ [])
 
--- ---- what is kept in the end
+-- ---- what is kept at the end
 
--- at an entry's key, the live table has the entry's body
+-- at the key of an entry, the live table has the body of that entry
 live_of : (state : State) → AreAscending state.entries → (key : Key) (entry : Entry) → Contains state.entries (key, entry)
     → live_table state key ≡ body_of entry.op
 live_of state up key entry among =
@@ -453,7 +457,7 @@ module _ (place : List ℕ) (state : State) (up : AreAscending state.entries) wh
   passes_needed (schedule_key key) h =
       concerned_back key.uid (either (list_any (names_as place key.uid) state.entries) (list_any (calls_as place key.uid) state.entries) h)
 
-  -- the walk leaves exactly the entries whose keys are needed
+  -- the excerpt has exactly those entries of the state whose keys the place needs
   pub excerpt_members : (key : Key) (entry : Entry)
       → Contains (excerpt_for place state).entries (key, entry) ↔ (Contains state.entries (key, entry) × IsNeeded (live_table state) place key)
   excerpt_members key entry =

@@ -1,5 +1,5 @@
--- The walk that makes an excerpt, as a loop. From entry to entry the loop carries the kept entries,
--- the run, and whether the run is needed.
+-- The walk that makes an excerpt, as a loop. At each entry the loop carries the kept entries, the
+-- run, and a flag that says whether the run is needed.
 use Rattle.std.proofs.Common.{◌≡◌, ℕ, List, [], ◌∷◌, ◌++◌, subst, refl, ap, sym, ◌∙◌, Bool, true, false, cond, Contains}
 use Rattle.std.specs.Prelude.{◌||◌, ◌↔◌}
 use Rattle.docker_model.specs.file.Change.{Key, schedule_key, ScheduleKey}
@@ -22,12 +22,12 @@ or_assoc : (a b c : Bool) → (a || (b || c)) ≡ ((a || b) || c)
 or_assoc true b c = refl
 or_assoc false b c = refl
 
--- at the start nothing is kept
+-- before the first entry nothing is kept
 pub kept_first : (place : List ℕ) → HasKept place [] [] [] false
 kept_first place = record { so_far = refl; is_needed = refl }
 
 module _ (place : List ℕ) (entries kept run : List Keyed) (needed : Bool) (has : HasKept place entries kept run needed) where
-  -- one more entry takes the walk to where `next_kept` leads
+  -- the walk after one more entry is the step `next_kept` from the walk before it
   next_is : (x : Keyed) → kept_so_far place (entries ++ x ∷ []) ≡ next_kept place (at kept run) x
   next_is x = so_far_more place entries x ∙ ap (λ (so_far : ExcerptSoFar). next_kept place so_far x) has.so_far
 
@@ -36,7 +36,8 @@ module _ (place : List ℕ) (entries kept run : List Keyed) (needed : Bool) (has
   same_name names [] uid x goes = false_true goes
   same_name names (first ∷ rest) uid x goes = refl
 
-  -- a schedule of the run's UID joins the run
+  -- after a schedule with the run's UID, the run is longer by it, and is needed if it was needed or
+  -- the schedule calls at the place
   pub kept_joins : (key : ScheduleKey) (entry : Entry) → goes_on run key.uid ≡ true
       → HasKept place (entries ++ (schedule_key key, entry) ∷ []) kept (run ++ (schedule_key key, entry) ∷ []) (needed || is_call place entry.op)
   kept_joins key entry goes = record {
@@ -47,7 +48,7 @@ module _ (place : List ℕ) (entries kept run : List Keyed) (needed : Bool) (has
         ∙ ap (λ b. b || is_call place entry.op) has.is_needed;
   }
 
-  -- at its end, a run is kept if it is needed
+  -- at its end the run is kept if it is needed, and dropped otherwise
   ended : kept_after_run place (at kept run) ≡ cond needed (kept ++ run) kept
   ended = λ i. cond (has.is_needed i) (kept ++ run) kept
 
@@ -64,7 +65,8 @@ module _ (place : List ℕ) (entries kept run : List Keyed) (needed : Bool) (has
       ∙ names_stay place entries key entry
       ∙ ap (λ (so_far : ExcerptSoFar). names_in so_far.kept) has.so_far
 
-  -- a schedule of another UID ends the run and begins the next
+  -- a schedule of another UID ends the run and begins the next, which is needed if its UID is named
+  -- or the schedule calls at the place
   pub kept_begins : (key : ScheduleKey) (entry : Entry) (named : Bool) → goes_on run key.uid ≡ false
       → (named ≡ true) ↔ Contains (names_in kept) key.uid
       → HasKept place (entries ++ (schedule_key key, entry) ∷ []) (cond needed (kept ++ run) kept) ((schedule_key key, entry) ∷ [])
@@ -85,16 +87,16 @@ module _ (place : List ℕ) (entries kept run : List Keyed) (needed : Bool) (has
           same_tests (is_run_named (names_in (cond needed (kept ++ run) kept)) ((schedule_key key, entry) ∷ [])) named (λ h. tells.1 (told.0 h))
           (λ h. told.1 (tells.0 h))
 
-  -- the kept entries, and then the run, are a sublist of the entries so far
+  -- the kept entries and the run are some of the entries passed, in the same order
   pub kept_within : IsSublist (kept ++ run) entries
   kept_within = subst (λ (so_far : ExcerptSoFar). IsSublist (so_far.kept ++ so_far.run) entries) has.so_far (so_far_within place entries)
 
-  -- if all entries so far are good, so are those that are kept or in the run
+  -- if all entries passed are good, so are the kept ones with the run
   pub kept_good : (ledger : List LedgerItem) → AreEntries ledger entries → AreEntries ledger (kept ++ run)
   kept_good ledger are = subst (λ (so_far : ExcerptSoFar). AreEntries ledger (so_far.kept ++ so_far.run)) has.so_far (so_far_good place ledger entries are)
 
 module _ (place : List ℕ) (state : State) (kept run : List Keyed) (needed : Bool) (has : HasKept place state.entries kept run needed) where
-  -- when a TIPLOC or an association comes, no schedules of a UID are being gathered
+  -- there is no run when a TIPLOC or an association comes
   pub kept_alone : (key : Key) → IsAboveEntries state key → ((uid : List ℕ) → has_uid uid key ≡ false) → run ≡ []
   kept_alone key above never = sym (ap (λ (so_far : ExcerptSoFar). so_far.run) has.so_far) ∙ no_run_before place state.entries key above never
 
@@ -106,7 +108,7 @@ module _ (place : List ℕ) (state : State) (kept run : List Keyed) (needed : Bo
     is_needed = refl;
   }
 
-  -- a TIPLOC or an association elsewhere is not kept
+  -- a TIPLOC or an association of another place isn't kept
   pub kept_elsewhere : (key : Key) (entry : Entry) → IsAboveEntries state key → ((uid : List ℕ) → has_uid uid key ≡ false) → is_here place key ≡ false
       → HasKept place (state.entries ++ (key, entry) ∷ []) kept [] false
   kept_elsewhere key entry above never elsewhere = record {
@@ -117,6 +119,6 @@ module _ (place : List ℕ) (state : State) (kept run : List Keyed) (needed : Bo
     is_needed = refl;
   }
 
-  -- at the end, the excerpt is the kept entries, with the run if the run is needed
+  -- at the end the excerpt has the kept entries, with the run if it is needed
   pub kept_last : (excerpt_for place state).entries ≡ cond needed (kept ++ run) kept
   kept_last = ap (kept_after_run place) has.so_far ∙ ended place state.entries kept run needed has

@@ -1,5 +1,5 @@
--- A walk over entries in key order keeps exactly the entries whose keys are needed. Which keys are
--- needed is found from the entries.
+-- A walk over entries in key order keeps exactly the entries whose keys the place needs. A test of
+-- the entries shows which keys these are.
 use Rattle.std.proofs.Common.{◌≡◌, ℕ, List, [], ◌∷◌, ◌++◌, subst, inl, inr, ◌⊎◌, refl, ap, sym, ◌∙◌}
 use Rattle.std.proofs.Common.{Bool, true, false, cond, Some, None, Contains, append-nil, append_assoc}
 use Rattle.std.specs.Prelude.{◌↔◌, Option, ◌||◌, filter}
@@ -32,9 +32,9 @@ use Rattle.docker_laws.proofs.dockers.ExcerptDocker.{excerpt_list_iff, excerpt_t
 use Rattle.docker_laws.proofs.dockers.ExcerptState.{calls_as, names_as, is_name, is_concerned, is_needed, passing_is_excerpt, excerpt_valid}
 use Rattle.state_laws.proofs.indexes.CallsTest.{any_back, any_forth}
 
--- ---- keys of one UID
+-- ---- keys with one UID
 
--- false is not true
+-- anything follows if `false` equals `true`
 pub false_true : {A : Type 0} → false ≡ true → A
 false_true h = absurd (let bad : false ≡ true = h in cc)
 
@@ -44,7 +44,7 @@ uid_once one other (schedule_key key) h g = sym ((bytes_eq-Decides key.uid one).
 uid_once one other (tiploc_key code) h g = false_true h
 uid_once one other (association_key key) h g = false_true h
 
--- a key above a schedule's key is a schedule's key
+-- a key above the key of a schedule is also the key of a schedule
 pub above_uid : (a b : Key) (uid : List ℕ) → key_cmp a b ≡ Less → has_uid uid a ≡ true → (other : List ℕ) × (has_uid other b ≡ true)
 above_uid (schedule_key a) (schedule_key b) uid below h = (b.uid, (bytes_eq-Decides b.uid b.uid).1 refl)
 above_uid (schedule_key a) (tiploc_key b) uid below h = absurd (let bad : Greater ≡ Less = below in cc)
@@ -52,7 +52,7 @@ above_uid (schedule_key a) (association_key b) uid below h = absurd (let bad : G
 above_uid (tiploc_key a) b uid below h = false_true h
 above_uid (association_key a) b uid below h = false_true h
 
--- the key of a TIPLOC or an association isn't a schedule's key
+-- the key of a TIPLOC or an association is no schedule's key
 here_no_uid : (place uid : List ℕ) (key : Key) → is_here place key ≡ true → has_uid uid key ≡ true → ⊥
 here_no_uid place uid (schedule_key key) h g = false_true h
 here_no_uid place uid (tiploc_key code) h g = false_true g
@@ -63,7 +63,7 @@ first_decides Less b less greater = cc
 first_decides Equal b less greater = cc
 first_decides Greater b less greater = let bad : Greater ≡ Less = less in cc
 
--- schedules of one UID stand together
+-- in key order a schedule between two schedules of one UID has the same UID
 uid_between : (a b c : ScheduleKey) → schedule_key_cmp a b ≡ Less → schedule_key_cmp b c ≡ Less → a.uid ≡ c.uid → b.uid ≡ a.uid
 uid_between a b c up further same =
     let low = first_decides (bytes_cmp a.uid b.uid) (ordering_then (nat_cmp a.runs_from b.runs_from) (nat_cmp a.indicator b.indicator)) up in
@@ -84,11 +84,12 @@ between_uid (association_key a) b c uid up further h g = false_true h
 
 -- ---- lists
 
--- the first entry's key is below the second's
+-- the key of the first entry is below the key of the second
 abbrev pub Below : Keyed → Keyed → Type 0
 Below a b = IsBelow (on (λ (entry : Keyed). entry.0) key_cmp) a b
 
--- if two lists together are in key order, each entry of the first is below each of the second
+-- if two lists, one after the other, are in key order, each entry of the first is below each entry
+-- of the second
 pub later_across : (xs ys : List Keyed) (x y : Keyed) → AllLater Below (xs ++ ys) → Contains xs x → Contains ys y → Below x y
 later_across [] ys x y later in_x in_y = absurd (nil-Contains x in_x)
 later_across (z ∷ xs) ys x y later in_x in_y = by (λ inside. later_across xs ys x y later.1 inside in_y) (Contains-cons z xs x in_x)
@@ -115,17 +116,17 @@ with_alike : (b : Bool) (xs ys : List Keyed) → cond b (xs ++ ys) xs ≡ xs ++ 
 with_alike true xs ys = refl
 with_alike false xs ys = sym (append-nil xs)
 
--- if each of two tests passes when the other does, they are equal
+-- two tests are equal if each passes whenever the other does
 pub same_tests : (a b : Bool) → (a ≡ true → b ≡ true) → (b ≡ true → a ≡ true) → a ≡ b
 same_tests true b to back = sym (to refl)
 same_tests false true to back = back refl
 same_tests false false to back = refl
 
--- ---- where a walk is
+-- ---- the position of a walk
 
--- Where a walk is, after some entries, within a run, and before the rest. It has kept what is
--- needed of the entries before the run. The run is of one UID. No entry before the run has a UID
--- that an entry of the run or of the rest has.
+-- The walk has passed the entries `done`, is in the run of `so_far`, and has the entries `rest`
+-- before it. Of the entries in `done` it has kept the needed ones. All entries of the run have one
+-- UID. No entry in `done` has a UID of the run or of `rest`.
 record IsAt (place : List ℕ) (all done : List Keyed) (so_far : ExcerptSoFar) (rest : List Keyed) : Type 0 where
   whole : all ≡ (done ++ so_far.run) ++ rest
   kept : so_far.kept ≡ filter (λ (entry : Keyed). is_needed place all entry.0) done
@@ -133,11 +134,11 @@ record IsAt (place : List ℕ) (all done : List Keyed) (so_far : ExcerptSoFar) (
   of_uid : (r : Keyed) → Contains so_far.run r → has_uid uid r.0 ≡ true
   apart : (z y : Keyed) (other : List ℕ) → Contains done z → Contains (so_far.run ++ rest) y → has_uid other z.0 ≡ true → has_uid other y.0 ≡ true → ⊥
 
--- no entry of the rest has the run's UID
+-- no entry of `rest` has the run's UID
 abbrev IsEnded : List Keyed → List Keyed → Type 0
 IsEnded run rest = (r y : Keyed) (other : List ℕ) → Contains run r → Contains rest y → has_uid other r.0 ≡ true → has_uid other y.0 ≡ true → ⊥
 
--- if the name that is found passes, it is the UID
+-- if the name that was found passes the test, it is the UID
 pub name_of : (uid : List ℕ) (found : Option (List ℕ)) → is_name uid found ≡ true → (name : List ℕ) × (found ≡ Some name) × (name ≡ uid)
 name_of uid None h = false_true h
 name_of uid (Some name) h = (name, refl, (bytes_eq-Decides name uid).0 h)
@@ -161,13 +162,13 @@ module _ (place : List ℕ) (all : List Keyed) (order : AllLater Below all) wher
   needed_of_uid uid (tiploc_key code) h = false_true h
   needed_of_uid uid (association_key key) h = false_true h
 
-  -- ---- the run's end
+  -- ---- the end of a run
   module _ (done kept : List Keyed) (first : Keyed) (others rest : List Keyed)
       (at : IsAt place all done (record { kept = kept; run = first ∷ others }) rest) (ended : IsEnded (first ∷ others) rest) where
     of_first : has_uid at.uid first.0 ≡ true
     of_first = at.of_uid first (cons-Contains-first first others)
 
-    -- each entry is before the run, in the run, or after it
+    -- each entry is in `done`, in the run, or in `rest`
     place_of : (x : Keyed) → Contains all x → Contains done x ⊎ (Contains (first ∷ others) x ⊎ Contains rest x)
     place_of x among = outer (Contains-append_cases (done ++ first ∷ others) rest x (subst (λ xs. Contains xs x) at.whole among))
       where
@@ -271,7 +272,7 @@ module _ (place : List ℕ) (all : List Keyed) (order : AllLater Below all) wher
         ∙ ap (λ (ys : List Keyed). filter (λ (entry : Keyed). is_needed place all entry.0) done ++ ys) (sym of_run)
         ∙ sym (filter-append test done (first ∷ others))
 
-  -- once the run has ended, the kept entries are exactly the needed ones so far
+  -- at the end of the run, the walk has kept exactly the needed entries of those that it has passed
   run_end : (done kept run rest : List Keyed) → IsAt place all done (record { kept = kept; run = run }) rest → IsEnded run rest
       → kept_after_run place (record { kept = kept; run = run }) ≡ filter (λ (entry : Keyed). is_needed place all entry.0) (done ++ run)
   run_end done kept [] rest at ended = at.kept ∙ ap (filter (λ (entry : Keyed). is_needed place all entry.0)) (sym (append-nil done))
@@ -286,7 +287,7 @@ module _ (place : List ℕ) (all : List Keyed) (order : AllLater Below all) wher
       later_across (done ++ so_far.run) (x ∷ rest) r x (subst (AllLater Below) at.whole order) (Contains-append_right done so_far.run r among)
       (cons-Contains-first x rest)
 
-  -- the next entry is below those after it
+  -- the next entry is below all entries after it
   next_below : (done : List Keyed) (so_far : ExcerptSoFar) (x : Keyed) (rest : List Keyed) → IsAt place all done so_far (x ∷ rest) → (y : Keyed)
       → Contains rest y → key_cmp x.0 y.0 ≡ Less
   next_below done so_far x rest at y among =
@@ -305,7 +306,7 @@ module _ (place : List ℕ) (all : List Keyed) (order : AllLater Below all) wher
   regrouped done run rest x =
       sym (append_assoc (done ++ run) (x ∷ []) rest) ∙ ap (λ (xs : List Keyed). xs ++ rest) (append_assoc done run (x ∷ []))
 
-  -- a schedule of the run's UID joins the run
+  -- after a schedule with the run's UID, the walk is one entry further in the same run
   joins : (done : List Keyed) (so_far : ExcerptSoFar) (key : ScheduleKey) (entry : Entry) (rest : List Keyed)
       → IsAt place all done so_far ((schedule_key key, entry) ∷ rest) → goes_on so_far.run key.uid ≡ true
       → IsAt place all done (record { kept = so_far.kept; run = so_far.run ++ (schedule_key key, entry) ∷ [] }) rest
@@ -329,14 +330,14 @@ module _ (place : List ℕ) (all : List Keyed) (order : AllLater Below all) wher
           subst (λ (e : Keyed). has_uid at.uid e.0 ≡ true) (Contains-single {A = Keyed} (schedule_key key, entry) r last)
           ((bytes_eq-Decides key.uid at.uid).1 uid_is)
 
-  -- a schedule of another UID ends the run
+  -- at a schedule with another UID, no entry of `rest` has the run's UID
   ends : (done : List Keyed) (so_far : ExcerptSoFar) (key : ScheduleKey) (entry : Entry) (rest : List Keyed)
       → IsAt place all done so_far ((schedule_key key, entry) ∷ rest) → goes_on so_far.run key.uid ≡ false
       → IsEnded so_far.run ((schedule_key key, entry) ∷ rest)
   ends done so_far key entry rest at stops r y other in_run behind of_r of_y =
       by (Contains-cons {A = Keyed} (schedule_key key, entry) rest y behind)
     where
-      -- the next entry is not of the run's UID
+      -- the next entry doesn't have the run's UID
       hit : has_uid other (schedule_key key) ≡ true → ⊥
       hit h =
           let same : at.uid ≡ key.uid = uid_once at.uid other r.0 (at.of_uid r in_run) of_r ∙ sym ((bytes_eq-Decides key.uid other).0 h) in
@@ -348,7 +349,7 @@ module _ (place : List ℕ) (all : List Keyed) (order : AllLater Below all) wher
           hit (between_uid r.0 (schedule_key key) y.0 other (run_below done so_far (schedule_key key, entry) rest at r in_run)
           (next_below done so_far (schedule_key key, entry) rest at y there) of_r of_y)
 
-  -- a schedule of another UID begins the next run
+  -- after a schedule with another UID, the walk is at the first entry of the next run
   begins : (done : List Keyed) (so_far : ExcerptSoFar) (key : ScheduleKey) (entry : Entry) (rest : List Keyed)
       → IsAt place all done so_far ((schedule_key key, entry) ∷ rest) → goes_on so_far.run key.uid ≡ false
       → IsAt place all (done ++ so_far.run) (record { kept = kept_after_run place so_far; run = (schedule_key key, entry) ∷ [] }) rest
@@ -371,7 +372,7 @@ module _ (place : List ℕ) (all : List Keyed) (order : AllLater Below all) wher
           at.apart z y other here (Contains-append_right so_far.run ((schedule_key key, entry) ∷ rest) y behind) of_z of_y
       by z y other (inr here) behind of_z of_y = ended z y other here behind of_z of_y
 
-  -- after some of the entries, the walk is before this rest
+  -- the walk has a position before this rest
   abbrev Goes : ExcerptSoFar → List Keyed → Type 0
   Goes so_far rest = (now : List Keyed) × IsAt place all now so_far rest
 
@@ -385,7 +386,7 @@ module _ (place : List ℕ) (all : List Keyed) (order : AllLater Below all) wher
       by true goes = (done, joins done so_far key entry rest at goes)
       by false stops = (done ++ so_far.run, begins done so_far key entry rest at stops)
 
-  -- when a TIPLOC or an association comes, no schedules of a UID are being gathered
+  -- when a TIPLOC or an association comes, there is no run
   no_run : (done : List Keyed) (so_far : ExcerptSoFar) (key : Key) (entry : Entry) (rest : List Keyed) → ((uid : List ℕ) → ¬ (has_uid uid key ≡ true))
       → IsAt place all done so_far ((key, entry) ∷ rest) → (r : Keyed) → ¬ Contains so_far.run r
   no_run done so_far key entry rest never at r among =
@@ -457,7 +458,7 @@ module _ (place : List ℕ) (all : List Keyed) (order : AllLater Below all) wher
   one_more done so_far (tiploc_key code) entry rest at = other_more done so_far (tiploc_key code) entry rest (tiploc_never code) refl at
   one_more done so_far (association_key key) entry rest at = other_more done so_far (association_key key) entry rest (association_never key) refl at
 
-  -- ---- to the end
+  -- ---- the end of a walk
 
   from_here : (rest done : List Keyed) (so_far : ExcerptSoFar) → IsAt place all done so_far rest
       → kept_from place so_far rest ≡ filter (λ (entry : Keyed). is_needed place all entry.0) all
@@ -477,11 +478,11 @@ module _ (place : List ℕ) (all : List Keyed) (order : AllLater Below all) wher
     apart = λ z y other in_done behind of_z of_y. nil-Contains z in_done;
   }
 
-  -- a walk over all entries keeps exactly the needed ones
+  -- a walk over all entries keeps exactly those that the place needs
   pub walk_keeps : kept_after_run place (kept_so_far place all) ≡ filter (λ (entry : Keyed). is_needed place all entry.0) all
   walk_keeps = from_here all [] nothing_kept at_first
 
--- a walk over a state's entries in key order leaves an excerpt
+-- a walk over a state's entries in key order leaves an excerpt of the state
 pub walk_is_excerpt : (place : List ℕ) (state : State) → AreAscending state.entries → IsExcerptState place state (excerpt_for place state)
 walk_is_excerpt place state up =
     subst (λ (entries : List Keyed). IsExcerptState place state (record { horizon = state.horizon; ledger = state.ledger; entries = entries }))
@@ -492,13 +493,13 @@ walk_is_excerpt place state up =
 pub walk_valid : (place : List ℕ) (state : State) → IsValid state → IsValid (excerpt_for place state)
 walk_valid place state valid = excerpt_valid place state (excerpt_for place state) valid (walk_is_excerpt place state valid.entries.1)
 
--- the excerpt has the same docker list at the place
+-- the excerpt has the same docker list for the place as the state
 pub walk_list_iff : (place : List ℕ) (state : State) (day : ℕ) (lines : List DockerLine) → IsValid state
     → IsDockerList (live_table state) place day lines ↔ IsDockerList (live_table (excerpt_for place state)) place day lines
 walk_list_iff place state day lines valid =
     excerpt_list_iff place (live_table state) (live_table (excerpt_for place state)) (walk_is_excerpt place state valid.entries.1).live day lines
 
--- the excerpt has the same docker text at the place
+-- the excerpt has the same docker text for the place as the state
 pub walk_text_iff : (place : List ℕ) (state : State) (day : ℕ) (text : List ℕ) → IsValid state
     → IsDockerText (live_table state) place day text ↔ IsDockerText (live_table (excerpt_for place state)) place day text
 walk_text_iff place state day text valid =

@@ -1,5 +1,5 @@
--- The schedules of a table with good bodies pass midnight at most twice. So each event is at most
--- two days after the train starts.
+-- The schedules of a table with good bodies pass midnight at most twice, so each event is at most
+-- two days after the train's start day.
 use Rattle.std.proofs.Common.{◌≡◌, ℕ, ◌+◌, ◌≤◌, List, take, drop, subst, inl, inr, ◌⊎◌, ap, sym, ◌∙◌, Some, arith}
 use Rattle.std.specs.Prelude.{IsTrue}
 use Rattle.std.proofs.lemmas.Bool.{eqb-true}
@@ -15,13 +15,13 @@ use Rattle.docker_model.specs.docker.Event.{Event, falls_to, event_day}
 use Rattle.cif_laws.proofs.records.RecordTests.{fewer_falls}
 use Rattle.cif_laws.proofs.schedules.ScheduleStages.{midnights_of_journey}
 
--- the schedules of a table pass midnight at most twice
+-- every schedule of the table passes midnight at most twice
 abbrev pub HasFewMidnights : Table → Type 0
 HasFewMidnights live = (key : ScheduleKey) (lines : List (List ℕ)) → live (schedule_key key) ≡ Some (schedule_body lines) → midnights lines ≤ 2
 
--- ---- the schedule of a good body
+-- ---- a schedule with a good body
 
--- a schedule that fits its key passes midnight at most twice
+-- a well-formed schedule of a key passes midnight at most twice
 pub few_midnights : (key : ScheduleKey) (lines : List (List ℕ)) → IsScheduleOf key lines → midnights lines ≤ 2
 few_midnights key lines of = by of.schedule.sound
   where
@@ -38,13 +38,13 @@ few_midnights key lines of = by of.schedule.sound
         let same : midnights lines ≡ midnights is.journey = ap midnights is.whole ∙ midnights_of_journey is.basic is.extra is.journey is.kind is.details in
         subst (λ n. n ≤ 2) (sym same) falls
 
--- each schedule of a table with good bodies passes midnight at most twice
+-- if all bodies of a table are well formed, its schedules pass midnight at most twice
 pub bodies_few : (live : Table) → HasGoodBodies live → HasFewMidnights live
 bodies_few live good key lines is = few_midnights key lines (good (schedule_key key) (schedule_body lines) is)
 
 -- ---- events
 
--- up to an event there are at most as many falls as in the whole schedule
+-- a schedule passes midnight at most as often before an event as in all
 pub falls_below : (lines : List (List ℕ)) (number : ℕ) → falls_to lines number ≤ midnights lines
 falls_below lines number =
     subst (λ times. falls_to lines number ≤ fall_count times) (take-append-drop number (times_along lines))

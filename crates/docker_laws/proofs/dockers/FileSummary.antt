@@ -1,5 +1,5 @@
--- A file's summary, made entry by entry, is the summary of the file. The join of an empty state
--- with a valid state is the valid state.
+-- The summary of one file, computed entry by entry, is the summary of the file. The join of an
+-- empty state with a valid state is the valid state.
 use Rattle.std.proofs.Common.{◌≡◌, ℕ, List, [], ◌∷◌, length, append-nil, refl, ap, sym, ◌∙◌, subst, inl}
 use Rattle.std.proofs.Common.{inr, ◌⊎◌, Some, None, Bool, true, false, Contains, All, ◌≤◌, arith}
 use Rattle.std.specs.Prelude.{Option, ◌↔◌, ◌==◌}
@@ -45,7 +45,8 @@ not_itself a less = let tied = tied_itself key_total a in cc
 
 -- ---- one more entry
 
--- a member is one of the entries, or the new entry if no entry has its key
+-- after an older entry is added, each entry in the list was there before, or is the added one,
+-- whose key no other has
 member_forth : (entry : Keyed) (entries : List Keyed) → AreAscending entries → (z : Keyed) → Contains (with_earlier entry entries) z
     → Contains entries z ⊎ ((entry ≡ z) × NoEntry entries entry.0)
 member_forth entry [] up z among = inr (Contains-single entry z among, λ other inside. nil-Contains (entry.0, other) inside)
@@ -87,7 +88,7 @@ member_forth entry (first ∷ entries) up z among = by (key_cmp entry.0 first.0)
     by Equal h rest inside = inl inside
     by Greater h rest inside = after h rest (Contains-cons first (with_earlier entry entries) z inside)
 
--- each of the entries is still a member
+-- each entry that was there before is still there
 member_still : (entry : Keyed) (entries : List Keyed) (z : Keyed) → Contains entries z → Contains (with_earlier entry entries) z
 member_still entry [] z among = absurd (nil-Contains z among)
 member_still entry (first ∷ entries) z among =
@@ -100,7 +101,7 @@ member_still entry (first ∷ entries) z among =
     by Greater rest (inl same) = subst (Contains (first ∷ with_earlier entry entries)) same (cons-Contains-first first (with_earlier entry entries))
     by Greater rest (inr inside) = cons-Contains first (with_earlier entry entries) z (rest inside)
 
--- the new entry is a member if no entry has its key
+-- the older entry is added if no entry in the list has its key
 member_new : (entry : Keyed) (entries : List Keyed) → NoEntry entries entry.0 → Contains (with_earlier entry entries) entry
 member_new entry [] none = cons-Contains-first entry []
 member_new entry (first ∷ entries) none =
@@ -114,18 +115,18 @@ member_new entry (first ∷ entries) none =
         absurd (none first.1 (subst (Contains (first ∷ entries)) (λ i. (sym same i, first.1)) (cons-Contains-first first entries)))
     by Greater h rest = cons-Contains first (with_earlier entry entries) entry rest
 
--- the entries are still in key order
+-- the list is in key order after an older entry is added
 still_ascends : (entry : Keyed) (entries : List Keyed) → AreAscending entries → AreAscending (with_earlier entry entries)
 still_ascends entry [] up = (tt, tt)
 still_ascends entry (first ∷ entries) up = by (key_cmp entry.0 first.0) refl (still_ascends entry entries up.1)
   where
-    -- the new entry is below all the entries
+    -- an added entry with a key below the first is below all entries of the list
     below_all : key_cmp entry.0 first.0 ≡ Less → (z : Keyed) → (first ≡ z) ⊎ Contains entries z → key_cmp entry.0 z.0 ≡ Less
     below_all less z (inl same) = subst (λ (later : Keyed). key_cmp entry.0 later.0 ≡ Less) same less
     below_all less z (inr inside) =
         key_total.trans entry.0 first.0 z.0 less (below_by_recursion (λ (later : Keyed). key_cmp first.0 later.0 ≡ Less) entries z up.0 inside)
 
-    -- the first entry is below the rest
+    -- if the added entry is above the first, the first entry is below all that follow it
     above_first : key_cmp entry.0 first.0 ≡ Greater → (z : Keyed) → Contains entries z ⊎ ((entry ≡ z) × NoEntry entries entry.0) → key_cmp first.0 z.0 ≡ Less
     above_first greater z (inl inside) = below_by_recursion (λ (later : Keyed). key_cmp first.0 later.0 ≡ Less) entries z up.0 inside
     above_first greater z (inr new) =
@@ -145,13 +146,13 @@ still_ascends entry (first ∷ entries) up = by (key_cmp entry.0 first.0) refl (
       rest,
     )
 
--- ---- the last entries
+-- ---- the last entry of each key
 
 latest_ascend : (entries : List Keyed) → AreAscending (latest_entries entries)
 latest_ascend [] = tt
 latest_ascend (entry ∷ entries) = still_ascends entry (latest_entries entries) (latest_ascend entries)
 
--- an earlier entry of a key isn't above a later one
+-- an earlier entry of a key isn't greater than a later one
 not_above : (entry : Keyed) (entries : List Keyed) (key : Key) (last : Entry) → AllByRecursion (Ascends entry) entries → Contains entries (key, last)
     → (other : Entry) → entry ≡ (key, other) → entry_cmp other last ≡ Less
 not_above entry entries key last up inside other same =
@@ -160,7 +161,7 @@ not_above entry entries key last up inside other same =
     let other_below : IsBelow stamp_cmp other.stamp last.stamp = subst (λ (pair : Keyed). IsBelow stamp_cmp pair.1.stamp last.stamp) same below in
     (λ i. ordering_then (other_below i) (op_cmp other.op last.op))
 
--- the last entry of each key is the greatest, if later entries of a key have greater stamps
+-- the last entry of each key is the greatest, if later entries of the same key have greater stamps
 latest_is : (entries : List Keyed) → AllLater Ascends entries → (key : Key) (entry : Entry)
     → Contains (latest_entries entries) (key, entry) ↔ IsGreatestAmong entries key entry
 latest_is [] up key entry = (λ among. absurd (nil-Contains (key, entry) among), λ is. absurd (nil-Contains (key, entry) is.among))
@@ -169,7 +170,7 @@ latest_is (first ∷ entries) up key entry = (forth (latest_is entries up.1 key)
     Latest : Type 0
     Latest = (other : Entry) → Contains (latest_entries entries) (key, other) ↔ IsGreatestAmong entries key other
 
-    -- if none of the last entries has the key, no entry has the key
+    -- a key that has no last entry has no entry
     none_of : Latest → NoEntry (latest_entries entries) key → NoEntry entries key ⊎ GreatestEntry entries key → NoEntry entries key
     none_of later none (inl never) = never
     none_of later none (inr best) = absurd (none best.0 ((later best.0).1 (record { among = best.1; greatest = best.2 })))
@@ -231,7 +232,7 @@ latest_is (first ∷ entries) up key entry = (forth (latest_is entries up.1 key)
 -- ---- the summary
 
 module _ (file : List (List ℕ)) where
-  -- a file's stamp is not below the file's floor
+  -- the stamp of a file isn't below the floor of that file by itself
   floor_of : (b : Bool) → ((ledger_item_of file).indicator == 70) ≡ b
       → (floor : Option FileStamp) × IsFloor (ledger_item_of file ∷ []) floor × IsKept floor (file_stamp_of file)
   floor_of true h = (
@@ -291,7 +292,7 @@ module _ (file : List (List ℕ)) where
     );
   }
 
-  -- the summary made entry by entry is the summary of the file
+  -- the computed state is the summary of the file
   pub summary_is : IsSummary (file ∷ []) 0 (summary_of file)
   summary_is =
       reduced_summary (file ∷ []) 0 (summary_of file) refl

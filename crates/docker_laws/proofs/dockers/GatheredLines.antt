@@ -1,5 +1,5 @@
--- The lines that a walk over rows gathers are the docker's lines, and no two of them tie. Sorted,
--- they are the docker list.
+-- The lines that a walk over rows gathers are the lines of the docker, and no two of them tie.
+-- Sorted, they are the docker list.
 use Rattle.std.proofs.Common.{◌≡◌, ℕ, ◌-◌, ◌<◌, ◌≤◌, lit<, List, [], ◌∷◌, refl, ap, sym, ◌∙◌, subst, inl}
 use Rattle.std.proofs.Common.{inr, ◌⊎◌, Some, Bool, true, false, cond, Contains, arith, ◌++◌, append-nil}
 use Rattle.std.specs.Prelude.{Option, filter, nat_le}
@@ -36,19 +36,19 @@ use Rattle.docker_laws.proofs.dockers.ScheduleLines.{schedule_piece, IsOfSchedul
 use Rattle.docker_laws.proofs.dockers.ScheduleLines.{schedule_piece_forth, schedule_piece_apart, event_starts}
 use Rattle.docker_laws.proofs.dockers.AssociationLines.{link_piece, IsOfAssociation, link_piece_back, link_piece_forth, link_piece_apart, association_starts}
 
--- the line is of this schedule or association, for this start day
+-- the line is a docker line of the schedule or association with this key, for this start day
 abbrev IsLineFrom : Table → List ℕ → ℕ → Key → ℕ → DockerLine → Type 0
 IsLineFrom live place day key start line =
     ((schedule : ScheduleKey) × (schedule_key schedule ≡ key) × IsOfSchedule live place day schedule start line)
     ⊎ ((association : AssociationKey) × (association_key association ≡ key) × IsOfAssociation live place day association start line)
 
--- a line as `IsLineFrom` describes it is a line of the docker
+-- a line of a schedule or an association for a start day is a line of the docker
 from_is : (live : Table) (place : List ℕ) (day : ℕ) (key : Key) (start : ℕ) (line : DockerLine) → IsLineFrom live place day key start line
     → IsDockerLine live place day line
 from_is live place day key start line (inl (schedule, same, of)) = inl of.made
 from_is live place day key start line (inr (association, same, of)) = inr of.made
 
--- if two lines tie, they are of the same row and start day
+-- two lines that tie belong to the same row and the same start day
 same_source : (live : Table) (place : List ℕ) (day : ℕ) (first second : Key) (start other : ℕ) (a b : DockerLine) → IsLineFrom live place day first start a
     → IsLineFrom live place day second other b
     → docker_line_cmp a b ≡ Equal → (first ≡ second) × (start ≡ other)
@@ -67,7 +67,7 @@ same_source live place day first second start other a b (inl (x, x_is, one)) (in
 same_source live place day first second start other a b (inr (x, x_is, one)) (inl (y, y_is, two)) e =
     absurd (event_apart live place day b a two.made one.made (sym (tied_lines_agree a b e).occasions))
 
--- the differences 0, 1 and 2 to the day ascend
+-- the list 0, 1, 2 ascends
 counted_up : AllLater (λ (a b : ℕ). a < b) (0 ∷ 1 ∷ 2 ∷ [])
 counted_up = ((lit< tt, (lit< tt, tt)), ((lit< tt, tt), (tt, tt)))
 
@@ -114,7 +114,7 @@ module _ (live : Table) (trains : List ℕ → ℕ → Option Train) (links : Gr
   of_row (association_key key) (tiploc_body bytes) is line among = absurd (nil-Contains line among)
   of_row (association_key key) (schedule_body lines) is line among = absurd (nil-Contains line among)
 
-  -- the lines of one row, start day by start day
+  -- the lines of one row, start day by start day, are in the docker, and no two of them tie
   module _ (key : Key) (piece : ℕ → List DockerLine) (back : (start : ℕ) (line : DockerLine) → Contains (piece start) line
       → IsLineFrom live place day key start line)
       (apart : (start : ℕ) → AreApart docker_line_cmp (piece start)) where
@@ -209,7 +209,8 @@ module _ (live : Table) (trains : List ℕ → ℕ → Option Train) (links : Gr
       );
     }
 
--- one more row adds its lines
+-- the lines gathered from rows and one more row are the lines of the rows, then the lines of the
+-- last row
 pub gathered_more : (trains : List ℕ → ℕ → Option Train) (links : Group → ℕ → Option Link) (place : List ℕ) (day : ℕ) (rows : List Row) (key : Key)
     (body : Body)
     → gathered trains links place day (rows ++ (key, body) ∷ []) ≡ gathered trains links place day rows ++ row_lines trains links place day key body

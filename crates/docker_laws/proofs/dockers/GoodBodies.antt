@@ -1,4 +1,5 @@
--- The live table of a valid state has good bodies. Its rows are the state's puts.
+-- The bodies in the live table of a valid state are well formed. The rows of the table are the
+-- state's puts.
 use Rattle.std.proofs.Common.{◌≡◌, refl, ap, sym, ◌∙◌, subst, Some, None, Contains}
 use Rattle.std.specs.Prelude.{Option, find}
 use Rattle.std.specs.Ordering.{is_eq}
@@ -10,7 +11,7 @@ use Rattle.state_laws.proofs.states.PlainTable.{Keyed, live_at, live_none}
 use Rattle.cif_laws.proofs.orders.Orders.{same_key}
 use Rattle.cif_laws.proofs.lists.FilteredMembers.{find_some}
 
--- a live body comes from the state's entry at the key
+-- a body in the live table belongs to the state's entry at that key
 pub live_entry : (state : State) (key : Key) (body : Body) → live_table state key ≡ Some body → (entry : Entry) × Contains state.entries (key, entry)
     × (entry.op ≡ put_with body)
 live_entry state key body is = by (find (λ entry. is_eq (key_cmp entry.0 key)) state.entries) refl
@@ -29,7 +30,7 @@ live_entry state key body is = by (find (λ entry. is_eq (key_cmp entry.0 key)) 
         let here : pair ≡ (key, pair.1) = (λ i. (same i, pair.1)) in
         (pair.1, subst (Contains state.entries) here told.0, op_is pair.1.op (sym (live_at state key pair h) ∙ is))
 
--- the live bodies of a valid state are good
+-- the bodies in the live table of a valid state are well formed
 pub good_bodies : (state : State) → IsValid state → HasGoodBodies (live_table state)
 good_bodies state valid key body is =
     let found = live_entry state key body is in

@@ -1,4 +1,4 @@
--- A schedule that fits its key, and the fields of its first line.
+-- The well-formed schedule of a key, and the fields of its first record.
 use Rattle.std.proofs.Common.{◌≡◌, ℕ, ◌<◌, List, true, false, Bool, cond, [], ◌∷◌, ◌++◌, length, subst, ap, sym, arith}
 use Rattle.std.specs.Prelude.{◌==◌}
 use Rattle.std.specs.List.{AllByRecursion}
@@ -10,21 +10,21 @@ use Rattle.docker_model.specs.file.File.{first_record}
 use Rattle.docker_model.specs.state.State.{IsScheduleOf}
 use Rattle.cif_laws.proofs.records.Columns.{good_fields, IsGoodIn}
 
--- ---- a schedule that fits its key
+-- ---- the well-formed schedule of a key
 
--- the first line of a schedule that fits its key is a basic schedule
+-- the first record of a well-formed schedule is a basic schedule
 pub first_kind : (key : ScheduleKey) (lines : List (List ℕ)) → IsScheduleOf key lines → HasKind basic_schedule (first_record lines)
 first_kind key lines of = subst (λ (ls : List (List ℕ)). HasKind basic_schedule (first_record ls)) (sym of.schedule.whole) of.schedule.kind
 
--- the first line of a schedule that fits its key has good fields
+-- the first record of a well-formed schedule has good fields
 pub first_good : (key : ScheduleKey) (lines : List (List ℕ)) → IsScheduleOf key lines → HasGoodFields (first_record lines)
 first_good key lines of = subst (λ (ls : List (List ℕ)). HasGoodFields (first_record ls)) (sym of.schedule.whole) of.schedule.fields
 
--- a schedule that fits its key isn't a deletion
+-- the first record of a well-formed schedule isn't a deletion
 pub first_stays : (key : ScheduleKey) (lines : List (List ℕ)) → IsScheduleOf key lines → is_deletion (first_record lines) ≡ false
 first_stays key lines of = ap (λ (n : ℕ). n == 68) of.new
 
--- a schedule that fits its key has a first line
+-- a well-formed schedule has a first record
 pub first_there : (key : ScheduleKey) (lines : List (List ℕ)) → IsScheduleOf key lines → 0 < length lines
 first_there key lines of = subst (λ (ls : List (List ℕ)). 0 < length ls) (sym of.schedule.whole) (omega arith)
 
@@ -34,7 +34,7 @@ first_there key lines of = subst (λ (ls : List (List ℕ)). 0 < length ls) (sym
 pub schedule_first : (line : List ℕ) → HasKind basic_schedule line → HasGoodFields line → is_date (columns 10 15 line) ≡ true
 schedule_first line is good = (good_fields basic_schedule line is good).1.0
 
--- the checked fields after the runs-from date
+-- the checked fields of a basic schedule after its runs-from date
 schedule_later : Bool → List CheckedField
 schedule_later deletion = cond deletion [] (checked 16 21 is_end_date ∷ checked 22 28 is_days ∷ []) ++ checked 80 80 is_stp_indicator ∷ []
 
@@ -44,12 +44,12 @@ unfolding schedule_later
 later_good line is good stays =
     subst (λ b. AllByRecursion (IsGoodIn line) (schedule_later b)) stays (good_fields basic_schedule line is good).1.1
 
--- the runs-to date of a good basic schedule is an end date, unless it is a deletion
+-- the runs-to date of a good basic schedule is an end date, unless the record is a deletion
 pub schedule_last : (line : List ℕ) → HasKind basic_schedule line → HasGoodFields line → is_deletion line ≡ false → is_end_date (columns 16 21 line) ≡ true
 unfolding schedule_later
 schedule_last line is good stays = (later_good line is good stays).0
 
--- the days run of a good basic schedule are flags, unless it is a deletion
+-- the days run of a good basic schedule are seven digits 0 or 1, unless the record is a deletion
 pub schedule_days : (line : List ℕ) → HasKind basic_schedule line → HasGoodFields line → is_deletion line ≡ false → is_days (columns 22 28 line) ≡ true
 unfolding schedule_later
 schedule_days line is good stays = (later_good line is good stays).1.0

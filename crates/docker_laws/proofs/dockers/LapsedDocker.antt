@@ -1,5 +1,5 @@
 -- From three days after the horizon on, a table and the table lapsed under the horizon have the
--- same docker.
+-- same dockers.
 use Rattle.std.proofs.Common.{◌≡◌, ℕ, ◌+◌, ◌-◌, ◌≤◌, List, ◌++◌, inl, inr, ◌⊎◌, refl, ap, sym, ◌∙◌, Bool, true, false, cond, Some, None, arith}
 use Rattle.std.specs.Prelude.{Option, ◌↔◌, ◌==◌, nat_lt, option_and_then, codes}
 use Rattle.std.specs.List.{flat_map}
@@ -20,13 +20,13 @@ use Rattle.state_laws.proofs.states.TableLapsed.{was_live, body_stays}
 use Rattle.docker_laws.proofs.dockers.LapsedChoice.{train_iff, association_iff}
 use Rattle.docker_laws.proofs.dockers.FewMidnights.{HasFewMidnights, starts_near}
 
--- a docker's text whose heading has this description
+-- the text of a docker with this description in its heading
 abbrev pub text_with : List ℕ → ℕ → List DockerLine → List ℕ → List ℕ
 text_with place day lines description =
     ended (codes "DOCKER " ++ place ++ spaces 1 ++ day_text day ++ spaces 1 ++ description ++ spaces 4) ++ flat_map
     (λ line. ended (line_text line)) lines ++ ended last_line
 
--- the associated train starts at most one day before the base train
+-- the base train starts at most one day after the associated train
 pub partner_after : (indicator start day : ℕ) → partner_start indicator start ≡ Some day → start ≤ day + 1
 partner_after indicator start day is = by (indicator == 78) (indicator == 80) is
   where
@@ -44,10 +44,10 @@ partner_after indicator start day is = by (indicator == 78) (indicator == 80) is
     by false true told = earlier (nat_lt 0 start) refl told
     by false false some = let same : start ≡ day = cc in omega arith
 
--- ---- from one table to another
+-- ---- from the docker of one table to the docker of another
 
--- the other table has each train with an event on the day, the associations with that train as
--- base, and the identities of its partners
+-- the table `other` has each train of `one` with an event on the day, the associations with such a
+-- train as base train, and the identities of their associated trains
 pub record CarriesOver (one other : Table) (day : ℕ) : Type 0 where
   pub trains : (uid : List ℕ) (start : ℕ) (key : ScheduleKey) (lines : List (List ℕ)) → TrainRuns one uid start key lines → (event : Event)
       → event_day start lines event ≡ day → TrainRuns other uid start key lines
@@ -57,7 +57,7 @@ pub record CarriesOver (one other : Table) (day : ℕ) : Type 0 where
       × (IsPartnerIdentity one key.associated (partner_start indicator start) identity
       → IsPartnerIdentity other key.associated (partner_start indicator start) identity)
 
--- an event's line in the docker of one table is in the docker of the other
+-- an event's line in the docker of `one` is in the docker of `other`
 pub event_line_over : (one other : Table) (place : List ℕ) (day : ℕ) → CarriesOver one other day → (line : DockerLine) → IsEventLine one place day line
     → IsEventLine other place day line
 event_line_over one other place day carries line is = record {
@@ -72,7 +72,7 @@ event_line_over one other place day carries line is = record {
   is = is.is;
 }
 
--- an association's line in the docker of one table is in the docker of the other
+-- an association's line in the docker of `one` is in the docker of `other`
 pub association_line_over : (one other : Table) (place : List ℕ) (day : ℕ) → CarriesOver one other day → (line : DockerLine)
     → IsAssociationLine one place day line → IsAssociationLine other place day line
 association_line_over one other place day carries line is =
@@ -100,7 +100,7 @@ association_line_over one other place day carries line is =
     }
 
 module _ (horizon : ℕ) (bound : horizon ≤ no_end_number) (live : Table) where
-  -- ---- the partner
+  -- ---- the associated train
 
   identity_iff : (uid identity : List ℕ) (day : ℕ) → horizon ≤ day → IsIdentityOn live uid identity day ↔ IsIdentityOn
       (lapse_table horizon live) uid identity day
@@ -122,7 +122,7 @@ module _ (horizon : ℕ) (bound : horizon ≤ no_end_number) (live : Table) wher
   module _ (few : HasFewMidnights live) (place : List ℕ) (day : ℕ) (from : horizon + 3 ≤ day) where
     -- ---- lines
 
-    -- a train with an event on the day started at least a day after the horizon
+    -- a train with an event on the day started at least one day after the horizon
     started_after : (uid : List ℕ) (start : ℕ) (key : ScheduleKey) (lines : List (List ℕ)) → TrainRuns live uid start key lines → (event : Event)
         → event_day start lines event ≡ day → horizon + 1 ≤ start
     started_after uid start key lines runs event today =
@@ -211,7 +211,7 @@ module _ (horizon : ℕ) (bound : horizon ≤ no_end_number) (live : Table) wher
           (λ line. IsEventLine live place day line ⊎ IsAssociationLine live place day line) (λ line. ((line_iff line).1, (line_iff line).0)) lines,
     )
 
-    -- a place keeps its description, as a TIPLOC has no end
+    -- the lapse leaves the description of a place, since a TIPLOC has no end
     description_stays : description_in (lapse_table horizon live (tiploc_key place)) ≡ description_in (live (tiploc_key place))
     description_stays = by (live (tiploc_key place))
       where

@@ -31,7 +31,7 @@ row_is (association_key key) (schedule_body lines) link is = none_some link is
 row_is (tiploc_key code) body link is = none_some link is
 row_is (schedule_key key) body link is = none_some link is
 
--- a key that passes the test is of the group
+-- a key that passes the test `is_of_group` belongs to the group
 group_forth : (group : Group) (key : AssociationKey) → is_of_group group key ≡ true → group_of key ≡ group
 group_forth group key passes =
     let p = both (bytes_eq key.base group.base && bytes_eq key.associated group.associated && bytes_eq key.location group.location)
@@ -92,24 +92,24 @@ module _ (live : Table) (rows : List Row) (group : Group) (has : HasAssociations
     best_is_link found best =
         first_is_link found (best_is_first by_key (is_linked group day) (associations_in rows) Runs associated among_linked passes_linked found best)
 
-    -- rows with each association of a group determine the chosen one
+    -- the rows of all associations of a group determine its chosen association
     pub link_tells : IsLinkOn live group day (link_in rows group day)
     link_tells =
         first_is_link (link_in rows group day)
         (found_is_first by_key (is_linked group day) (associations_in rows) Runs associated among_linked passes_linked)
 
--- the rows of a whole table have each association of each group
+-- the rows of a whole table include each association of each group
 pub rows_have : (live : Table) (rows : List Row) → AreRowsOf live rows → (group : Group) → HasAssociationsOf live group rows
 rows_have live rows are group = record {
   each = λ key body among. (are.members key body).0 among;
   all = λ key line same is. (are.members (association_key key) (association_body line)).1 is;
 }
 
--- the rows of a whole table determine its chosen associations
+-- the rows of a whole table determine all its chosen associations
 pub links_tell : (live : Table) (rows : List Row) → AreRowsOf live rows → TellsLinks live (link_in rows)
 links_tell live rows are group day = link_tells live rows group (rows_have live rows are group) day
 
--- a group has one chosen association on a day, or none
+-- for a group and a day there is only one possible result
 pub one_link_answer : (live : Table) (group : Group) (day : ℕ) (a b : Option Link) → IsLinkOn live group day a → IsLinkOn live group day b → a ≡ b
 one_link_answer live group day None None one two = refl
 one_link_answer live group day None (Some b) one two = absurd (one b.key b.line two)

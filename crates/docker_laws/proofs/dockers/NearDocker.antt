@@ -1,5 +1,5 @@
--- A table and the part of it that may count near a day have the same dockers on that day. The part
--- leaves out the schedules that run on no start day near it.
+-- A table has the same dockers on a day if it loses the schedules that run on no start day near the
+-- day.
 use Rattle.std.proofs.Common.{◌≡◌, ℕ, zero, suc, ◌+◌, ◌-◌, ◌≤◌, List, [], ◌∷◌, subst, inl, inr, ◌⊎◌, refl}
 use Rattle.std.proofs.Common.{ap, sym, ◌∙◌, Bool, true, false, cond, Some, None, Contains, arith}
 use Rattle.std.specs.Prelude.{Option, ◌↔◌, ◌==◌, nat_lt, IsTrue}
@@ -25,11 +25,11 @@ use Rattle.docker_laws.proofs.dockers.LapsedDocker.{text_with, partner_after, Ca
 
 -- ---- the start days near a day
 
--- a start day near the day: at most three days before it, and at most one day after it
+-- the start day is near the day: it is at most three days before it and at most one day after it
 abbrev pub IsStartNear : ℕ → ℕ → Type 0
 IsStartNear day start = (start ≤ day + 1) × (day ≤ start + 3)
 
--- a start day near the day is one of the five that `near_starts` lists
+-- the list `near_starts` has each start day near the day
 pub near_start : (day start : ℕ) → IsStartNear day start → Contains (near_starts day) start
 near_start day start near = by ((day + 1) - start) refl near.0 near.1
   where
@@ -49,7 +49,7 @@ near_start day start near = by ((day + 1) - start) refl near.0 near.1
     by (suc (suc (suc (suc n)))) h low high =
         Contains-append_right ((day + 1) ∷ day ∷ (day - 1) ∷ (day - 2) ∷ []) ((day - 3) ∷ []) start (first (day - 3) [] (omega arith))
 
--- a schedule that runs on a start day near the day runs near the day
+-- a schedule that runs on a start day near the day passes the test `runs_near`
 pub runs_near_by : (day start : ℕ) (line : List ℕ) → IsStartNear day start → IsTrue (schedule_runs line start) → runs_near day line ≡ true
 runs_near_by day start line near runs = any_forth (λ (s : ℕ). schedule_runs line s) (near_starts day) start (near_start day start near) runs
 
@@ -87,15 +87,15 @@ partner_near day start within indicator partner is =
     let after = partner_after indicator start partner is in
     (omega arith, omega arith)
 
--- ---- two tables that run the same schedules near a day, and have the same associations
+-- ---- two tables with the same schedules near a day and the same associations
 
--- each schedule that runs near the day in one table runs in the other
+-- each schedule of `one` that runs on a start day near the day also runs in `other`
 abbrev RunsOver : Table → Table → ℕ → Type 0
 RunsOver one other day =
     (start : ℕ) → IsStartNear day start → (uid : List ℕ) (key : ScheduleKey) (lines : List (List ℕ)) → IsRunning one uid start key lines
     → IsRunning other uid start key lines
 
--- each association of one table is in the other
+-- each association of `one` is in `other`
 abbrev LinksOver : Table → Table → Type 0
 LinksOver one other =
     (group : Group) (start : ℕ) (key : AssociationKey) (line : List ℕ) → IsAssociated one group start key line → IsAssociated other group start key line
@@ -171,14 +171,14 @@ list_over one other place day forth back lines is = record {
   );
 }
 
--- ---- a table and the part of it that may count
+-- ---- a table without the schedules that don't run near a day
 
--- the key is left out: the table has there a schedule that runs on no start day near the day
+-- this key may be left out: it has a schedule that runs on no start day near the day
 abbrev pub IsLeftOut : ℕ → Table → Key → Type 0
 IsLeftOut day live key = (lines : List (List ℕ)) × (live key ≡ Some (schedule_body lines)) × (runs_near day (first_record lines) ≡ false)
 
--- `part` is what may count in `live` near the day: at each key it has what `live` has, or nothing
--- if the key is left out
+-- `part` is the table without some schedules that don't run near the day: at each key it agrees
+-- with `live`, or has nothing if the key may be left out
 abbrev pub IsNearPart : ℕ → Table → Table → Type 0
 IsNearPart day live part = (key : Key) → (part key ≡ live key) ⊎ ((part key ≡ None) × IsLeftOut day live key)
 
@@ -241,7 +241,7 @@ module _ (day : ℕ) (live part : Table) (is : IsNearPart day live part) where
     pub near_list_iff : (place : List ℕ) (lines : List DockerLine) → IsDockerList live place day lines ↔ IsDockerList part place day lines
     near_list_iff place lines = (list_over live part place day forth back lines, list_over part live place day back forth lines)
 
-  -- the table and the part have the same description of a place, as no TIPLOC is left out
+  -- the table and the part have the same description of a place, since no TIPLOC is left out
   pub near_description : (place : List ℕ) → description_in (part (tiploc_key place)) ≡ description_in (live (tiploc_key place))
   near_description place = by (is (tiploc_key place))
     where

@@ -1,5 +1,5 @@
--- The train of a docker line starts on the day or on one of the two days before. A walk over the
--- whole table leaves out no row of a place.
+-- The train of a docker line starts on the day or on one of the two days before it. A walk over a
+-- whole table misses no line of a place.
 use Rattle.std.proofs.Common.{ℕ, ◌+◌, ◌≤◌, List, Contains, arith}
 use Rattle.std.specs.Prelude.{◌↔◌}
 use Rattle.docker_model.specs.file.Change.{schedule_key, association_key, schedule_body, association_body}
@@ -37,7 +37,7 @@ association_near live place day line good made =
 pub start_days_are : (day start : ℕ) → Contains (start_days day) start ↔ ((start ≤ day) × (day ≤ start + 2))
 start_days_are day start = ((start_days_iff day start).0, (start_days_iff day start).1)
 
--- the rows of a whole table are a walk that leaves out no row of a place
+-- the rows of a whole table are a walk that misses no line of a place
 pub whole_walk : (live : Table) (place : List ℕ) (rows : List Row) → AreRowsOf live rows → IsWalk live place rows
 whole_walk live place rows are = record {
   ascending = are.ascending;

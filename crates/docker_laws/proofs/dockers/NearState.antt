@@ -1,5 +1,5 @@
--- A valid state with only what may count near a day is valid, and gives the same dockers on that
--- day. The same holds for its excerpt for a place.
+-- A valid state with only the entries that may count on a day is valid, and gives the same dockers
+-- on that day. So does its excerpt for a place.
 use Rattle.std.proofs.Common.{◌≡◌, ℕ, List, [], ◌∷◌, ◌++◌, inl, inr, ◌⊎◌, refl, ap, sym, ◌∙◌, Bool, true, false, cond, None, Contains, append-nil}
 use Rattle.std.specs.Prelude.{◌↔◌, filter}
 use Rattle.std.proofs.lemmas.List.Elements.{filter-append}
@@ -20,7 +20,7 @@ use Rattle.docker_laws.proofs.dockers.ExcerptState.{some_valid}
 use Rattle.docker_laws.proofs.dockers.ExcerptWalk.{walk_valid, walk_list_iff, walk_text_iff}
 use Rattle.docker_laws.proofs.dockers.NearDocker.{IsLeftOut, IsNearPart, near_list_iff, near_text_iff}
 
--- an op that may not count is a put of a schedule that runs on no start day near the day
+-- an op that can't count on the day puts a schedule that runs on no start day near it
 may_not : (day : ℕ) (op : Op) → may_count day op ≡ false
     → (lines : List (List ℕ)) × (op ≡ put_with (schedule_body lines)) × (runs_near day (first_record lines) ≡ false)
 may_not day (put_with (schedule_body lines)) h = (lines, refl, h)
@@ -29,7 +29,8 @@ may_not day (put_with (association_body line)) h = absurd (let bad : true ≡ fa
 may_not day deleted h = absurd (let bad : true ≡ false = h in cc)
 may_not day lapsed h = absurd (let bad : true ≡ false = h in cc)
 
--- the live table of the state with only what may count is the near part of the live table
+-- the live table of the state with only these entries is the live table without schedules that
+-- don't run near the day
 pub near_part : (day : ℕ) (state : State) → AreAscending state.entries → IsNearPart day (live_table state) (live_table (near_state day state))
 near_part day state up key = by (find_in (near_entries day state.entries) key) (find_in state.entries key)
   where
@@ -60,19 +61,19 @@ near_part day state up key = by (find_in (near_entries day state.entries) key) (
           missing all.0 all.2 (live_at state key all.0 all.1) never.1 (may_count day all.0.1.op) refl,
         )
 
--- a valid state with only what may count is valid
+-- a valid state with only the entries that may count on a day is valid
 pub near_valid : (day : ℕ) (state : State) → IsValid state → IsValid (near_state day state)
 near_valid day state valid =
     some_valid state (near_state day state) valid refl refl (sublist_filter (λ (entry : Keyed). may_count day entry.1.op) state.entries)
 
--- the state with only what may count has the same docker list on the day
+-- the state with only the entries that may count has the same docker list on the day
 pub near_state_list : (place : List ℕ) (day : ℕ) (state : State) (lines : List DockerLine) → IsValid state
     → IsDockerList (live_table state) place day lines ↔ IsDockerList (live_table (near_state day state)) place day lines
 near_state_list place day state lines valid =
     near_list_iff day (live_table state) (live_table (near_state day state)) (near_part day state valid.entries.1)
     (bodies_few (live_table state) (good_bodies state valid)) place lines
 
--- the state with only what may count has the same docker text on the day
+-- the state with only the entries that may count has the same docker text on the day
 pub near_state_text : (place : List ℕ) (day : ℕ) (state : State) (text : List ℕ) → IsValid state
     → IsDockerText (live_table state) place day text ↔ IsDockerText (live_table (near_state day state)) place day text
 near_state_text place day state text valid =
@@ -81,11 +82,11 @@ near_state_text place day state text valid =
 
 -- ---- the excerpt for a place and a day
 
--- the excerpt for a place and a day is valid
+-- the excerpt of a valid state for a place and a day is valid
 pub excerpt_on_valid : (place : List ℕ) (day : ℕ) (state : State) → IsValid state → IsValid (excerpt_on place day state)
 excerpt_on_valid place day state valid = walk_valid place (near_state day state) (near_valid day state valid)
 
--- the excerpt has the same docker list at the place on the day
+-- the excerpt has the same docker list for the place and the day as the state
 pub excerpt_on_list : (place : List ℕ) (day : ℕ) (state : State) (lines : List DockerLine) → IsValid state
     → IsDockerList (live_table state) place day lines ↔ IsDockerList (live_table (excerpt_on place day state)) place day lines
 excerpt_on_list place day state lines valid =
@@ -93,7 +94,7 @@ excerpt_on_list place day state lines valid =
     let walk = walk_list_iff place (near_state day state) day lines (near_valid day state valid) in
     (λ is. walk.0 (near.0 is), λ is. near.1 (walk.1 is))
 
--- the excerpt has the same docker text at the place on the day
+-- the excerpt has the same docker text for the place and the day as the state
 pub excerpt_on_text : (place : List ℕ) (day : ℕ) (state : State) (text : List ℕ) → IsValid state
     → IsDockerText (live_table state) place day text ↔ IsDockerText (live_table (excerpt_on place day state)) place day text
 excerpt_on_text place day state text valid =
@@ -113,7 +114,7 @@ near_with day entries entry h =
     filter-append (λ (e : Keyed). may_count day e.1.op) entries (entry ∷ [])
     ∙ ap (λ (more : List Keyed). near_entries day entries ++ more) (one_kept (λ (e : Keyed). may_count day e.1.op) entry true h)
 
--- an entry that may not count is left out
+-- an entry that can't count is left out
 pub near_without : (day : ℕ) (entries : List Keyed) (entry : Keyed) → may_count day entry.1.op ≡ false
     → near_entries day (entries ++ entry ∷ []) ≡ near_entries day entries
 near_without day entries entry h =

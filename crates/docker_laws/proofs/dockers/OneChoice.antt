@@ -1,4 +1,4 @@
--- A UID has at most one chosen schedule on a day, and a group at most one chosen association.
+-- On a day a UID has at most one chosen schedule, and a group at most one chosen association.
 use Rattle.std.proofs.Common.{◌≡◌, ℕ, List, ap, sym, ◌∙◌, Some}
 use Rattle.std.specs.declared.cmp.Ordering.TheVariants.{Equal}
 use Rattle.std.specs.Ordering.{nat_cmp}
@@ -21,13 +21,13 @@ pub association_choice_total : IsTotalOrder association_choice_cmp
 association_choice_total =
     then_total (on_total (λ (k : AssociationKey). k.indicator) nat_cmp_total) (on_total (λ (k : AssociationKey). k.start) (back_total nat_cmp_total))
 
--- the live schedule with a key has only one list of lines
+-- two live schedules with the same key have the same records
 pub one_schedule : (live : Table) (a b : ScheduleKey) (xs ys : List (List ℕ)) → a ≡ b → live (schedule_key a) ≡ Some (schedule_body xs)
     → live (schedule_key b) ≡ Some (schedule_body ys) → xs ≡ ys
 one_schedule live a b xs ys same one two =
     let e : Some (schedule_body xs) ≡ Some (schedule_body ys) = sym one ∙ ap (λ k. live (schedule_key k)) same ∙ two in cc
 
--- the live association with a key has only one record
+-- two live associations with the same key have the same record
 pub one_association : (live : Table) (a b : AssociationKey) (x y : List ℕ) → a ≡ b → live (association_key a) ≡ Some (association_body x)
     → live (association_key b) ≡ Some (association_body y) → x ≡ y
 one_association live a b x y same one two =

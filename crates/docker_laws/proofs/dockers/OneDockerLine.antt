@@ -1,5 +1,5 @@
--- Docker lines that tie are equal: they are of one schedule or one association, and of one start
--- day.
+-- Docker lines that tie in the order are equal: they belong to one schedule or one association, and
+-- to one start day.
 use Rattle.std.proofs.Common.{◌≡◌, ℕ, List, ap, sym, ◌∙◌, subst, inl, inr, ◌⊎◌, Some, None, Bool, true, false, cond, Contains, arith}
 use Rattle.std.specs.Prelude.{Option, codes, ◌==◌}
 use Rattle.std.specs.Str.{bytes_eq}
@@ -26,7 +26,7 @@ use Rattle.cif_laws.proofs.lists.FilteredMembers.{find_some}
 use Rattle.docker_laws.proofs.dockers.OneChoice.{one_train, one_link}
 use Rattle.docker_laws.proofs.dockers.Events.{one_event, IsOfTrain, event_occasion}
 
--- two lines agree in all that their order compares
+-- the two lines agree in all that the order of lines compares
 pub record AreTied (a b : DockerLine) : Type 0 where
   pub occasions : occasion_rank a.occasion ≡ occasion_rank b.occasion
   pub uids : a.uid ≡ b.uid
@@ -34,7 +34,7 @@ pub record AreTied (a b : DockerLine) : Type 0 where
   pub numbers : a.number ≡ b.number
   pub associated : associated_uid a.detail ≡ associated_uid b.detail
 
--- two lines that tie agree in all that the order compares
+-- two lines that tie agree in all that the order of lines compares
 pub tied_lines_agree : (a b : DockerLine) → docker_line_cmp a b ≡ Equal → AreTied a b
 tied_lines_agree a b e =
     let p = then_equal (nat_cmp a.time b.time) _ e in
@@ -50,16 +50,16 @@ tied_lines_agree a b e =
       associated = exact_bytes (associated_uid a.detail) (associated_uid b.detail) t.1;
     }
 
--- ---- two events
+-- ---- the lines of two events
 
--- two events' lines are of one schedule and one start day, and equal
+-- the two lines are equal, and belong to one schedule and one start day
 pub record AreOneEvent (live : Table) (place : List ℕ) (day : ℕ) (a b : DockerLine) (one : IsEventLine live place day a)
     (two : IsEventLine live place day b) : Type 0 where
   pub keys : one.key ≡ two.key
   pub starts : one.start ≡ two.start
   pub lines : a ≡ b
 
--- two events' lines that tie are of one schedule and one start day
+-- two lines of events that tie belong to one schedule and one start day
 pub same_event_line : (live : Table) (place : List ℕ) (day : ℕ) (a b : DockerLine) (one : IsEventLine live place day a) (two : IsEventLine live place day b)
     → docker_line_cmp a b ≡ Equal → AreOneEvent live place day a b one two
 same_event_line live place day a b one two e =
@@ -83,13 +83,13 @@ same_event_line live place day a b one two e =
         let events = one_event one.schedule one.event two.event one.among in_one numbers in
         record { keys = same.0; starts = starts; lines = one.is ∙ (λ i. line_of_event (same.0 i) (starts i) (same.1 i) (events i)) ∙ sym two.is }
 
--- ---- an event and an association
+-- ---- the lines of an event and an association
 
 -- the occasion is a join, a division or a next working
 abbrev pub IsOfLink : Occasion → Type 0
 IsOfLink occasion = (occasion ≡ joining) ⊎ (occasion ≡ dividing) ⊎ (occasion ≡ next_working)
 
--- the category of an association stands for a join, a division or a next working
+-- an association's category calls for a join, a division or a next working
 pub category_is_of_link : (category : List ℕ) (occasion : Occasion) → category_occasion category ≡ Some occasion → IsOfLink occasion
 category_is_of_link category occasion is = first (bytes_eq category (codes "JJ")) is
   where
@@ -125,9 +125,9 @@ event_apart live place day a b one two same =
     (category_is_of_link (columns 35 36 two.association) two.occasion two.category)
     (sym (ap (λ (l : DockerLine). occasion_rank l.occasion) one.is) ∙ same ∙ ap (λ (l : DockerLine). occasion_rank l.occasion) two.is)
 
--- ---- two associations
+-- ---- the lines of two associations
 
--- a UID has only one identity on a day
+-- a UID has only one train identity on a day
 one_identity_on : (live : Table) (uid : List ℕ) (day : ℕ) (x y : List ℕ) → IsIdentityOn live uid x day → IsIdentityOn live uid y day → x ≡ y
 one_identity_on live uid day x y (inl one) (inl two) =
     let same = one_train live uid day one.0 two.0 one.1 two.1 one.2 two.2 in
@@ -136,19 +136,19 @@ one_identity_on live uid day x y (inl one) (inr two) = absurd (two.0 one.0 one.1
 one_identity_on live uid day x y (inr one) (inl two) = absurd (one.0 two.0 two.1 two.2)
 one_identity_on live uid day x y (inr one) (inr two) = one.1 ∙ sym two.1
 
--- an associated train has only one identity
+-- an associated train has only one train identity
 pub one_identity : (live : Table) (uid : List ℕ) (day : Option ℕ) (x y : List ℕ) → IsPartnerIdentity live uid day x → IsPartnerIdentity live uid day y → x ≡ y
 one_identity live uid None x y one two = one ∙ sym two
 one_identity live uid (Some day) x y one two = one_identity_on live uid day x y one two
 
--- two associations' lines are of one association and one start day, and equal
+-- the two lines are equal, and belong to one association and one start day
 pub record AreOneAssociation (live : Table) (place : List ℕ) (day : ℕ) (a b : DockerLine) (one : IsAssociationLine live place day a)
     (two : IsAssociationLine live place day b) : Type 0 where
   pub keys : one.key ≡ two.key
   pub starts : one.start ≡ two.start
   pub lines : a ≡ b
 
--- the first event at a location with a suffix is an event there, with that suffix
+-- the first event with a TIPLOC and a suffix is an event there, with that suffix
 pub first_event_is : (base : List (List ℕ)) (location : List ℕ) (suffix : ℕ) (event : Event) → first_event_at base location suffix ≡ Some event
     → Contains (events_of base) event × (column 10 (event_line base event) ≡ suffix) × (columns 3 9 (event_line base event) ≡ location)
 first_event_is base location suffix event is =
@@ -156,7 +156,7 @@ first_event_is base location suffix event is =
     let parts = both (bytes_eq (columns 3 9 (event_line base event)) location) (column 10 (event_line base event) == suffix) told.1 in
     (told.0, eqb-true _ _ parts.1, (bytes_eq-Decides (columns 3 9 (event_line base event)) location).0 parts.0)
 
--- two associations' lines that tie are of one association and one start day
+-- two lines of associations that tie belong to one association and one start day
 pub same_association_line : (live : Table) (place : List ℕ) (day : ℕ) (a b : DockerLine) (one : IsAssociationLine live place day a)
     (two : IsAssociationLine live place day b)
     → docker_line_cmp a b ≡ Equal → AreOneAssociation live place day a b one two
@@ -206,7 +206,7 @@ same_association_line live place day a b one two e =
               ∙ sym two.is;
         }
 
--- ---- any two
+-- ---- any two lines
 
 -- two docker lines that tie are equal
 pub one_line : (live : Table) (place : List ℕ) (day : ℕ) (a b : DockerLine) → IsDockerLine live place day a → IsDockerLine live place day b

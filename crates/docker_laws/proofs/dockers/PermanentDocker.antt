@@ -1,4 +1,4 @@
--- Permanent dockers: the dockers of tables without their short-term entries.
+-- Permanent dockers, which are dockers of tables without the short-term plan.
 use Rattle.std.proofs.Common.{◌≡◌, ℕ, ◌+◌, List, [], ◌∷◌, refl, ap, sym, ◌∙◌, subst, inl, inr, ◌⊎◌, Bool, true, false, cond, Some, None, arith}
 use Rattle.std.specs.Prelude.{◌↔◌, ◌==◌, Option, filter, fold, max, nat_lt, option_and_then}
 use Rattle.std.specs.Ordering.{is_eq}
@@ -31,8 +31,8 @@ use Rattle.docker_laws.proofs.runs.RunEnd.{greater_prints, one_text}
 
 -- ---- changes
 
--- a change of a short-term key leaves no other permanent entry, and a change of a permanent key
--- makes its own
+-- a change of a key in the short-term plan leaves the permanent table as it is, and any other
+-- change does to it what it does to the table
 after_one : (table : Table) (change : Change)
     → permanent_table (after_change table change)
     ≡ cond (is_permanent change.key) (after_change (permanent_table table) change) (permanent_table table)
@@ -69,7 +69,7 @@ after_one table change = by (is_permanent change.key) refl
     by false h = λ i key.
         (outside key (is_permanent key) refl ∙ passed h key (is_eq (key_cmp change.key key)) refl) i
 
--- the changes of permanent keys leave the permanent entries by themselves
+-- the permanent table after some changes is what only the changes of permanent keys make of it
 pub permanent_along : (table : Table) (changes : List Change)
     → permanent_table (fold after_change table changes)
     ≡ fold after_change (permanent_table table) (filter (λ (it : Change). is_permanent it.key) changes)
@@ -86,7 +86,7 @@ permanent_along table (change ∷ changes) = permanent_along (after_change table
 
 -- ---- lines
 
--- a line of a permanent docker has the indicator P
+-- each line of a permanent docker has the STP indicator P
 pub permanent_line : (live : Table) (place : List ℕ) (day : ℕ) (line : DockerLine) → IsDockerLine (permanent_table live) place day line → line.indicator ≡ 80
 permanent_line live place day line (inl event) =
     let is = (was_counted is_permanent live (schedule_key event.key) _ event.train_runs.chosen.running.is_live).0 in
@@ -97,7 +97,7 @@ permanent_line live place day line (inr association) =
 
 -- ---- the lapse
 
--- what lapses is the same, before the short-term entries are left out and after
+-- it makes no difference whether the lapse comes before or after the short-term plan is left out
 lapses_alike : (horizon : ℕ) (live : Table) → permanent_table (lapse_table horizon live) ≡ lapse_table horizon (permanent_table live)
 lapses_alike horizon live = λ i key. by (is_permanent key) (live key) i
   where
@@ -105,7 +105,7 @@ lapses_alike horizon live = λ i key. by (is_permanent key) (live key) i
     by true found = refl
     by false found = refl
 
--- under a horizon that doesn't refuse the day, a table has the same permanent docker as without one
+-- a horizon that doesn't refuse the day leaves the permanent docker of a table as it is
 lapsed_iff : (horizon : ℕ) (live : Table) (place : List ℕ) (day : ℕ) (text : List ℕ) → IsDay horizon → HasGoodBodies live → ¬ IsDayRefused horizon day
     → IsDockerText (permanent_table live) place day text ↔ IsDockerText (permanent_table (lapse_table horizon live)) place day text
 lapsed_iff horizon live place day text is_day good printed =
@@ -136,7 +136,7 @@ permanent_is_plain files horizon state table place day text are is_day summary p
     subst (λ (t : Table). IsDockerText (permanent_table t) place day text ↔ IsDockerText (permanent_table table) place day text)
     (sym (live_is_lapsed_plain files horizon state table summary plain)) (told.1, told.0)
 
--- a permanent docker stays the same under a horizon that doesn't refuse the day
+-- a horizon that doesn't refuse the day leaves the permanent docker of a state as it is
 permanent_stays : (horizon : ℕ) (state : State) (place : List ℕ) (day : ℕ) (text : List ℕ) → IsDay horizon → IsValid state → ¬ IsDayRefused horizon day
     → IsDockerText (permanent_table (live_table state)) place day text → IsDockerText (permanent_table (live_table (lapse_state horizon state))) place day text
 permanent_stays horizon state place day text is_day valid printed is =

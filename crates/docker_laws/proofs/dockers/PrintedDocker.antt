@@ -1,5 +1,5 @@
--- If the files have distinct moments, every docker printed from their summary is the docker of
--- their plain table, whatever the horizon.
+-- If the files of a set have distinct moments, every docker printed from their summary is the
+-- docker of their plain table, whatever the horizon.
 use Rattle.std.proofs.Common.{◌≡◌, ℕ, ◌+◌, ◌≤◌, List, length, map, All, subst, inl, inr, ◌⊎◌, refl, ap, sym, ◌∙◌, Bool, true, false, Some, None, arith}
 use Rattle.std.specs.Prelude.{Option, ◌↔◌, nat_lt, fold}
 use Rattle.std.proofs.lemmas.Bool.{ltb-true, ltb-false}
@@ -25,11 +25,11 @@ use Rattle.docker_laws.proofs.dockers.GoodBodies.{good_bodies}
 use Rattle.docker_laws.proofs.dockers.LapsedDocker.{docker_list_iff, docker_text_iff}
 use Rattle.state_laws.proofs.states.PlainLive.{lapse_table_none, live_is_lapsed_plain}
 
--- a horizon that is a day is at most the end number that stands for no end
+-- a horizon is at most 65535, the end number that means no end
 pub day_bound : (horizon : ℕ) → IsDay horizon → horizon ≤ no_end_number
 day_bound horizon day = omega arith
 
--- ---- of valid states
+-- ---- valid states
 
 -- from three days after the horizon on, a state has the same docker list before and after it lapses
 pub state_list_iff : (horizon : ℕ) (state : State) (place : List ℕ) (day : ℕ) (lines : List DockerLine) → IsDay horizon → IsValid state → horizon + 3 ≤ day
@@ -45,7 +45,7 @@ state_text_iff horizon state place day text is_day valid from =
     subst (λ table. IsDockerText (live_table state) place day text ↔ IsDockerText table place day text) (sym (live_lapsed horizon state))
     (docker_text_iff horizon (day_bound horizon is_day) (live_table state) (bodies_few (live_table state) (good_bodies state valid)) place day from text)
 
--- ---- the plain table of files has good bodies
+-- ---- the bodies of a plain table
 
 put_of : (act : Act) (body : Body) → body_of (op_of act) ≡ Some body → act ≡ put body
 put_of delete body none = cc
@@ -62,7 +62,7 @@ module _ (files : List (List (List ℕ))) (each : All IsFile files) (few : All (
       (All-contains (λ file. length file ≤ most_records) files made.file few made.kept.among)
       made.change made.among body puts)
 
-  -- the plain table of files within the limit has good bodies
+  -- the bodies in the plain table of files within the limit are well formed
   pub plain_bodies : HasGoodBodies table
   plain_bodies key body is =
       by (last_there (entries_along (from_last_full plain.ordered)) empty_table key

@@ -1,5 +1,5 @@
 -- A segment of a table's rows has each schedule of a UID, if no row outside the segment is a
--- schedule of the UID. The same holds for the associations of a group.
+-- schedule of that UID. The same holds for the associations of a group.
 use Rattle.std.proofs.Common.{ℕ, List, ◌++◌, inl, inr, ◌⊎◌, Contains}
 use Rattle.std.proofs.lemmas.List.Elements.{Contains-append_left, Contains-append_right, Contains-append_cases}
 use Rattle.docker_model.specs.file.Change.{schedule_key, association_key, schedule_body, association_body}
@@ -8,7 +8,7 @@ use Rattle.state_laws.specs.Row.{Row, AreRowsOf}
 use Rattle.docker_model.specs.docker.Choice.{Group}
 use Rattle.docker_laws.specs.LiveRows.{HasSchedulesOf, HasAssociationsOf, HasNoScheduleOf, HasNoAssociationOf}
 
--- a row that is in neither outer segment is in the middle one
+-- a row that isn't in `front` or `back` is between them
 between : (front rows back : List Row) (row : Row) → ¬ Contains front row → ¬ Contains back row → Contains ((front ++ rows) ++ back) row → Contains rows row
 between front rows back row not_front not_back among = outer (Contains-append_cases (front ++ rows) back row among)
   where
@@ -32,7 +32,8 @@ uid_segment live uid front rows back are no_front no_back = record {
       ((are.members (schedule_key key) (schedule_body lines)).1 is);
 }
 
--- a segment has each association of a group, if no row outside the segment is one of the group
+-- a segment has each association of a group, if no row outside the segment is an association of
+-- that group
 pub group_segment : (live : Table) (group : Group) (front rows back : List Row) → AreRowsOf live ((front ++ rows) ++ back) → HasNoAssociationOf group front
     → HasNoAssociationOf group back
     → HasAssociationsOf live group rows

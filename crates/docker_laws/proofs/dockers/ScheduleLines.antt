@@ -1,5 +1,5 @@
--- The docker lines that a schedule gives for one start day. The docker has these lines, and no
--- other lines of events.
+-- The docker lines that a schedule gives for one start day. All of them are in the docker, and the
+-- docker has no other lines of events.
 use Rattle.std.proofs.Common.{◌≡◌, ℕ, true, rules, List, Contains, ◌<◌, ap, sym, ◌∙◌, subst, Bool, eqb-true, arith, [], cond, refl, Some, None, false}
 use Rattle.std.specs.Prelude.{◌==◌, filter, ◌&&◌, Option}
 use Rattle.std.specs.Str.{bytes_eq}
@@ -31,11 +31,11 @@ use Rattle.docker_laws.proofs.dockers.Events.{numbers_ascend}
 use Rattle.docker_laws.proofs.dockers.OneDockerLine.{tied_lines_agree}
 use Rattle.cif_laws.proofs.orders.AtMost.{eq_is}
 
--- a number passes the test of being equal to itself
+-- each number equals itself in the test `==`
 pub number_itself : (n : ℕ) → (n == n) ≡ true
 number_itself n = search rules
 
--- a docker line of an event at the place on the day
+-- the line is the docker line of an event at the place on the day
 pub record IsLineOfEvent (place : List ℕ) (day start : ℕ) (key : ScheduleKey) (lines : List (List ℕ)) (line : DockerLine) : Type 0 where
   pub event : Event
   pub among : Contains (events_of lines) event
@@ -47,7 +47,7 @@ module _ (place : List ℕ) (day start : ℕ) (key : ScheduleKey) (lines : List 
   test : Event → Bool
   test event = bytes_eq (columns 3 9 (event_line lines event)) place && (event_day start lines event == day)
 
-  -- each of the lines is of an event at the place on the day
+  -- each line in `event_lines` is the docker line of an event at the place on the day
   pub event_lines_back : (line : DockerLine) → Contains (event_lines place day start key lines) line → IsLineOfEvent place day start key lines line
   unfolding test
   event_lines_back line among =
@@ -62,7 +62,7 @@ module _ (place : List ℕ) (day start : ℕ) (key : ScheduleKey) (lines : List 
         is = sym found.2;
       }
 
-  -- each line of an event at the place on the day is among the event lines
+  -- the docker line of each event at the place on the day is in `event_lines`
   pub event_lines_forth : (line : DockerLine) → IsLineOfEvent place day start key lines line → Contains (event_lines place day start key lines) line
   unfolding test
   event_lines_forth line is =
@@ -72,7 +72,7 @@ module _ (place : List ℕ) (day start : ℕ) (key : ScheduleKey) (lines : List 
       subst (Contains (event_lines place day start key lines)) (sym is.is)
       (map-Contains (line_of_event key start lines) (filter test (events_of lines)) is.event (filter_forth test (events_of lines) is.event is.among passes))
 
-  -- no two event lines tie, as the events' numbers differ
+  -- no two lines in `event_lines` tie, since their events have different numbers
   pub event_lines_apart : AreApart docker_line_cmp (event_lines place day start key lines)
   unfolding test
   event_lines_apart =
@@ -84,11 +84,11 @@ module _ (place : List ℕ) (day start : ℕ) (key : ScheduleKey) (lines : List 
       omega arith)
       (later_filter (λ (a b : Event). a.number < b.number) test (events_of lines) (numbers_ascend lines)))
 
--- the docker lines that a schedule gives for one start day
+-- the docker lines of a schedule for one start day
 abbrev pub schedule_piece : (List ℕ → ℕ → Option Train) → List ℕ → ℕ → ScheduleKey → List (List ℕ) → ℕ → List DockerLine
 schedule_piece trains place day key lines start = cond (runs_by (trains key.uid start) key) (event_lines place day start key lines) []
 
--- a docker line of this schedule and this start day
+-- the line is a docker line of this schedule, for this start day
 pub record IsOfSchedule (live : Table) (place : List ℕ) (day : ℕ) (key : ScheduleKey) (start : ℕ) (line : DockerLine) : Type 0 where
   pub made : IsEventLine live place day line
   pub of_key : made.key ≡ key
@@ -135,7 +135,7 @@ module _ (live : Table) (trains : List ℕ → ℕ → Option Train) (tell : Tel
           inner true h here = made (runs_as train (exact_schedule_key train.key key (eq_is (schedule_key_cmp train.key key) h)) runs) here
           inner false h here = absurd (nil-Contains line here)
 
-  -- the docker line of an event is among those that its schedule gives for its start day
+  -- the docker line of an event is one that its schedule gives for its start day
   pub schedule_piece_forth : (line : DockerLine) (made : IsEventLine live place day line)
       → Contains (schedule_piece trains place day made.key made.schedule made.start) line
   schedule_piece_forth line made = by (trains made.key.uid made.start) (tell made.key.uid made.start)
@@ -154,7 +154,7 @@ module _ (live : Table) (trains : List ℕ → ℕ → Option Train) (tell : Tel
           ∙ (λ i. is_eq (tied_itself schedule_key_total made.key i)) in
           subst (λ b. Contains (cond b (event_lines place day made.start made.key made.schedule) []) line) (sym runs_is) inside
 
-  -- no two lines for one start day tie
+  -- no two lines of one schedule and one start day tie
   pub schedule_piece_apart : (key : ScheduleKey) (lines : List (List ℕ)) (start : ℕ)
       → AreApart docker_line_cmp (schedule_piece trains place day key lines start)
   schedule_piece_apart key lines start = by (runs_by (trains key.uid start) key)

@@ -1,5 +1,5 @@
--- The events of a live schedule are on the start day or on one of the two days after. So a docker's
--- trains have at most three start days.
+-- The events of a live schedule are on the train's start day or on one of the two days after it. So
+-- the trains of a docker have at most three start days.
 use Rattle.std.proofs.Common.{◌≡◌, ℕ, zero, suc, ◌+◌, ◌-◌, ◌≤◌, List, [], ◌∷◌, subst, inl, inr, ◌⊎◌, Some, Contains, arith}
 use Rattle.std.specs.Prelude.{filter, nat_le}
 use Rattle.std.proofs.lemmas.Bool.{leb-true, le-leb}
@@ -13,19 +13,19 @@ use Rattle.cif_laws.proofs.lists.Membership.{Contains-cons, cons-Contains, cons-
 use Rattle.docker_laws.proofs.dockers.FewMidnights.{bodies_few, falls_below}
 use Rattle.cif_laws.proofs.lists.FilteredMembers.{filter_back, filter_forth}
 
--- up to any event of a live schedule there are at most two falls
+-- a live schedule passes midnight at most twice up to any event
 pub few_falls_to : (live : Table) (key : ScheduleKey) (lines : List (List ℕ)) → HasGoodBodies live → live (schedule_key key) ≡ Some (schedule_body lines)
     → (number : ℕ) → falls_to lines number ≤ 2
 few_falls_to live key lines good is number = let front = falls_below lines number in let few = bodies_few live good key lines is in omega arith
 
--- an event is at most two days after the start day
+-- an event is on the train's start day or on one of the two days after it
 pub event_within : (start : ℕ) (lines : List (List ℕ)) (event : Event) → midnights lines ≤ 2 → (start ≤ event_day start lines event)
     × (event_day start lines event ≤ start + 2)
 event_within start lines event few = let front = falls_below lines event.number in (omega arith, omega arith)
 
 -- ---- the start days
 
--- the start days for a day are that day and the two days before it
+-- the start days for a day are that day and the two days before it, but none before day 0
 pub start_days_iff : (day start : ℕ) → (Contains (start_days day) start → (start ≤ day) × (day ≤ start + 2)) × ((start ≤ day) × (day ≤ start + 2)
     → Contains (start_days day) start)
 start_days_iff day start = (forth, back)

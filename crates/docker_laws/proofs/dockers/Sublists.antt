@@ -1,4 +1,4 @@
--- Lists that have some elements of another list, in their order.
+-- Sublists: a sublist has some elements of a list, in the same order.
 use Rattle.std.proofs.Common.{List, [], ◌∷◌, ◌++◌, ◌≡◌, ◌∙◌, refl, sym, subst, inl, inr, ◌⊎◌, Contains, Bool, true, false, cond, All}
 use Rattle.std.specs.Prelude.{filter}
 use Rattle.docker_laws.specs.Excerpt.{IsSublist}
@@ -6,7 +6,7 @@ use Rattle.cif_laws.proofs.lists.Membership.{Contains-cons, cons-Contains, cons-
 use Rattle.cif_laws.proofs.lists.Membership.{below_by_recursion, each_member, member_of, all_members}
 use Rattle.cif_laws.proofs.lists.Later.{AllLater}
 
--- a sublist of a list is a sublist of the list with one more element at its front
+-- a sublist of a list is also a sublist of the list with one more element at its front
 pub sublist_behind : {A : Type 0} (xs ys : List A) (y : A) → IsSublist xs ys → IsSublist xs (y ∷ ys)
 sublist_behind [] ys y is = tt
 sublist_behind (x ∷ xs) ys y is = inr is
@@ -42,7 +42,7 @@ sublist_member (x ∷ xs) (y ∷ ys) z is among =
 pub sublist_all : {A : Type 0} (P : A → Type 0) (xs ys : List A) → IsSublist xs ys → All P ys → All P xs
 sublist_all P xs ys is all = all_members P xs (λ z among. member_of P ys z all (sublist_member xs ys z is among))
 
--- if each element is in a relation to each later one, the same is true in a sublist
+-- if in a list each element is related to each later one, so it is in a sublist
 pub sublist_later : {A : Type 0} (R : A → A → Type 0) (xs ys : List A) → IsSublist xs ys → AllLater R ys → AllLater R xs
 sublist_later R [] ys is later = tt
 sublist_later R (x ∷ xs) [] is later = absurd is
@@ -74,7 +74,7 @@ sublist_onward {A} (x ∷ xs) (y ∷ ys) (z ∷ zs) first second =
     by both_step first_step skip (inr later) (inl there) = inr (first_step later there.1)
     by both_step first_step skip here (inr behind) = inr (skip behind)
 
--- two sublists, one after the other, are a sublist of the two lists
+-- two sublists, one after the other, are a sublist of the two lists, one after the other
 pub sublist_append : {A : Type 0} (us xs vs ys : List A) → IsSublist us xs → IsSublist vs ys → IsSublist (us ++ vs) (xs ++ ys)
 sublist_append [] [] vs ys first second = second
 sublist_append [] (x ∷ xs) vs ys first second = sublist_behind vs (xs ++ ys) x (sublist_append [] xs vs ys tt second)

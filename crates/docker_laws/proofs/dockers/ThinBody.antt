@@ -1,5 +1,5 @@
--- A thin body fits its key if the whole body does. The thin lines of a schedule call at no place
--- where the schedule doesn't.
+-- A thinned body belongs to the same key as the whole body. The thin records of a schedule don't
+-- call at a place unless the schedule does.
 use Rattle.std.proofs.Common.{◌≡◌, ℕ, suc, ◌+◌, ◌≤◌, List, [], ◌∷◌, ◌++◌, length, subst, inl, inr, ◌⊎◌, refl, ap, sym}
 use Rattle.std.proofs.Common.{◌∙◌, Bool, true, false, cond, Some, None, Contains, map, All, arith, append-nil}
 use Rattle.std.specs.Prelude.{Option, filter, nat_lt, IsTrue, ◌||◌, ◌&&◌}
@@ -20,18 +20,18 @@ use Rattle.cif_laws.proofs.lists.Membership.{Contains-single, Contains-cons, con
 use Rattle.cif_laws.proofs.lists.FilteredMembers.{filter_back}
 use Rattle.state_laws.proofs.indexes.CallsTest.{calls_test}
 
--- the lines that are an origin or a terminus
+-- the records that are an origin or a terminus
 abbrev ends_in : List (List ℕ) → List (List ℕ)
 ends_in lines = filter (λ line. is_end (kind_of line)) lines
 
--- ---- members
+-- ---- the thin records are among the schedule's
 
--- the thin lines have the same first line
+-- the thin records have the same first record
 pub first_of_thin : (lines : List (List ℕ)) → first_record (thin_lines lines) ≡ first_record lines
 first_of_thin [] = refl
 first_of_thin (basic ∷ others) = refl
 
--- each thin line is a line of the schedule
+-- each thin record is a record of the schedule
 pub thin_member : (lines : List (List ℕ)) (line : List ℕ) → Contains (thin_lines lines) line → Contains lines line
 thin_member [] line among = among
 thin_member (basic ∷ others) line among = by (Contains-cons basic (ends_in others) line among)
@@ -40,12 +40,12 @@ thin_member (basic ∷ others) line among = by (Contains-cons basic (ends_in oth
     by (inl same) = subst (Contains (basic ∷ others)) same (cons-Contains-first basic others)
     by (inr inside) = cons-Contains basic others line (filter_back (λ l. is_end (kind_of l)) others line inside).0
 
--- if the thin lines call at a place, so does the schedule
+-- where the thin records call, the schedule calls
 pub thin_calls : (place : List ℕ) (lines : List (List ℕ)) → CallsAt place (thin_lines lines) → CallsAt place lines
 thin_calls place lines calls =
     record { line = calls.line; among = thin_member lines calls.line calls.among; kind = calls.kind; here = calls.here }
 
--- there are at most as many ends as lines
+-- there are at most as many ends as records
 ends_shorter : (lines : List (List ℕ)) → length (ends_in lines) ≤ length lines
 ends_shorter [] = omega arith
 ends_shorter (line ∷ lines) = by (is_end (kind_of line)) (ends_shorter lines)
@@ -85,7 +85,7 @@ ends_of_journey lines is =
     ∙ (λ i. no_end_within is.between (recursion_from_All IsWithinJourney is.between is.calls) i ++ end_by is.last [] true (ap is_end is.terminus) i)
     )
 
--- thin lines are the basic schedule and the ends of the journey
+-- the thin records of a schedule are its basic schedule and the ends of its journey
 thin_is : (lines : List (List ℕ)) (is : IsSchedule lines) → thin_lines lines ≡ is.basic ∷ ends_in is.journey
 thin_is lines is =
     ap thin_lines is.whole
@@ -96,7 +96,7 @@ thin_is lines is =
 
 -- ---- two ends pass midnight at most once
 
--- the times in a list of occasions with times
+-- the times in a list that also says what happens then
 abbrev times_in : List (Occasion × ℕ) → List ℕ
 times_in timings = map (λ (time : Occasion × ℕ). time.1) timings
 
@@ -153,7 +153,7 @@ module _ (lines : List (List ℕ)) (is : IsSchedule lines) where
         subst (λ ls. Contains ls journey.last) (sym journey.whole)
         (Contains-append_right (journey.first ∷ journey.between) (journey.last ∷ []) journey.last (cons-Contains-first journey.last []))
 
-    -- if each line of the journey has a property, so have its ends
+    -- a property of each record of the journey is a property of its two ends
     of_ends : (P : List ℕ → Type 0) → ((line : List ℕ) → Contains is.journey line → P line) → All P (journey.first ∷ journey.last ∷ [])
     of_ends P each = all_members P (journey.first ∷ journey.last ∷ [])
         (λ line among. by line (Contains-cons journey.first (journey.last ∷ []) line among))
@@ -199,7 +199,7 @@ module _ (lines : List (List ℕ)) (is : IsSchedule lines) where
             member_of IsRecord (journey.first ∷ journey.last ∷ []) line
             (of_ends IsRecord (λ l among. member_of IsRecord lines l is.records (journey_member l among))) inside
 
-  -- the thin lines of a schedule are a schedule
+  -- the thin records of a schedule are a schedule
   pub thin_is_schedule : IsSchedule (thin_lines lines)
   thin_is_schedule = subst IsSchedule (sym (thin_is lines is)) (by is.journey_or_none)
     where
@@ -237,7 +237,7 @@ with_any_ends lines is first last first_is last_is origin terminus first_good la
       });
     })
 
--- the basic schedule with any two good ends fits the same key
+-- the basic schedule with any two good ends is a schedule of the same key
 pub any_ends_of_key : (key : ScheduleKey) (lines : List (List ℕ)) → IsScheduleOf key lines → (first last : List ℕ) → IsRecord first → IsRecord last
     → HasKind origin_location first → HasKind terminating_location last → HasGoodFields first → HasGoodFields last
     → IsScheduleOf key (first_record lines ∷ first ∷ last ∷ [])
@@ -250,7 +250,7 @@ any_ends_of_key key lines is first last first_is last_is origin terminus first_g
 
 -- ---- the body
 
--- the thin lines fit the same key
+-- the thin records are a schedule of the same key
 pub thin_of_key : (key : ScheduleKey) (lines : List (List ℕ)) → IsScheduleOf key lines → IsScheduleOf key (thin_lines lines)
 thin_of_key key lines is = record {
   schedule = thin_is_schedule lines is.schedule;
@@ -259,7 +259,7 @@ thin_of_key key lines is = record {
   key_is = ap schedule_named (first_of_thin lines) ∙ is.key_is;
 }
 
--- the lines that a place needs fit the same key
+-- the records that a place needs are a schedule of the same key
 pub needed_of_key : (place : List ℕ) (key : ScheduleKey) (lines : List (List ℕ)) → IsScheduleOf key lines → IsScheduleOf key (lines_for place lines)
 needed_of_key place key lines is = by (calls_at place lines)
   where
@@ -267,7 +267,7 @@ needed_of_key place key lines is = by (calls_at place lines)
     by true = is
     by false = thin_of_key key lines is
 
--- the body that a place needs fits the key
+-- the body that a place needs belongs to the same key
 pub needed_is_body : (place : List ℕ) (key : Key) (body : Body) → IsBodyOf key body → IsBodyOf key (body_for place body)
 needed_is_body place (schedule_key key) (schedule_body lines) is = needed_of_key place key lines is
 needed_is_body place (schedule_key key) (tiploc_body bytes) is = is
@@ -279,9 +279,9 @@ needed_is_body place (association_key key) (tiploc_body bytes) is = is
 needed_is_body place (association_key key) (association_body line) is = is
 needed_is_body place (association_key key) (schedule_body lines) is = absurd is
 
--- ---- the laws of thin lines
+-- ---- laws of thin records
 
--- the thin lines of a schedule are at most three
+-- a schedule has at most three thin records
 pub thin_few : (lines : List (List ℕ)) → IsSchedule lines → length (thin_lines lines) ≤ 3
 thin_few lines is = subst (λ thin. length thin ≤ 3) (sym (thin_is lines is)) (by is.journey_or_none)
   where
@@ -289,7 +289,7 @@ thin_few lines is = subst (λ thin. length thin ≤ 3) (sym (thin_is lines is)) 
     by (inl journey) = subst (λ ends. length (is.basic ∷ ends) ≤ 3) (sym (ends_of_journey is.journey journey)) (omega arith)
     by (inr none) = subst (λ ends. length (is.basic ∷ ends) ≤ 3) (sym (ap ends_in none.0)) (omega arith)
 
--- if a schedule doesn't call at a place, its thin lines don't either
+-- if a schedule doesn't call at a place, its thin records don't either
 pub thin_elsewhere : (place : List ℕ) (lines : List (List ℕ)) → calls_at place lines ≡ false → calls_at place (thin_lines lines) ≡ false
 thin_elsewhere place lines none = by (calls_at place (thin_lines lines)) refl
   where
@@ -300,7 +300,7 @@ thin_elsewhere place lines none = by (calls_at place (thin_lines lines)) refl
         absurd (let worse : false ≡ true = bad in cc)
     by false h = refl
 
--- one more line is added to the thin lines if it is an end
+-- one more record of a schedule is one more thin record exactly if it is an end
 thin_more : (basic : List ℕ) (others : List (List ℕ)) (line : List ℕ) (b : Bool) → is_end (kind_of line) ≡ b
     → thin_lines (basic ∷ others ++ line ∷ []) ≡ thin_lines (basic ∷ others) ++ cond b (line ∷ []) []
 thin_more basic others line b h =
@@ -308,17 +308,17 @@ thin_more basic others line b h =
     filter-append (λ l. is_end (kind_of l)) others (line ∷ []) ∙ (λ i. ends_in others ++ end_by line [] b h i)
     )
 
--- an end is one of the thin lines
+-- one more record that is an end is one more thin record
 pub thin_with_end : (basic : List ℕ) (others : List (List ℕ)) (line : List ℕ) → is_end (kind_of line) ≡ true
     → thin_lines (basic ∷ others ++ line ∷ []) ≡ thin_lines (basic ∷ others) ++ line ∷ []
 thin_with_end basic others line h = thin_more basic others line true h
 
--- a line that isn't an end isn't one of the thin lines
+-- one more record that isn't an end leaves the thin records as they are
 pub thin_without : (basic : List ℕ) (others : List (List ℕ)) (line : List ℕ) → is_end (kind_of line) ≡ false
     → thin_lines (basic ∷ others ++ line ∷ []) ≡ thin_lines (basic ∷ others)
 thin_without basic others line h = thin_more basic others line false h ∙ append-nil (thin_lines (basic ∷ others))
 
--- a schedule with one more line calls at the place if it did before or the line does
+-- a schedule with one more record calls at the place if it did before or if that record does
 pub calls_more : (place : List ℕ) (lines : List (List ℕ)) (line : List ℕ) → calls_at place (lines ++ line ∷ [])
     ≡ (calls_at place lines || (is_location (kind_of line) && bytes_eq (columns 3 9 line) place))
 calls_more place lines line =

@@ -1,4 +1,5 @@
--- The changes kept for a place and a day make the thinned table of the table that all changes make.
+-- The changes kept for a place and a day, applied to the empty table, give the table after all
+-- changes, thinned.
 use Rattle.std.proofs.Common.{arith, append-nil, append_assoc, ◌≡◌, ℕ, List, [], ◌∷◌, ◌++◌, subst, inl, inr}
 use Rattle.std.proofs.Common.{◌⊎◌, refl, ap, sym, ◌∙◌, Bool, true, false, cond, Some, None, Contains, map}
 use Rattle.std.specs.Prelude.{Option, option_and_then, filter, fold, not}
@@ -26,17 +27,17 @@ use Rattle.cif_laws.proofs.orders.Orders.{same_key, key_total}
 use Rattle.cif_laws.proofs.orders.AtMost.{less_not_greater, at_most_trans}
 use Rattle.cif_laws.proofs.lists.Membership.{cons-Contains, cons-Contains-first, nil-Contains, Contains-single}
 
--- the change is of this key
+-- whether the change has this key
 abbrev is_of : Key → Change → Bool
 is_of key change = is_eq (key_cmp change.key key)
 
--- the body that an act leaves at its key
+-- the body at a key after an act, or `None` after a deletion
 abbrev left_by : Act → Option Body
 left_by act = body_of (op_of act)
 
 -- ---- one change
 
--- a thin act leaves the thin form of the body that the act leaves
+-- the thin form of an act leaves the body that the act leaves, thinned
 thin_left : (place : List ℕ) (day : ℕ) (act : Act) → left_by (thin_act place day act) ≡ option_and_then (thin_body place day) (left_by act)
 thin_left place day delete = refl
 thin_left place day (put body) = by (may_count day (put_with body))
@@ -45,14 +46,14 @@ thin_left place day (put body) = by (may_count day (put_with body))
     by true = refl
     by false = refl
 
--- after a change, the table has the change's body at its key, and is as it was at other keys
+-- after a change the table has the change's body at its key, and the old body at every other key
 after_here : (table : Table) (change : Change) (key : Key) → is_of key change ≡ true → after_change table change key ≡ left_by change.act
 after_here table change key h = λ i. cond (h i) (left_by change.act) (table key)
 
 after_there : (table : Table) (change : Change) (key : Key) → is_of key change ≡ false → after_change table change key ≡ table key
 after_there table change key h = λ i. cond (h i) (left_by change.act) (table key)
 
--- if two tables have the same body at a key, so have the thinned tables
+-- two tables with the same body at a key have the same body there after thinning
 left_at : (place : List ℕ) (day : ℕ) (one other : Table) (key : Key) → one key ≡ other key → thinned place day one key ≡ thinned place day other key
 left_at place day one other key same = λ i. cond (may_matter place key) (option_and_then (thin_body place day) (same i)) None
 
@@ -61,7 +62,7 @@ none_or true = refl
 none_or false = refl
 
 module _ (place : List ℕ) (day : ℕ) where
-  -- a change whose key may not matter leaves the thinned table as it is
+  -- a change of a key that can't matter leaves the thinned table as it is
   step_elsewhere : (table : Table) (change : Change) (key : Key) → may_matter place change.key ≡ false
       → thinned place day (after_change table change) key ≡ thinned place day table key
   step_elsewhere table change key no_matter = by (is_of key change) refl
@@ -75,8 +76,8 @@ module _ (place : List ℕ) (day : ℕ) where
           nothing (after_change table change) none ∙ sym (nothing table none)
       by false h = left_at place day (after_change table change) table key (after_there table change key h)
 
-  -- if the key of a change may matter, the thin change does to the thinned table what the change
-  -- does to the table
+  -- the thin form of a change does to the thinned table what the change does to the table, if its
+  -- key may matter
   step_kept : (table left : Table) (change : Change) (key : Key) → may_matter place change.key ≡ true → left key ≡ thinned place day table key
       → after_change left (thin_change place day change) key ≡ thinned place day (after_change table change) key
   step_kept table left change key matters same = by (is_of key change) refl
@@ -94,7 +95,7 @@ module _ (place : List ℕ) (day : ℕ) where
 
   -- ---- all changes
 
-  -- the changes whose keys may matter
+  -- the changes of keys that may matter
   abbrev matter : List Change → List Change
   matter changes = filter (λ (change : Change). may_matter place change.key) changes
 
@@ -115,25 +116,24 @@ module _ (place : List ℕ) (day : ℕ) where
           (λ i. fold after_change left (map (thin_change place day) (cond (h i) (change ∷ matter changes) (matter changes))) key)
           ∙ rest (after_change table change) left (λ k. same k ∙ sym (step_elsewhere table change k h)) key
 
-  -- the kept changes, applied to a thinned table, make the thinned table of the table after all
-  -- changes
+  -- the kept changes, applied to a thinned table, give the table after all changes, thinned
   pub thin_over : (table : Table) (changes : List Change) (key : Key)
       → fold after_change (thinned place day table) (thin_changes place day changes) key ≡ thinned place day (fold after_change table changes) key
   thin_over table changes key = kept_from changes table (thinned place day table) (λ k. refl) key
 
-  -- from the empty table on, the kept changes make the thinned table of the table after all changes
+  -- applied to the empty table, the kept changes give the table after all changes, thinned
   thin_enough : (changes : List Change) → AreEnough place day changes (thin_changes place day changes)
   thin_enough changes = kept_from changes empty_table empty_table (λ key. sym (none_or (may_matter place key)))
 
 -- ---- change by change
 
--- one more change is applied after the changes before it
+-- the table after changes and one more is the table after the changes, with the last one applied
 table_more : (table : Table) (changes : List Change) (change : Change)
     → fold after_change table (changes ++ change ∷ []) ≡ after_change (fold after_change table changes) change
 table_more table [] change = refl
 table_more table (first ∷ changes) change = table_more (after_change table first) changes change
 
--- changes of other keys leave a key as it was
+-- changes of other keys leave the body at a key as it is
 untouched : (changes : List Change) (table : Table) (key : Key) → HasNoChangeOf key changes → fold after_change table changes key ≡ table key
 untouched [] table key none = refl
 untouched (change ∷ changes) table key none =
@@ -145,7 +145,7 @@ untouched (change ∷ changes) table key none =
     by true h rest = absurd (none change (cons-Contains-first change changes) (same_key change.key key h))
     by false h rest = rest ∙ after_there table change key h
 
--- without the changes of a key, the key is as it was before
+-- without its changes, a key has the body that it had at first
 without_here : (key : Key) (changes : List Change) (table : Table) → fold after_change table (without key changes) key ≡ table key
 without_here key [] table = refl
 without_here key (change ∷ changes) table = by (is_of key change) refl (without_here key changes)
@@ -158,7 +158,7 @@ without_here key (change ∷ changes) table = by (is_of key change) refl (withou
         ∙ rest (after_change table change)
         ∙ after_there table change key h
 
--- leaving out the changes of one key doesn't matter to any other key
+-- to leave out the changes of one key makes no difference at any other key
 without_there : (key other : Key) → is_eq (key_cmp key other) ≡ false → (changes : List Change) (one two : Table) → one other ≡ two other
     → fold after_change one (without key changes) other ≡ fold after_change two changes other
 without_there key other apart [] one two same = same
@@ -184,19 +184,19 @@ module _ (place : List ℕ) (day : ℕ) where
     all_more : (key : Key) → thinned place day (table_of (changes ++ change ∷ [])) key ≡ thinned place day (after_change (table_of changes) change) key
     all_more key = ap (λ (table : Table). thinned place day table key) (table_more empty_table changes change)
 
-    -- a change whose key may not matter may be dropped
+    -- a change of a key that can't matter may be dropped
     enough_elsewhere : may_matter place change.key ≡ false → AreEnough place day (changes ++ change ∷ []) kept
     enough_elsewhere no_matter key =
         so_far key ∙ sym (step_elsewhere place day (table_of changes) change key no_matter) ∙ sym (all_more key)
 
-    -- if the key of a change may matter, the thin change may be kept
+    -- the thin form of a change may be kept if its key may matter
     enough_kept : may_matter place change.key ≡ true → AreEnough place day (changes ++ change ∷ []) (kept ++ thin_change place day change ∷ [])
     enough_kept matters key =
         (λ i. table_more empty_table kept (thin_change place day change) i key)
         ∙ step_kept place day (table_of changes) (table_of kept) change key matters (so_far key)
         ∙ sym (all_more key)
 
-    -- after a deletion, nothing is left of the key in the thinned table
+    -- after a deletion the thinned table has nothing at the key
     none_left : thin_act place day change.act ≡ delete → (key : Key) → is_of key change ≡ true
         → thinned place day (after_change (table_of changes) change) key ≡ None
     none_left deletes key h =
@@ -221,7 +221,7 @@ module _ (place : List ℕ) (day : ℕ) where
             untouched kept empty_table key of_key ∙ sym (none_left deletes key h) ∙ sym (all_more key)
         by false h = so_far key ∙ sym (same_elsewhere key h) ∙ sym (all_more key)
 
-    -- for a deletion, the kept changes of its key may be removed
+    -- at a deletion, the kept changes of the same key may be removed
     enough_removed : thin_act place day change.act ≡ delete → AreEnough place day (changes ++ change ∷ []) (without change.key kept)
     enough_removed deletes key = by (is_of key change) refl
       where
@@ -234,7 +234,7 @@ module _ (place : List ℕ) (day : ℕ) where
         by false h =
             without_there change.key key h kept empty_table empty_table refl ∙ so_far key ∙ sym (same_elsewhere key h) ∙ sym (all_more key)
 
-    -- if the thin change is kept, the earlier kept changes of its key may be removed
+    -- if the thin form of a change is kept, the earlier kept changes of the same key may be removed
     enough_replaced : may_matter place change.key ≡ true
         → AreEnough place day (changes ++ change ∷ []) (without change.key kept ++ thin_change place day change ∷ [])
     enough_replaced matters key =
@@ -257,9 +257,9 @@ module _ (place : List ℕ) (day : ℕ) where
             ∙ sym (same_elsewhere key h)
             ∙ sym (all_more key)
 
--- ---- what a keeper may keep
+-- ---- what may be kept
 
--- if one list is a sublist of another, so are their images
+-- a sublist stays a sublist when a function is applied to each element of both lists
 sublist_map : {A B : Type 0} (f : A → B) (xs ys : List A) → IsSublist xs ys → IsSublist (map f xs) (map f ys)
 sublist_map f [] ys is = tt
 sublist_map f (x ∷ xs) [] is = absurd is
@@ -287,15 +287,15 @@ module _ (place : List ℕ) (day : ℕ) where
     abbrev before : List Change
     before = map (thin_change place day) changes
 
-    -- a sublist of the thin changes is still one after one more change
+    -- some of the thin changes are also some of the thin changes with one more
     still_some : (others : List Change) → IsSublist others kept → IsSublist others (map (thin_change place day) (changes ++ change ∷ []))
     still_some others inside =
         subst (IsSublist others) (sym (map-append (thin_change place day) changes (change ∷ [])))
         (sublist_onward others kept (before ++ thin_change place day change ∷ []) inside
         (sublist_onward kept before (before ++ thin_change place day change ∷ []) is.some (sublist_front before (thin_change place day change ∷ []))))
 
-    -- a sublist of the thin changes, followed by the new thin change, is a sublist of all thin
-    -- changes
+    -- some of the thin changes, followed by one more thin change, are some of the thin changes with
+    -- that one
     some_more : (others : List Change) → IsSublist others kept
         → IsSublist (others ++ thin_change place day change ∷ []) (map (thin_change place day) (changes ++ change ∷ []))
     some_more others inside =
@@ -303,14 +303,14 @@ module _ (place : List ℕ) (day : ℕ) where
         (sublist_append others before (thin_change place day change ∷ []) (thin_change place day change ∷ [])
         (sublist_onward others kept before inside is.some) (sublist_itself (thin_change place day change ∷ [])))
 
-    -- a change whose key may not matter may be dropped
+    -- a change of a key that can't matter may be dropped
     pub thinning_elsewhere : may_matter place change.key ≡ false → IsThinning place day (changes ++ change ∷ []) kept
     thinning_elsewhere no_matter = record {
       some = still_some kept (sublist_itself kept);
       enough = enough_elsewhere place day changes kept change is.enough no_matter;
     }
 
-    -- if the key of a change may matter, the thin change may be kept
+    -- the thin form of a change may be kept if its key may matter
     pub thinning_kept : may_matter place change.key ≡ true → IsThinning place day (changes ++ change ∷ []) (kept ++ thin_change place day change ∷ [])
     thinning_kept matters = record {
       some = some_more kept (sublist_itself kept);
@@ -324,14 +324,14 @@ module _ (place : List ℕ) (day : ℕ) where
       enough = enough_dropped place day changes kept change is.enough deletes none;
     }
 
-    -- for a deletion, the kept changes of its key may be removed
+    -- at a deletion, the kept changes of the same key may be removed
     pub thinning_removed : thin_act place day change.act ≡ delete → IsThinning place day (changes ++ change ∷ []) (without change.key kept)
     thinning_removed deletes = record {
       some = still_some (without change.key kept) (sublist_filter (λ (other : Change). not (is_of change.key other)) kept);
       enough = enough_removed place day changes kept change is.enough deletes;
     }
 
-    -- if the thin change is kept, the earlier kept changes of its key may be removed
+    -- if the thin form of a change is kept, the earlier kept changes of the same key may be removed
     pub thinning_replaced : may_matter place change.key ≡ true
         → IsThinning place day (changes ++ change ∷ []) (without change.key kept ++ thin_change place day change ∷ [])
     thinning_replaced matters = record {
@@ -339,7 +339,7 @@ module _ (place : List ℕ) (day : ℕ) where
       enough = enough_replaced place day changes kept change is.enough matters;
     }
 
--- if more changes follow, each one whose key may matter may be kept in its thin form
+-- of the changes that follow, all whose keys may matter may be kept in their thin forms
 pub thinning_more : (place : List ℕ) (day : ℕ) (all kept more : List Change) → IsThinning place day all kept
     → IsThinning place day (all ++ more) (kept ++ thin_changes place day more)
 thinning_more place day all kept [] is =
@@ -352,7 +352,7 @@ thinning_more place day all kept (change ∷ more) is =
     rest : List Change
     rest = filter (λ (c : Change). may_matter place c.key) more
 
-    -- the change is kept if the test passes
+    -- the change is kept if the test passes, and dropped otherwise
     Goal : Bool → Type 0
     Goal test = IsThinning place day (all ++ change ∷ [] ++ more) (kept ++ map (thin_change place day) (cond test (change ∷ rest) rest))
 
@@ -366,22 +366,22 @@ thinning_more place day all kept (change ∷ more) is =
         (onward (kept ++ thin_change place day change ∷ []) (thinning_kept place day all kept change is h)))
     by false h onward = subst Goal (sym h) (onward kept (thinning_elsewhere place day all kept change is h))
 
--- ---- a thin act, case by case
+-- ---- the thin form of an act, case by case
 
 module _ (place : List ℕ) (day : ℕ) (lines : List (List ℕ)) where
-  -- a schedule that may not count is deleted
+  -- a put of a schedule that can't count becomes a deletion
   pub act_far : runs_near day (first_record lines) ≡ false → thin_act place day (put (schedule_body lines)) ≡ delete
   act_far far = λ i. cond (far i) (put (schedule_body (lines_for place lines))) delete
 
   act_near : runs_near day (first_record lines) ≡ true → thin_act place day (put (schedule_body lines)) ≡ put (schedule_body (lines_for place lines))
   act_near near = λ i. cond (near i) (put (schedule_body (lines_for place lines))) delete
 
-  -- a schedule that calls at the place is put as it is
+  -- a put of a schedule that calls at the place stays as it is
   pub act_calls : runs_near day (first_record lines) ≡ true → calls_at place lines ≡ true
       → thin_act place day (put (schedule_body lines)) ≡ put (schedule_body lines)
   act_calls near calls = act_near near ∙ (λ i. put (schedule_body (cond (calls i) lines (thin_lines lines))))
 
-  -- a schedule that doesn't call at the place is put with a thin body
+  -- a put of a schedule that doesn't call at the place keeps only the thin records
   pub act_thin : runs_near day (first_record lines) ≡ true → calls_at place lines ≡ false
       → thin_act place day (put (schedule_body lines)) ≡ put (schedule_body (thin_lines lines))
   act_thin near none = act_near near ∙ (λ i. put (schedule_body (cond (none i) lines (thin_lines lines))))
@@ -394,16 +394,16 @@ near_of_new day line = λ i. list_any
 
 -- ---- the greatest key of the kept changes
 
--- no kept change has a key above the highest key
+-- no kept change has a key above the highest kept key
 pub none_above : (highest key : Key) (kept : List Change) → AreAtMost highest kept → IsBelow key_cmp highest key → HasNoChangeOf key kept
 none_above highest key kept low below change among same =
     low change among (subst (λ (k : Key). key_cmp k highest ≡ Greater) (sym same) (key_total.antisymm key highest ∙ ap ordering_reverse below))
 
--- if no change is kept, any key may count as the highest
+-- if no change is kept, every key is at least as high as all kept keys
 pub none_at_first : (highest : Key) → AreAtMost highest []
 none_at_first highest change among = absurd (nil-Contains change among)
 
--- a kept change whose key isn't above the highest key leaves that key the highest
+-- after a kept change with a key not above the highest, that key is still the highest
 pub still_at_most : (highest : Key) (kept : List Change) (change : Change) → AreAtMost highest kept → IsAtMost key_cmp change.key highest
     → AreAtMost highest (kept ++ change ∷ [])
 still_at_most highest kept change low more other among = by (Contains-append_cases kept (change ∷ []) other among)
@@ -412,7 +412,7 @@ still_at_most highest kept change low more other among = by (Contains-append_cas
     by (inl before) = low other before
     by (inr last) = subst (λ (c : Change). IsAtMost key_cmp c.key highest) (Contains-single change other last) more
 
--- if a kept change has a key above the highest key, its key is now the highest
+-- after a kept change with a key above the highest, its key is the highest
 pub raised_at_most : (highest : Key) (kept : List Change) (change : Change) → AreAtMost highest kept → IsBelow key_cmp highest change.key
     → AreAtMost change.key (kept ++ change ∷ [])
 raised_at_most highest kept change low below =

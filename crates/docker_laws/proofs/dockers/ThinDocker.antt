@@ -1,4 +1,4 @@
--- A table and its thinned table for a place and a day have the same docker there on that day.
+-- A table and the table thinned for a place and a day have the same docker of the place on the day.
 use Rattle.std.proofs.Common.{◌≡◌, ℕ, ◌+◌, ◌≤◌, List, subst, inl, inr, ◌⊎◌, refl, ap, sym, ◌∙◌, Bool, true, false, cond, Some, None, arith}
 use Rattle.std.specs.Prelude.{Option, ◌↔◌, option_and_then}
 use Rattle.std.proofs.lemmas.Slice.Eq.{bytes_eq-Decides}
@@ -30,9 +30,9 @@ use Rattle.docker_laws.specs.Excerpt.{IsExcerpt}
 use Rattle.docker_laws.proofs.dockers.ExcerptDocker.{excerpt_list_iff, excerpt_text_iff}
 use Rattle.docker_laws.proofs.dockers.ThinBody.{first_of_thin, thin_elsewhere, needed_is_body}
 
--- ---- stand-ins
+-- ---- records that may replace a schedule
 
--- if lines are a stand-in for a schedule's lines, the schedule's lines are a stand-in for them
+-- if some records may replace a schedule, the schedule may replace them
 turned : (place : List ℕ) (day : ℕ) (one other : List (List ℕ)) → IsStandIn place day one other → IsStandIn place day other one
 turned place day one other is = record {
   runs = λ start near. sym (is.runs start near);
@@ -44,7 +44,7 @@ turned place day one other is = record {
     swap (inl calls) = inr calls
     swap (inr calls) = inl calls
 
--- lines with the same first line are a stand-in, if neither list calls at the place
+-- records with the same first record may replace a schedule, if neither calls at the place
 pub stand_in_by_first : (place : List ℕ) (day : ℕ) (whole lines : List (List ℕ)) → first_record lines ≡ first_record whole → calls_at place whole ≡ false
     → calls_at place lines ≡ false → IsStandIn place day whole lines
 stand_in_by_first place day whole lines same none no_other = record {
@@ -60,7 +60,7 @@ stand_in_by_first place day whole lines same none no_other = record {
     by (inl calls) = absurd (elsewhere whole none calls)
     by (inr calls) = absurd (elsewhere lines no_other calls)
 
--- the lines that the place needs are a stand-in
+-- the records that the place needs may replace the schedule
 pub needed_stand_in : (place : List ℕ) (day : ℕ) (lines : List (List ℕ)) → IsStandIn place day lines (lines_for place lines)
 needed_stand_in place day lines = by (calls_at place lines) refl
   where
@@ -70,8 +70,8 @@ needed_stand_in place day lines = by (calls_at place lines) refl
 
 -- ---- two tables with the same docker for a place and a day
 
--- the other table has what the docker needs: each schedule that runs near the day, and each
--- association at the place
+-- the table `other` has what the docker of `one` needs: each schedule that runs near the day, and
+-- each association at the place
 record Covers (one other : Table) (place : List ℕ) (day : ℕ) : Type 0 where
   runs : (start : ℕ) → IsStartNear day start → (uid : List ℕ) (key : ScheduleKey) (lines : List (List ℕ)) → IsRunning one uid start key lines
       → (others : List (List ℕ)) × IsRunning other uid start key others × IsStandIn place day lines others
@@ -97,7 +97,7 @@ module _ (one other : Table) (place : List ℕ) (day : ℕ) (forth : Covers one 
         found.2,
       )
 
-  -- a train that calls at the place runs by the same lines in the other table
+  -- a train that calls at the place runs by the same records in the other table
   calling_over : (start : ℕ) → IsStartNear day start → (uid : List ℕ) (key : ScheduleKey) (lines : List (List ℕ)) → CallsAt place lines
       → TrainRuns one uid start key lines → TrainRuns other uid start key lines
   calling_over start near uid key lines calls is =
@@ -136,7 +136,7 @@ module _ (one other : Table) (place : List ℕ) (day : ℕ) (forth : Covers one 
         is = is.is;
       }
 
--- a UID has the same identity in both tables, on a start day near the day
+-- on a start day near the day, a UID has the same train identity in both tables
 module _ (one other : Table) (place : List ℕ) (day : ℕ) (forth : Covers one other place day) (back : Covers other one place day) where
   identity_over : (start : ℕ) → IsStartNear day start → (uid identity : List ℕ) → IsIdentityOn one uid identity start → IsIdentityOn other uid identity start
   identity_over start near uid identity (inl runs) =
@@ -188,7 +188,7 @@ module _ (one other : Table) (place : List ℕ) (day : ℕ) (forth : Covers one 
   line_over line (inl event) = inl (event_line_over one other place day forth back line event)
   line_over line (inr association) = inr (association_line_over line association)
 
--- if each of two tables has what the docker needs of the other, both have the same docker list
+-- two tables have the same docker list, if each has what the docker of the other needs
 list_over : (one other : Table) (place : List ℕ) (day : ℕ) → Covers one other place day → Covers other one place day → (lines : List DockerLine)
     → IsDockerList one place day lines → IsDockerList other place day lines
 list_over one other place day forth back lines is = record {
@@ -199,7 +199,7 @@ list_over one other place day forth back lines is = record {
   );
 }
 
--- ---- a table and one that stands for it
+-- ---- a table and one that may replace it
 
 module _ (place : List ℕ) (day : ℕ) (live part : Table) (stands : StandsFor place day live part) where
   stands_forth : HasFewMidnights live → Covers live part place day
@@ -234,7 +234,7 @@ module _ (place : List ℕ) (day : ℕ) (live part : Table) (stands : StandsFor 
     few = λ key lines is_live calls. few key lines is_live;
   }
 
-  -- a table and one that stands for it have the same docker list for the place and the day
+  -- a table and one that may replace it have the same docker list for the place and the day
   pub stand_in_list_iff : HasFewMidnights live → HasFewMidnights part → (lines : List DockerLine)
       → IsDockerList live place day lines ↔ IsDockerList part place day lines
   stand_in_list_iff few few_part lines = (
@@ -245,7 +245,7 @@ module _ (place : List ℕ) (day : ℕ) (live part : Table) (stands : StandsFor 
   stand_in_text_same : (lines : List DockerLine) → docker_text part place day lines ≡ docker_text live place day lines
   stand_in_text_same lines = ap (text_with place day lines) (ap description_in stands.tiploc)
 
-  -- a table and one that stands for it have the same docker text for the place and the day
+  -- a table and one that may replace it have the same docker text for the place and the day
   pub stand_in_text_iff : HasFewMidnights live → HasFewMidnights part → (text : List ℕ)
       → IsDockerText live place day text ↔ IsDockerText part place day text
   stand_in_text_iff few few_part text = (
@@ -253,17 +253,17 @@ module _ (place : List ℕ) (day : ℕ) (live part : Table) (stands : StandsFor 
     λ told. (told.0, (stand_in_list_iff few few_part told.0).1 told.1, told.2 ∙ stand_in_text_same told.0),
   )
 
--- ---- a table and its thinned table
+-- ---- a table and the thinned table
 
 module _ (place : List ℕ) (day : ℕ) (live : Table) where
-  -- a live schedule that runs near the day is in the thinned table, with the lines that the place
+  -- a live schedule that runs near the day is in the thinned table, with the records that the place
   -- needs
   schedule_left : (key : ScheduleKey) (lines : List (List ℕ)) → live (schedule_key key) ≡ Some (schedule_body lines)
       → runs_near day (first_record lines) ≡ true → thinned place day live (schedule_key key) ≡ Some (schedule_body (lines_for place lines))
   schedule_left key lines is_live runs =
       ap (option_and_then (thin_body place day)) is_live ∙ (λ i. cond (runs i) (Some (schedule_body (lines_for place lines))) None)
 
-  -- a schedule in the thinned table has the lines of a live schedule that the place needs
+  -- a schedule in the thinned table has the records that the place needs of a live schedule
   schedule_was : (key : ScheduleKey) (lines : List (List ℕ)) → thinned place day live (schedule_key key) ≡ Some (schedule_body lines)
       → (whole : List (List ℕ)) × (live (schedule_key key) ≡ Some (schedule_body whole)) × (lines_for place whole ≡ lines)
   schedule_was key lines is = by (then_some (thin_body place day) (live (schedule_key key)) (schedule_body lines) is)
@@ -283,7 +283,7 @@ module _ (place : List ℕ) (day : ℕ) (live : Table) where
           → (whole : List (List ℕ)) × (live (schedule_key key) ≡ Some (schedule_body whole)) × (lines_for place whole ≡ lines)
       by found = of_body found.0 found.1 found.2
 
-  -- the thinned table of a table with good bodies stands for that table
+  -- the thinned table may replace the table, if the bodies of the table are well formed
   pub thinned_stands : HasGoodBodies live → StandsFor place day live (thinned place day live)
   thinned_stands good = record {
     tiploc = here (tiploc_key place) ((bytes_eq-Decides place place).1 refl)
@@ -314,7 +314,7 @@ module _ (place : List ℕ) (day : ℕ) (live : Table) where
       of_association key (Some (tiploc_body bytes)) is = absurd (is (tiploc_body bytes) refl)
       of_association key (Some (schedule_body lines)) is = absurd (is (schedule_body lines) refl)
 
-  -- if the table has good bodies, so has the thinned table
+  -- if the bodies of a table are well formed, so are the bodies of the thinned table
   pub thin_good : HasGoodBodies live → HasGoodBodies (thinned place day live)
   thin_good good key body left = by (may_matter place key) left
     where
@@ -343,7 +343,7 @@ module _ (place : List ℕ) (day : ℕ) (live : Table) where
         stand_in_text_iff place day live (thinned place day live) (thinned_stands good) (bodies_few live good)
         (bodies_few (thinned place day live) (thin_good good)) text
 
-    -- any excerpt of the thinned table for the place has the same docker list too
+    -- any excerpt of the thinned table for the place has the same docker list as the table
     pub thin_excerpt_list : (part : Table) → IsExcerpt place (thinned place day live) part → (lines : List DockerLine)
         → IsDockerList live place day lines ↔ IsDockerList part place day lines
     thin_excerpt_list part is lines =
@@ -351,7 +351,7 @@ module _ (place : List ℕ) (day : ℕ) (live : Table) where
         let excerpt = excerpt_list_iff place (thinned place day live) part is day lines in
         (λ told. excerpt.0 (thin.0 told), λ told. thin.1 (excerpt.1 told))
 
-    -- any excerpt of the thinned table for the place has the same docker text too
+    -- any excerpt of the thinned table for the place has the same docker text as the table
     pub thin_excerpt_text : (part : Table) → IsExcerpt place (thinned place day live) part → (text : List ℕ)
         → IsDockerText live place day text ↔ IsDockerText part place day text
     thin_excerpt_text part is text =

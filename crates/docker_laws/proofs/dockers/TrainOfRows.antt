@@ -20,7 +20,7 @@ use Rattle.docker_laws.proofs.dockers.FirstOfRows.{IsFirst, best_is_first, found
 by_key : IsTotalOrder (on (λ (train : Train). train.key) schedule_choice_cmp)
 by_key = on_total (λ (train : Train). train.key) schedule_choice_total
 
--- the schedule in a row has the row's key and body
+-- a schedule found in a row has the row's key and the row's body
 row_is : (key : Key) (body : Body) (train : Train) → schedule_of key body ≡ Some train → (key ≡ schedule_key train.key) × (body ≡ schedule_body train.lines)
 row_is (schedule_key key) (schedule_body lines) train is =
     let e : record { key = key; lines = lines } ≡ train = some_is (record { key = key; lines = lines }) train is in
@@ -70,13 +70,13 @@ module _ (live : Table) (rows : List Row) (uid : List ℕ) (has : HasSchedulesOf
     best_is_chosen found best =
         first_is_chosen found (best_is_first by_key (is_running uid day) (schedules_in rows) Runs running among_running passes_running found best)
 
-    -- rows with each schedule of a UID determine the chosen one
+    -- the rows of all schedules of a UID determine its chosen schedule
     pub chosen_tells : IsChosenOn live uid day (chosen_in rows uid day)
     chosen_tells =
         first_is_chosen (chosen_in rows uid day)
         (found_is_first by_key (is_running uid day) (schedules_in rows) Runs running among_running passes_running)
 
-    -- rows with each schedule of a UID determine the train
+    -- the rows of all schedules of a UID determine its train
     pub train_tells : IsTrainOn live uid day (train_in rows uid day)
     train_tells = by (chosen_in rows uid day) chosen_tells
       where
@@ -97,18 +97,18 @@ module _ (live : Table) (rows : List Row) (uid : List ℕ) (has : HasSchedulesOf
         by None none = λ key lines runs. none key lines runs.chosen.running
         by (Some train) chosen = at_letter train chosen (train.key.indicator == 67) refl
 
--- the rows of a whole table have each schedule of each UID
+-- the rows of a whole table include each schedule of each UID
 pub rows_have : (live : Table) (rows : List Row) → AreRowsOf live rows → (uid : List ℕ) → HasSchedulesOf live uid rows
 rows_have live rows are uid = record {
   each = λ key body among. (are.members key body).0 among;
   all = λ key lines same is. (are.members (schedule_key key) (schedule_body lines)).1 is;
 }
 
--- the rows of a whole table determine its trains
+-- the rows of a whole table determine all its trains
 pub trains_tell : (live : Table) (rows : List Row) → AreRowsOf live rows → TellsTrains live (train_in rows)
 trains_tell live rows are uid day = train_tells live rows uid (rows_have live rows are uid) day
 
--- a UID has one chosen schedule on a day, or none
+-- for a UID and a day there is only one possible result of the choice
 pub one_answer : (live : Table) (uid : List ℕ) (day : ℕ) (a b : Option Train) → IsChosenOn live uid day a → IsChosenOn live uid day b → a ≡ b
 one_answer live uid day None None one two = refl
 one_answer live uid day None (Some b) one two = absurd (one b.key b.lines two.running)
@@ -117,7 +117,7 @@ one_answer live uid day (Some a) (Some b) one two =
     let same = one_chosen live uid day a.key b.key a.lines b.lines one two in
     λ i. Some (record { key = same.0 i; lines = same.1 i })
 
--- a UID has one train on a day, or none
+-- for a UID and a day there is only one possible train, or none
 pub one_train_answer : (live : Table) (uid : List ℕ) (day : ℕ) (a b : Option Train) → IsTrainOn live uid day a → IsTrainOn live uid day b → a ≡ b
 one_train_answer live uid day None None one two = refl
 one_train_answer live uid day None (Some b) one two = absurd (one b.key b.lines two)

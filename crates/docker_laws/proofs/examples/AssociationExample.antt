@@ -1,5 +1,5 @@
--- A worked association line: the train that ends at COLWELL at 23:50 works on as one that leaves
--- there after midnight.
+-- A worked association line: the train that ends at COLWELL at 23:50 becomes the train that leaves
+-- COLWELL after midnight.
 use Rattle.std.proofs.Common.{◌≡◌, ℕ, List, [], ◌∷◌, refl, inl, inr, Some, None, arith, ap, sym, ◌∙◌, subst, Contains, ◌⊎◌}
 use Rattle.std.specs.Prelude.{codes, Option, slice_index}
 use Rattle.jiff_core.specs.Calendar.{days_from_civil, day_count, days_of_years, days_of_months}
@@ -69,7 +69,7 @@ unfolding body_or
 same_entry key other body others entry same put =
     (ap (λ (pair : Keyed). pair.0) same, ap (λ (pair : Keyed). body_or (body_of pair.1.op)) same ∙ ap body_or put)
 
--- the key and the body belong to one of the three live entries
+-- the key and the body belong to one of the three live entries of the example
 abbrev OneOf : Key → Body → Type 0
 OneOf other others =
     Same (association_key link_key) (association_body link) other others

@@ -25,7 +25,7 @@ in_state state key body h = by (find_in state.entries key)
         none_is : None ≡ Some body → ⊥
         none_is e = cc
 
--- the stamp of the worked entries
+-- the stamp of all entries in the examples
 abbrev pub some_stamp : Stamp
 some_stamp = record { file = record { moment = record { day = 23536; minute = 1260 }; reference = codes "DFROC1A" }; number = 2 }
 
@@ -38,7 +38,8 @@ placed key lines = (schedule_key key, put_lines lines)
 abbrev key_of : ℕ → ℕ → ScheduleKey
 key_of day letter = record { uid = codes "C10001"; runs_from = day; indicator = letter }
 
--- a permanent schedule, an overlay on two of its days, and a cancellation on a third
+-- the three schedules of one UID: a permanent one, an overlay on two of its days, and a
+-- cancellation on a third
 abbrev permanent : List (List ℕ)
 permanent = bs (codes "N") (codes "C10001") (codes "240610") (codes "240616") (codes "1111111") (codes "1A10") (codes "P") ∷ f2_origin ∷ f2_terminus ∷ []
 

@@ -1,4 +1,4 @@
--- The docker list of the worked file at ASHFELD on 10 June 2024 is its one line.
+-- The docker of the worked file at ASHFELD on 10 June 2024 has only one line.
 use Rattle.std.proofs.Common.{◌≡◌, ℕ, zero, suc, ◌+◌, List, [], ◌∷◌, length, refl, inl, inr, Some, None, lit<}
 use Rattle.std.proofs.Common.{◌<◌, arith, ap, sym, ◌∙◌, subst, Contains, get_or, Bool, true, false, ◌⊎◌, ◌++◌}
 use Rattle.std.specs.Prelude.{codes, Option, slice_index}
@@ -26,7 +26,7 @@ use Rattle.cif_laws.proofs.orders.Orders.{exact_key}
 abbrev live : Table
 live = live_table f2_state
 
--- a comparison that passes the test of being Equal is Equal
+-- an ordering that passes the test `is_eq` is `Equal`
 equal_by_test : (o : Ordering) → is_eq o ≡ true → o ≡ Equal
 equal_by_test Less h = cc
 equal_by_test Equal h = refl
@@ -109,7 +109,7 @@ two_events event among = by among.0 among.1 among.2
     by (suc zero) below is = inr is
     by (suc (suc k)) below is = absurd (omega arith)
 
--- an event at ASHFELD on 10 June is the departure, and its train starts on that day
+-- the only event at ASHFELD on 10 June is the departure, and its train starts on that day
 starts_then : (start : ℕ) (event : Event) → Contains (events_of f2_schedule) event → columns 3 9 (event_line f2_schedule event) ≡ codes "ASHFELD"
     → event_day start f2_schedule event ≡ 23537 → (leaves_f2 ≡ event) × (start ≡ 23537)
 starts_then start event among here today = by (two_events event among)
@@ -142,7 +142,7 @@ only_line : (line : DockerLine) → IsEventLine live (codes "ASHFELD") 23537 lin
 only_line line (inl made) = only_event_line line made
 only_line line (inr made) = absurd (no_association_line line made)
 
--- the docker list of the worked file is its one line
+-- the docker list of the worked file is this one line
 pub f2_docker : IsDockerList live (codes "ASHFELD") 23537 (the_line ∷ [])
 f2_docker = record {
   ascending = (tt, tt);
@@ -152,7 +152,7 @@ f2_docker = record {
   );
 }
 
--- the text of that list is the docker text of the worked file
+-- the text with this one line is the docker text of the worked file
 pub f2_docker_text : IsDockerText live (codes "ASHFELD") 23537 (docker_text live (codes "ASHFELD") 23537 (the_line ∷ []))
 f2_docker_text = (the_line ∷ [], f2_docker, refl)
 

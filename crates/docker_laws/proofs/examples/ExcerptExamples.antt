@@ -1,5 +1,5 @@
--- Worked excerpts for COLWELL: what is needed there, what a walk leaves, and what the docker would
--- lose without it.
+-- Worked excerpts for COLWELL: what the docker of COLWELL needs, what the walk leaves, and what the
+-- docker would lose without it.
 use Rattle.std.proofs.Common.{◌≡◌, ℕ, List, [], ◌∷◌, refl, inl, inr, Some, None, arith, ap, ◌∙◌, subst, Contains, ◌⊎◌}
 use Rattle.std.specs.Prelude.{codes, slice_index}
 use Rattle.jiff_core.specs.Calendar.{days_from_civil, day_count, days_of_years, days_of_months}
@@ -33,7 +33,7 @@ put_in key body = with_op key (put_with body)
 abbrev state_of : List Keyed → State
 state_of entries = record { horizon = 0; ledger = []; entries = entries }
 
--- a schedule that runs for a week, from one TIPLOC to another
+-- a schedule that runs for a week, between two TIPLOCs
 abbrev week : List ℕ → List ℕ → List ℕ → List ℕ → List (List ℕ)
 week uid identity origin terminus =
     bs (codes "N") uid (codes "240610") (codes "240616") (codes "1111111") identity (codes "P")
@@ -51,17 +51,17 @@ one_day uid identity origin terminus =
 abbrev pub key_of : List ℕ → ℕ → ℕ → ScheduleKey
 key_of uid day letter = record { uid = uid; runs_from = day; indicator = letter }
 
--- ---- an overlay that doesn't call there, of a UID that calls there on other days
+-- ---- an overlay that doesn't call at COLWELL, for a train that does on other days
 
--- a train that ends at the place
+-- a train that ends at COLWELL
 abbrev pub stops : List (List ℕ)
 stops = week (codes "C40001") (codes "4D40") (codes "ASHFELD") (codes "COLWELL")
 
--- an overlay on 11 June of the train that ends at the place
+-- on 11 June an overlay of this train ends at BRAYTON
 abbrev pub short : List (List ℕ)
 short = one_day (codes "C40001") (codes "4D40") (codes "ASHFELD") (codes "BRAYTON")
 
--- the key of that train's schedule
+-- the key of the train's permanent schedule
 abbrev pub stops_key : ScheduleKey
 stops_key = key_of (codes "C40001") 23537 80
 
@@ -87,12 +87,12 @@ only_stops other others h =
     ap (λ (pair : Keyed). schedule_in pair.0)
     (Contains-single {A = Keyed} (put_in (schedule_key stops_key) (schedule_body stops)) (schedule_key other, found.0) found.1)
 
--- on the day of the overlay no train runs by the permanent schedule
+-- on the day of the overlay the train doesn't run by the permanent schedule
 runs_by_overlay : ¬ TrainRuns (live_table overlaid) (codes "C40001") 23538 stops_key stops
 unfolding days_from_civil day_count days_of_years days_of_months
 runs_by_overlay runs = runs.chosen.first short_key short (record { uid_is = refl; is_live = refl; runs_then = refl }) refl
 
--- without the overlay the train would run by the permanent schedule
+-- without the overlay it would run by the permanent schedule on that day
 would_stop : TrainRuns (live_table alone) (codes "C40001") 23538 stops_key stops
 unfolding days_from_civil day_count days_of_years days_of_months
 would_stop = record {
@@ -104,7 +104,7 @@ would_stop = record {
   no_cancellation = λ cancelled. omega arith;
 }
 
--- so the overlay is needed
+-- so the docker of COLWELL needs the overlay
 overlay_is_needed : IsNeeded (live_table overlaid) place (schedule_key short_key)
 overlay_is_needed = inl (record {
   key = stops_key;
@@ -124,7 +124,7 @@ alone_is_no_excerpt is = by (is (schedule_key short_key))
 overlay_is_kept : (excerpt_for place overlaid).entries ≡ overlaid.entries
 overlay_is_kept = refl
 
--- ---- a partner that doesn't call there
+-- ---- an associated train that doesn't call at COLWELL
 
 abbrev partner : List (List ℕ)
 partner = week (codes "C40002") (codes "4D42") (codes "BRAYTON") (codes "ASHFELD")
@@ -132,13 +132,13 @@ partner = week (codes "C40002") (codes "4D42") (codes "BRAYTON") (codes "ASHFELD
 abbrev partner_key : ScheduleKey
 partner_key = key_of (codes "C40002") 23537 80
 
--- an association at the place
+-- an association at COLWELL
 abbrev pub link : List ℕ
 link =
     aa (codes "N") (codes "C40001") (codes "C40002") (codes "240610") (codes "240616") (codes "1111111") (codes "NP") (codes "S")
     (codes "COLWELL") no_text no_text (codes "P")
 
--- the key of the association at the place
+-- the key of the association at COLWELL
 abbrev pub link_key : AssociationKey
 link_key = record { base = codes "C40001"; associated = codes "C40002"; start = 23537; location = codes "COLWELL"; suffix = 32; indicator = 80 }
 
@@ -148,7 +148,7 @@ joined = state_of (
     ∷ put_in (schedule_key partner_key) (schedule_body partner) ∷ []
     )
 
--- the state without the partner
+-- the state without the associated train
 abbrev parted : State
 parted = state_of (put_in (association_key link_key) (association_body link) ∷ put_in (schedule_key stops_key) (schedule_body stops) ∷ [])
 
@@ -165,7 +165,7 @@ not_second : (other : ScheduleKey) (entry : Entry) → other.uid ≡ codes "C400
 unfolding schedule_in
 not_second other entry uid same = uids_differ (ap (λ (pair : Keyed). (schedule_in pair.0).uid) same ∙ uid)
 
--- the UID of the partner has no other schedule
+-- the associated train has only one schedule
 only_partner : (other : ScheduleKey) (others : List (List ℕ)) → other.uid ≡ codes "C40002"
     → live_table joined (schedule_key other) ≡ Some (schedule_body others) → partner_key ≡ other
 unfolding schedule_in
@@ -207,7 +207,7 @@ no_partner other others uid h =
     first (inl same) = not_first other found.0 uid same
     first (inr rest) = not_second other found.0 uid (Contains-single {A = Keyed} stops_entry (schedule_key other, found.0) rest)
 
--- the docker has the partner's identity
+-- the docker prints the identity of the associated train
 identity_there : IsPartnerIdentity (live_table joined) (codes "C40002") (Some 23537) (codes "4D42")
 unfolding days_from_civil day_count days_of_years days_of_months
 identity_there =
@@ -226,12 +226,12 @@ identity_there =
       refl,
     )
 
--- without the partner the docker would not have the partner's identity
+-- without the associated train the docker couldn't print its identity
 identity_lost : ¬ IsPartnerIdentity (live_table parted) (codes "C40002") (Some 23537) (codes "4D42")
 identity_lost (inl runs) = no_partner runs.0 runs.1 runs.2.chosen.running.uid_is runs.2.chosen.running.is_live
 identity_lost (inr none) = let first : ◌≡◌ {A = ℕ} 52 63 = ap (λ bytes. slice_index bytes 0) none.1 in omega arith
 
--- so the partner is needed
+-- so the docker of COLWELL needs the associated train
 partner_is_needed : IsNeeded (live_table joined) place (schedule_key partner_key)
 partner_is_needed = inr (record { key = link_key; line = link; associated_is = refl; linked = record { is_live = refl; here = refl } })
 
@@ -246,8 +246,8 @@ parted_is_no_excerpt is = by (is (schedule_key partner_key))
 partner_is_kept : (excerpt_for place joined).entries ≡ joined.entries
 partner_is_kept = refl
 
--- an excerpt of a state with only the partner has no entry. If it were joined with the association
--- later, the partner would be missing. So an excerpt is taken of a whole state
+-- an excerpt of a state with only the associated train has no entry. If the association were joined
+-- to it later, the associated train would be missing. So an excerpt must be made of a whole state
 partner_alone_is_dropped : (excerpt_for place (state_of (put_in (schedule_key partner_key) (schedule_body partner) ∷ []))).entries ≡ []
 partner_alone_is_dropped = refl
 
@@ -262,21 +262,21 @@ far = week (codes "C40004") (codes "4D44") (codes "BRAYTON") (codes "ASHFELD")
 abbrev late : List (List ℕ)
 late = week (codes "C40005") (codes "4D45") (codes "COLWELL") (codes "ASHFELD")
 
--- the key of an association at the place that is deleted
+-- the key of a deleted association at COLWELL
 abbrev gone_key : AssociationKey
 gone_key = record { base = codes "C40001"; associated = codes "C40003"; start = 23537; location = codes "COLWELL"; suffix = 32; indicator = 80 }
 
--- the key of an association elsewhere
+-- the key of an association at ASHFELD
 abbrev pub far_link_key : AssociationKey
 far_link_key = record { base = codes "C40003"; associated = codes "C40004"; start = 23537; location = codes "ASHFELD"; suffix = 32; indicator = 80 }
 
--- the record of the association elsewhere
+-- the record of the association at ASHFELD
 abbrev pub far_link : List ℕ
 far_link =
     aa (codes "N") (codes "C40003") (codes "C40004") (codes "240610") (codes "240616") (codes "1111111") (codes "NP") (codes "S")
     (codes "ASHFELD") no_text no_text (codes "P")
 
--- the state has two TIPLOCs, three associations and five UIDs
+-- a state with two TIPLOCs, three associations and schedules of five UIDs
 abbrev whole : State
 whole = state_of (
     put_in (tiploc_key (codes "ASHFELD")) (tiploc_body (spaces 63)) ∷ put_in (tiploc_key (codes "COLWELL")) (tiploc_body (spaces 63))
@@ -289,8 +289,8 @@ whole = state_of (
     ∷ put_in (schedule_key (key_of (codes "C40005") 23537 80)) (schedule_body late) ∷ []
     )
 
--- the walk leaves the TIPLOC, both associations there, the base train with its overlay, the
--- partner, and the last schedule, which calls there
+-- the walk leaves the TIPLOC of COLWELL, both associations there, the base train with its overlay,
+-- the associated train, and the last schedule, which calls there
 walk_leaves : (excerpt_for place whole).entries
     ≡ put_in (tiploc_key (codes "COLWELL")) (tiploc_body (spaces 63)) ∷ put_in (association_key link_key) (association_body link)
     ∷ with_op (association_key gone_key) deleted ∷ put_in (schedule_key stops_key) (schedule_body stops)

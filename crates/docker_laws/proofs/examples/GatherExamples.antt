@@ -1,5 +1,5 @@
--- A worked gathering: a train ends at COLWELL at 23:50 and works on as one that leaves there after
--- midnight.
+-- A worked gathering of lines: a train ends at COLWELL at 23:50 and becomes the train that leaves
+-- COLWELL after midnight.
 use Rattle.std.proofs.Common.{◌≡◌, ℕ, List, [], ◌∷◌, map, refl, true, false}
 use Rattle.std.specs.Prelude.{codes}
 use Rattle.jiff_core.specs.Calendar.{days_from_civil, day_count, days_of_years, days_of_months}
@@ -36,25 +36,25 @@ rows = (
     ∷ (schedule_key (record { uid = codes "C40001"; runs_from = 23537; indicator = 80 }), schedule_body base_lines)
     ∷ (schedule_key (record { uid = codes "C40002"; runs_from = 23538; indicator = 80 }), schedule_body next_lines) ∷ []
 
--- the start days for 10 June
+-- the start days for 10 June are 10, 9 and 8 June
 days_looked_at : start_days 23537 ≡ 23537 ∷ 23536 ∷ 23535 ∷ []
 days_looked_at = refl
 
 first_days : start_days 1 ≡ 1 ∷ 0 ∷ []
 first_days = refl
 
--- the lines at COLWELL on 10 June 2024, as the walk meets them
+-- the lines at COLWELL on 10 June 2024, in the order in which the walk gathers them
 at_colwell : map line_text (gathered (train_in rows) (link_in rows) (codes "COLWELL") 23537 rows)
     ≡ codes "2350  N 4D40 C40001 P   1                C40002  4D42   " ∷ codes "2350  A 4D40 C40001 P   1                ASHFELD COLWELL" ∷ []
 unfolding days_from_civil day_count days_of_years days_of_months
 at_colwell = refl
 
--- on the day before there are no lines
+-- on 9 June there are no lines
 day_before : gathered (train_in rows) (link_in rows) (codes "COLWELL") 23536 rows ≡ []
 unfolding days_from_civil day_count days_of_years days_of_months
 day_before = refl
 
--- if the associated train is cancelled, its identity isn't known
+-- if the associated train is cancelled, its identity is printed as `????`
 abbrev cancelled : List Row
 cancelled = (
   association_key (record { base = codes "C40001"; associated = codes "C40002"; start = 23537; location = codes "COLWELL"; suffix = 32; indicator = 80 }),
@@ -72,7 +72,7 @@ partner_cancelled : map line_text (gathered (train_in cancelled) (link_in cancel
 unfolding days_from_civil day_count days_of_years days_of_months
 partner_cancelled = refl
 
--- ---- a train that calls at one place twice, with suffixes, and one that divides there
+-- ---- a train that calls at one place twice, with two suffixes, and divides there
 
 abbrev twice_lines : List (List ℕ)
 twice_lines =
@@ -108,7 +108,7 @@ division_at_colwell : map line_text (gathered (train_in divided) (link_in divide
 unfolding days_from_civil day_count days_of_years days_of_months
 division_at_colwell = refl
 
--- both trains call at COLWELL, and neither at ELM
+-- both trains call at COLWELL, and the first doesn't call at ELM
 colwell_called_at : (calls_at (codes "COLWELL") twice_lines ≡ true) × (calls_at (codes "COLWELL") divided_lines ≡ true)
     × (calls_at (codes "ELM    ") twice_lines ≡ false)
 colwell_called_at = (refl, refl, refl)

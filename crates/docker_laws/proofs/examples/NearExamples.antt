@@ -5,24 +5,24 @@ use Rattle.jiff_core.specs.Calendar.{days_from_civil, day_count, days_of_years, 
 use Rattle.docker_laws.specs.NearDay.{near_entries, excerpt_on}
 use Rattle.docker_laws.proofs.examples.ExcerptExamples.{place, alone}
 
--- on the day before its first day the schedule may count: a train of that day may have it as its
--- partner, a day later
+-- on 9 June, the day before its first day, the schedule may count: it may be the associated train,
+-- a day later, of a train on 9 June
 partner_tomorrow : (excerpt_on place 23536 alone).entries ≡ alone.entries
 unfolding days_from_civil day_count days_of_years days_of_months
 partner_tomorrow = refl
 
--- two days before its first day the schedule doesn't count
+-- on 8 June, two days before its first day, the schedule can't count
 too_early : near_entries 23535 alone.entries ≡ []
 unfolding days_from_civil day_count days_of_years days_of_months
 too_early = refl
 
--- three days after its last day the schedule may count: a train may start a day later, pass
--- midnight twice, and have it as its partner of the day before
+-- on 19 June, three days after its last day, the schedule may count. A train may start on 17 June,
+-- pass midnight twice, and have the train of 16 June as its associated train
 partner_long_ago : (excerpt_on place 23546 alone).entries ≡ alone.entries
 unfolding days_from_civil day_count days_of_years days_of_months
 partner_long_ago = refl
 
--- four days after its last day the schedule doesn't count
+-- on 20 June, four days after its last day, the schedule can't count
 too_late : near_entries 23547 alone.entries ≡ []
 unfolding days_from_civil day_count days_of_years days_of_months
 too_late = refl

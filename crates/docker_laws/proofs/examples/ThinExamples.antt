@@ -1,4 +1,4 @@
--- What is kept of a list of changes, for COLWELL on a day. Four ways to keep too little.
+-- The changes that are kept for COLWELL and a day. Then four ways of keeping too little.
 use Rattle.std.proofs.Common.{length, length-append, ◌≡◌, ℕ, ◌≤◌, List, [], ◌∷◌, refl, inl, inr, ◌⊎◌}
 use Rattle.std.proofs.Common.{Some, None, arith, lit<, ap, sym, ◌∙◌, subst, Bool, true, false, cond}
 use Rattle.std.specs.Prelude.{codes, slice_index, ◌↔◌, ◌&&◌, nat_le}
@@ -34,16 +34,16 @@ use Rattle.docker_laws.proofs.dockers.ThinDocker.{stand_in_by_first}
 use Rattle.docker_laws.proofs.dockers.ThinChanges.{thinning_of_all, thinning_removed}
 use Rattle.docker_laws.proofs.examples.ExcerptExamples.{place, key_of, stops, short, stops_key, short_key, link, link_key, far_link, far_link_key}
 
--- ---- thin lines
+-- ---- thin records
 
--- a train that doesn't call at the place keeps its ends
+-- a train that doesn't call at the place keeps only its basic schedule, its origin and its terminus
 night_elsewhere : lines_for (codes "EASTRIG") night_schedule
     ≡ bs (codes "N") (codes "C20001") (codes "240610") (codes "240610") (codes "1000000") (codes "2B20") (codes "P")
     ∷ lo (codes "ASHFELD") no_text (codes "2355") (codes "2355") (codes "1") (codes "SL")
     ∷ lt (codes "BRAYTON") no_text (codes "0020") (codes "0021") (codes "2") (codes "FL") ∷ []
 night_elsewhere = refl
 
--- a train that calls at the place keeps all lines
+-- a train that calls at the place keeps all its records
 night_here : lines_for place night_schedule ≡ night_schedule
 night_here = refl
 
@@ -52,7 +52,7 @@ night_here = refl
 abbrev change_of : ℕ → Key → Act → Change
 change_of number key act = record { number = number; key = key; act = act }
 
--- an overlay on one day that goes another way and doesn't call at COLWELL
+-- on 11 June an overlay takes another way and doesn't call at COLWELL
 abbrev way_round : List (List ℕ)
 way_round =
     bs (codes "N") (codes "C40001") (codes "240611") (codes "240611") (codes "0100000") (codes "4D40") (codes "O")
@@ -74,8 +74,8 @@ all_changes =
     ∷ change_of 6 (schedule_key stops_key) (put (schedule_body stops)) ∷ change_of 9 (schedule_key short_key) (put (schedule_body way_round))
     ∷ change_of 13 (schedule_key (key_of (codes "C40003") 23528 80)) (put (schedule_body long_ago)) ∷ []
 
--- for COLWELL on 11 June: its TIPLOC, the association there, the train that calls, the overlay with
--- its ends, and a deletion
+-- for COLWELL on 11 June these are kept: its TIPLOC, the association there, the train that calls
+-- there, the overlay in its thin form, and a deletion
 kept_of_all : thin_changes place 23538 all_changes
     ≡ change_of 3 (tiploc_key (codes "COLWELL")) (put (tiploc_body (spaces 63))) ∷ change_of 4 (association_key link_key) (put (association_body link))
     ∷ change_of 6 (schedule_key stops_key) (put (schedule_body stops)) ∷ change_of 9 (schedule_key short_key) (put (schedule_body short))
@@ -85,7 +85,7 @@ kept_of_all = refl
 
 -- ---- two tables with different dockers
 
--- if one table's docker has a line there and the other's has none, their dockers differ
+-- two dockers differ if one has a line on the day and the other has none
 differ : (whole wrong : Table) (day : ℕ) (line : DockerLine) → IsEventLine wrong place day line
     → ((other : DockerLine) → ¬ IsEventLine whole place day other) → ((other : DockerLine) → ¬ IsAssociationLine whole place day other)
     → ¬ ((lines : List DockerLine) → IsDockerList whole place day lines ↔ IsDockerList wrong place day lines)
@@ -102,7 +102,7 @@ differ whole wrong day line has no_event no_association same = nil-Contains line
 abbrev put_schedule : ℕ → ScheduleKey → List (List ℕ) → Change
 put_schedule number key lines = change_of number (schedule_key key) (put (schedule_body lines))
 
--- only the first change
+-- the changes without the last one
 abbrev stops_alone : List Change
 stops_alone = put_schedule 2 stops_key stops ∷ []
 
@@ -114,12 +114,12 @@ schedule_in : Key → ScheduleKey
 schedule_in (schedule_key key) = key
 schedule_in _ = stops_key
 
--- keys that pass the test of being equal are equal
+-- schedule keys that compare as equal are equal
 same_schedule : (key other : ScheduleKey) → is_eq (schedule_key_cmp key other) ≡ true → key ≡ other
 unfolding schedule_in
 same_schedule key other h = ap schedule_in (same_key (schedule_key key) (schedule_key other) h)
 
--- only this key is live
+-- this is the only live schedule
 only_stops : (other : ScheduleKey) (others : List (List ℕ)) → table_of stops_alone (schedule_key other) ≡ Some (schedule_body others) → stops_key ≡ other
 only_stops other others h = by (is_eq (schedule_key_cmp stops_key other)) refl h
   where
@@ -127,7 +127,7 @@ only_stops other others h = by (is_eq (schedule_key_cmp stops_key other)) refl h
     by true same is = same_schedule stops_key other same
     by false same is = none_some (schedule_body others) is
 
--- after only this change the train runs and has its line
+-- after the first change the train runs and has a docker line
 stops_line : (start : ℕ) → schedule_runs (first_record stops) start ≡ true → event_day start stops arrives ≡ start
     → IsEventLine (table_of stops_alone) place start (line_of_event stops_key start stops arrives)
 stops_line start runs today = record {
@@ -149,9 +149,10 @@ stops_line start runs today = record {
   is = refl;
 }
 
--- ---- wrong: a schedule that may not count is dropped, and what was kept of its key stays
+-- ---- wrong: the put of a schedule that can't count is dropped, and an earlier put of the same key
+-- is kept
 
--- a revision of the schedule: it ends on 10 June
+-- a revision of the schedule, which now ends on 10 June
 abbrev ended : List (List ℕ)
 ended =
     bs (codes "N") (codes "C40001") (codes "240610") (codes "240610") (codes "1000000") (codes "4D40") (codes "P")
@@ -176,7 +177,7 @@ revision_removes =
     kept : thin_changes place 23543 stops_alone ≡ stops_alone
     kept = refl
 
--- the key holds the revision
+-- after the revision its key has the revised schedule
 revised_is : (other : ScheduleKey) (others : List (List ℕ)) → table_of revised (schedule_key other) ≡ Some (schedule_body others) → ended ≡ others
 revised_is other others h = by (is_eq (schedule_key_cmp stops_key other)) h
   where
@@ -205,7 +206,7 @@ no_arrival line is =
 no_link : (line : DockerLine) → ¬ IsAssociationLine (table_of revised) place 23543 line
 no_link line is = none_some (association_body is.association) is.chosen.associated.is_live
 
--- if the revision is dropped, a train arrives
+-- if the revision is dropped but not the earlier put, a train arrives on 16 June
 dropped_revision_is_wrong : ¬ ((lines : List DockerLine) → IsDockerList (table_of revised) place 23543 lines
     ↔ IsDockerList (table_of stops_alone) place 23543 lines)
 unfolding days_from_civil day_count days_of_years days_of_months
@@ -217,12 +218,12 @@ dropped_revision_is_wrong =
 abbrev overlaid : List Change
 overlaid = put_schedule 2 stops_key stops ∷ put_schedule 5 short_key way_round ∷ []
 
--- for 11 June the overlay is kept with its ends
+-- for 11 June the overlay is kept in its thin form
 overlay_is_kept : thin_changes place 23538 overlaid ≡ put_schedule 2 stops_key stops ∷ put_schedule 5 short_key short ∷ []
 unfolding days_from_civil day_count days_of_years days_of_months
 overlay_is_kept = refl
 
--- on 11 June the overlay runs
+-- on 11 June the train runs by the overlay
 overlay_runs : IsRunning (table_of overlaid) (codes "C40001") 23538 short_key way_round
 unfolding days_from_civil day_count days_of_years days_of_months
 overlay_runs = record { uid_is = refl; is_live = refl; runs_then = refl }
@@ -233,7 +234,7 @@ not_there lines same calls =
     let bad : false ≡ true = test in
     cc
 
--- so the train doesn't run by the schedule that calls there
+-- so on that day it doesn't run by the schedule that calls at COLWELL
 not_by_stops : (uid : List ℕ) (start : ℕ) (key : ScheduleKey) (lines : List (List ℕ)) → stops_key ≡ key → start ≡ 23538
     → ¬ TrainRuns (table_of overlaid) uid start key lines
 not_by_stops uid start key lines same day runs =
@@ -267,7 +268,7 @@ no_arrival_then line is = by (is_eq (schedule_key_cmp short_key is.key)) (is_eq 
 no_link_then : (line : DockerLine) → ¬ IsAssociationLine (table_of overlaid) place 23538 line
 no_link_then line is = none_some (association_body is.association) is.chosen.associated.is_live
 
--- if the overlay is dropped, a train arrives
+-- if the overlay is dropped, a train arrives on 11 June
 dropped_overlay_is_wrong : ¬ ((lines : List DockerLine) → IsDockerList (table_of overlaid) place 23538 lines
     ↔ IsDockerList (table_of stops_alone) place 23538 lines)
 unfolding days_from_civil day_count days_of_years days_of_months
@@ -275,7 +276,7 @@ dropped_overlay_is_wrong =
     differ (table_of overlaid) (table_of stops_alone) 23538 (line_of_event stops_key 23538 stops arrives) (stops_line 23538 refl refl)
     no_arrival_then no_link_then
 
--- the overlay with other ends that aren't at COLWELL serves as well
+-- the overlay may also be kept with other ends, if neither is COLWELL
 abbrev other_ends : List (List ℕ)
 other_ends =
     first_record way_round ∷ lo (codes "EASTRIG") no_text (codes "0000") no_text no_text no_text
@@ -284,7 +285,7 @@ other_ends =
 other_ends_serve : IsStandIn place 23538 way_round other_ends
 other_ends_serve = stand_in_by_first place 23538 way_round other_ends refl refl refl
 
--- ---- wrong: a schedule keeps only its first line
+-- ---- wrong: a schedule keeps only its basic schedule
 
 basic_alone_is_wrong : ¬ IsSchedule (first_record stops ∷ [])
 basic_alone_is_wrong is = by is.journey_or_none
@@ -304,7 +305,7 @@ basic_alone_is_wrong is = by is.journey_or_none
         omega arith
     by (inr none) = not_cancelled (subst MayLackJourney (sym same) none.1)
 
--- ---- wrong: a partner that starts on the next day is dropped
+-- ---- wrong: an associated train that starts on the next day is dropped
 
 -- a train of 12 June that doesn't call at COLWELL
 abbrev follows_on : List (List ℕ)
@@ -319,13 +320,13 @@ follows_on_key = key_of (codes "C40002") 23539 80
 abbrev partner_alone : List Change
 partner_alone = put_schedule 2 follows_on_key follows_on ∷ []
 
--- for 11 June the train is kept: a train of that day may have it as its partner of the next day
+-- for 11 June the train is kept: it may be the associated train of a train on 11 June, a day later
 partner_is_kept : thin_changes place 23538 partner_alone ≡ partner_alone
 unfolding days_from_civil day_count days_of_years days_of_months
 partner_is_kept = refl
 
--- for 15 June the train is kept too: a train may start on 13 June, pass midnight twice, and have it
--- as its partner of the day before
+-- for 15 June the train is kept too: a train may start on 13 June, pass midnight twice, and have
+-- the train of 12 June as its associated train
 partner_is_still_kept : thin_changes place 23542 partner_alone ≡ partner_alone
 unfolding days_from_civil day_count days_of_years days_of_months
 partner_is_still_kept = refl
@@ -345,8 +346,8 @@ only_follows_on other others h = by (is_eq (schedule_key_cmp follows_on_key othe
     by true same is = same_schedule follows_on_key other same
     by false same is = none_some (schedule_body others) is
 
--- the docker of 11 June has the partner's identity, if an association of that day's train has the
--- date indicator `N`
+-- the docker of 11 June prints the associated train's identity, if the association has the date
+-- indicator `N`
 identity_there : IsPartnerIdentity (table_of partner_alone) (codes "C40002") (partner_start 78 23538) (codes "4D42")
 unfolding days_from_civil day_count days_of_years days_of_months
 identity_there =
@@ -364,7 +365,7 @@ identity_there =
       refl,
     )
 
--- without the partner the docker doesn't have the identity
+-- without the associated train the docker can't print that identity
 dropped_partner_is_wrong : ¬ IsPartnerIdentity empty_table (codes "C40002") (partner_start 78 23538) (codes "4D42")
 dropped_partner_is_wrong (inl runs) = none_some (schedule_body runs.1) runs.2.chosen.running.is_live
 dropped_partner_is_wrong (inr none) = let first : ◌≡◌ {A = ℕ} 52 63 = ap (λ bytes. slice_index bytes 0) none.1 in omega arith

@@ -1,5 +1,5 @@
--- In a run of good events all that is known is good: the files are CIF files, and the format allows
--- the horizon.
+-- In a run of good events all knowledge is good: every known file is a CIF file, and the format
+-- allows every horizon.
 use Rattle.std.proofs.Common.{◌≡◌, ℕ, zero, suc, ◌≤◌, Bool, true, false, List, [], ◌∷◌, length, get_or, ap, ◌∙◌, refl, arith, All}
 use Rattle.std.specs.Prelude.{max, nat_lt, fold, slice_set}
 use Rattle.std.specs.List.{zip}
@@ -16,7 +16,7 @@ use Rattle.docker_model.specs.run.Run.{nothing, united, office_known, message_kn
 use Rattle.docker_model.specs.run.Knowledge.{AreFiles, IsGoodKnown, IsGoodEvent}
 use Rattle.state_laws.proofs.states.Lapse.{max_most}
 
--- ---- what two know
+-- ---- what two offices know together
 
 -- if a format allows two horizons, it allows the greater of them
 max_good : (format : Format) (a b : ℕ) → IsHorizonOf format a → IsHorizonOf format b → IsHorizonOf format (max a b)
@@ -30,18 +30,18 @@ none_good dks_2 = omega arith
 no_files_good : AreFiles []
 no_files_good = (All-nil IsFile, All-nil (λ file. length file ≤ most_records))
 
--- knowledge of nothing is good
+-- the knowledge of no file and no horizon is good
 pub nothing_good : (format : Format) → IsGoodKnown format nothing
 nothing_good format = (no_files_good, none_good format)
 
--- if two sets of knowledge are good, so is their union
+-- if two sets of knowledge are good, so are both together
 pub united_good : (format : Format) (first second : Known) → IsGoodKnown format first → IsGoodKnown format second → IsGoodKnown format (united first second)
 united_good format first second one two = (
   (All-append IsFile first.files second.files one.0.0 two.0.0, All-append (λ file. length file ≤ most_records) first.files second.files one.0.1 two.0.1),
   max_good format first.horizon second.horizon one.1 two.1,
 )
 
--- a file read under a limit is good knowledge
+-- a file that was read under a limit is good knowledge
 pub file_good : (format : Format) (text : List ℕ) (limit : ℕ) → limit ≤ most_records → IsFileText limit text (lines_of text)
     → IsGoodKnown format (record { files = lines_of text ∷ []; horizon = 0 })
 file_good format text limit low file =
@@ -66,7 +66,7 @@ good_at P [] i d all one = one
 good_at P (x ∷ xs) zero d all one = All-head P x xs all
 good_at P (x ∷ xs) (suc i) d all one = good_at P xs i d (All-tail P x xs all) one
 
--- what all offices and messages know is good
+-- what each office and each message knows is good
 abbrev pub AllGood : Format → KnownSets → Type 0
 AllGood format known = All (IsGoodKnown format) known.offices × All (IsGoodKnown format) known.messages
 
@@ -123,7 +123,7 @@ module _ (format : Format) where
       good_along (after_reply known (event, reply)) events replies (good_after known event reply good (All-head (IsGoodEvent format) event events each) are.0)
       (All-tail (IsGoodEvent format) event events each) are.1
 
-  -- what is known in a run of good events is good
+  -- after a run of good events all knowledge is good
   pub good_in_run : (offices : ℕ) (events : List RunEvent) (replies : List Reply) → All (IsGoodEvent format) events
       → AreReplies (none_known offices) events replies
       → AllGood format (known_sets offices events replies)

@@ -1,4 +1,4 @@
--- The format can hold the summary of good knowledge. The counts in a text of fewer than 2^64 bytes
+-- Each format can hold the summary of good knowledge. The counts in a text of fewer than 2^64 bytes
 -- fit in eight bytes.
 use Rattle.std.proofs.Common.{◌≡◌, ℕ, ◌+◌, ◌^◌, ◌<◌, ◌≤◌, List, [], ◌∷◌, ◌++◌, length, sym, ◌∙◌, ap, subst, arith, length-append}
 use Rattle.std.specs.List.{flat_map}
@@ -21,7 +21,7 @@ use Rattle.state_laws.proofs.states.SummaryValid.{summary_is_valid}
 
 -- ---- counts
 
--- pieces of at least one byte each have at least as many bytes as there are pieces
+-- if each piece has at least one byte, the number of pieces is at most the number of bytes
 at_least : {A : Type 0} (f : A → List ℕ) → ((x : A) → 1 ≤ length (f x)) → (xs : List A) → length xs ≤ length (flat_map f xs)
 at_least f one [] = omega arith
 at_least f one (x ∷ xs) = let here = one x in let rest = at_least f one xs in let whole = length-append (f x) (flat_map f xs) in omega arith
@@ -35,7 +35,7 @@ entry_long entry =
     let inner = length-append (key_tag entry.0 ∷ key_bytes entry.0) (stamp_bytes entry.1.stamp) in
     omega arith
 
--- a text of fewer than 2^64 bytes has counts below 2^64
+-- in a text of fewer than 2^64 bytes the counts are below 2^64
 pub counts_fit : (format : Format) (state : State) → length (state_text format state) < 2 ^ 64 → IsCount (length state.ledger) × IsCount (length state.entries)
 counts_fit format state short =
     let items = at_least item_bytes item_long state.ledger in
@@ -53,7 +53,7 @@ counts_fit format state short =
 
 -- ---- ops
 
--- the op of an act is never `lapsed`, so each format can hold it
+-- an act never leaves `lapsed`, so each format can hold the op that it leaves
 act_told : (act : Act) → TellsOp dks_1 (op_of act)
 act_told delete = tt
 act_told (put body) = tt

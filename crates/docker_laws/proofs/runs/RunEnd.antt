@@ -1,5 +1,5 @@
--- Offices that know the same have equal states. Offices that know the same files print the same
--- dockers. Both hold across runs.
+-- Offices that know the same have equal states, and offices that know the same files print the same
+-- dockers, even in different runs.
 use Rattle.std.proofs.Common.{◌≡◌, ℕ, ◌+◌, Bool, true, false, List, [], ap, sym, ◌∙◌, subst, refl, arith, All}
 use Rattle.std.specs.Prelude.{◌↔◌, max, nat_lt}
 use Rattle.std.proofs.Math.Nat.{le-max_left, le-max_right, max-eq_left, max-eq_right}
@@ -25,12 +25,13 @@ use Rattle.state_laws.proofs.states.SummaryLaws.{summary_unique, lapsed_summary}
 use Rattle.state_laws.proofs.states.OneJoin.{docker_unique}
 use Rattle.cif_laws.proofs.lists.ZipSteps.{zip_at}
 
--- if an exchange has the run's replies and holds what is known, the run leaves it
+-- if an exchange has possible replies, and its states and messages match what is known, it may be
+-- left by the run
 pub holds_at_end : (format : Format) (offices : ℕ) (events : List RunEvent) (exchange : Exchange) → AreReplies (none_known offices) events exchange.replies
     → Holds format (sets_of offices events exchange) exchange.states exchange.messages → IsRun format offices events exchange
 holds_at_end format offices events exchange replies holds = record { replies = replies; states = holds.states_are; messages = holds.messages_are }
 
--- a run of good events leaves an exchange that holds what is known
+-- after a run of good events the states and messages match what is known
 pub run_holds : (format : Format) (offices : ℕ) (events : List RunEvent) (exchange : Exchange) → All (IsGoodEvent format) events
     → IsRun format offices events exchange
     → Holds format (sets_of offices events exchange) exchange.states exchange.messages
@@ -38,9 +39,9 @@ run_holds format offices events exchange each run =
     let good = good_in_run format offices events exchange.replies each run.replies in
     record { offices = good.0; sent = good.1; states_are = run.states; messages_are = run.messages }
 
--- ---- dockers of one set of files
+-- ---- the dockers of one set of files
 
--- if neither of two horizons refuses a day, the greater doesn't either
+-- if neither of two horizons refuses a day, the greater of them doesn't refuse it
 pub greater_prints : (a b day : ℕ) → ¬ IsDayRefused a day → ¬ IsDayRefused b day → ¬ IsDayRefused (max a b) day
 greater_prints a b day first second = by (nat_lt a b) refl
   where
@@ -48,7 +49,7 @@ greater_prints a b day first second = by (nat_lt a b) refl
     by true h = let below = ltb-true a b h in subst (λ n. ¬ IsDayRefused n day) (sym (max-eq_right (omega arith))) second
     by false h = subst (λ n. ¬ IsDayRefused n day) (sym (max-eq_left (ltb-false a b h))) first
 
--- under a horizon that doesn't refuse the day, the docker is the same as without one
+-- a horizon that doesn't refuse the day leaves the docker as it is
 docker_stays : (horizon : ℕ) (state : State) (place : List ℕ) (day : ℕ) (text : List ℕ) → IsDay horizon → IsValid state → ¬ IsDayRefused horizon day
     → IsDockerText (live_table state) place day text → IsDockerText (live_table (lapse_state horizon state)) place day text
 docker_stays horizon state place day text is_day valid printed is = by (nat_lt 0 horizon) (nat_lt day (horizon + 3)) refl refl
@@ -139,7 +140,7 @@ module _ (format : Format) (offices others : ℕ) (events more : List RunEvent) 
       (message_known (sets_of others more two) j).horizon this.0 that.0
       (subst (λ h. IsSummary (message_known (sets_of offices events one) i).files h this.0) same.1 this.1) that.1) ∙ sym that.2
 
--- a docker that an office prints is the docker of its files' plain table
+-- a docker that an office prints is the docker of the plain table of its files
 pub plain_docker : (format : Format) (offices : ℕ) (events : List RunEvent) (exchange : Exchange) → IsRun format offices events exchange
     → All (IsGoodEvent format) events
     → (office : ℕ) → IsOffice (sets_of offices events exchange) office → (plain : Table)

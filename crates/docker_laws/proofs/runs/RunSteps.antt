@@ -1,4 +1,4 @@
--- What an exchange holds in the middle of a run, it still holds after each event that is done.
+-- If the states and messages match what is known, they still do after each event.
 use Rattle.std.proofs.Common.{◌≡◌, ℕ, ◌^◌, ◌<◌, ◌≤◌, List, [], ◌∷◌, ◌++◌, length, refl, sym, ◌∙◌, subst, arith, All, set}
 use Rattle.std.proofs.Math.Nat.{max_comm}
 use Rattle.std.proofs.lemmas.List.Elements.{All-set, All-push, All-nil, All-replicate, All-get_or}
@@ -22,11 +22,11 @@ use Rattle.cif_laws.proofs.lists.ZipSteps.{zip_set, zip_end, zip_at, zip_long, z
 module _ (format : Format) (known : KnownSets) (states : List State) (messages : List (List ℕ)) (holds : Holds format known states messages) where
   -- ---- an office and a message
 
-  -- an office's state is the summary of what it knows
+  -- the state of an office is the summary of the files that it knows
   pub office_is : (office : ℕ) → IsOffice known office → IsStateOf (office_known known office) (office_state states office)
   office_is office there = zip_at IsStateOf known.offices states office nothing (record { horizon = 0; ledger = []; entries = [] }) holds.states_are there
 
-  -- a message's bytes are the text of the summary of what it knows
+  -- the bytes of a message are the text of the summary of the files that the message knows
   pub message_is : (message : ℕ) → IsMessage known message → IsMessageOf format (message_known known message) (message_text messages message)
   message_is message there = zip_at (IsMessageOf format) known.messages messages message nothing [] holds.messages_are there
 
@@ -46,8 +46,8 @@ module _ (format : Format) (known : KnownSets) (states : List State) (messages :
   pub office_told : (office : ℕ) → IsOffice known office → IsToldState format (office_state states office)
   office_told office there = summary_told format (office_known known office) (office_state states office) (office_good office there) (office_is office there)
 
-  -- a message can be read, with its length as the limit: it is the text of the summary of what it
-  -- knows
+  -- a message can be read with a limit equal to its length: it is the text of the summary of the
+  -- files that the message knows
   pub message_reads : (message : ℕ) → IsMessage known message → length (message_text messages message) < 2 ^ 64
       → (state : State) × IsStateOf (message_known known message) state × IsStateText format (length (message_text messages message))
       (message_text messages message) state
@@ -63,21 +63,21 @@ module _ (format : Format) (known : KnownSets) (states : List State) (messages :
         },
       )
 
-  -- reading a message gives the summary of what it knows
+  -- the state that is read from a message is the summary of the files that the message knows
   pub what_is_read : (message : ℕ) → IsMessage known message → length (message_text messages message) < 2 ^ 64 → (limit : ℕ) (state : State)
       → IsStateText format limit (message_text messages message) state → IsStateOf (message_known known message) state
   what_is_read message there short limit state is =
       let made = message_reads message there short in
       subst (IsStateOf (message_known known message)) (one_text format made.0 state made.2.valid is.valid (sym made.2.is ∙ is.is)) made.1
 
-  -- ---- the steps
+  -- ---- one event
 
-  -- a refusal changes nothing
+  -- after a refused event states and messages still match what is known
   pub after_refusal : (event : RunEvent) (why : Refusal) → Holds format (after_reply known (event, refused why)) states messages
   after_refusal event why = holds
 
-  -- the exchange still holds what is known if an office gets other knowledge and the state that
-  -- fits it
+  -- states and messages still match what is known if an office gets other knowledge, and the state
+  -- that belongs to it
   with_office_holds : (office : ℕ) (now : Known) (state : State) → IsGoodKnown format now → IsStateOf now state
       → Holds format (record { offices = set known.offices office now; messages = known.messages }) (set states office state) messages
   with_office_holds office now state good is = record {
@@ -87,7 +87,8 @@ module _ (format : Format) (known : KnownSets) (states : List State) (messages :
     messages_are = holds.messages_are;
   }
 
-  -- the exchange still holds what is known after an office's state is joined with another state
+  -- states and messages still match what is known if an office's state is joined with the state of
+  -- more knowledge
   joined_in : (office : ℕ) (more : Known) (one joined : State) → IsOffice known office → IsGoodKnown format more → IsStateOf more one
       → IsJoin (office_state states office) one joined
       → Holds format (record { offices = set known.offices office (united more (office_known known office)); messages = known.messages })
@@ -99,7 +100,7 @@ module _ (format : Format) (known : KnownSets) (states : List State) (messages :
       (office_state states office) joined summary (office_is office there)
       (join_commutes (office_state states office) one joined join))
 
-  -- the exchange still holds what is known after a file is taken
+  -- states and messages still match what is known after a file is taken
   pub after_take : (office : ℕ) (text : List ℕ) (limit : ℕ) (one joined : State) → IsOffice known office → limit ≤ most_records
       → IsFileText limit text (lines_of text)
       → IsSummary (lines_of text ∷ []) 0 one → IsJoin (office_state states office) one joined
@@ -107,7 +108,7 @@ module _ (format : Format) (known : KnownSets) (states : List State) (messages :
   after_take office text limit one joined there low file summary join =
       joined_in office (record { files = lines_of text ∷ []; horizon = 0 }) one joined there (file_good format text limit low file) summary join
 
-  -- the exchange still holds what is known after a state is sent
+  -- states and messages still match what is known after a state is sent
   pub after_send : (office : ℕ) → IsOffice known office → Holds format (after_reply known (send_state office, done)) states
       (messages ++ state_text format (office_state states office) ∷ [])
   after_send office there = record {
@@ -119,7 +120,7 @@ module _ (format : Format) (known : KnownSets) (states : List State) (messages :
         (office_state states office, office_is office there, refl);
   }
 
-  -- the exchange still holds what is known after a message is delivered
+  -- states and messages still match what is known after a message is delivered
   pub after_delivery : (office message : ℕ) (limit : ℕ) (received joined : State) → IsOffice known office → IsMessage known message
       → length (message_text messages message) < 2 ^ 64
       → IsStateText format limit (message_text messages message) received → IsJoin (office_state states office) received joined
@@ -127,7 +128,7 @@ module _ (format : Format) (known : KnownSets) (states : List State) (messages :
   after_delivery office message limit received joined there sent short is join =
       joined_in office (message_known known message) received joined there (message_good message sent) (what_is_read message sent short limit received is) join
 
-  -- the exchange still holds what is known after a message is reloaded
+  -- states and messages still match what is known after a message is reloaded
   pub after_reload : (office message : ℕ) (limit : ℕ) (received : State) → IsOffice known office → IsMessage known message
       → length (message_text messages message) < 2 ^ 64
       → IsStateText format limit (message_text messages message) received
@@ -135,7 +136,7 @@ module _ (format : Format) (known : KnownSets) (states : List State) (messages :
   after_reload office message limit received there sent short is =
       with_office_holds office (message_known known message) received (message_good message sent) (what_is_read message sent short limit received is)
 
-  -- the exchange still holds what is known after a horizon is set
+  -- states and messages still match what is known after a horizon is set
   pub after_horizon : (office day : ℕ) → IsOffice known office → IsHorizonOf format day
       → Holds format (after_reply known (horizon_event office day, done)) (set states office (raise_horizon day (office_state states office))) messages
   after_horizon office day there good =
@@ -145,7 +146,7 @@ module _ (format : Format) (known : KnownSets) (states : List State) (messages :
       (max_comm (office_known known office).horizon day)
       (raised_summary (office_known known office).files (office_known known office).horizon day (office_state states office) (office_is office there)))
 
--- at the start each office has the summary of no file, without a horizon
+-- at the start each office has the summary of no files, without a horizon
 pub holds_at_first : (format : Format) (offices : ℕ) (states : List State) → length states ≡ offices → All (IsSummary [] 0) states
     → Holds format (none_known offices) states []
 holds_at_first format offices states long all = record {

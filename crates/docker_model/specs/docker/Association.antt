@@ -1,5 +1,6 @@
--- Association lines: at a place two trains join or divide, or one train becomes the other's next
--- working. A day is any number here, without a bound; dockers are made for days 0 to 36524.
+-- Association lines: the lines of a docker that say that two trains join or divide at a place, or
+-- that one train becomes the other's next working. A day is any number here, without a bound;
+-- dockers are made only for days 0 to 36524.
 use Rattle.std.specs.Prelude.{◌≡◌, ℕ, ◌+◌, ◌-◌, Bool, ◌||◌, ◌⊎◌, ◌==◌, nat_lt, if◌then◌else◌, IsTrue, List, Option, Some, None, codes}
 use Rattle.std.specs.Str.{bytes_eq}
 use Rattle.docker_model.specs.records.Record.{columns, column}
@@ -12,43 +13,49 @@ use Rattle.docker_model.specs.docker.Event.{Event, event_day, first_event_at}
 use Rattle.docker_model.specs.docker.Choice.{TrainRuns, IsChosenAssociation, IsCancellation, group_of}
 use Rattle.docker_model.specs.docker.DockerLine.{DockerLine, line_of_association}
 
--- the occasion that an association category of two bytes stands for: `JJ` joins, `VV` divides, `NP`
--- is a next working. Any other category gives no line
+-- the occasion that an association's category calls for. `JJ` is a join, `VV` a division and `NP` a
+-- next working; any other category has no occasion, and gives no docker line. For a category of two
+-- bytes
 abbrev pub category_occasion : List ℕ → Option Occasion
 category_occasion category =
     if bytes_eq category (codes "JJ") then Some joining
     else (if bytes_eq category (codes "VV") then Some dividing else (if bytes_eq category (codes "NP") then Some next_working else None))
 
--- a date indicator that gives a line: S, a space, N or P
+-- whether an association with this date indicator gives a docker line. It does for S, a space, N
+-- and P, and for no other letter
 abbrev pub is_date_indicator : ℕ → Bool
 is_date_indicator b = (b == 83) || (b == 32) || (b == 78) || (b == 80)
 
--- the day on which the associated train starts, by the date indicator and the base train's start
--- day. It is the day after for N, the day before for P, and otherwise the same day; none if that is
--- outside 0 to 36524. For base start days 0 to 36524. `partner_start 78 10` is `Some 11`, and
--- `partner_start 80 0` is `None`
+-- the day on which the associated train starts, from the association's date indicator and the day
+-- on which the base train starts. For N it is the next day, for P the day before, and otherwise the
+-- same day. It is `None` if that day is outside 0 to 36524. For example, `partner_start 78 10` is
+-- `Some 11` (78 is N), and `partner_start 80 0` is `None` (80 is P). For base start days 0 to 36524
 abbrev pub partner_start : ℕ → ℕ → Option ℕ
 partner_start indicator day =
     if indicator == 78 then (if nat_lt day last_day then Some (day + 1) else None)
     else (if indicator == 80 then (if nat_lt 0 day then Some (day - 1) else None) else Some day)
 
--- no train of this UID starts on the day
+-- no train of this UID starts on the day: no schedule of the UID runs then, or the chosen one is a
+-- cancellation
 abbrev pub RunsNot : Table → List ℕ → ℕ → Type 0
 RunsNot live uid day = (key : ScheduleKey) (lines : List (List ℕ)) → ¬ TrainRuns live uid day key lines
 
--- the train identity of a UID on a day: the one in its basic schedule, or four question marks if no
--- train of the UID starts that day
+-- this is the train identity that a line prints for a UID on a day. It is the one in the basic
+-- schedule of the train that starts on the day, or `????` if no train of the UID starts then
 abbrev pub IsIdentityOn : Table → List ℕ → List ℕ → ℕ → Type 0
 IsIdentityOn live uid identity day =
     ((key : ScheduleKey) × (lines : List (List ℕ)) × TrainRuns live uid day key lines × (identity ≡ columns 33 36 (first_record lines)))
     ⊎ (RunsNot live uid day × (identity ≡ codes "????"))
 
--- like `IsIdentityOn`, for a day that may not exist
+-- like `IsIdentityOn`, for a day that may be `None`: without a day the identity is `????`
 abbrev pub IsPartnerIdentity : Table → List ℕ → Option ℕ → List ℕ → Type 0
 IsPartnerIdentity live uid None identity = identity ≡ codes "????"
 IsPartnerIdentity live uid (Some day) identity = IsIdentityOn live uid identity day
 
--- the line is for an association at the place, whose base train calls there on the day
+-- this is a docker line of an association, for the place and the day. The association is the chosen
+-- one of its group on the base train's start day. It isn't a cancellation, and its category and
+-- date indicator give a line. The base train's first event with the association's TIPLOC and suffix
+-- is at the place, on the day
 pub record IsAssociationLine (live : Table) (place : List ℕ) (day : ℕ) (line : DockerLine) : Type 0 where
   pub start : ℕ
   pub key : AssociationKey

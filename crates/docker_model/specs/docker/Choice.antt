@@ -1,5 +1,5 @@
--- Which schedule of a train, and which association, counts on a day. A day is any number here,
--- without a bound; dockers are made for days 0 to 36524.
+-- Which of a train's schedules counts on a day, and which association of a group. A day is any
+-- number here, without a bound; dockers are made only for days 0 to 36524.
 use Rattle.std.specs.Prelude.{◌≡◌, ℕ, Bool, false, ◌&&◌, nat_le, IsTrue, List, Option, Some, None}
 use Rattle.std.specs.declared.cmp.Ordering.{Ordering}
 use Rattle.std.specs.Ordering.{ordering_then, nat_cmp}
@@ -10,67 +10,70 @@ use Rattle.docker_model.specs.file.Change.{association_key, schedule_key, Associ
 use Rattle.docker_model.specs.state.Order.{IsAtMost}
 use Rattle.docker_model.specs.state.Table.{Table}
 
--- a schedule or an association runs on the day: the day is from the first date to the last, and its
--- weekday is marked. For fields of six, six and seven bytes
+-- whether the day is from the first date to the last, and its weekday is marked in the days run.
+-- The three fields come from a schedule or an association, and have six, six and seven bytes
 abbrev pub runs_within : List ℕ → List ℕ → List ℕ → ℕ → Bool
 runs_within first last days day =
     nat_le (date_number first) day && nat_le day (end_number last) && runs_on_weekday days (weekday_of day)
 
--- a basic schedule runs on the day, by its dates and its days run. For a record
+-- whether this basic schedule runs on the day, by its dates and its days run. For a whole record
 abbrev pub schedule_runs : List ℕ → ℕ → Bool
 schedule_runs line day = runs_within (columns 10 15 line) (columns 16 21 line) (columns 22 28 line) day
 
--- an association runs on the day, by its dates and its days run. For a record
+-- whether this association runs on the day, by its dates and its days run. For a whole record
 abbrev pub association_runs : List ℕ → ℕ → Bool
 association_runs line day = runs_within (columns 16 21 line) (columns 22 27 line) (columns 28 34 line) day
 
--- a record of this kind runs on the day. Only a basic schedule or an association can
+-- whether a record of this kind runs on the day. Only a basic schedule or an association can run
 abbrev pub runs_by_kind : Option Kind → List ℕ → ℕ → Bool
 runs_by_kind (Some association) line day = association_runs line day
 runs_by_kind (Some basic_schedule) line day = schedule_runs line day
 runs_by_kind _ line day = false
 
--- the record, a basic schedule or an association, runs on the day
+-- whether this record, a basic schedule or an association, runs on the day
 abbrev pub runs : List ℕ → ℕ → Bool
 runs line day = runs_by_kind (kind_of line) line day
 
--- the STP indicator is C, for a cancellation
+-- the STP indicator is C: the schedule or association is a cancellation
 abbrev pub IsCancellation : ℕ → Type 0
 IsCancellation indicator = indicator ≡ 67
 
--- the order of choice, by STP indicator and first date. The lower indicator comes first: C, N, O,
--- P. If the indicators are equal, the later first date comes first
+-- the order of choice between two schedules or two associations, each given by its STP indicator
+-- and its first date. The lower letter comes first: C, N, O, P. With equal letters, the later first
+-- date comes first
 abbrev pub choice_cmp : ℕ → ℕ → ℕ → ℕ → Ordering
 choice_cmp indicator first other_indicator other_first = ordering_then (nat_cmp indicator other_indicator) (nat_cmp other_first first)
 
--- the order in which schedules of a UID are chosen
+-- the order of choice between two schedules of one UID: the first one is chosen
 abbrev pub schedule_choice_cmp : ScheduleKey → ScheduleKey → Ordering
 schedule_choice_cmp a b = choice_cmp a.indicator a.runs_from b.indicator b.runs_from
 
--- the order in which associations of a group are chosen
+-- the order of choice between two associations of one group: the first one is chosen
 abbrev pub association_choice_cmp : AssociationKey → AssociationKey → Ordering
 association_choice_cmp a b = choice_cmp a.indicator a.start b.indicator b.start
 
--- a live schedule of the UID that runs on the day
+-- this schedule is live, belongs to the UID and runs on the day. Several schedules of one UID may
+-- run on the same day
 pub record IsRunning (live : Table) (uid : List ℕ) (day : ℕ) (key : ScheduleKey) (lines : List (List ℕ)) : Type 0 where
   pub uid_is : key.uid ≡ uid
   pub is_live : live (schedule_key key) ≡ Some (schedule_body lines)
   pub runs_then : IsTrue (schedule_runs (first_record lines) day)
 
--- the chosen schedule of the UID on the day: of the schedules that run, the first in the order of
--- choice
+-- this is the chosen schedule of the UID on the day: of all schedules of the UID that run then, it
+-- comes first in the order of choice. For example, an overlay is chosen before a permanent
+-- schedule, and a cancellation before both
 pub record IsChosen (live : Table) (uid : List ℕ) (day : ℕ) (key : ScheduleKey) (lines : List (List ℕ)) : Type 0 where
   pub running : IsRunning live uid day key lines
   pub first : (other : ScheduleKey) (others : List (List ℕ)) → IsRunning live uid day other others → IsAtMost schedule_choice_cmp key other
 
--- the UID's train that starts on the day runs by this schedule: it is the chosen one, and isn't a
--- cancellation
+-- a train of the UID starts on the day and runs by this schedule: the schedule is the chosen one,
+-- and isn't a cancellation
 pub record TrainRuns (live : Table) (uid : List ℕ) (day : ℕ) (key : ScheduleKey) (lines : List (List ℕ)) : Type 0 where
   pub chosen : IsChosen live uid day key lines
   pub no_cancellation : ¬ IsCancellation key.indicator
 
--- the group of an association: the base train and its suffix, the associated train, and the timing
--- point. One association of a group is chosen for a day
+-- the group of an association: the base train with its suffix, the associated train and the timing
+-- point. For each day one association of a group is chosen
 pub record Group : Type 0 where
   pub base : List ℕ
   pub associated : List ℕ
@@ -81,23 +84,26 @@ pub record Group : Type 0 where
 abbrev pub group_of : AssociationKey → Group
 group_of key = record { base = key.base; associated = key.associated; location = key.location; suffix = key.suffix }
 
--- a live association of the group that runs on the base train's start day
+-- this association is live, belongs to the group and runs on the day. Its dates are the days on
+-- which the base train starts
 pub record IsAssociated (live : Table) (group : Group) (day : ℕ) (key : AssociationKey) (line : List ℕ) : Type 0 where
   pub group_is : group_of key ≡ group
   pub is_live : live (association_key key) ≡ Some (association_body line)
   pub runs_then : IsTrue (association_runs line day)
 
--- the chosen association of the group on that day
+-- this is the chosen association of the group on the day: of all associations of the group that run
+-- then, it comes first in the order of choice
 pub record IsChosenAssociation (live : Table) (group : Group) (day : ℕ) (key : AssociationKey) (line : List ℕ) : Type 0 where
   pub associated : IsAssociated live group day key line
   pub first : (other : AssociationKey) (others : List ℕ) → IsAssociated live group day other others → IsAtMost association_choice_cmp key other
 
--- a schedule by which a train may run: its key and its lines
+-- a schedule by which a train may run: its key and its records
 pub record Train : Type 0 where
   pub key : ScheduleKey
   pub lines : List (List ℕ)
 
--- this is the chosen schedule of the UID on the day, or none if none runs
+-- this is the chosen schedule of the UID on the day, or `None` if no schedule of the UID runs then.
+-- The chosen schedule may be a cancellation
 abbrev pub IsChosenOn : Table → List ℕ → ℕ → Option Train → Type 0
 IsChosenOn live uid day None = (key : ScheduleKey) (lines : List (List ℕ)) → ¬ IsRunning live uid day key lines
 IsChosenOn live uid day (Some train) = IsChosen live uid day train.key train.lines

@@ -1,5 +1,5 @@
--- The list of a docker: a place's events and association lines on a day. The day is any number
--- here, without a bound; dockers are made for days 0 to 36524.
+-- The list of a docker: the lines of all events and associations at a place on a day. The day is
+-- any number here, without a bound; dockers are made only for days 0 to 36524.
 use Rattle.std.specs.Prelude.{◌≡◌, ℕ, ◌↔◌, ◌⊎◌, List, Contains}
 use Rattle.docker_model.specs.records.Record.{columns}
 use Rattle.docker_model.specs.file.Change.{ScheduleKey}
@@ -10,7 +10,7 @@ use Rattle.docker_model.specs.docker.Choice.{TrainRuns}
 use Rattle.docker_model.specs.docker.DockerLine.{DockerLine, line_of_event, docker_line_cmp}
 use Rattle.docker_model.specs.docker.Association.{IsAssociationLine}
 
--- the line is for an event at the place on the day, of a train that runs
+-- this is the docker line of an event: a train that runs has the event at the place, on the day
 pub record IsEventLine (live : Table) (place : List ℕ) (day : ℕ) (line : DockerLine) : Type 0 where
   pub start : ℕ
   pub key : ScheduleKey
@@ -22,11 +22,13 @@ pub record IsEventLine (live : Table) (place : List ℕ) (day : ℕ) (line : Doc
   pub today : event_day start schedule event ≡ day
   pub is : line ≡ line_of_event key start schedule event
 
--- the list has each such line once and no other line, in strictly ascending order
+-- the list has every line for which `IsLine` holds, and no other line, in strictly ascending order.
+-- So no line occurs twice
 pub record Lists (IsLine : DockerLine → Type 0) (lines : List DockerLine) : Type 0 where
   pub ascending : IsStrictlyAscending docker_line_cmp lines
   pub members : (line : DockerLine) → Contains lines line ↔ IsLine line
 
--- the docker list of a live table, for a place and a day
+-- these lines are the docker of a live table for a place and a day: all event lines and association
+-- lines, in order
 abbrev pub IsDockerList : Table → List ℕ → ℕ → List DockerLine → Type 0
 IsDockerList live place day lines = Lists (λ line. IsEventLine live place day line ⊎ IsAssociationLine live place day line) lines

@@ -1,4 +1,4 @@
--- The changes of keys that the records of a file make.
+-- The changes that a file makes: each record puts a body at a key or deletes a key.
 use Rattle.std.specs.Prelude.{ℕ, List, Bool, ◌||◌, take_while, if◌then◌else◌, [], ◌∷◌, Option, Some, map, ◌+◌, ◌++◌}
 use Rattle.std.specs.Str.{bytes_eq}
 use Rattle.docker_model.specs.records.Record.{columns, column, kind_of, Kind, tiploc_insert, tiploc_amend, tiploc_delete, association, basic_schedule}
@@ -7,8 +7,9 @@ use Rattle.docker_model.specs.records.Clock.{is_blank}
 use Rattle.docker_model.specs.records.Field.{is_deletion, as_new}
 use Rattle.docker_model.specs.file.File.{follows_basic}
 
--- the key of an association: both UIDs, its first date, the timing point, the base train's suffix
--- and the STP indicator
+-- the key of an association. It has the UIDs of the base train and the associated train, and the
+-- first date as a day number. It also has the timing point, the base train's suffix and the STP
+-- indicator
 pub record AssociationKey : Type 0 where
   pub base : List ℕ
   pub associated : List ℕ
@@ -17,45 +18,46 @@ pub record AssociationKey : Type 0 where
   pub suffix : ℕ
   pub indicator : ℕ
 
--- the key of a schedule: its UID, runs-from date and STP indicator
+-- the key of a schedule: its UID, its runs-from date as a day number, and its STP indicator
 pub record ScheduleKey : Type 0 where
   pub uid : List ℕ
   pub runs_from : ℕ
   pub indicator : ℕ
 
--- a key: a TIPLOC's code, or the key of an association or a schedule
+-- a key, by which a state finds an entry: a TIPLOC's code, or the key of an association or a
+-- schedule
 pub data Key : Type 0 where
   tiploc_key : (code : List ℕ) → Key
   association_key : (key : AssociationKey) → Key
   schedule_key : (key : ScheduleKey) → Key
 
--- the body with which a key is put: 63 bytes of a TIPLOC, the record of an association, the records
--- of a schedule
+-- a body, which a put leaves at its key: columns 10 to 72 of a TIPLOC record, the whole record of
+-- an association, or the records of a schedule
 pub data Body : Type 0 where
   tiploc_body : (bytes : List ℕ) → Body
   association_body : (line : List ℕ) → Body
   schedule_body : (lines : List (List ℕ)) → Body
 
--- what a change does to its key: it deletes the key, or puts it with a body
+-- what a change does to its key: it deletes the key, or puts a body there
 pub data Act : Type 0 where
   delete : Act
   put : (body : Body) → Act
 
--- a change, with the number of its record
+-- a change: the number of the record that makes it, its key, and what it does to the key
 pub record Change : Type 0 where
   pub number : ℕ
   pub key : Key
   pub act : Act
 
--- the key of a TIPLOC record, by its code
+-- the key of a TIPLOC record: its code, in columns 3 to 9
 abbrev pub tiploc_named : List ℕ → Key
 tiploc_named line = tiploc_key (columns 3 9 line)
 
--- the key of the new code in a TIPLOC amendment
+-- the key for the new code of a TIPLOC amendment, in columns 73 to 79
 abbrev pub new_tiploc_named : List ℕ → Key
 new_tiploc_named line = tiploc_key (columns 73 79 line)
 
--- the key of an association record
+-- the key that an association record names
 abbrev pub association_named : List ℕ → Key
 association_named line = association_key (record {
   base = columns 4 9 line;
@@ -66,7 +68,7 @@ association_named line = association_key (record {
   indicator = column 80 line;
 })
 
--- the key of a basic schedule
+-- the key that a basic schedule names
 abbrev pub schedule_named : List ℕ → Key
 schedule_named line = schedule_key (record {
   uid = columns 4 9 line;
@@ -74,20 +76,24 @@ schedule_named line = schedule_key (record {
   indicator = column 80 line;
 })
 
--- the body of a TIPLOC
+-- the body of a TIPLOC, from its record
 abbrev pub tiploc_details : List ℕ → Body
 tiploc_details line = tiploc_body (columns 10 72 line)
 
--- a TIPLOC amendment leaves the code as it is: the new code is blank or the same
+-- whether a TIPLOC amendment keeps the code: its new code is blank or the same as the old one
 abbrev pub keeps_code : List ℕ → Bool
 keeps_code line = is_blank (columns 73 79 line) || bytes_eq (columns 73 79 line) (columns 3 9 line)
 
--- the other records of a schedule, among all records that follow its basic schedule
+-- the records of a schedule after its basic schedule. Of all records that follow in the file, these
+-- are the ones before the next unit or the trailer
 abbrev pub schedule_rest : List (List ℕ) → List (List ℕ)
 schedule_rest following = take_while (λ line. follows_basic (kind_of line)) following
 
--- what a record of this kind does, if these records follow it: each key with its act. An amendment
--- with a new code does two things: it deletes the old code and puts the new one
+-- what a record of this kind does: a list of keys, each with its act. The last argument is the
+-- records that follow it. A TIPLOC amendment with a new code does two things: it deletes the old
+-- code and puts the new one. A basic schedule puts the whole schedule, and the records after it in
+-- the schedule do nothing. A schedule or an association is put with its transaction set to N, so a
+-- new record and a revision put the same body
 abbrev pub acts_by_kind : Option Kind → List ℕ → List (List ℕ) → List (Key × Act)
 acts_by_kind (Some tiploc_insert) line following = (tiploc_named line, put (tiploc_details line)) ∷ []
 acts_by_kind (Some tiploc_amend) line following =
@@ -100,16 +106,17 @@ acts_by_kind (Some basic_schedule) line following =
     (schedule_named line, if is_deletion line then delete else put (schedule_body (as_new line ∷ schedule_rest following))) ∷ []
 acts_by_kind _ line following = []
 
--- the changes that one record makes, each with the record's number
+-- the changes that one record makes, each with this record number. The last argument is the records
+-- that follow it
 abbrev pub changes_of_record : ℕ → List ℕ → List (List ℕ) → List Change
 changes_of_record number line following =
     map (λ act. record { number = number; key = act.0; act = act.1 }) (acts_by_kind (kind_of line) line following)
 
--- the changes of these records, the first of which has this number
+-- the changes that these records make. The first record has this number
 abbrev pub changes_from : ℕ → List (List ℕ) → List Change
 changes_from number [] = []
 changes_from number (line ∷ following) = changes_of_record number line following ++ changes_from (number + 1) following
 
--- the changes of a file, in the order of its records
+-- the changes that a file makes, in the order of its records. The header has the record number 1
 abbrev pub changes : List (List ℕ) → List Change
 changes file = changes_from 1 file

@@ -1,4 +1,4 @@
--- What a CIF file is: a list of records.
+-- What a CIF file is: a list of records in a certain order.
 use Rattle.std.specs.Prelude.{ℕ, List, [], ◌∷◌, Bool, true, false, Option, Some, ◌⊎◌, ◌≡◌, ◌++◌, All, IsTrue, ◌≤◌}
 use Rattle.std.specs.List.{flat_map}
 use Rattle.docker_model.specs.records.Record.{Kind, extra_details, origin_location, intermediate_location, terminating_location, change_en_route, HasKind}
@@ -6,13 +6,13 @@ use Rattle.docker_model.specs.records.Record.{column, basic_schedule, IsRecord, 
 use Rattle.docker_model.specs.records.Field.{is_deletion, HasGoodFields}
 use Rattle.docker_model.specs.file.Journey.{midnights}
 
--- the first of some records: the header of a file, or the basic schedule of a schedule. Without
--- records it is empty
+-- the first of these records: the header if they are a file, and the basic schedule if they are a
+-- schedule. Without records it is empty
 abbrev pub first_record : List (List ℕ) → List ℕ
 first_record [] = []
 first_record (line ∷ lines) = line
 
--- a record that may follow the basic schedule within its schedule
+-- whether a record of this kind may follow the basic schedule within a schedule
 abbrev pub follows_basic : Option Kind → Bool
 follows_basic (Some extra_details) = true
 follows_basic (Some origin_location) = true
@@ -21,11 +21,12 @@ follows_basic (Some terminating_location) = true
 follows_basic (Some change_en_route) = true
 follows_basic _ = false
 
--- an intermediate location or a change en route
+-- the record is an intermediate location or a change en route
 abbrev pub IsWithinJourney : List ℕ → Type 0
 IsWithinJourney line = HasKind intermediate_location line ⊎ HasKind change_en_route line
 
--- a journey: one origin, any intermediate locations and changes en route, and one terminus
+-- these records are a journey: one origin, then any number of intermediate locations and changes en
+-- route, then one terminus
 pub record IsJourney (lines : List (List ℕ)) : Type 0 where
   pub first : List ℕ
   pub between : List (List ℕ)
@@ -35,21 +36,22 @@ pub record IsJourney (lines : List (List ℕ)) : Type 0 where
   pub calls : All IsWithinJourney between
   pub terminus : HasKind terminating_location last
 
--- no record, or one record of extra details
+-- there is no record, or just one record of extra details
 abbrev pub AreExtraDetails : List (List ℕ) → Type 0
 AreExtraDetails lines = (lines ≡ []) ⊎ ((line : List ℕ) × (lines ≡ line ∷ []) × HasKind extra_details line)
 
--- the basic schedule is of a deletion or a cancellation, so its journey may be missing
+-- the schedule needs no journey: its basic schedule is a deletion or a cancellation
 abbrev pub MayLackJourney : List ℕ → Type 0
 MayLackJourney basic = IsTrue (is_deletion basic) ⊎ (column 80 basic ≡ 67)
 
--- the journey's fields are good, and it passes midnight at most twice
+-- the fields of these records are good, and the schedule passes midnight at most twice
 pub record IsSoundJourney (lines : List (List ℕ)) : Type 0 where
   pub fields : All HasGoodFields lines
   pub falls : midnights lines ≤ 2
 
--- a basic schedule, at most one record of extra details, and a journey. In a deletion the journey's
--- fields aren't checked
+-- these records are a schedule: a basic schedule, at most one record of extra details, and a
+-- journey. A deletion or a cancellation may have no journey. In a deletion the fields of the
+-- journey aren't checked
 pub record IsSchedule (lines : List (List ℕ)) : Type 0 where
   pub basic : List ℕ
   pub extra : List (List ℕ)
@@ -62,19 +64,21 @@ pub record IsSchedule (lines : List (List ℕ)) : Type 0 where
   pub journey_or_none : IsJourney journey ⊎ ((journey ≡ []) × MayLackJourney basic)
   pub sound : IsTrue (is_deletion basic) ⊎ IsSoundJourney journey
 
--- a record that is a unit by itself: a TIPLOC insert, amendment or deletion, or an association
+-- the record is a unit by itself: a TIPLOC insert, amendment or deletion, or an association
 abbrev pub IsSingleKind : List ℕ → Type 0
 IsSingleKind line = HasKind tiploc_insert line ⊎ HasKind tiploc_amend line ⊎ HasKind tiploc_delete line ⊎ HasKind association line
 
--- a unit of one record, whose fields are good
+-- the unit is a single record with good fields: a TIPLOC insert, amendment or deletion, or an
+-- association
 abbrev pub IsSingle : List (List ℕ) → Type 0
 IsSingle unit = (line : List ℕ) × (unit ≡ line ∷ []) × IsRecord line × IsSingleKind line × HasGoodFields line
 
--- a unit between header and trailer: a single record or a schedule
+-- these records are a unit: a single record or a whole schedule. A file has units between its
+-- header and its trailer
 abbrev pub IsUnit : List (List ℕ) → Type 0
 IsUnit unit = IsSingle unit ⊎ IsSchedule unit
 
--- a CIF file: a header, units in any order, and a trailer
+-- these records are a CIF file: a header, then units in any order, then a trailer
 pub record IsFile (records : List (List ℕ)) : Type 0 where
   pub first : List ℕ
   pub units : List (List (List ℕ))
@@ -87,14 +91,15 @@ pub record IsFile (records : List (List ℕ)) : Type 0 where
   pub trailer_record : IsRecord last
   pub trailer_kind : HasKind trailer last
 
--- the most records that any limit allows a file
+-- the greatest limit that may be set on the number of records in a file
 abbrev pub most_records : ℕ
 most_records = 4_294_967_294
 
--- these records begin some file, of any length
+-- these records are the beginning of some file, which may have any number of records. For example,
+-- a header begins a file, and an intermediate location doesn't
 abbrev pub BeginsFile : List (List ℕ) → Type 0
 BeginsFile records = (rest : List (List ℕ)) × IsFile (records ++ rest)
 
--- these lines begin some schedule
+-- these records are the beginning of some schedule
 abbrev pub BeginsSchedule : List (List ℕ) → Type 0
 BeginsSchedule lines = (rest : List (List ℕ)) × IsSchedule (lines ++ rest)

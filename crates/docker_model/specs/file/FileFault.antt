@@ -6,7 +6,7 @@ use Rattle.docker_model.specs.file.Journey.{midnights}
 use Rattle.docker_model.specs.file.File.{IsFile, BeginsFile}
 use Rattle.docker_model.specs.file.Text.{lines_of}
 
--- why a record is at fault, or why a line can't continue a schedule
+-- why a record is at fault. The columns of a bad byte and of a bad field count from 1
 pub data FileCause : Type 0 where
   too_many : FileCause
   after_trailer : FileCause
@@ -18,7 +18,8 @@ pub data FileCause : Type 0 where
   third_midnight : FileCause
   no_end : FileCause
 
--- the order of the causes: if several hold for a record, the first is reported
+-- the rank of a cause. If several causes hold for a record, the one with the lowest rank is
+-- reported
 abbrev pub cause_rank : FileCause → ℕ
 cause_rank too_many = 0
 cause_rank after_trailer = 1
@@ -30,12 +31,13 @@ cause_rank (bad_field at) = 6
 cause_rank third_midnight = 7
 cause_rank no_end = 8
 
--- a record is out of place: no file has a record of its kind after these earlier ones
+-- the record is out of place: after these earlier records, no file has a record of its kind. For
+-- example, a trailer is out of place inside a schedule
 abbrev pub IsOutOfPlace : List (List ℕ) → List ℕ → Type 0
 IsOutOfPlace earlier line = (next : List ℕ) → kind_of next ≡ kind_of line → ¬ BeginsFile (earlier ++ next ∷ [])
 
--- the schedule at the end of the records: the last basic schedule among them, with all records
--- after it
+-- these lines are the schedule at the end of the records: the last basic schedule among the
+-- records, with all records after it
 pub record EndsInSchedule (records lines : List (List ℕ)) : Type 0 where
   pub before : List (List ℕ)
   pub basic : List ℕ
@@ -45,12 +47,14 @@ pub record EndsInSchedule (records lines : List (List ℕ)) : Type 0 where
   pub kind : HasKind basic_schedule basic
   pub last : All (λ line. ¬ HasKind basic_schedule line) others
 
--- at this record its schedule passes midnight a third time
+-- with this record, the schedule at the end of the earlier records passes midnight for the third
+-- time
 abbrev pub HasThirdFall : List (List ℕ) → List ℕ → Type 0
 HasThirdFall earlier line =
     (lines : List (List ℕ)) × EndsInSchedule earlier lines × (midnights lines ≤ 2) × (2 < midnights (lines ++ line ∷ []))
 
--- the cause holds for a record that follows these earlier ones
+-- the cause holds for a record that follows these earlier ones, in a file with this limit on its
+-- records. The cause `no_end` never holds for a record
 abbrev pub HoldsOf : ℕ → List (List ℕ) → List ℕ → FileCause → Type 0
 HoldsOf limit earlier line too_many = limit ≤ length earlier
 HoldsOf limit earlier line after_trailer = Any (HasKind trailer) earlier
@@ -62,18 +66,18 @@ HoldsOf limit earlier line (bad_field at) = leftmost_bad_field line ≡ Some at
 HoldsOf limit earlier line third_midnight = HasThirdFall earlier line
 HoldsOf limit earlier line no_end = ⊥
 
--- the cause reported for a record: the first that holds
+-- this is the cause that is reported for a record: it holds, and no cause of a lower rank holds
 pub record IsCause (limit : ℕ) (earlier : List (List ℕ)) (line : List ℕ) (cause : FileCause) : Type 0 where
   pub holds : HoldsOf limit earlier line cause
   pub first : (other : FileCause) → cause_rank other < cause_rank cause → ¬ HoldsOf limit earlier line other
 
--- a fault: the number of the record, from 1, and the cause
+-- why a text isn't a file: the number of the record at fault, counted from 1, and the cause
 pub record FileFault : Type 0 where
   pub number : ℕ
   pub cause : FileCause
 
--- the fault of the first record that is past the limit, or with which the records no longer begin a
--- file
+-- this is the fault of the first record at fault. All records before it are within the limit and
+-- begin a file; with it they are over the limit or no longer begin a file
 pub record IsRecordFault (limit : ℕ) (records : List (List ℕ)) (fault : FileFault) : Type 0 where
   pub earlier : List (List ℕ)
   pub line : List ℕ
@@ -85,7 +89,8 @@ pub record IsRecordFault (limit : ℕ) (records : List (List ℕ)) (fault : File
   pub here : (limit ≤ length earlier) ⊎ (¬ BeginsFile (earlier ++ line ∷ []))
   pub cause : IsCause limit earlier line fault.cause
 
--- the fault `no_end`: no record is at fault, but the records end before the file does
+-- this is the fault `no_end`: no record is at fault, but a file needs more records. Its number is
+-- the number of the first missing record
 pub record IsUnended (limit : ℕ) (records : List (List ℕ)) (fault : FileFault) : Type 0 where
   pub within : length records ≤ limit
   pub begin : BeginsFile records
@@ -93,11 +98,11 @@ pub record IsUnended (limit : ℕ) (records : List (List ℕ)) (fault : FileFaul
   pub number : fault.number ≡ length records + 1
   pub cause : fault.cause ≡ no_end
 
--- the fault of a text, under a limit on its records
+-- this is the fault of a text, if a file may have at most `limit` records
 abbrev pub IsFileFault : ℕ → List ℕ → FileFault → Type 0
 IsFileFault limit text fault = IsRecordFault limit (lines_of text) fault ⊎ IsUnended limit (lines_of text) fault
 
--- the lines of the text are this file, which has at most this many records
+-- the text is this file: its lines are the file's records, and there are at most `limit` of them
 pub record IsFileText (limit : ℕ) (text : List ℕ) (file : List (List ℕ)) : Type 0 where
   pub lines : lines_of text ≡ file
   pub is : IsFile file

@@ -1,4 +1,4 @@
--- The times of a journey, and how often it passes midnight. A journey is the lines of a schedule
+-- The times of a journey, and how often it passes midnight. A journey is the records of a schedule
 -- from its origin to its terminus.
 use Rattle.std.specs.Prelude.{ℕ, List, [], ◌∷◌, Option, Some, None, ◌+◌, ◌++◌, map, nat_lt, if◌then◌else◌, ◌≡◌, Contains, ◌⊎◌, Bool, ◌&&◌}
 use Rattle.std.specs.List.{flat_map, list_any}
@@ -6,7 +6,8 @@ use Rattle.std.specs.Str.{bytes_eq}
 use Rattle.docker_model.specs.records.Record.{Kind, origin_location, intermediate_location, terminating_location, columns, kind_of, HasKind, is_location}
 use Rattle.docker_model.specs.records.Clock.{scheduled_time}
 
--- what a docker line stands for: an event of a train, or an association of its train with another
+-- what a docker line reports: an arrival, a pass or a departure of a train, or an association of
+-- the train with another
 pub data Occasion : Type 0 where
   arrival : Occasion
   pass : Occasion
@@ -15,13 +16,14 @@ pub data Occasion : Type 0 where
   next_working : Occasion
   departure : Occasion
 
--- an occasion with its time, if it has one
+-- a list with this occasion and its time, or the empty list without a time
 abbrev pub timed : Occasion → Option ℕ → List (Occasion × ℕ)
 timed occasion None = []
 timed occasion (Some time) = (occasion, time) ∷ []
 
--- the times of a record of this kind, in their order. An origin has a departure, and a terminus an
--- arrival. An intermediate location may have an arrival, a pass and a departure
+-- the times in a record of this kind, in half minutes, each with what happens then. An origin has a
+-- departure and a terminus an arrival. An intermediate location may have an arrival, a pass and a
+-- departure, in this order
 abbrev pub times_by_kind : Option Kind → List ℕ → List (Occasion × ℕ)
 times_by_kind (Some origin_location) line = timed departure (scheduled_time (columns 11 15 line))
 times_by_kind (Some intermediate_location) line =
@@ -31,26 +33,27 @@ times_by_kind (Some intermediate_location) line =
 times_by_kind (Some terminating_location) line = timed arrival (scheduled_time (columns 11 15 line))
 times_by_kind _ line = []
 
--- the times of a record
+-- the times in a record, in half minutes, each with what happens then
 abbrev pub times_of : List ℕ → List (Occasion × ℕ)
 times_of line = times_by_kind (kind_of line) line
 
--- the times of a schedule's lines, in half minutes
+-- the times in a schedule's records, in order, in half minutes
 abbrev pub times_along : List (List ℕ) → List ℕ
 times_along lines = map (λ time. time.1) (flat_map times_of lines)
 
--- how many falls these times have. A fall is a time below the one before it. Equal times are no
--- fall, so 5 3 3 1 has two
+-- how often a time is earlier than the time before it. For example, 5 3 3 1 has two such falls:
+-- equal times are no fall
 abbrev pub fall_count : List ℕ → ℕ
 fall_count [] = 0
 fall_count (time ∷ []) = 0
 fall_count (time ∷ later ∷ times) = (if nat_lt later time then 1 else 0) + fall_count (later ∷ times)
 
--- how often the schedule passes midnight: once for each fall of its times
+-- how often the schedule passes midnight: once for each time that is earlier than the time before
+-- it
 abbrev pub midnights : List (List ℕ) → ℕ
 midnights lines = fall_count (times_along lines)
 
--- the schedule calls at this TIPLOC: one of its LO, LI and LT records has it
+-- the schedule calls at this TIPLOC: one of its LO, LI and LT records names it
 pub record CallsAt (place : List ℕ) (lines : List (List ℕ)) : Type 0 where
   pub line : List ℕ
   pub among : Contains lines line

@@ -1,43 +1,45 @@
--- Times of day. A scheduled time is in half minutes, a public time in minutes. Each field has the
--- width that its definition states; past the end of a shorter field, bytes read as 0.
+-- Times of day. A scheduled time is counted in half minutes, a public time in minutes. Each
+-- definition says how wide its field is; past the end of a shorter field, bytes read as 0.
 use Rattle.std.specs.Prelude.{ℕ, ◌+◌, ◌*◌, Bool, ◌&&◌, ◌||◌, ◌==◌, nat_lt, if◌then◌else◌, List, take, slice_index, Option, Some, None, codes}
 use Rattle.std.specs.List.{list_all}
 use Rattle.std.specs.Char.{is_ascii_digit}
 use Rattle.std.specs.Str.{bytes_eq}
 use Rattle.docker_model.specs.records.Date.{two_digits}
 
--- each byte is a space: for a field of four, five or seven bytes
+-- whether each byte is a space. For a field of four, five or seven bytes
 abbrev pub is_blank : List ℕ → Bool
 is_blank field = list_all (λ b. b == 32) field
 
--- the first four bytes are HHMM: for a field of four or five bytes
+-- whether the first four bytes are HHMM, from 0000 to 2359. For a field of four or five bytes
 abbrev pub is_clock : List ℕ → Bool
 is_clock field = list_all is_ascii_digit (take 4 field) && nat_lt (two_digits field 0) 24 && nat_lt (two_digits field 2) 60
 
--- the minute of the day in the first four bytes: for a field of four or five bytes
+-- the minute of the day that HHMM spells in the first four bytes: `0715` is 435. For a field of
+-- four or five bytes
 abbrev pub minute_of : List ℕ → ℕ
 minute_of field = 60 * two_digits field 0 + two_digits field 2
 
--- a scheduled time of five bytes that is present: HHMM, then H for half a minute or a space
+-- whether a scheduled time of five bytes is present: HHMM, and then H for half a minute or a space
 abbrev pub is_present_time : List ℕ → Bool
 is_present_time field = is_clock field && ((slice_index field 4 == 72) || (slice_index field 4 == 32))
 
--- a scheduled time of five bytes, which may be blank
+-- whether five bytes are a scheduled time or blank
 abbrev pub is_scheduled_time : List ℕ → Bool
 is_scheduled_time field = is_blank field || is_present_time field
 
--- the half minutes of a scheduled time of five bytes that is present: `0715H` has 871
+-- the half minutes since midnight of a scheduled time of five bytes that is present: `0715H` is 871
 abbrev pub half_minutes : List ℕ → ℕ
 half_minutes field = 2 * minute_of field + (if slice_index field 4 == 72 then 1 else 0)
 
--- the half minutes of a scheduled time of five bytes, if it is not blank
+-- the half minutes since midnight of a scheduled time of five bytes, or `None` if it is blank
 abbrev pub scheduled_time : List ℕ → Option ℕ
 scheduled_time field = if is_blank field then None else Some (half_minutes field)
 
--- a public time of four bytes: HHMM or blank
+-- whether four bytes are a public time: HHMM, or blank
 abbrev pub is_public_time : List ℕ → Bool
 is_public_time field = is_blank field || is_clock field
 
--- the minute of a public time of four bytes; none for 0000 and for a blank field
+-- the minute of the day that a public time of four bytes spells, or `None` for `0000` and for a
+-- blank field
 abbrev pub public_time : List ℕ → Option ℕ
 public_time field = if is_blank field || bytes_eq field (codes "0000") then None else Some (minute_of field)

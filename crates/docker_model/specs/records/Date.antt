@@ -1,5 +1,6 @@
--- Dates: a day is a number, 0 for 1 January 1960. The calendar is the one in the crate `jiff`. Each
--- field has the width that its definition states; past the end of a shorter field, bytes read as 0.
+-- Dates. A day is a number, and 1 January 1960 is day 0. The calendar is the one of the crate
+-- `jiff`. Each definition says how wide its field is; past the end of a shorter field, bytes read
+-- as 0.
 use Rattle.std.specs.Prelude.{ℕ, ◌+◌, ◌-◌, ◌*◌, List, slice_index, nat_le, if◌then◌else◌, Bool, ◌&&◌}
 use Rattle.std.specs.Prelude.{pos, ◌+ℤ◌, unsigned_abs, ◌≤◌, codes, ◌||◌, ◌==◌, ◌%◌, count_by}
 use Rattle.std.specs.List.{list_all, range_with_len}
@@ -9,83 +10,84 @@ use Rattle.std.specs.Str.{bytes_eq}
 use Rattle.jiff.specs.Words.{days_in_month}
 use Rattle.jiff_core.specs.Calendar.{days_from_civil}
 
--- the number that two digits of a field spell, from this place on, counted from 0. For a field that
--- has both digits. In `2025` the digits from place 2 on spell 25
+-- the number that two digits of a field spell. The first digit is at place `i`, counted from 0: in
+-- `2025` the digits at place 2 spell 25. For a field that has both digits
 abbrev pub two_digits : List ℕ → ℕ → ℕ
 two_digits field i = 10 * (slice_index field i - 48) + (slice_index field (i + 1) - 48)
 
--- the year that a year of two digits means: 60 to 99 are 1960 to 1999, and 00 to 59 are 2000 to
--- 2059
+-- the year that two digits mean: 60 to 99 are 1960 to 1999, and 00 to 59 are 2000 to 2059
 abbrev pub full_year : ℕ → ℕ
 full_year n = if nat_le 60 n then 1900 + n else 2000 + n
 
--- the calendar has this day
+-- whether the calendar has this year, month and day. For example, it has no 29 February 2023
 abbrev pub is_calendar_day : ℕ → ℕ → ℕ → Bool
 is_calendar_day year month day = is_in_range 1 12 month && is_in_range 1 (days_in_month (pos year) month) day
 
--- the number of a calendar day from 1960 on: the days since 1 January 1960, which is 3653 days
--- before 1 January 1970. The day number of 2 January 1960 is 1
+-- the number of a calendar day: the days since 1 January 1960. For example, 2 January 1960 has the
+-- number 1. For years from 1960. The constant 3653 is the number of days from 1 January 1960 to 1
+-- January 1970
 abbrev pub day_number : ℕ → ℕ → ℕ → ℕ
 day_number year month day = unsigned_abs (days_from_civil (pos year) month day +ℤ pos 3653)
 
--- the last day number, of 31 December 2059
+-- the last day number, for 31 December 2059
 abbrev pub last_day : ℕ
 last_day = 36524
 
--- a day number from 1960 to 2059
+-- this is the number of a day from 1960 to 2059
 abbrev pub IsDay : ℕ → Type 0
 IsDay day = day ≤ last_day
 
--- the end number that stands for no end
+-- the number that means no end, in place of the last day of a schedule or an association
 abbrev pub no_end_number : ℕ
 no_end_number = 65535
 
--- a date of six bytes, digits with the year first: it is a day of the calendar
+-- whether six bytes are a date as YYMMDD: digits that name a day of the calendar
 abbrev pub is_date : List ℕ → Bool
 is_date field = list_all is_ascii_digit field && is_calendar_day (full_year (two_digits field 0)) (two_digits field 2) (two_digits field 4)
 
--- the day number of a date of six bytes, year first
+-- the day number of a date of six bytes, as YYMMDD
 abbrev pub date_number : List ℕ → ℕ
 date_number field = day_number (full_year (two_digits field 0)) (two_digits field 2) (two_digits field 4)
 
--- a date of six bytes, digits with the day first: it is a day of the calendar
+-- whether six bytes are a date as DDMMYY: digits that name a day of the calendar
 abbrev pub is_date_day_first : List ℕ → Bool
 is_date_day_first field = list_all is_ascii_digit field && is_calendar_day (full_year (two_digits field 4)) (two_digits field 2) (two_digits field 0)
 
--- the day number of a date of six bytes, day first
+-- the day number of a date of six bytes, as DDMMYY
 abbrev pub date_number_day_first : List ℕ → ℕ
 date_number_day_first field = day_number (full_year (two_digits field 4)) (two_digits field 2) (two_digits field 0)
 
--- the six bytes 999999, for no end
+-- whether these are the six bytes `999999`, which mean no end
 abbrev pub is_no_end : List ℕ → Bool
 is_no_end field = bytes_eq field (codes "999999")
 
--- an end date of six bytes: a date with the year first, or no end
+-- whether six bytes are an end date: a date as YYMMDD, or `999999`
 abbrev pub is_end_date : List ℕ → Bool
 is_end_date field = is_no_end field || is_date field
 
--- the end number of an end date of six bytes: its day number, or 65535 for `999999`
+-- the end number of an end date of six bytes: the date's day number, or 65535 for `999999`
 abbrev pub end_number : List ℕ → ℕ
 end_number field = if is_no_end field then no_end_number else date_number field
 
--- days run: seven flags of 0 or 1, Monday first. For a field of seven bytes
+-- whether seven bytes are days run: each is `0` or `1`, for Monday to Sunday
 abbrev pub is_days : List ℕ → Bool
 is_days field = list_all (λ b. (b == 48) || (b == 49)) field
 
--- the days run include this weekday, 0 for Monday to 6 for Sunday. For a field of seven bytes.
--- `1111100` includes weekday 4, Friday, and not 5
+-- whether the days run include this weekday, where Monday is 0 and Sunday is 6. For example,
+-- `1111100` includes weekday 4, Friday, but not weekday 5. For a field of seven bytes
 abbrev pub runs_on_weekday : List ℕ → ℕ → Bool
 runs_on_weekday field weekday = slice_index field weekday == 49
 
--- the weekday of a day number: Monday is 0, and day 0 was a Friday
+-- the weekday of a day number, where Monday is 0. Day 0 was a Friday
 abbrev pub weekday_of : ℕ → ℕ
 weekday_of day = (day + 4) % 7
 
--- the year of a day number from 0 to 36524: the last year that has begun by then
+-- the year of a day number from 0 to 36524. It is found as the last year that has begun by then
 abbrev pub year_of : ℕ → ℕ
 year_of day = 1959 + count_by (λ year. nat_le (day_number year 1 1) day) (range_with_len 1960 100)
 
--- the month of a day number from 0 to 36524: the last month of its year that has begun by then
+-- the month of a day number from 0 to 36524. It is found as the last month of the year that has
+-- begun by then
 abbrev pub month_of : ℕ → ℕ
 month_of day = count_by (λ month. nat_le (day_number (year_of day) month 1) day) (range_with_len 1 12)
 

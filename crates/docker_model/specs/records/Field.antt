@@ -1,5 +1,5 @@
--- The fields that are checked in each kind of record, in the order of their columns. The leftmost
--- bad one is reported. Each field has the width that its definition states.
+-- The fields that are checked in each kind of record, in the order of their columns. If several are
+-- bad, the leftmost is reported. Each definition says how wide its field is.
 use Rattle.std.specs.Prelude.{ℕ, Bool, List, ◌||◌, ◌==◌, slice_index, not, ◌≡◌, IsTrue, slice_set}
 use Rattle.std.specs.Prelude.{if◌then◌else◌, [], ◌∷◌, ◌++◌, Option, Some, None, option_map, find}
 use Rattle.docker_model.specs.records.Record.{IsTextOfLength, column, Kind, header, tiploc_insert, tiploc_amend, tiploc_delete}
@@ -8,61 +8,62 @@ use Rattle.docker_model.specs.records.Record.{terminating_location, change_en_ro
 use Rattle.docker_model.specs.records.Date.{is_date, is_date_day_first, is_end_date, is_days}
 use Rattle.docker_model.specs.records.Clock.{is_blank, is_clock, is_present_time, is_scheduled_time, is_public_time}
 
--- a checked field: its first and last columns, and the test that its bytes, of that width, are good
+-- a field that is checked: its first and last columns, and a test of whether its bytes are good
 pub record CheckedField : Type 0 where
   pub first : ℕ
   pub last : ℕ
   pub is_good : List ℕ → Bool
 
--- a checked field from one column to another
+-- the checked field from column `from` to column `to`, with this test
 abbrev pub checked : ℕ → ℕ → (List ℕ → Bool) → CheckedField
 checked from to test = record { first = from; last = to; is_good = test }
 
--- F for a full extract, U for an update: for a field of one byte
+-- whether one byte is an update indicator: F for a full extract, U for an update
 abbrev pub is_update_indicator : List ℕ → Bool
 is_update_indicator field = (slice_index field 0 == 70) || (slice_index field 0 == 85)
 
--- a TIPLOC of seven bytes: its first character is not a space
+-- whether seven bytes may be a TIPLOC: the first isn't a space
 abbrev pub is_tiploc : List ℕ → Bool
 is_tiploc field = not (slice_index field 0 == 32)
 
--- a TIPLOC's code: seven bytes, the first not a space
+-- these bytes are a TIPLOC's code: seven printable bytes, the first of which isn't a space
 abbrev pub IsTiploc : List ℕ → Type 0
 IsTiploc code = IsTextOfLength 7 code × ¬ (slice_index code 0 ≡ 32)
 
--- a new TIPLOC of seven bytes, which is blank if the code stays
+-- whether seven bytes may be an amendment's new TIPLOC, which is blank if the code stays the same
 abbrev pub is_new_tiploc : List ℕ → Bool
 is_new_tiploc field = is_blank field || is_tiploc field
 
--- the transactions N, D and R, for new, delete and revise: for a field of one byte
+-- whether one byte is a transaction: N for new, D for delete, R for revise
 abbrev pub is_transaction : List ℕ → Bool
 is_transaction field = (slice_index field 0 == 78) || (slice_index field 0 == 68) || (slice_index field 0 == 82)
 
--- the STP indicators P, N, O and C: permanent, new, overlay, cancellation
+-- whether the letter is an STP indicator: P permanent, N new, O overlay, C cancellation
 abbrev pub is_stp_letter : ℕ → Bool
 is_stp_letter b = (b == 80) || (b == 78) || (b == 79) || (b == 67)
 
--- the letter is P, N, O or C
+-- the letter is an STP indicator: P, N, O or C
 abbrev pub IsStpLetter : ℕ → Type 0
 IsStpLetter letter = IsTrue (is_stp_letter letter)
 
--- an STP indicator: for a field of one byte
+-- whether one byte is an STP indicator: P, N, O or C
 abbrev pub is_stp_indicator : List ℕ → Bool
 is_stp_indicator field = is_stp_letter (slice_index field 0)
 
--- the record, an association or a basic schedule, is a deletion: its transaction is D
+-- whether an association or a basic schedule is a deletion: its transaction is D
 abbrev pub is_deletion : List ℕ → Bool
 is_deletion line = column 3 line == 68
 
--- the transaction of the line is N
+-- the transaction in column 3 of the record is N, for new
 abbrev pub HasNewTransaction : List ℕ → Type 0
 HasNewTransaction line = column 3 line ≡ 78
 
--- a line with its transaction set to N
+-- the record with its transaction, column 3, set to N
 abbrev pub as_new : List ℕ → List ℕ
 as_new line = slice_set line 2 78
 
--- the checked fields of a record of this kind. A deletion's end date and days run aren't checked
+-- the fields that are checked in a record of this kind. In a deletion the end date and the days run
+-- aren't checked
 abbrev pub checked_fields : Kind → List ℕ → List CheckedField
 checked_fields header line =
     checked 23 28 is_date_day_first ∷ checked 29 32 is_clock ∷ checked 47 47 is_update_indicator ∷ []
@@ -88,17 +89,18 @@ checked_fields terminating_location line =
 checked_fields change_en_route line = []
 checked_fields trailer line = []
 
--- the checked fields of a record, by its kind
+-- the fields that are checked in a record. A record of an unknown kind has none
 abbrev pub fields_of : Option Kind → List ℕ → List CheckedField
 fields_of None line = []
 fields_of (Some kind) line = checked_fields kind line
 
--- the first column of the leftmost bad field. For a line of 80 bytes
+-- the first column of the record's leftmost bad field, or `None` if every field is good. For a line
+-- of 80 bytes
 abbrev pub leftmost_bad_field : List ℕ → Option ℕ
 leftmost_bad_field line =
     option_map (λ (field : CheckedField). field.first)
     (find (λ field. not (field.is_good (columns field.first field.last line))) (fields_of (kind_of line) line))
 
--- each checked field of the record is good. For a line of 80 bytes
+-- every checked field of the record is good. For a line of 80 bytes
 abbrev pub HasGoodFields : List ℕ → Type 0
 HasGoodFields line = leftmost_bad_field line ≡ None

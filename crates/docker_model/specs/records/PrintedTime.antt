@@ -1,4 +1,4 @@
--- Days and times as they are printed. Each field has the width that its definition states.
+-- Days and times as they are printed. Each definition says how wide its field is.
 use Rattle.std.specs.Prelude.{ℕ, List, replicate, ◌+◌, ◌/◌, ◌%◌, [], ◌∷◌, ◌++◌, codes, ◌==◌, if◌then◌else◌}
 use Rattle.std.specs.Str.{bytes_eq}
 use Rattle.docker_model.specs.records.Date.{year_of, month_of, day_of_month}
@@ -19,18 +19,19 @@ four_digit_text n = two_digit_text (n / 100) ++ two_digit_text (n % 100)
 abbrev pub date_text : ℕ → ℕ → ℕ → List ℕ
 date_text year month day = four_digit_text year ++ codes "-" ++ two_digit_text month ++ codes "-" ++ two_digit_text day
 
--- a day number as YYYY-MM-DD, for days 0 to 36524
+-- a day number from 0 to 36524 as YYYY-MM-DD: day 0 is `1960-01-01`
 abbrev pub day_text : ℕ → List ℕ
 day_text day = date_text (year_of day) (month_of day) (day_of_month day)
 
--- a minute of the day as HHMM
+-- a minute of the day, from 0 to 1439, as HHMM: 435 is `0715`
 abbrev pub minute_text : ℕ → List ℕ
 minute_text minute = two_digit_text (minute / 60) ++ two_digit_text (minute % 60)
 
--- a time in half minutes, from 0 to 2879, as HHMM, then H or a space
+-- a time in half minutes, from 0 to 2879, as HHMM and then H for half a minute or a space: 871 is
+-- `0715H`
 abbrev pub time_text : ℕ → List ℕ
 time_text time = minute_text (time / 2) ++ (if time % 2 == 1 then codes "H" else codes " ")
 
--- a public time of four bytes as it is printed: 0000 becomes spaces
+-- a public time of four bytes as it is printed: `0000` means no public time, and becomes spaces
 abbrev pub shown_public : List ℕ → List ℕ
 shown_public field = if bytes_eq field (codes "0000") then spaces 4 else field

@@ -1,36 +1,36 @@
--- Records of a CIF file, their kinds and their columns. Bytes are numbers, and columns count from
--- 1.
+-- The records of a CIF file, their kinds and their columns. A byte is a number, and columns count
+-- from 1.
 use Rattle.std.specs.Prelude.{ℕ, Bool, ◌&&◌, nat_le, ◌≡◌, List, length, ◌+◌, not, Option, option_map, position}
 use Rattle.std.specs.Prelude.{◌-◌, slice_range, slice_index, [], ◌∷◌, codes, find, Some, true, false}
 use Rattle.std.specs.List.{AllPass}
 use Rattle.std.specs.Str.{bytes_eq}
 
--- a byte that a record may hold, from a space to a tilde
+-- whether a record may hold this byte: it is from a space to a tilde
 abbrev pub is_printable : ℕ → Bool
 is_printable b = nat_le 0x20 b && nat_le b 0x7E
 
--- the bytes are a record: 80 of them, each printable
+-- these bytes are a record: 80 printable bytes
 abbrev pub IsRecord : List ℕ → Type 0
 IsRecord bytes = (length bytes ≡ 80) × AllPass is_printable bytes
 
--- the bytes are a text of this length: each printable
+-- these bytes are a text of this length: `n` printable bytes
 abbrev pub IsTextOfLength : ℕ → List ℕ → Type 0
 IsTextOfLength n bytes = (length bytes ≡ n) × AllPass is_printable bytes
 
--- the leftmost column whose byte is not printable
+-- the leftmost column whose byte isn't printable, or `None` if all are printable
 abbrev pub leftmost_bad_byte : List ℕ → Option ℕ
 leftmost_bad_byte bytes = option_map (λ i. i + 1) (position (λ b. not (is_printable b)) bytes)
 
--- the bytes from one column to another, both included: for a line that has these columns. Columns 1
--- to 2 of `BSN` are `BS`
+-- the bytes from column `first` to column `last`, both included. For example, columns 1 to 2 of
+-- `BSN` are `BS`. For a line that has these columns
 abbrev pub columns : ℕ → ℕ → List ℕ → List ℕ
 columns first last line = slice_range line (first - 1) last
 
--- the byte in one column. For a line that has it; past the end of a shorter line it reads as 0
+-- the byte in column `n`. Past the end of a shorter line it reads as 0
 abbrev pub column : ℕ → List ℕ → ℕ
 column n line = slice_index line (n - 1)
 
--- the kinds of record, by their names in the CIF End User Specification
+-- the kinds of record, named as in the CIF End User Specification
 pub data Kind : Type 0 where
   header : Kind
   tiploc_insert : Kind
@@ -45,7 +45,7 @@ pub data Kind : Type 0 where
   change_en_route : Kind
   trailer : Kind
 
--- the record identity of each kind
+-- each record identity with its kind: the first two columns of a record decide its kind
 abbrev pub identities : List (List ℕ × Kind)
 identities =
     (codes "HD", header) ∷ (codes "TI", tiploc_insert) ∷ (codes "TA", tiploc_amend) ∷ (codes "TD", tiploc_delete)
@@ -53,7 +53,7 @@ identities =
     ∷ (codes "LO", origin_location) ∷ (codes "LI", intermediate_location) ∷ (codes "LT", terminating_location)
     ∷ (codes "CR", change_en_route) ∷ (codes "ZZ", trailer) ∷ []
 
--- the kind of a record, by its identity in columns 1 and 2
+-- the kind of a record, by its identity in columns 1 and 2, or `None` for an unknown identity
 abbrev pub kind_of : List ℕ → Option Kind
 kind_of line = option_map (λ pair. pair.1) (find (λ pair. bytes_eq pair.0 (columns 1 2 line)) identities)
 
@@ -61,13 +61,14 @@ kind_of line = option_map (λ pair. pair.1) (find (λ pair. bytes_eq pair.0 (col
 abbrev pub HasKind : Kind → List ℕ → Type 0
 HasKind kind line = kind_of line ≡ Some kind
 
--- a record of a location: an origin, an intermediate or a terminating one
+-- whether a record of this kind has a location: an origin, an intermediate or a terminating
+-- location
 abbrev pub is_location : Option Kind → Bool
 is_location (Some origin_location) = true
 is_location (Some intermediate_location) = true
 is_location (Some terminating_location) = true
 is_location _ = false
 
--- lines of bytes, which may be records
+-- a list of lines, each a list of bytes. They may be records
 abbrev pub Lines : Type 0
 Lines = List (List ℕ)

@@ -1,5 +1,4 @@
--- What an exchange holds in the middle of a run: each office's state and each message's text, with
--- what the office or message knows.
+-- What holds at each point of a run: the states and messages match what offices and messages know.
 use Rattle.std.specs.Prelude.{◌≡◌, ℕ, ◌≤◌, ◌↔◌, List, All, Contains, slice_index_or, [], length, filter, Bool, true, false, ⊤}
 use Rattle.std.specs.List.{AllZip, zip}
 use Rattle.docker_model.specs.file.File.{IsFile, most_records}
@@ -8,50 +7,51 @@ use Rattle.docker_model.specs.state.StateText.{Format, IsHorizonOf}
 use Rattle.docker_model.specs.run.Run.{Files, Known, KnownSets, Exchange, IsStateOf, IsMessageOf, known_sets, RunEvent}
 use Rattle.docker_model.specs.run.Run.{take_file, send_state, deliver, reload, horizon_event, Reply, done, refused}
 
--- two lists have the same files
+-- both lists have the same files, in any order and any number of times
 abbrev pub HaveSameFiles : Files → Files → Type 0
 HaveSameFiles first second = (file : List (List ℕ)) → Contains first file ↔ Contains second file
 
--- the two know the same: the same files and the same horizon
+-- both know the same: the same files and the same horizon
 abbrev pub AreOneKnowledge : Known → Known → Type 0
 AreOneKnowledge first second = HaveSameFiles first.files second.files × (first.horizon ≡ second.horizon)
 
--- each of the files is a CIF file of at most 4,294,967,294 records
+-- each of these is a CIF file of at most 4,294,967,294 records
 abbrev pub AreFiles : Files → Type 0
 AreFiles files = All IsFile files × All (λ file. length file ≤ most_records) files
 
--- knowledge that a run may hold: files, and a horizon that the format allows
+-- this knowledge may arise in a run: its files are CIF files, and the format allows its horizon
 abbrev pub IsGoodKnown : Format → Known → Type 0
 IsGoodKnown format known = AreFiles known.files × IsHorizonOf format known.horizon
 
--- an event that a run may contain. The limit on a file is at most 4,294,967,294 records, and a
--- horizon is one that the format allows
+-- this event may be part of a run: a limit on a file is at most 4,294,967,294 records, and the
+-- format allows a horizon
 abbrev pub IsGoodEvent : Format → RunEvent → Type 0
 IsGoodEvent format (take_file office text limit) = limit ≤ most_records
 IsGoodEvent format (horizon_event office day) = IsHorizonOf format day
 IsGoodEvent format _ = ⊤
 
--- the states and messages fit what is known. Each state is the summary of what its office knows,
--- each message is the text of the summary of what it knows itself, and files and horizons are good
+-- the states and messages match what offices and messages know. Each state is the summary of the
+-- files that its office knows. Each message is the text of the summary of the files that the
+-- message knows. All files and horizons are good
 pub record Holds (format : Format) (known : KnownSets) (states : List State) (messages : List (List ℕ)) : Type 0 where
   pub offices : All (IsGoodKnown format) known.offices
   pub sent : All (IsGoodKnown format) known.messages
   pub states_are : AllZip IsStateOf known.offices states
   pub messages_are : AllZip (IsMessageOf format) known.messages messages
 
--- the state of an office; an empty one if the office doesn't exist
+-- the state of an office, given by its number from 0; an empty state if there is no such office
 abbrev pub office_state : List State → ℕ → State
 office_state states office = slice_index_or states office (record { horizon = 0; ledger = []; entries = [] })
 
--- the text of a message; an empty one if the message doesn't exist
+-- the text of a message, given by its number from 0; an empty text if there is no such message
 abbrev pub message_text : List (List ℕ) → ℕ → List ℕ
 message_text messages message = slice_index_or messages message []
 
--- what offices and messages know when an exchange ends
+-- what each office and each message knows at the end of a run
 abbrev pub sets_of : ℕ → List RunEvent → Exchange → KnownSets
 sets_of offices events exchange = known_sets offices events exchange.replies
 
--- the event sends a state
+-- whether the event sends a state, which makes a message
 abbrev pub is_sending : RunEvent → Bool
 is_sending (take_file office text limit) = false
 is_sending (send_state office) = true
@@ -59,10 +59,10 @@ is_sending (deliver office message) = false
 is_sending (reload office message) = false
 is_sending (horizon_event office day) = false
 
--- the event sends a state, and it was done
+-- whether this event sends a state and its reply is `done`
 abbrev pub is_sent : RunEvent × Reply → Bool
 is_sent happened = elim happened.1 [ done ↦ is_sending happened.0 | refused why ↦ false ]
 
--- how many states were sent
+-- how many messages the events made: the number of sent states
 abbrev pub sent_count : List RunEvent → List Reply → ℕ
 sent_count events replies = length (filter is_sent (zip events replies))

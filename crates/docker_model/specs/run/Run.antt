@@ -1,4 +1,4 @@
--- Runs of events at several offices, and what each office knows: files and a horizon.
+-- Runs of events at several offices. What an office knows is a set of files and a horizon.
 use Rattle.std.specs.Prelude.{◌≡◌, ℕ, ◌<◌, max, List, [], ◌∷◌, ◌++◌, length, replicate, slice_set, slice_index_or, fold, ⊤}
 use Rattle.std.specs.List.{AllZip, zip}
 use Rattle.docker_model.specs.file.Text.{lines_of}
@@ -7,7 +7,10 @@ use Rattle.docker_model.specs.state.State.{State}
 use Rattle.docker_model.specs.state.Summary.{IsSummary}
 use Rattle.docker_model.specs.state.StateText.{Format, state_text}
 
--- an event of a run. A message is lost if no event delivers it
+-- an event of a run. An office takes a file, sends its state as a message, receives a message,
+-- reloads a message in place of its state, or sets a horizon. Offices and messages are given by
+-- their numbers from 0. A message that no event delivers is lost; one that several events deliver
+-- is repeated
 pub data RunEvent : Type 0 where
   take_file : (office : ℕ) (text : List ℕ) (limit : ℕ) → RunEvent
   send_state : (office : ℕ) → RunEvent
@@ -15,14 +18,15 @@ pub data RunEvent : Type 0 where
   reload : (office message : ℕ) → RunEvent
   horizon_event : (office day : ℕ) → RunEvent
 
--- why an event is refused
+-- why an event is refused: there is no such office or message, memory is out, or the file has a
+-- fault
 pub data Refusal : Type 0 where
   no_office : Refusal
   no_message : Refusal
   no_memory : Refusal
   bad_file : (fault : FileFault) → Refusal
 
--- the reply to an event
+-- the reply to an event: it was done, or it was refused and has no effect
 pub data Reply : Type 0 where
   done : Reply
   refused : (why : Refusal) → Reply
@@ -31,17 +35,16 @@ pub data Reply : Type 0 where
 abbrev pub Files : Type 0
 Files = List (List (List ℕ))
 
--- what an office or a message knows: a set of files, as a list in any order, and a horizon, 0 for
--- none
+-- what an office or a message knows: a set of files, and a horizon, where 0 means none
 pub record Known : Type 0 where
   pub files : Files
   pub horizon : ℕ
 
--- knowledge of no file, without a horizon
+-- what a new office knows: no file, and no horizon
 abbrev pub nothing : Known
 nothing = record { files = []; horizon = 0 }
 
--- the knowledge of both: the files of either, and the greater horizon
+-- what two know together: the files of both, and the greater of the two horizons
 abbrev pub united : Known → Known → Known
 united first second = record { files = first.files ++ second.files; horizon = max first.horizon second.horizon }
 
@@ -50,21 +53,22 @@ pub record KnownSets : Type 0 where
   pub offices : List Known
   pub messages : List Known
 
--- what an office knows
+-- what an office knows, given its number from 0; nothing if there is no such office
 abbrev pub office_known : KnownSets → ℕ → Known
 office_known known office = slice_index_or known.offices office nothing
 
--- what a message knows
+-- what a message knows, given its number from 0; nothing if there is no such message
 abbrev pub message_known : KnownSets → ℕ → Known
 message_known known message = slice_index_or known.messages message nothing
 
--- what is known once this office has this knowledge
+-- what is known once this office knows `now` instead
 abbrev pub with_office : KnownSets → ℕ → Known → KnownSets
 with_office known office now = record { offices = slice_set known.offices office now; messages = known.messages }
 
--- what is known after an event that was done. The office learns a file, or has the greater of its
--- horizon and the one that is set. Sending makes a message that knows what the office knows.
--- Delivering a message unites its knowledge with the office's; reloading it replaces the office's
+-- what is known after an event that was done. Taking a file adds it to what the office knows.
+-- Sending a state makes a message that knows what the office knows. Delivering a message adds what
+-- the message knows to what the office knows, and reloading it replaces what the office knows.
+-- Setting a horizon raises the office's horizon, unless that is already greater
 abbrev pub after_done : KnownSets → RunEvent → KnownSets
 after_done known (take_file office text limit) =
     with_office known office (united (record { files = lines_of text ∷ []; horizon = 0 }) (office_known known office))
@@ -73,52 +77,54 @@ after_done known (deliver office message) = with_office known office (united (me
 after_done known (reload office message) = with_office known office (message_known known message)
 after_done known (horizon_event office day) = with_office known office (united (record { files = []; horizon = day }) (office_known known office))
 
--- what is known after an event and its reply: a refused event changes nothing
+-- what is known after an event and its reply. A refused event changes nothing
 abbrev pub after_reply : KnownSets → RunEvent × Reply → KnownSets
 after_reply known happened = elim happened.1 [ done ↦ after_done known happened.0 | refused why ↦ known ]
 
--- what is known before the first event: no office knows anything, and there is no message
+-- what is known before the first event: each office knows nothing, and there are no messages
 abbrev pub none_known : ℕ → KnownSets
 none_known offices = record { offices = replicate offices nothing; messages = [] }
 
--- what is known after a run, from its events and replies
+-- what is known after a run with these events and replies
 abbrev pub known_sets : ℕ → List RunEvent → List Reply → KnownSets
 known_sets offices events replies = fold after_reply (none_known offices) (zip events replies)
 
--- the office exists
+-- there is an office with this number
 abbrev pub IsOffice : KnownSets → ℕ → Type 0
 IsOffice known office = office < length known.offices
 
--- the message exists
+-- there is a message with this number
 abbrev pub IsMessage : KnownSets → ℕ → Type 0
 IsMessage known message = message < length known.messages
 
--- the reply to a file at an office that exists: done, a fault of the file, or out of memory
+-- this reply may follow when an office takes a file: `done` if the text is a file, its fault if
+-- not, or out of memory in either case
 abbrev pub IsFileReply : ℕ → List ℕ → Reply → Type 0
 IsFileReply limit text done = IsFileText limit text (lines_of text)
 IsFileReply limit text (refused (bad_file fault)) = IsFileFault limit text fault
 IsFileReply limit text (refused no_memory) = ⊤
 IsFileReply limit text (refused _) = ⊥
 
--- the reply is done or out of memory
+-- the reply is `done`, or out of memory
 abbrev pub IsDoneOrNoMemory : Reply → Type 0
 IsDoneOrNoMemory done = ⊤
 IsDoneOrNoMemory (refused no_memory) = ⊤
 IsDoneOrNoMemory (refused _) = ⊥
 
--- the reply to an event that names an office: `no_office` if it doesn't exist, and otherwise
--- `There` holds
+-- the reply to an event that names an office: `no_office` if there is no such office. Otherwise
+-- `There` holds, which says what the reply may be then
 pub record IsOfficeReply (known : KnownSets) (office : ℕ) (reply : Reply) (There : Type 0) : Type 0 where
   pub absent : ¬ IsOffice known office → reply ≡ refused no_office
   pub there : IsOffice known office → There
 
--- the reply to an event that names a message, at an office that exists: `no_message` if there is no
--- such message
+-- the reply to an event that names a message: `no_message` if there is no such message, and
+-- otherwise `done` or out of memory
 pub record IsMessageReply (known : KnownSets) (message : ℕ) (reply : Reply) : Type 0 where
   pub absent : ¬ IsMessage known message → reply ≡ refused no_message
   pub there : IsMessage known message → IsDoneOrNoMemory reply
 
--- the reply is one that the event may have. Setting a horizon never fails at an office that exists
+-- the event may have this reply, given what is known before it. Setting a horizon never fails at an
+-- office that exists
 abbrev pub IsReply : KnownSets → RunEvent → Reply → Type 0
 IsReply known (take_file office text limit) reply = IsOfficeReply known office reply (IsFileReply limit text reply)
 IsReply known (send_state office) reply = IsOfficeReply known office reply (IsDoneOrNoMemory reply)
@@ -126,30 +132,33 @@ IsReply known (deliver office message) reply = IsOfficeReply known office reply 
 IsReply known (reload office message) reply = IsOfficeReply known office reply (IsMessageReply known message reply)
 IsReply known (horizon_event office day) reply = IsOfficeReply known office reply (reply ≡ done)
 
--- there is one reply for each event, and the event may get it at that point
+-- there is one reply for each event, and it is a reply that the event may have at that point of the
+-- run
 abbrev pub AreReplies : KnownSets → List RunEvent → List Reply → Type 0
 AreReplies known [] [] = ⊤
 AreReplies known [] (reply ∷ replies) = ⊥
 AreReplies known (event ∷ events) [] = ⊥
 AreReplies known (event ∷ events) (reply ∷ replies) = IsReply known event reply × AreReplies (after_reply known (event, reply)) events replies
 
--- the state is the summary of what is known
+-- the state is the summary of the known files under the known horizon
 abbrev pub IsStateOf : Known → State → Type 0
 IsStateOf known state = IsSummary known.files known.horizon state
 
--- the bytes are a message with this knowledge: the text of its summary, in the format of messages
+-- the bytes are a message with this knowledge: the text, in this format, of the summary of its
+-- files
 abbrev pub IsMessageOf : Format → Known → List ℕ → Type 0
 IsMessageOf format known text = (state : State) × IsStateOf known state × (text ≡ state_text format state)
 
--- what a run leaves: the states of the offices, the messages, the replies
+-- what a run leaves: the state of each office, the text of each message, and the reply to each
+-- event
 pub record Exchange : Type 0 where
   pub states : List State
   pub messages : List (List ℕ)
   pub replies : List Reply
 
--- a run of these events at this many offices leaves this exchange, with messages in this format.
--- Each state is the summary of what its office knows. Each message is the text of the summary of
--- what it knows itself
+-- these events at this many offices may leave this exchange. Each reply is one that its event may
+-- have. Each state is the summary of what its office knows at the end. Each message is the text, in
+-- this format, of the summary of what the message knows
 pub record IsRun (format : Format) (offices : ℕ) (events : List RunEvent) (exchange : Exchange) : Type 0 where
   pub replies : AreReplies (none_known offices) events exchange.replies
   pub states : AllZip IsStateOf (known_sets offices events exchange.replies).offices exchange.states

@@ -1,45 +1,45 @@
--- The lapse under a horizon, which is a day number: a put lapses if its end number is below the
--- horizon. The horizon 0 stands for none, and nothing lapses under it.
+-- The lapse under a horizon. The horizon is a day number, and a body lapses if it ended before that
+-- day. The horizon 0 means none, and nothing lapses under it.
 use Rattle.std.specs.Prelude.{ℕ, nat_lt, if◌then◌else◌, ◌≤◌, ⊤, List, map, Option, Some, None, option_and_then, ◌+◌, ◌<◌}
 use Rattle.docker_model.specs.file.Change.{Key, Body}
 use Rattle.docker_model.specs.state.Op.{body_end, Op, deleted, lapsed, put_with, Entry}
 use Rattle.docker_model.specs.state.Table.{Table}
 
--- an op under a horizon: a put becomes `lapsed` if its end number is below the horizon, and any
--- other op stays. Under horizon 100 a body that ends on day 99 lapses, and one that ends on day 100
--- stays
+-- what an op becomes under a horizon: a put whose body ended before the horizon becomes `lapsed`,
+-- and any other op stays. For example, under horizon 100 a body that ends on day 99 lapses, and one
+-- that ends on day 100 stays
 abbrev pub lapse : ℕ → Op → Op
 lapse horizon deleted = deleted
 lapse horizon lapsed = lapsed
 lapse horizon (put_with body) = if nat_lt (body_end body) horizon then lapsed else put_with body
 
--- the op doesn't lapse under the horizon: it isn't a put whose end number is below it
+-- the op stays as it is under the horizon: it isn't a put of a body that ended before that day
 abbrev pub HasNotToLapse : ℕ → Op → Type 0
 HasNotToLapse horizon deleted = ⊤
 HasNotToLapse horizon lapsed = ⊤
 HasNotToLapse horizon (put_with body) = horizon ≤ body_end body
 
--- an entry under a horizon: its stamp stays, and its op lapses
+-- an entry under a horizon: its op may lapse, and its stamp stays
 abbrev pub lapse_entry : ℕ → Entry → Entry
 lapse_entry horizon entry = record { stamp = entry.stamp; op = lapse horizon entry.op }
 
--- a key with its entry, under a horizon
+-- a key with its entry, after the lapse under a horizon
 abbrev pub lapse_keyed : ℕ → Key × Entry → Key × Entry
 lapse_keyed horizon entry = (entry.0, lapse_entry horizon entry.1)
 
--- keys with their entries, under a horizon
+-- keys with their entries, after the lapse under a horizon
 abbrev pub lapse_entries : ℕ → List (Key × Entry) → List (Key × Entry)
 lapse_entries horizon entries = map (lapse_keyed horizon) entries
 
--- a body under a horizon: none if its end number is below it
+-- a body under a horizon, or `None` if it ended before that day
 abbrev pub unlapsed : ℕ → Body → Option Body
 unlapsed horizon body = if nat_lt (body_end body) horizon then None else Some body
 
--- a table under a horizon, without the bodies that have lapsed
+-- a table under a horizon: it loses the bodies that ended before that day
 abbrev pub lapse_table : ℕ → Table → Table
 lapse_table horizon table key = option_and_then (unlapsed horizon) (table key)
 
--- no docker is made for the day: there is a horizon, and the day is earlier than three days after
--- it. Under horizon 100 the first day allowed is 103
+-- under this horizon no docker is made for the day: there is a horizon, and the day is earlier than
+-- three days after it. For example, under horizon 100 the first day allowed is 103
 abbrev pub IsDayRefused : ℕ → ℕ → Type 0
 IsDayRefused horizon day = (0 < horizon) × (day < horizon + 3)

@@ -1,4 +1,5 @@
--- Keys, bodies, ops and entries, each with its order. An op is what an entry says of its key.
+-- Ops and entries, and the orders of keys, bodies, ops and entries. An op is what an entry says of
+-- its key: deleted, lapsed, or put with a body.
 use Rattle.std.specs.Prelude.{ℕ, if◌then◌else◌, List, Option, Some, None}
 use Rattle.std.specs.List.{concat}
 use Rattle.std.specs.declared.cmp.Ordering.{Ordering}
@@ -12,34 +13,34 @@ use Rattle.docker_model.specs.file.Change.{Body, tiploc_body, association_body, 
 use Rattle.docker_model.specs.state.Order.{bytes_cmp}
 use Rattle.docker_model.specs.state.Stamp.{Stamp, stamp_cmp}
 
--- the tag of a key: 1 TIPLOC, 2 association, 3 schedule
+-- the tag of a key, its first byte in a state's text: 1 TIPLOC, 2 association, 3 schedule
 abbrev pub key_tag : Key → ℕ
 key_tag (tiploc_key code) = 1
 key_tag (association_key key) = 2
 key_tag (schedule_key key) = 3
 
--- the tag of a body
+-- the tag of a body: 1 TIPLOC, 2 association, 3 schedule
 abbrev pub body_tag : Body → ℕ
 body_tag (tiploc_body bytes) = 1
 body_tag (association_body line) = 2
 body_tag (schedule_body lines) = 3
 
--- the order of associations: by their fields from left to right. For well formed keys this is the
--- order of their bytes
+-- the order of associations: by UIDs of base and associated train, first date, timing point, suffix
+-- and STP indicator. For well-formed keys it is also the order of their bytes in a state's text
 abbrev pub association_key_cmp : AssociationKey → AssociationKey → Ordering
 association_key_cmp a b =
     ordering_then (bytes_cmp a.base b.base) (ordering_then (bytes_cmp a.associated b.associated)
     (ordering_then (nat_cmp a.start b.start) (ordering_then (bytes_cmp a.location b.location)
     (ordering_then (nat_cmp a.suffix b.suffix) (nat_cmp a.indicator b.indicator)))))
 
--- the order of schedules: by their fields from left to right. For well formed keys this is the
--- order of their bytes
+-- the order of schedules: by UID, runs-from date and STP indicator. For well-formed keys it is also
+-- the order of their bytes in a state's text
 abbrev pub schedule_key_cmp : ScheduleKey → ScheduleKey → Ordering
 schedule_key_cmp a b =
     ordering_then (bytes_cmp a.uid b.uid) (ordering_then (nat_cmp a.runs_from b.runs_from) (nat_cmp a.indicator b.indicator))
 
--- the order of keys: TIPLOCs, then associations, then schedules, each in their own order. For well
--- formed keys this is the order of their bytes
+-- the order of keys: TIPLOCs, then associations, then schedules, each in its own order. For
+-- well-formed keys it is also the order of their bytes in a state's text
 abbrev pub key_cmp : Key → Key → Ordering
 key_cmp (tiploc_key a) (tiploc_key b) = bytes_cmp a b
 key_cmp (tiploc_key a) (association_key b) = Less
@@ -51,48 +52,50 @@ key_cmp (schedule_key a) (tiploc_key b) = Greater
 key_cmp (schedule_key a) (association_key b) = Greater
 key_cmp (schedule_key a) (schedule_key b) = schedule_key_cmp a b
 
--- the bytes of a body, its lines joined
+-- the bytes of a body; a schedule's records are joined to one list
 abbrev pub body_bytes : Body → List ℕ
 body_bytes (tiploc_body bytes) = bytes
 body_bytes (association_body line) = line
 body_bytes (schedule_body lines) = concat lines
 
--- the end number of an end date of six bytes; the number for no end if the bytes aren't an end date
+-- the end number of an end date of six bytes, or the number 65535 for no end if the bytes aren't an
+-- end date
 abbrev pub readable_end : List ℕ → ℕ
 readable_end field = if is_end_date field then end_number field else no_end_number
 
--- the end number of a body, whose lines are records. A TIPLOC has no end
+-- the end number of a body: the last day on which it runs, or 65535 for no end. A TIPLOC has no
+-- end. For bodies whose lines are records
 abbrev pub body_end : Body → ℕ
 body_end (tiploc_body bytes) = no_end_number
 body_end (association_body line) = readable_end (columns 22 27 line)
 body_end (schedule_body lines) = readable_end (columns 16 21 (first_record lines))
 
--- the order of bodies: by end number, then by bytes, then by tag. Two bodies whose lines are
--- records compare as equal only if they are the same
+-- the order of bodies: by end number, then bytes, then tag. Two bodies whose lines are records
+-- compare as equal only if they are the same
 abbrev pub body_cmp : Body → Body → Ordering
 body_cmp a b =
     ordering_then (nat_cmp (body_end a) (body_end b))
     (ordering_then (bytes_cmp (body_bytes a) (body_bytes b)) (nat_cmp (body_tag a) (body_tag b)))
 
--- what an entry says of its key: it is deleted, it was put and has lapsed, or it is put with a body
+-- what an entry says of its key: the key is deleted, its body has lapsed, or it has a body
 pub data Op : Type 0 where
   deleted : Op
   lapsed : Op
   put_with : (body : Body) → Op
 
--- the op of an act
+-- the op that an act leaves: a deletion is `deleted`, and a put is a put with the same body
 abbrev pub op_of : Act → Op
 op_of delete = deleted
 op_of (put body) = put_with body
 
--- the body of a put; other ops have none
+-- the body that an op puts, or `None` if the op is `deleted` or `lapsed`
 abbrev pub body_of : Op → Option Body
 body_of deleted = None
 body_of lapsed = None
 body_of (put_with body) = Some body
 
--- the order of ops: deleted is below lapsed, and lapsed below every put. Two ops whose lines are
--- records compare as equal only if they are the same
+-- the order of ops: `deleted`, then `lapsed`, then puts in the order of their bodies. Two ops whose
+-- lines are records compare as equal only if they are the same
 abbrev pub op_cmp : Op → Op → Ordering
 op_cmp deleted deleted = Equal
 op_cmp deleted lapsed = Less
@@ -104,7 +107,8 @@ op_cmp (put_with a) deleted = Greater
 op_cmp (put_with a) lapsed = Greater
 op_cmp (put_with a) (put_with b) = body_cmp a b
 
--- an entry: an op with its stamp. The greater of two entries of one key wins
+-- an entry: what a state says of a key, with the stamp of the change that said it. Of two entries
+-- of one key the greater one counts
 pub record Entry : Type 0 where
   pub stamp : Stamp
   pub op : Op

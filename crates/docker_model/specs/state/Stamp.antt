@@ -1,4 +1,4 @@
--- Moments, file stamps and stamps, ledger items, the floor, and the orders of these.
+-- Moments, stamps and ledger items with their orders, and the floor.
 use Rattle.std.specs.Prelude.{ℕ, List, ◌≡◌, Contains, Option, Some, None, ⊤}
 use Rattle.std.specs.declared.cmp.Ordering.{Ordering}
 use Rattle.std.specs.Ordering.{ordering_then, nat_cmp}
@@ -8,22 +8,24 @@ use Rattle.docker_model.specs.records.Clock.{minute_of}
 use Rattle.docker_model.specs.file.File.{first_record}
 use Rattle.docker_model.specs.state.Order.{bytes_cmp, IsAtMost}
 
--- a moment: the day and the minute in the header of an extract
+-- the date and time in the header of an extract: a day number and a minute of the day
 pub record Moment : Type 0 where
   pub day : ℕ
   pub minute : ℕ
 
--- a file stamp: the file's moment and its current file reference
+-- the stamp of a file: its moment and its current file reference. Of two files the one with the
+-- greater stamp is newer
 pub record FileStamp : Type 0 where
   pub moment : Moment
   pub reference : List ℕ
 
--- the stamp of a change: the file stamp and the record number
+-- the stamp of a change: the stamp of its file, and the number of its record there
 pub record Stamp : Type 0 where
   pub file : FileStamp
   pub number : ℕ
 
--- a ledger item, for one file: its file stamp, its update indicator and its last file reference
+-- what a ledger has for one file: its file stamp, its update indicator (F or U) and its last file
+-- reference
 pub record LedgerItem : Type 0 where
   pub stamp : FileStamp
   pub indicator : ℕ
@@ -47,18 +49,18 @@ ledger_item_cmp a b =
     ordering_then (file_stamp_cmp a.stamp b.stamp)
     (ordering_then (nat_cmp a.indicator b.indicator) (bytes_cmp a.last_reference b.last_reference))
 
--- the moment of a file, by its header
+-- the moment of a file, from its header
 abbrev pub moment_of : List (List ℕ) → Moment
 moment_of file = record {
   day = date_number_day_first (columns 23 28 (first_record file));
   minute = minute_of (columns 29 32 (first_record file));
 }
 
--- the file stamp of a file
+-- the file stamp of a file, from its header
 abbrev pub file_stamp_of : List (List ℕ) → FileStamp
 file_stamp_of file = record { moment = moment_of file; reference = columns 33 39 (first_record file) }
 
--- the ledger item of a file, by its header
+-- the ledger item of a file, from its header
 abbrev pub ledger_item_of : List (List ℕ) → LedgerItem
 ledger_item_of file = record {
   stamp = file_stamp_of file;
@@ -66,15 +68,15 @@ ledger_item_of file = record {
   last_reference = columns 40 46 (first_record file);
 }
 
--- the item is of a full extract
+-- the item is for a full extract: its update indicator is F
 abbrev pub IsFull : LedgerItem → Type 0
 IsFull item = item.indicator ≡ 70
 
--- no full extract is among the items
+-- no item is for a full extract
 abbrev pub HasNoFull : List LedgerItem → Type 0
 HasNoFull items = (item : LedgerItem) → Contains items item → ¬ IsFull item
 
--- the stamp is the greatest file stamp of a full extract among the items
+-- this is the file stamp of the newest full extract among the items
 pub record IsGreatestFull (items : List LedgerItem) (stamp : FileStamp) : Type 0 where
   pub full : LedgerItem
   pub among : Contains items full
@@ -82,12 +84,13 @@ pub record IsGreatestFull (items : List LedgerItem) (stamp : FileStamp) : Type 0
   pub stamped : full.stamp ≡ stamp
   pub greatest : (item : LedgerItem) → Contains items item → IsFull item → IsAtMost file_stamp_cmp item.stamp stamp
 
--- the floor of items: the greatest file stamp of a full extract among them, or none
+-- this is the floor of the items: the file stamp of the newest full extract among them, or `None`
+-- if they have no full extract. Whatever is older than the floor doesn't count
 abbrev pub IsFloor : List LedgerItem → Option FileStamp → Type 0
 IsFloor items None = HasNoFull items
 IsFloor items (Some stamp) = IsGreatestFull items stamp
 
--- a file stamp is kept if it isn't below the floor, or if there is none
+-- a file with this stamp counts: it isn't older than the floor, or there is no floor
 abbrev pub IsKept : Option FileStamp → FileStamp → Type 0
 IsKept None stamp = ⊤
 IsKept (Some floor) stamp = IsAtMost file_stamp_cmp floor stamp

@@ -1,4 +1,4 @@
--- States: when one is valid, and the join of two.
+-- States: when a state is valid, and what the join of two states is.
 use Rattle.std.specs.Prelude.{ℕ, List, ◌≡◌, ◌<◌, ◌⊎◌, IsTrue, ◌-◌, ◌^◌, length, ⊤, Option, All, ◌≤◌, map, Contains, Some, option_and_then, find, max, ◌↔◌, ◌++◌}
 use Rattle.std.specs.Ordering.{on, is_eq}
 use Rattle.docker_model.specs.records.Record.{IsTextOfLength, is_printable, association, HasKind, IsRecord}
@@ -13,13 +13,15 @@ use Rattle.docker_model.specs.state.Op.{Entry, Op, deleted, lapsed, put_with, ke
 use Rattle.docker_model.specs.state.Table.{Table}
 use Rattle.docker_model.specs.state.Lapse.{HasNotToLapse, lapse_entries, lapse_entry}
 
--- a state: the horizon, 0 for none, the ledger of known files, and each key with its entry
+-- a state, which is all that an office knows: its horizon, where 0 means none; its ledger, which
+-- lists the known files; and each key with its entry
 pub record State : Type 0 where
   pub horizon : ℕ
   pub ledger : List LedgerItem
   pub entries : List (Key × Entry)
 
--- a ledger item that a header can give
+-- the item can come from a header: its day and minute exist, and its references and indicator are
+-- well formed
 pub record IsGoodItem (item : LedgerItem) : Type 0 where
   pub day : IsDay item.stamp.moment.day
   pub minute : item.stamp.moment.minute < 1440
@@ -27,7 +29,7 @@ pub record IsGoodItem (item : LedgerItem) : Type 0 where
   pub indicator : (item.indicator ≡ 70) ⊎ (item.indicator ≡ 85)
   pub last_reference : IsTextOfLength 7 item.last_reference
 
--- the key of an association that a record can name
+-- an association record can name this key: each of its fields is well formed
 pub record IsGoodAssociationKey (key : AssociationKey) : Type 0 where
   pub base : IsTextOfLength 6 key.base
   pub associated : IsTextOfLength 6 key.associated
@@ -36,19 +38,19 @@ pub record IsGoodAssociationKey (key : AssociationKey) : Type 0 where
   pub suffix : IsTrue (is_printable key.suffix)
   pub indicator : IsStpLetter key.indicator
 
--- the key of a schedule that a record can name
+-- a basic schedule can name this key: each of its fields is well formed
 pub record IsGoodScheduleKey (key : ScheduleKey) : Type 0 where
   pub uid : IsTextOfLength 6 key.uid
   pub runs_from : IsDay key.runs_from
   pub indicator : IsStpLetter key.indicator
 
--- a key that a record can name
+-- a record can name this key: each of its fields is well formed
 abbrev pub IsGoodKey : Key → Type 0
 IsGoodKey (tiploc_key code) = IsTiploc code
 IsGoodKey (association_key key) = IsGoodAssociationKey key
 IsGoodKey (schedule_key key) = IsGoodScheduleKey key
 
--- the record is a good association with this key
+-- the record is an association with this key, with good fields and the transaction N
 pub record IsAssociationOf (key : AssociationKey) (line : List ℕ) : Type 0 where
   pub is_record : IsRecord line
   pub kind : HasKind association line
@@ -56,27 +58,30 @@ pub record IsAssociationOf (key : AssociationKey) (line : List ℕ) : Type 0 whe
   pub new : HasNewTransaction line
   pub key_is : association_named line ≡ association_key key
 
--- the lines are a good schedule with this key. There are at most 4,294,967,294 of them
+-- these records are a schedule with this key and the transaction N. There are at most 4,294,967,294
+-- of them
 pub record IsScheduleOf (key : ScheduleKey) (lines : List (List ℕ)) : Type 0 where
   pub schedule : IsSchedule lines
   pub few : length lines < 2 ^ 32 - 1
   pub new : HasNewTransaction (first_record lines)
   pub key_is : schedule_named (first_record lines) ≡ schedule_key key
 
--- the body fits the key, and is well formed
+-- the body is well formed and belongs to this key
 abbrev pub IsBodyOf : Key → Body → Type 0
 IsBodyOf (tiploc_key code) (tiploc_body bytes) = IsTextOfLength 63 bytes
 IsBodyOf (association_key key) (association_body line) = IsAssociationOf key line
 IsBodyOf (schedule_key key) (schedule_body lines) = IsScheduleOf key lines
 IsBodyOf _ _ = ⊥
 
--- the op fits the key, and is well formed
+-- an entry with this key may have this op: if the op is a put, its body is well formed and belongs
+-- to the key
 abbrev pub IsOpOf : Key → Op → Type 0
 IsOpOf key deleted = ⊤
 IsOpOf key lapsed = ⊤
 IsOpOf key (put_with body) = IsBodyOf key body
 
--- ascending ledger items, each well formed, and none below their floor
+-- the ledger is well formed: its items ascend, each could come from a header, and none is below
+-- their floor
 pub record IsLedger (ledger : List LedgerItem) : Type 0 where
   pub each : All IsGoodItem ledger
   pub ascending : IsStrictlyAscending ledger_item_cmp ledger
@@ -84,68 +89,75 @@ pub record IsLedger (ledger : List LedgerItem) : Type 0 where
   pub is_floor : IsFloor ledger floor
   pub kept : All (λ item. IsKept floor item.stamp) ledger
 
--- the stamp names a file in the ledger, and a record number from 2 to 4,294,967,294
+-- the stamp names a file in the ledger and a record number that a change can have, from 2 to
+-- 4,294,967,294
 pub record IsStampIn (ledger : List LedgerItem) (stamp : Stamp) : Type 0 where
   pub in_ledger : Contains (map (λ (item : LedgerItem). item.stamp) ledger) stamp.file
   pub low : 2 ≤ stamp.number
   pub high : stamp.number < 2 ^ 32 - 1
 
--- a key with its entry, both well formed, over this ledger
+-- the key is well formed, and so is its entry, whose stamp names a file in the ledger
 pub record IsGoodEntry (ledger : List LedgerItem) (entry : Key × Entry) : Type 0 where
   pub key : IsGoodKey entry.0
   pub stamp : IsStampIn ledger entry.1.stamp
   pub op : IsOpOf entry.0 entry.1.op
 
--- entries ascend by key
+-- the entries are in strictly ascending order of their keys
 abbrev pub AreAscending : List (Key × Entry) → Type 0
 AreAscending entries = IsStrictlyAscending (on (λ (entry : Key × Entry). entry.0) key_cmp) entries
 
--- the entries of a state over a ledger: each well formed, in key order
+-- these may be the entries of a state with this ledger: each is well formed, and they ascend by key
 abbrev pub AreEntries : List LedgerItem → List (Key × Entry) → Type 0
 AreEntries ledger entries = All (IsGoodEntry ledger) entries × AreAscending entries
 
--- no put among the entries has an end number below the horizon
+-- every entry that should have lapsed has lapsed: no put has a body that ended before the horizon
 abbrev pub HaveLapsed : ℕ → List (Key × Entry) → Type 0
 HaveLapsed horizon entries = All (λ (entry : Key × Entry). HasNotToLapse horizon entry.1.op) entries
 
--- a valid state
+-- the state is valid: its horizon is a day number, its ledger and entries are well formed, and
+-- nothing in it still has to lapse
 pub record IsValid (state : State) : Type 0 where
   pub horizon : IsDay state.horizon
   pub ledger : IsLedger state.ledger
   pub entries : AreEntries state.ledger state.entries
   pub have_lapsed : HaveLapsed state.horizon state.entries
 
--- the entry of a key in a state, if there is one
+-- the entry of a key in a state, or `None` if the state has no entry for it
 abbrev pub entry_at : State → Key → Option Entry
 entry_at state key = option_and_then (λ (entry : Key × Entry). Some entry.1) (find (λ entry. is_eq (key_cmp entry.0 key)) state.entries)
 
--- the live table of a state: each key that is put, with its body
+-- the live table of a state: the body of each key that is put. A key that is deleted or lapsed, or
+-- has no entry, has none
 abbrev pub live_table : State → Key → Option Body
 live_table state key = option_and_then (λ (entry : Entry). body_of entry.op) (entry_at state key)
 
--- each live key has a well formed body that fits the key, as in every valid state
+-- every body in the table is well formed and belongs to its key. The live table of a valid state
+-- has this property
 abbrev pub HasGoodBodies : Table → Type 0
 HasGoodBodies live = (key : Key) (body : Body) → live key ≡ Some body → IsBodyOf key body
 
--- the state with this horizon, where each entry has lapsed under it
+-- the state with this horizon in place of the old one. Its entries have lapsed under this horizon
 abbrev pub lapse_state : ℕ → State → State
 lapse_state horizon state = record { horizon = horizon; ledger = state.ledger; entries = lapse_entries horizon state.entries }
 
--- the state after this horizon was set: the greater of the old horizon and this one holds
+-- the state after this horizon was set. The greater of the old and the new horizon counts, and the
+-- entries lapse under it
 abbrev pub raise_horizon : ℕ → State → State
 raise_horizon horizon state = lapse_state (max state.horizon horizon) state
 
--- the same ledger and entries without a horizon. An entry that has lapsed stays so
+-- the state with no horizon, but with the same ledger and entries. Entries that have lapsed stay
+-- lapsed
 abbrev pub without_horizon : State → State
 without_horizon state = record { horizon = 0; ledger = state.ledger; entries = state.entries }
 
--- this is the key's greatest entry among these
+-- of all entries that the list has for this key, this is the greatest
 pub record IsGreatestAmong (entries : List (Key × Entry)) (key : Key) (entry : Entry) : Type 0 where
   pub among : Contains entries (key, entry)
   pub greatest : (other : Entry) → Contains entries (key, other) → IsAtMost entry_cmp other entry
 
--- the join of two states: the union of their ledgers, and for each key the greater entry. Items and
--- entries below the floor of the union are left out. Each entry lapses under the greater horizon
+-- this is the join of two states: the result of merging one into the other. Its ledger is the union
+-- of both ledgers, and each key has the greater of its entries. Ledger items and entries below the
+-- floor of the union are left out. The greater horizon counts, and entries lapse under it
 pub record IsJoin (first second joined : State) : Type 0 where
   pub horizon : joined.horizon ≡ max first.horizon second.horizon
   pub floor : Option FileStamp

@@ -1,4 +1,4 @@
--- Why bytes aren't a state's text in a format: the first part that is bad.
+-- Why bytes aren't the text of a state in a format: the first bad part, and the cause.
 use Rattle.std.specs.Prelude.{ℕ, List, ◌≤◌, ◌≡◌, ◌+◌, [], ◌∷◌, ◌++◌, slice_index, ◌≢◌, length, ◌<◌, ◌⊎◌}
 use Rattle.std.specs.Int.{w32, from_be_bytes, w16}
 use Rattle.docker_model.specs.records.Record.{IsTextOfLength}
@@ -13,7 +13,8 @@ use Rattle.docker_model.specs.state.StatePart.{before_stamp, EntryPart, before_o
 use Rattle.docker_model.specs.state.StatePart.{HaveNotToLapse, Before, before_entry_count, before_horizon, at_end, in_entry, before_item}
 use Rattle.docker_model.specs.state.StatePart.{before_mark, before_ledger_count, AreGood, text_before, items_before, width}
 
--- why a part is bad. A bad horizon is possible only in DKS2
+-- why a text isn't the text of a state. The cause `bad_horizon` occurs only in DKS2, since DKS1 has
+-- no horizon
 pub data StateCause : Type 0 where
   bad_mark : StateCause
   bad_item : StateCause
@@ -27,32 +28,35 @@ pub data StateCause : Type 0 where
   too_long : StateCause
   bad_horizon : StateCause
 
--- a fault: the offset where it stands, and the cause
+-- why a text isn't the text of a state: an offset in bytes, counted from 0, and the cause
 pub record StateFault : Type 0 where
   pub at : ℕ
   pub cause : StateCause
 
--- the ledger item is bad, after these items: it isn't well formed, isn't above them, or raises the
--- floor
+-- the ledger item that follows these good items is bad for this cause. It isn't well formed, isn't
+-- above the items before it, or raises the floor above the first of them
 abbrev pub IsBadItem : List LedgerItem → LedgerItem → StateCause → Type 0
 IsBadItem ledger item bad_item = ¬ IsGoodItem item
 IsBadItem ledger item bad_order = IsGoodItem item × ¬ IsAboveItems ledger item
 IsBadItem ledger item bad_floor = IsGoodItem item × IsAboveItems ledger item × RaisesFloor ledger item
 IsBadItem ledger item _ = ⊥
 
--- the key is bad, after the entries of this state: it isn't well formed, or isn't above their keys
+-- the key that follows the entries of this state is bad for this cause: it isn't well formed, or
+-- isn't above the keys before it
 abbrev pub IsBadKey : State → Key → StateCause → Type 0
 IsBadKey state key bad_body = ¬ IsGoodKey key
 IsBadKey state key bad_order = IsGoodKey key × ¬ IsAboveEntries state key
 IsBadKey state key _ = ⊥
 
--- a good body, or for a schedule a good number of lines. An association's body mustn't have lapsed
+-- the bytes are a good body for this key. For a schedule they are its number of lines, and the
+-- lines follow one by one. An association must not have ended before the state's horizon
 abbrev pub IsBodyPart : State → Key → List ℕ → Type 0
 IsBodyPart state (tiploc_key code) bytes = IsTextOfLength 63 bytes
 IsBodyPart state (association_key key) bytes = IsAssociationOf key bytes × (state.horizon ≤ body_end (association_body bytes))
 IsBodyPart state (schedule_key key) bytes = IsLineCount (from_be_bytes w32 bytes)
 
--- this part of an entry is bad, after the state and the entry's parts so far
+-- the next part of an entry is bad for this cause. The state has the entries before it, and the
+-- parts of this entry before the bad one are good
 abbrev pub IsBadEntryPart : Format → State → EntryPart → List ℕ → StateCause → Type 0
 IsBadEntryPart format state before_tag bytes cause = (cause ≡ bad_tag) × ¬ IsTag (slice_index bytes 0)
 IsBadEntryPart format state (before_key tag) bytes cause = IsBadKey state (key_in tag bytes) cause
@@ -62,7 +66,7 @@ IsBadEntryPart format state (before_body key stamp) bytes cause = (cause ≡ bad
 IsBadEntryPart format state (before_line key stamp count lines) bytes cause =
     (cause ≡ bad_body) × ¬ (AreLinesUpTo key count (lines ++ bytes ∷ []) × HaveNotToLapse state (lines ++ bytes ∷ []))
 
--- the next part is bad, after these good ones. A count is never bad
+-- the part that follows these good parts is bad for this cause. A count is never bad by itself
 abbrev pub IsBadPart : Format → Before → List ℕ → StateCause → Type 0
 IsBadPart format before_mark bytes cause = (cause ≡ bad_mark) × (bytes ≢ mark format)
 IsBadPart format before_horizon bytes cause = (cause ≡ bad_horizon) × ¬ IsDay (from_be_bytes w16 bytes)
@@ -72,7 +76,8 @@ IsBadPart format (before_entry_count horizon ledger) bytes cause = ⊥
 IsBadPart format (in_entry count state part) bytes cause = IsBadEntryPart format state part bytes cause
 IsBadPart format (at_end state) bytes cause = ⊥
 
--- the fault of a bad part below the limit: its offset is where the part's item begins
+-- this is the fault of a bad part that doesn't go past the limit. The offset is where the item of
+-- this part begins
 pub record HasBadPart (format : Format) (limit : ℕ) (text : List ℕ) (fault : StateFault) : Type 0 where
   pub before : Before
   pub good : AreGood format before
@@ -84,8 +89,8 @@ pub record HasBadPart (format : Format) (limit : ℕ) (text : List ℕ) (fault :
   pub bad : IsBadPart format before bytes fault.cause
   pub item_at : fault.at ≡ length (items_before format before)
 
--- the fault `too_long`: the next part would need bytes past the limit, and the text has a byte
--- there. The offset is the limit
+-- this is the fault `too_long`: the next part would go past the limit, and the text has bytes past
+-- it. The offset is the limit
 pub record IsLong (format : Format) (limit : ℕ) (text : List ℕ) (fault : StateFault) : Type 0 where
   pub before : Before
   pub good : AreGood format before
@@ -97,8 +102,8 @@ pub record IsLong (format : Format) (limit : ℕ) (text : List ℕ) (fault : Sta
   pub cause : fault.cause ≡ too_long
   pub limit_at : fault.at ≡ limit
 
--- the fault `too_short`: the text ends before the next part is whole. The offset is where the
--- part's item begins
+-- this is the fault `too_short`: the text ends before the next part is complete. The offset is
+-- where the item of this part begins
 pub record IsShort (format : Format) (limit : ℕ) (text : List ℕ) (fault : StateFault) : Type 0 where
   pub before : Before
   pub good : AreGood format before
@@ -109,7 +114,7 @@ pub record IsShort (format : Format) (limit : ℕ) (text : List ℕ) (fault : St
   pub cause : fault.cause ≡ too_short
   pub item_at : fault.at ≡ length (items_before format before)
 
--- the fault `has_tail`: bytes follow the state. The offset is where the first of them stands
+-- this is the fault `has_tail`: more bytes follow a complete state. The offset is where they begin
 pub record HasTail (format : Format) (limit : ℕ) (text : List ℕ) (fault : StateFault) : Type 0 where
   pub state : State
   pub valid : AreGood format (at_end state)
@@ -120,12 +125,12 @@ pub record HasTail (format : Format) (limit : ℕ) (text : List ℕ) (fault : St
   pub cause : fault.cause ≡ has_tail
   pub end_at : fault.at ≡ length (state_text format state)
 
--- the fault of a text in a format, under a limit on its bytes
+-- this is the fault of a text, read as a state in this format under a limit on its bytes
 abbrev pub IsStateFault : Format → ℕ → List ℕ → StateFault → Type 0
 IsStateFault format limit text fault =
     HasBadPart format limit text fault ⊎ IsLong format limit text fault ⊎ IsShort format limit text fault ⊎ HasTail format limit text fault
 
--- the text is a valid state's in this format, and no longer than the limit
+-- the text is the text of this valid state in this format, and has at most `limit` bytes
 pub record IsStateText (format : Format) (limit : ℕ) (text : List ℕ) (state : State) : Type 0 where
   pub valid : AreGood format (at_end state)
   pub is : text ≡ state_text format state

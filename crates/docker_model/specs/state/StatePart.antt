@@ -1,6 +1,6 @@
--- The parts of a state's text: how wide the next part is, and when the parts so far are good. An
--- item is the mark, the horizon, a count, a ledger item or an entry; only an entry has several
--- parts.
+-- The parts of a state's text, in the order in which a reader judges them: how many bytes the next
+-- part has, and whether the parts before it are good. An item is the mark, the horizon, a count, a
+-- ledger item or an entry. Only an entry has several parts.
 use Rattle.std.specs.Int.{w32, to_be_bytes}
 use Rattle.std.specs.List.{concat}
 use Rattle.std.specs.Prelude.{ℕ, List, [], length, ◌∷◌, ◌++◌, ◌==◌, if◌then◌else◌, ◌≡◌, ◌⊎◌, ◌-◌, ◌^◌, ◌<◌, All, ◌≤◌, ⊤}
@@ -14,7 +14,7 @@ use Rattle.docker_model.specs.state.State.{State, IsGoodKey, IsStampIn, IsLedger
 use Rattle.docker_model.specs.state.StateText.{Format, head_text, mark, ledger_text, entries_text, state_text}
 use Rattle.docker_model.specs.state.StateText.{key_bytes, stamp_bytes, IsHorizonOf, IsToldState, TellsHorizon}
 
--- how far an entry has been read, and what its parts so far say
+-- how far a reader has come in an entry, and what the entry's parts before that point say
 pub data EntryPart : Type 0 where
   before_tag : EntryPart
   before_key : (tag : ℕ) → EntryPart
@@ -23,8 +23,8 @@ pub data EntryPart : Type 0 where
   before_body : (key : Key) (stamp : Stamp) → EntryPart
   before_line : (key : ScheduleKey) (stamp : Stamp) (count : ℕ) (lines : List (List ℕ)) → EntryPart
 
--- how far a state's text has been read, and what it says so far: the horizon, the counts, the
--- ledger, the entries, and the parts of an unfinished entry
+-- how far a reader has come in a state's text, and what the parts before that point say. These are
+-- the horizon, the counts, the ledger, the complete entries, and the parts of an incomplete entry
 pub data Before : Type 0 where
   before_mark : Before
   before_horizon : Before
@@ -34,7 +34,7 @@ pub data Before : Type 0 where
   in_entry : (count : ℕ) (state : State) (part : EntryPart) → Before
   at_end : (state : State) → Before
 
--- the bytes of the items read so far
+-- the bytes of all complete items before this point
 abbrev pub items_before : Format → Before → List ℕ
 items_before format before_mark = []
 items_before format before_horizon = mark format
@@ -44,11 +44,11 @@ items_before format (before_entry_count horizon ledger) = ledger_text format hor
 items_before format (in_entry count state part) = entries_text format count state
 items_before format (at_end state) = state_text format state
 
--- the bytes of a key: its tag, then the key
+-- the bytes of a key in a state's text: its tag, then its fields
 abbrev pub key_text : Key → List ℕ
 key_text key = key_tag key ∷ key_bytes key
 
--- the bytes that an unfinished entry has so far
+-- the bytes of an entry before this point in it
 abbrev pub part_text : EntryPart → List ℕ
 part_text before_tag = []
 part_text (before_key tag) = tag ∷ []
@@ -58,26 +58,28 @@ part_text (before_body key stamp) = key_text key ++ stamp_bytes stamp ++ 1 ∷ [
 part_text (before_line key stamp count lines) =
     key_text (schedule_key key) ++ stamp_bytes stamp ++ 1 ∷ to_be_bytes w32 count ++ concat lines
 
--- the bytes so far of the item that is unfinished
+-- the bytes before this point that belong to an incomplete item. Only an entry can be incomplete,
+-- as every other item is one part
 abbrev pub parts_before : Before → List ℕ
 parts_before (in_entry count state part) = part_text part
 parts_before _ = []
 
--- the bytes of all parts so far
+-- the bytes before this point: first the complete items, then the incomplete item
 abbrev pub text_before : Format → Before → List ℕ
 text_before format before = items_before format before ++ parts_before before
 
--- how many bytes a key with this tag has
+-- the number of bytes of a key with this tag
 abbrev pub key_width : ℕ → ℕ
 key_width tag = if tag == 1 then 7 else (if tag == 2 then 23 else 9)
 
--- how many bytes a body has, or for a schedule the number of its lines
+-- the number of bytes of a body with this key. For a schedule it is 4, the bytes of its number of
+-- lines
 abbrev pub body_width : Key → ℕ
 body_width (tiploc_key code) = 63
 body_width (association_key key) = 80
 body_width (schedule_key key) = 4
 
--- how many bytes the next part of an entry has
+-- the number of bytes of an entry's next part
 abbrev pub part_width : EntryPart → ℕ
 part_width before_tag = 1
 part_width (before_key tag) = key_width tag
@@ -86,7 +88,7 @@ part_width (before_op key stamp) = 1
 part_width (before_body key stamp) = body_width key
 part_width (before_line key stamp count lines) = 80
 
--- how many bytes the next part has: 0 at the end
+-- the number of bytes of the next part; 0 at the end of the text
 abbrev pub width : Before → ℕ
 width before_mark = 4
 width before_horizon = 2
@@ -96,52 +98,53 @@ width (before_entry_count horizon ledger) = 8
 width (in_entry count state part) = part_width part
 width (at_end state) = 0
 
--- the tag of a TIPLOC, an association or a schedule
+-- this number is the tag of a TIPLOC, an association or a schedule
 abbrev pub IsTag : ℕ → Type 0
 IsTag tag = (tag ≡ 1) ⊎ (tag ≡ 2) ⊎ (tag ≡ 3)
 
--- the number of a schedule's lines that a text may state
+-- a text may state this as a schedule's number of lines: it is from 1 to 4,294,967,294
 abbrev pub IsLineCount : ℕ → Type 0
 IsLineCount count = (0 < count) × (count < 2 ^ 32 - 1)
 
--- the key is above the keys of the entries before it
+-- the key is above the keys of all entries before it
 abbrev pub IsAboveEntries : State → Key → Type 0
 IsAboveEntries state key = All (λ entry. IsBelow key_cmp entry.0 key) state.entries
 
--- the item is above the items before it
+-- the item is above all items before it
 abbrev pub IsAboveItems : List LedgerItem → LedgerItem → Type 0
 IsAboveItems ledger item = All (λ earlier. IsBelow ledger_item_cmp earlier item) ledger
 
--- the item raises the floor: it is of a full extract that is newer than the first item
+-- the item is for a full extract newer than the first item of the ledger. It would raise the floor
+-- above that item, so a ledger can't contain both
 abbrev pub RaisesFloor : List LedgerItem → LedgerItem → Type 0
 RaisesFloor [] item = ⊥
 RaisesFloor (first ∷ ledger) item = IsFull item × IsBelow file_stamp_cmp first.stamp item.stamp
 
--- the lines begin a schedule with this key, whose transaction is N
+-- these lines begin a schedule with this key and the transaction N
 pub record AreLinesOf (key : ScheduleKey) (lines : List (List ℕ)) : Type 0 where
   pub begin : BeginsSchedule lines
   pub new : HasNewTransaction (first_record lines)
   pub key_is : schedule_named (first_record lines) ≡ schedule_key key
 
--- the lines begin a schedule with this key. If there are as many lines as the count says, they are
--- a whole schedule
+-- these lines begin a schedule with this key. If there are `count` of them, they are a whole
+-- schedule
 pub record AreLinesUpTo (key : ScheduleKey) (count : ℕ) (lines : List (List ℕ)) : Type 0 where
   pub lines_of : AreLinesOf key lines
   pub complete : length lines ≡ count → IsSchedule lines
 
--- the entry's key is good at this point: well formed, and above the keys before it
+-- the key is good at this point of a text: well formed, and above the keys before it
 abbrev pub IsKeyHere : State → Key → Type 0
 IsKeyHere state key = IsGoodKey key × IsAboveEntries state key
 
--- the entry's key and stamp are good at this point
+-- the key and the stamp of an entry are good at this point of a text
 abbrev pub IsStampHere : State → Key → Stamp → Type 0
 IsStampHere state key stamp = IsKeyHere state key × IsStampIn state.ledger stamp
 
--- the schedule hasn't lapsed under the state's horizon, by the end date in its first line
+-- by the end date in its first line, the schedule didn't end before the state's horizon
 abbrev pub HaveNotToLapse : State → List (List ℕ) → Type 0
 HaveNotToLapse state lines = state.horizon ≤ body_end (schedule_body lines)
 
--- the parts of an unfinished entry are good so far
+-- the parts of an entry before this point in it are good
 abbrev pub IsPartHere : State → EntryPart → Type 0
 IsPartHere state before_tag = ⊤
 IsPartHere state (before_key tag) = IsTag tag
@@ -152,11 +155,11 @@ IsPartHere state (before_line key stamp count lines) =
     IsStampHere state (schedule_key key) stamp × IsLineCount count × (length lines < count)
     × ((lines ≡ []) ⊎ (AreLinesOf key lines × HaveNotToLapse state lines))
 
--- a number that eight bytes can hold
+-- eight bytes can hold this number
 abbrev pub IsCount : ℕ → Type 0
 IsCount count = count < 2 ^ 64
 
--- each part so far is good
+-- all parts of the text before this point are good
 abbrev pub AreGood : Format → Before → Type 0
 AreGood format before_mark = ⊤
 AreGood format before_horizon = TellsHorizon format

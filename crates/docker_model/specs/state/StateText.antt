@@ -1,5 +1,5 @@
--- The bytes of a state's text, in two formats. The mark DKS1 has no horizon after it, and DKS2 has
--- one. All numbers are big endian.
+-- The bytes of a state's text, in two formats. The format DKS1 has no horizon, and DKS2 has one
+-- after its mark. All numbers are big endian.
 use Rattle.std.specs.Prelude.{ℕ, List, codes, [], ◌++◌, ◌∷◌, length, slice_range, slice_index, ◌==◌, if◌then◌else◌, ⊤, ◌≡◌, ◌⊎◌, All}
 use Rattle.std.specs.List.{concat, flat_map}
 use Rattle.std.specs.Int.{w16, to_be_bytes, w32, w64, from_be_bytes}
@@ -9,86 +9,87 @@ use Rattle.docker_model.specs.state.Stamp.{FileStamp, LedgerItem, Stamp}
 use Rattle.docker_model.specs.state.Op.{Op, deleted, lapsed, put_with, Entry, key_tag}
 use Rattle.docker_model.specs.state.State.{State, IsValid}
 
--- the two formats, each with its mark
+-- the two formats, named by their marks
 pub data Format : Type 0 where
   dks_1 : Format
   dks_2 : Format
 
--- the mark at the beginning
+-- the four bytes at the head of a state's text, which name its format
 abbrev pub mark : Format → List ℕ
 mark dks_1 = codes "DKS1"
 mark dks_2 = codes "DKS2"
 
--- the bytes of the horizon, if the format has one
+-- the two bytes of the horizon, or none if the format has no horizon
 abbrev pub horizon_bytes : Format → ℕ → List ℕ
 horizon_bytes dks_1 horizon = []
 horizon_bytes dks_2 horizon = to_be_bytes w16 horizon
 
--- mark and horizon
+-- the head of a state's text: its mark and its horizon
 abbrev pub head_text : Format → ℕ → List ℕ
 head_text format horizon = mark format ++ horizon_bytes format horizon
 
--- a file stamp, in 11 bytes
+-- the 11 bytes of a file stamp: day, minute and current reference
 abbrev pub file_stamp_bytes : FileStamp → List ℕ
 file_stamp_bytes stamp = to_be_bytes w16 stamp.moment.day ++ to_be_bytes w16 stamp.moment.minute ++ stamp.reference
 
--- a ledger item, in 19 bytes
+-- the 19 bytes of a ledger item: file stamp, update indicator and last reference
 abbrev pub item_bytes : LedgerItem → List ℕ
 item_bytes item = file_stamp_bytes item.stamp ++ item.indicator ∷ item.last_reference
 
--- a key without its tag, in 7, 23 or 9 bytes
+-- the bytes of a key without its tag: 7 for a TIPLOC, 23 for an association, 9 for a schedule
 abbrev pub key_bytes : Key → List ℕ
 key_bytes (tiploc_key code) = code
 key_bytes (association_key key) =
     key.base ++ key.associated ++ to_be_bytes w16 key.start ++ key.location ++ key.suffix ∷ key.indicator ∷ []
 key_bytes (schedule_key key) = key.uid ++ to_be_bytes w16 key.runs_from ++ key.indicator ∷ []
 
--- a stamp, in 15 bytes
+-- the 15 bytes of a stamp: the file stamp and the record number
 abbrev pub stamp_bytes : Stamp → List ℕ
 stamp_bytes stamp = file_stamp_bytes stamp.file ++ to_be_bytes w32 stamp.number
 
--- the bytes of a body. A schedule has the number of its lines first
+-- the bytes of a body. A schedule has its number of lines first
 abbrev pub put_bytes : Body → List ℕ
 put_bytes (tiploc_body bytes) = bytes
 put_bytes (association_body line) = line
 put_bytes (schedule_body lines) = to_be_bytes w32 (length lines) ++ concat lines
 
--- an op: 0 deleted, 2 lapsed, or 1 and the body
+-- the bytes of an op: 0 for deleted, 2 for lapsed, or 1 followed by the body of a put
 abbrev pub op_bytes : Op → List ℕ
 op_bytes deleted = 0 ∷ []
 op_bytes lapsed = 2 ∷ []
 op_bytes (put_with body) = 1 ∷ put_bytes body
 
--- an entry: tag, key, stamp and op
+-- the bytes of an entry: the tag, the key, the stamp and the op
 abbrev pub entry_bytes : Key × Entry → List ℕ
 entry_bytes entry = key_tag entry.0 ∷ key_bytes entry.0 ++ stamp_bytes entry.1.stamp ++ op_bytes entry.1.op
 
--- the text up to these ledger items: mark, horizon, the number of items, and the items
+-- the beginning of a state's text, up to these ledger items: the head, the number `count` of all
+-- items, and these items
 abbrev pub ledger_text : Format → ℕ → ℕ → List LedgerItem → List ℕ
 ledger_text format horizon count ledger = head_text format horizon ++ to_be_bytes w64 count ++ flat_map item_bytes ledger
 
--- the text up to the state's entries: mark, horizon, ledger with its number of items, the number of
--- entries, and the entries
+-- the beginning of a state's text, up to the entries of this state. It has the head, the whole
+-- ledger with its number of items, the number `count` of all entries, and these entries
 abbrev pub entries_text : Format → ℕ → State → List ℕ
 entries_text format count state =
     ledger_text format state.horizon (length state.ledger) state.ledger ++ to_be_bytes w64 count ++ flat_map entry_bytes state.entries
 
--- the text of a state
+-- the whole text of a state in this format
 abbrev pub state_text : Format → State → List ℕ
 state_text format state = entries_text format (length state.entries) state
 
--- what the 11 bytes of a file stamp say
+-- the file stamp that these 11 bytes spell
 abbrev pub file_stamp_in : List ℕ → FileStamp
 file_stamp_in bytes = record {
   moment = record { day = from_be_bytes w16 (slice_range bytes 0 2); minute = from_be_bytes w16 (slice_range bytes 2 4) };
   reference = slice_range bytes 4 11;
 }
 
--- what the 19 bytes of a ledger item say
+-- the ledger item that these 19 bytes spell
 abbrev pub item_in : List ℕ → LedgerItem
 item_in bytes = record { stamp = file_stamp_in bytes; indicator = slice_index bytes 11; last_reference = slice_range bytes 12 19 }
 
--- what the 23 bytes of an association's key say
+-- the key of an association that these 23 bytes spell
 abbrev pub association_key_in : List ℕ → Key
 association_key_in bytes = association_key (record {
   base = slice_range bytes 0 6;
@@ -99,7 +100,7 @@ association_key_in bytes = association_key (record {
   indicator = slice_index bytes 22;
 })
 
--- what the 9 bytes of a schedule's key say
+-- the key of a schedule that these 9 bytes spell
 abbrev pub schedule_key_in : List ℕ → Key
 schedule_key_in bytes = schedule_key (record {
   uid = slice_range bytes 0 6;
@@ -107,35 +108,36 @@ schedule_key_in bytes = schedule_key (record {
   indicator = slice_index bytes 8;
 })
 
--- the key that these 7, 23 or 9 bytes spell, for tag 1, 2 or 3
+-- the key that these bytes spell: 7 bytes for tag 1, 23 for tag 2, 9 for tag 3
 abbrev pub key_in : ℕ → List ℕ → Key
 key_in tag bytes = if tag == 1 then tiploc_key bytes else (if tag == 2 then association_key_in bytes else schedule_key_in bytes)
 
--- what the 15 bytes of a stamp say
+-- the stamp that these 15 bytes spell
 abbrev pub stamp_in : List ℕ → Stamp
 stamp_in bytes = record { file = file_stamp_in bytes; number = from_be_bytes w32 (slice_range bytes 11 15) }
 
--- the format has a horizon
+-- the format has a horizon: it is DKS2
 abbrev pub TellsHorizon : Format → Type 0
 TellsHorizon dks_1 = ⊥
 TellsHorizon dks_2 = ⊤
 
--- a horizon that a state in this format may have: 0 if the format has none
+-- a state in this format may have this horizon: a day number in DKS2, and only 0 in DKS1
 abbrev pub IsHorizonOf : Format → ℕ → Type 0
 IsHorizonOf dks_1 horizon = horizon ≡ 0
 IsHorizonOf dks_2 horizon = IsDay horizon
 
--- an op that an entry in this format may have: lapsed only in DKS2
+-- an entry in this format may have this op. In DKS1 no op is `lapsed`
 abbrev pub TellsOp : Format → Op → Type 0
 TellsOp dks_1 lapsed = ⊥
 TellsOp _ _ = ⊤
 
--- the first byte that an op in this format may have: 2, for lapsed, only in DKS2
+-- the op of an entry in this format may begin with this byte: 0 for deleted, 1 for a put, and in
+-- DKS2 also 2 for lapsed
 abbrev pub IsOpByte : Format → ℕ → Type 0
 IsOpByte dks_1 byte = (byte ≡ 0) ⊎ (byte ≡ 1)
 IsOpByte dks_2 byte = (byte ≡ 0) ⊎ (byte ≡ 1) ⊎ (byte ≡ 2)
 
--- a valid state that the format can hold
+-- the state is valid, and the format can hold it
 pub record IsToldState (format : Format) (state : State) : Type 0 where
   pub valid : IsValid state
   pub horizon : IsHorizonOf format state.horizon

@@ -1,4 +1,5 @@
--- The summary of a set of files under a horizon. The set is a list in any order.
+-- The summary of a set of files under a horizon, which is the state of an office that knows these
+-- files. The set is given as a list in any order.
 use Rattle.std.specs.Prelude.{◌≡◌, ℕ, ◌↔◌, List, map, Option, Contains}
 use Rattle.docker_model.specs.file.Change.{Key, Change, changes}
 use Rattle.docker_model.specs.state.Order.{IsStrictlyAscending, IsAtMost}
@@ -7,20 +8,22 @@ use Rattle.docker_model.specs.state.Op.{Entry, entry_cmp, op_of}
 use Rattle.docker_model.specs.state.Lapse.{lapse_entry}
 use Rattle.docker_model.specs.state.State.{State, AreAscending}
 
--- the floor of a set of files
+-- this is the floor of a set of files: the file stamp of the newest full extract among them, or
+-- `None` if they have no full extract
 abbrev pub IsFloorOf : List (List (List ℕ)) → Option FileStamp → Type 0
 IsFloorOf files floor = IsFloor (map ledger_item_of files) floor
 
--- the file is one of the set, and isn't below the floor
+-- the file is in the set and counts: it isn't older than the floor
 pub record IsKeptFile (files : List (List (List ℕ))) (floor : Option FileStamp) (file : List (List ℕ)) : Type 0 where
   pub among : Contains files file
   pub kept : IsKept floor (file_stamp_of file)
 
--- the entry that a change of a file makes
+-- the entry that a file's change leaves at its key: the file's stamp, the number of the record, and
+-- the op
 abbrev pub entry_of : List (List ℕ) → Change → Entry
 entry_of file change = record { stamp = record { file = file_stamp_of file; number = change.number }; op = op_of change.act }
 
--- the entry comes from a change of this key in a kept file
+-- a file of the set that counts has a change of this key, and the change leaves this entry
 pub record IsEntryOf (files : List (List (List ℕ))) (floor : Option FileStamp) (key : Key) (entry : Entry) : Type 0 where
   pub file : List (List ℕ)
   pub kept : IsKeptFile files floor file
@@ -29,13 +32,14 @@ pub record IsEntryOf (files : List (List (List ℕ))) (floor : Option FileStamp)
   pub key_is : change.key ≡ key
   pub entry_is : entry_of file change ≡ entry
 
--- the greatest entry that comes from changes of this key in kept files
+-- of all entries that changes of this key leave in files that count, this is the greatest
 pub record IsGreatestEntryOf (files : List (List (List ℕ))) (floor : Option FileStamp) (key : Key) (entry : Entry) : Type 0 where
   pub is : IsEntryOf files floor key entry
   pub greatest : (other : Entry) → IsEntryOf files floor key other → IsAtMost entry_cmp other entry
 
--- the summary under a horizon, 0 for none. It has the ledger items of the kept files. Each key has
--- the greatest entry that comes from their changes, lapsed under the horizon
+-- this state is the summary of the files under a horizon, where 0 means none. Its ledger has an
+-- item for each file that counts. Each key has the greatest entry that a change in these files
+-- leaves, after the lapse under the horizon
 pub record IsSummary (files : List (List (List ℕ))) (horizon : ℕ) (state : State) : Type 0 where
   pub horizon_is : state.horizon ≡ horizon
   pub floor : Option FileStamp
@@ -46,7 +50,7 @@ pub record IsSummary (files : List (List (List ℕ))) (horizon : ℕ) (state : S
   pub entries : (key : Key) (entry : Entry) → Contains state.entries (key, entry)
       ↔ ((greatest : Entry) × IsGreatestEntryOf files floor key greatest × (lapse_entry horizon greatest ≡ entry))
 
--- no two different files of the set have the same moment
+-- no two different files of the set have the same date and time
 abbrev pub HaveDistinctMoments : List (List (List ℕ)) → Type 0
 HaveDistinctMoments files =
     (first second : List (List ℕ)) → Contains files first → Contains files second → moment_of first ≡ moment_of second → first ≡ second

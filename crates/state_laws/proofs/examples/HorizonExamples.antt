@@ -1,4 +1,4 @@
--- Worked examples of horizons, and of state texts with one.
+-- Worked examples of horizons, and of the texts of states in the format with a horizon.
 use Rattle.std.proofs.Common.{◌≡◌, ℕ, ◌≤◌, List, [], ◌∷◌, ◌++◌, length, take, drop, refl, inl, inr, lit≤, lit<, arith, ap}
 use Rattle.std.specs.Prelude.{codes, slice_index}
 use Rattle.std.proofs.lemmas.List.Elements.{All-from_recursion}
@@ -16,8 +16,8 @@ use Rattle.cif_laws.proofs.records.Builders.{f2_basic, f2_schedule}
 use Rattle.state_laws.proofs.examples.StateExamples.{f2_item, end_of_f2}
 use Rattle.state_laws.proofs.examples.SummaryExamples as plain
 
--- the schedule ends on 14 June: it is live under the horizon of that day, and has lapsed under the
--- next day's
+-- the schedule ends on 14 June, day 23541. Under the horizon 14 June it is still live, and under 15
+-- June it has lapsed
 lives : lapse 23541 (put_with (schedule_body f2_schedule)) ≡ put_with (schedule_body f2_schedule)
 unfolding days_from_civil day_count days_of_years days_of_months
 lives = refl
@@ -30,7 +30,7 @@ lapses = refl
 tiploc_stays : lapse 36524 (put_with (tiploc_body [])) ≡ put_with (tiploc_body [])
 tiploc_stays = refl
 
--- under the horizon of 14 June the docker for the 16th is refused, and the one for the 17th is made
+-- under the horizon 14 June the docker of 16 June is refused, and the docker of 17 June is made
 day_is_refused : IsDayRefused 23541 23543
 day_is_refused = (lit< tt, lit< tt)
 
@@ -39,11 +39,11 @@ day_is_printed told = let before = told.1 in omega arith
 
 -- ---- texts
 
--- the key of the worked schedule
+-- the key of the schedule in the worked file
 abbrev pub f2_key : ScheduleKey
 f2_key = record { uid = codes "C10001"; runs_from = 23537; indicator = 80 }
 
--- a state with the worked file's ledger, these entries and this horizon
+-- a state with the ledger of the worked file, this horizon and these entries
 abbrev pub state_with : ℕ → List (Key × Entry) → State
 state_with horizon entries = record { horizon = horizon; ledger = f2_item ∷ []; entries = entries }
 
@@ -51,7 +51,7 @@ state_with horizon entries = record { horizon = horizon; ledger = f2_item ∷ []
 abbrev pub f2_state : State
 f2_state = state_with 0 ((schedule_key f2_key, record { stamp = record { file = f2_item.stamp; number = 2 }; op = put_with (schedule_body f2_schedule) }) ∷ [])
 
--- the entry of that state after it has lapsed
+-- the entry of that state after the lapse
 abbrev pub lapsed_entry : Key × Entry
 lapsed_entry = (schedule_key f2_key, record { stamp = record { file = f2_item.stamp; number = 2 }; op = lapsed })
 
@@ -65,7 +65,7 @@ length_of_first = refl
 length_of_second : length (state_text dks_2 f2_state) ≡ 311
 length_of_second = refl
 
--- under the horizon of 15 June the entry has lapsed: it keeps its stamp and has no body
+-- under the horizon 15 June the entry has lapsed: it keeps its stamp and has no body
 pub raised_state : raise_horizon 23542 f2_state ≡ state_with 23542 (lapsed_entry ∷ [])
 unfolding days_from_civil day_count days_of_years days_of_months
 raised_state = refl
@@ -84,7 +84,7 @@ end_of_lapsed = refl
 abbrev text : List ℕ
 text = state_text dks_2 f2_state
 
--- a text with the mark of the other format
+-- the mark of the other format is a bad mark
 other_mark : IsStateFault dks_2 1000 (codes "DKS1" ++ drop 4 text) (record { at = 0; cause = bad_mark })
 other_mark = inl (record {
   before = before_mark;
@@ -98,7 +98,7 @@ other_mark = inl (record {
   item_at = refl;
 })
 
--- a text with a horizon after the last day
+-- a horizon after the last day is a bad horizon
 high_horizon : IsStateFault dks_2 1000 (codes "DKS2" ++ 0x8e ∷ 0xad ∷ drop 6 text) (record { at = 4; cause = bad_horizon })
 high_horizon = inl (record {
   before = before_horizon;
@@ -115,7 +115,7 @@ high_horizon = inl (record {
     too_high : ¬ IsDay 36525
     too_high low = omega arith
 
--- a text that is cut after five bytes, within the horizon
+-- a text that ends after five bytes, within the horizon, is too short
 cut_in_horizon : IsStateFault dks_2 1000 (take 5 text) (record { at = 4; cause = too_short })
 cut_in_horizon =
     inr (inr (inl (record { before = before_horizon; good = tt; rest = 0 ∷ []; whole = refl; ends = lit< tt; within = lit≤ tt; cause = refl; item_at = refl })))
@@ -154,7 +154,8 @@ op_three = inl (record {
     no_op (inr (inl e)) = omega arith
     no_op (inr (inr e)) = omega arith
 
--- a lapsed op is good even without a horizon, and the rest of the entry is a tail after the state
+-- a lapsed op is good even without a horizon. It ends the entry, and the bytes of the old body are
+-- a tail after the state
 op_two : IsStateFault dks_2 1000 (take 66 text ++ 2 ∷ drop 67 text) (record { at = 67; cause = has_tail })
 op_two = inr (inr (inr (record {
   state = state_with 0 (lapsed_entry ∷ []);
@@ -185,7 +186,7 @@ op_two = inr (inr (inr (record {
       ops = All-from_recursion (λ (entry : Key × Entry). TellsOp dks_2 entry.1.op) (lapsed_entry ∷ []) (tt, tt);
     }
 
--- a schedule that ends before the horizon: its first line has the end date
+-- the end of a schedule is known from its first record
 end_of_line : body_end (schedule_body (f2_basic ∷ [])) ≡ 23541
 unfolding days_from_civil day_count days_of_years days_of_months
 end_of_line = refl
@@ -203,7 +204,7 @@ ends_before = inl (record {
   item_at = refl;
 })
 
--- under a horizon of its last day, the schedule hasn't lapsed
+-- under the horizon of its last day the schedule hasn't lapsed
 abbrev last_day_state : State
 last_day_state = record { horizon = 23541; ledger = f2_state.ledger; entries = f2_state.entries }
 

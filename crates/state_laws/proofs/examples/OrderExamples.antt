@@ -1,5 +1,5 @@
--- Orders and bytes, computed. Bytes would order keys differently without the tag, with numbers
--- whose low byte comes first, and for keys that no record can name.
+-- Orders of keys and of their bytes, computed. Three examples show that the two orders would differ
+-- without the tag, with the low byte of a number first, and for keys that no record can name.
 use Rattle.std.proofs.Common.{◌≡◌, ℕ, List, ◌∷◌, refl}
 use Rattle.std.specs.Prelude.{codes}
 use Rattle.std.specs.Int.{w16, to_le_bytes}
@@ -37,8 +37,8 @@ later_day_in_bytes = refl
 low_byte_first : bytes_cmp (to_le_bytes w16 255) (to_le_bytes w16 256) ≡ Greater
 low_byte_first = refl
 
--- keys of associations whose UIDs differ in length: by fields the first is lower, by bytes the
--- second
+-- two keys of associations with UIDs of different lengths: the first key is lower by its fields,
+-- and the second by its bytes
 abbrev association_of : List ℕ → List ℕ → Key
 association_of base associated =
     association_key (record { base = base; associated = associated; start = 0; location = codes "ASHFELD"; suffix = 32; indicator = 80 })
@@ -49,7 +49,8 @@ short_by_parts = refl
 short_by_bytes : bytes_cmp (key_bytes (association_of (codes "A") (codes "C"))) (key_bytes (association_of (codes "AB") (codes "A"))) ≡ Greater
 short_by_bytes = refl
 
--- items with one file stamp: the update indicator is compared before the last reference
+-- two ledger items with the same file stamp: the update indicator is compared before the last
+-- reference
 abbrev item_of : ℕ → List ℕ → LedgerItem
 item_of indicator last =
     record { stamp = record { moment = record { day = 23536; minute = 1260 }; reference = codes "DFROC1A" }; indicator = indicator; last_reference = last }

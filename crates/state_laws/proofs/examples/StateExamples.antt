@@ -1,4 +1,4 @@
--- Worked examples of states and their texts.
+-- Worked examples of states and of their texts.
 use Rattle.std.proofs.Common.{◌≡◌, [], ◌∷◌, ◌++◌, length, refl, take, drop}
 use Rattle.std.specs.Prelude.{codes, slice_range}
 use Rattle.std.specs.List.{concat}
@@ -18,17 +18,17 @@ f2_item = record {
   last_reference = codes "DFROC1Z";
 }
 
--- the file's header gives this item
+-- the header of the worked file gives this ledger item
 pub item_of_f2 : ledger_item_of f2 ≡ f2_item
 unfolding days_from_civil day_count days_of_years days_of_months
 item_of_f2 = refl
 
--- the key of the file's schedule
+-- the key of the schedule in the worked file
 pub key_of_f2 : schedule_named f2_basic ≡ schedule_key (record { uid = codes "C10001"; runs_from = 23537; indicator = 80 })
 unfolding days_from_civil day_count days_of_years days_of_months
 key_of_f2 = refl
 
--- the end number of the file's schedule
+-- the end number of the schedule in the worked file is 23541, for 14 June 2024
 pub end_of_f2 : body_end (schedule_body f2_schedule) ≡ 23541
 unfolding days_from_civil day_count days_of_years days_of_months
 end_of_f2 = refl
@@ -54,14 +54,14 @@ empty_text = refl
 length_of_text : length (state_text dks_1 f2_state) ≡ 309
 length_of_text = refl
 
--- the text starts with the mark, the ledger count, the item and the entry count
+-- the text starts with the mark, the number of ledger items, the item, and the number of entries
 start_of_text : take 39 (state_text dks_1 f2_state)
     ≡ codes "DKS1" ++ (0 ∷ 0 ∷ 0 ∷ 0 ∷ 0 ∷ 0 ∷ 0 ∷ 1 ∷ [])
     ++ (0x5b ∷ 0xf0 ∷ 0x04 ∷ 0xec ∷ 0x44 ∷ 0x46 ∷ 0x52 ∷ 0x4f ∷ 0x43 ∷ 0x31 ∷ 0x41 ∷ 0x55 ∷ 0x44 ∷ 0x46 ∷ 0x52 ∷ 0x4f ∷ 0x43 ∷ 0x31 ∷ 0x5a ∷ [])
     ++ (0 ∷ 0 ∷ 0 ∷ 0 ∷ 0 ∷ 0 ∷ 0 ∷ 1 ∷ [])
 start_of_text = refl
 
--- the entry starts with its tag, key, stamp, op and line count
+-- the entry starts with its tag, key, stamp, op and number of lines
 start_of_entry : slice_range (state_text dks_1 f2_state) 39 69
     ≡ (3 ∷ 0x43 ∷ 0x31 ∷ 0x30 ∷ 0x30 ∷ 0x30 ∷ 0x31 ∷ 0x5b ∷ 0xf1 ∷ 0x50 ∷ [])
     ++ (0x5b ∷ 0xf0 ∷ 0x04 ∷ 0xec ∷ 0x44 ∷ 0x46 ∷ 0x52 ∷ 0x4f ∷ 0x43 ∷ 0x31 ∷ 0x41 ∷ 0 ∷ 0 ∷ 0 ∷ 2 ∷ [])
@@ -71,7 +71,7 @@ start_of_entry = refl
 lines_in_text : drop 69 (state_text dks_1 f2_state) ≡ concat f2_schedule
 lines_in_text = refl
 
--- the item, the key and the stamp are read back from these bytes
+-- the item, the key and the stamp can be read back from these bytes
 item_again : item_in (slice_range (state_text dks_1 f2_state) 12 31) ≡ f2_item
 item_again = refl
 

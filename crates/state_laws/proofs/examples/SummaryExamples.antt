@@ -19,7 +19,7 @@ use Rattle.cif_laws.proofs.schedules.WorkedSchedule.{f2_is_schedule}
 use Rattle.state_laws.proofs.joins.RaisedHorizon.{plain_summary}
 use Rattle.cif_laws.proofs.lists.Membership.{Contains-single, single-Contains}
 
--- the worked ledger item is good
+-- the ledger item of the worked file is good
 pub good_item : IsGoodItem f2_item
 good_item = record {
   day = lit≤ tt;
@@ -32,7 +32,7 @@ good_item = record {
 no_full : (item : LedgerItem) → Contains (f2_item ∷ []) item → item.indicator ≡ 70 → ⊥
 no_full item among full = let same = ap (λ (i : LedgerItem). i.indicator) (Contains-single f2_item item among) ∙ full in omega arith
 
--- the worked ledger is a ledger
+-- the ledger of the worked state is well formed
 pub good_ledger : IsLedger (f2_item ∷ [])
 good_ledger = record {
   each = All-from_recursion IsGoodItem (f2_item ∷ []) (good_item, tt);
@@ -51,7 +51,7 @@ f2_entry = record { stamp = record { file = f2_item.stamp; number = 2 }; op = pu
 schedule_of_key : IsScheduleOf f2_key f2_schedule
 schedule_of_key = record { schedule = f2_is_schedule; few = lit< tt; new = refl; key_is = key_of_f2 }
 
--- the worked entry is good
+-- the entry of the worked state is good
 pub good_entry : IsGoodEntry (f2_item ∷ []) (schedule_key f2_key, f2_entry)
 good_entry = record {
   key = record { uid = (refl, AllPass-from_list_all is_printable f2_key.uid refl); runs_from = lit≤ tt; indicator = refl };
@@ -94,7 +94,7 @@ f2_entry_of = record {
   entry_is = entry_is;
 }
 
--- the file makes only the worked entry
+-- the changes of the worked file make only this entry
 only_entry : (key : Key) (entry : Entry) (made : IsEntryOf (f2 ∷ []) None key entry) → (schedule_key f2_key ≡ key) × (f2_entry ≡ entry)
 only_entry key entry made =
     let file_is : f2 ≡ made.file = Contains-single f2 made.file made.kept.among in

@@ -1,4 +1,4 @@
--- The test whether a schedule calls at a place, and the indexes made from the rows of a table.
+-- The test of whether a schedule calls at a place, and the indexes made from the rows of a table.
 use Rattle.std.proofs.Common.{◌≡◌, ℕ, List, [], ◌∷◌, refl, ap, sym, ◌∙◌, subst, inl, inr, ◌⊎◌, Some, None, Bool, true, false, Contains}
 use Rattle.std.specs.Prelude.{Option, ◌↔◌, filter, ◌&&◌, ◌||◌}
 use Rattle.std.specs.Str.{bytes_eq}
@@ -20,7 +20,7 @@ use Rattle.cif_laws.proofs.lists.BoolsAndOptions.{both, either}
 use Rattle.cif_laws.proofs.lists.FilteredMembers.{filter_back, filter_forth}
 use Rattle.cif_laws.proofs.records.Locations.{IsLocation}
 
--- if `list_any` passes, some member passes the test
+-- if `list_any` finds that the test passes, it passes for some element
 pub any_back : {A : Type 0} (test : A → Bool) (xs : List A) → list_any test xs ≡ true → (x : A) × Contains xs x × (test x ≡ true)
 any_back test [] is = absurd (false_true is)
   where
@@ -33,7 +33,7 @@ any_back test (x ∷ xs) is = by (any_back test xs) (either (test x) (list_any t
     by rest (inl h) = (x, cons-Contains-first x xs, h)
     by rest (inr h) = let found = rest h in (found.0, cons-Contains x xs found.0 found.1, found.2)
 
--- if a member passes the test, `list_any` passes
+-- if the test passes for some element, `list_any` finds that it passes
 pub any_forth : {A : Type 0} (test : A → Bool) (xs : List A) (x : A) → Contains xs x → test x ≡ true → list_any test xs ≡ true
 any_forth test [] x among h = absurd (nil-Contains x among)
 any_forth test (z ∷ xs) x among h = by (λ inside. any_forth test xs x inside h) (Contains-cons z xs x among)
@@ -46,7 +46,7 @@ any_forth test (z ∷ xs) x among h = by (λ inside. any_forth test xs x inside 
     by rest (inl e) = λ i. (ap test e ∙ h) i || list_any test xs
     by rest (inr inside) = (λ i. test z || rest inside i) ∙ or_true (test z)
 
--- a record that passes the test is a location record
+-- a record whose kind passes the test `is_location` is a location record
 location_back : (line : List ℕ) → is_location (kind_of line) ≡ true → IsLocation line
 location_back line is = by (kind_of line) refl is
   where
@@ -73,7 +73,7 @@ location_forth line (inl h) = ap is_location h
 location_forth line (inr (inl h)) = ap is_location h
 location_forth line (inr (inr h)) = ap is_location h
 
--- `calls_at` passes if and only if the schedule calls at the place
+-- the test `calls_at` passes exactly if the schedule calls at the place
 pub calls_test : (place : List ℕ) (lines : List (List ℕ)) → (calls_at place lines ≡ true) ↔ CallsAt place lines
 calls_test place lines = (
   λ is.
@@ -90,7 +90,7 @@ pub no_member : {A : Type 0} (xs : List A) → ((x : A) → ¬ Contains xs x) �
 no_member [] none = refl
 no_member (x ∷ xs) none = absurd (none x (cons-Contains-first x xs))
 
--- ---- the indexes from rows
+-- ---- an index made from rows
 
 calls_row_back : (key : Key) (body : Body) (place : List ℕ) (schedule : ScheduleKey) → Contains (calls_of key body) (place, schedule)
     → (lines : List (List ℕ)) × (key ≡ schedule_key schedule) × (body ≡ schedule_body lines) × CallsAt place lines
@@ -124,7 +124,7 @@ links_row_back (association_key key) (schedule_body lines) place link among = ab
 links_row_back (tiploc_key code) body place link among = absurd (nil-Contains (place, link) among)
 links_row_back (schedule_key key) body place link among = absurd (nil-Contains (place, link) among)
 
--- the calls of all rows, strictly ascending, are the index of calls
+-- the index rows of calls that all rows give, sorted and without duplicates, are the index of calls
 pub calling_from_rows : (live : Table) (rows : List Row) (index : List CallingRow) → AreRowsOf live rows → IsStrictlyAscending calling_cmp index
     → ((row : CallingRow) → Contains index row ↔ Contains (flat_map (λ (r : Row). calls_of r.0 r.1) rows) row) → IsCallingIndex live index
 calling_from_rows live rows index are up same = record {
@@ -141,7 +141,8 @@ calling_from_rows live rows index are up same = record {
   );
 }
 
--- the links of all rows, strictly ascending, are the index of associations
+-- the index rows of associations that all rows give, sorted and without duplicates, are the index
+-- of associations
 pub linked_from_rows : (live : Table) (rows : List Row) (index : List LinkedRow) → AreRowsOf live rows → IsStrictlyAscending linked_cmp index
     → ((row : LinkedRow) → Contains index row ↔ Contains (flat_map (λ (r : Row). links_of r.0 r.1) rows) row) → IsLinkedIndex live index
 linked_from_rows live rows index are up same = record {

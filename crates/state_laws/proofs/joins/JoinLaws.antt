@@ -1,4 +1,4 @@
--- The join of states with horizons is commutative, associative, and idempotent on valid states. Two
+-- The join is commutative and associative, and a valid state joined with itself stays the same. Two
 -- states have at most one join.
 use Rattle.std.proofs.Common.{◌++◌, ◌≡◌, ◌∙◌, sym, ◌≤◌, subst, ℕ, arith, ap, List, Contains, inl, inr, ◌⊎◌, Some, None}
 use Rattle.std.specs.Prelude.{max, Option}
@@ -18,9 +18,9 @@ use Rattle.state_laws.proofs.states.PlainTable.{one_per_key}
 use Rattle.state_laws.proofs.states.ReducedEntries.{IsReduced, reduced_twice}
 use Rattle.state_laws.proofs.states.ReducedMembers.{reduced_along, reduced_unique}
 
--- ---- a join reduces the items and entries of both states
+-- ---- a join as the reduction of both states' items and entries
 
--- a join is reduced from the items and entries of both states
+-- a join is the reduction of both states' items and entries under its horizon
 pub join_reduced : (a b c : State) → IsJoin a b c → IsReduced (a.ledger ++ b.ledger) (a.entries ++ b.entries) c
 join_reduced a b c is = record {
   floor = is.floor;
@@ -31,7 +31,7 @@ join_reduced a b c is = record {
   of_keys = is.entries;
 }
 
--- a state reduced from both states' items and entries, under the greater horizon, is their join
+-- the reduction of both states' items and entries under the greater horizon is their join
 pub reduced_join : (a b c : State) → c.horizon ≡ max a.horizon b.horizon → IsReduced (a.ledger ++ b.ledger) (a.entries ++ b.entries) c → IsJoin a b c
 reduced_join a b c horizon is = record {
   horizon = horizon;
@@ -55,13 +55,13 @@ pub join_unique : (a b c d : State) → IsJoin a b c → IsJoin a b d → c ≡ 
 join_unique a b c d is_c is_d =
     reduced_unique (a.ledger ++ b.ledger) (a.entries ++ b.entries) c d (is_c.horizon ∙ sym is_d.horizon) (join_reduced a b c is_c) (join_reduced a b d is_d)
 
--- ---- three states
+-- ---- the join of three states
 
--- the horizon of a join isn't below the first state's
+-- the horizon of a join is at least the first state's
 pub horizon_left : (a b c : State) → IsJoin a b c → a.horizon ≤ c.horizon
 horizon_left a b c is = subst (λ h. a.horizon ≤ h) (sym is.horizon) (le-max_left a.horizon b.horizon)
 
--- the horizon of a join isn't below the second state's
+-- the horizon of a join is at least the second state's
 pub horizon_right : (a b c : State) → IsJoin a b c → b.horizon ≤ c.horizon
 horizon_right a b c is = subst (λ h. b.horizon ≤ h) (sym is.horizon) (le-max_right a.horizon b.horizon)
 
@@ -98,7 +98,7 @@ join_associates a b c ab bc x y is_ab is_x is_bc is_y =
     (same_members_rotated a.ledger b.ledger c.ledger) (same_members_rotated a.entries b.entries c.entries) x left)
     right
 
--- ---- a state joined with itself
+-- ---- the join of a state with itself
 
 one_of_two : {A : Type 0} (xs : List A) (x : A) → Contains (xs ++ xs) x → Contains xs x
 one_of_two xs x among = by (Contains-append_cases xs xs x among)
@@ -107,7 +107,7 @@ one_of_two xs x among = by (Contains-append_cases xs xs x among)
     by (inl here) = here
     by (inr here) = here
 
--- a valid state joined with itself stays as it is
+-- the join of a valid state with itself is that state
 pub join_idempotent : (a : State) → IsValid a → IsJoin a a a
 join_idempotent a valid = record {
   horizon = sym (max-eq_left {n = a.horizon} {m = a.horizon} (omega arith));

@@ -1,5 +1,5 @@
--- Setting a horizon. A horizon that isn't greater changes nothing. A horizon may be set after a
--- join instead of before it. Without a horizon nothing lapses.
+-- Setting a horizon. A horizon that isn't greater than the state's changes nothing. A horizon may
+-- be set after a join instead of before it. Without a horizon nothing lapses.
 use Rattle.std.proofs.Common.{◌≡◌, ℕ, ◌≤◌, List, [], ◌∷◌, Contains, subst, ap, sym, ◌∙◌, arith}
 use Rattle.std.specs.Prelude.{Option, ◌↔◌, max}
 use Rattle.std.proofs.Math.Nat.{le-max_left, max-eq_left, max-zero, zero-max}
@@ -17,9 +17,9 @@ use Rattle.state_laws.proofs.states.Lapse.{entry_twice, entry_stays, lapse_none}
 use Rattle.state_laws.proofs.states.LapsedGreatest.{lapsed_from, lapsed_to}
 use Rattle.state_laws.proofs.states.KeptEntries.{lapse_ascends, entries_stay}
 
--- ---- what stays
+-- ---- when nothing lapses
 
--- if no put lapses under a horizon, setting it changes only the horizon
+-- if no body ended before a horizon, the lapse under it changes only the horizon
 pub lapsed_already : (horizon : ℕ) (state : State) → HaveLapsed horizon state.entries
     → lapse_state horizon state ≡ record { horizon = horizon; ledger = state.ledger; entries = state.entries }
 lapsed_already horizon state all = λ i. record {
@@ -28,24 +28,24 @@ lapsed_already horizon state all = λ i. record {
   entries = entries_stay horizon state.entries (recursion_from_All (λ (entry : Keyed). HasNotToLapse horizon entry.1.op) state.entries all) i;
 }
 
--- an entry of a valid state doesn't lapse under the state's horizon
+-- no entry of a valid state lapses under the state's horizon
 pub entry_of_valid_stays : (state : State) (key : Key) (entry : Entry) → IsValid state → Contains state.entries (key, entry)
     → lapse_entry state.horizon entry ≡ entry
 entry_of_valid_stays state key entry valid among =
     entry_stays state.horizon entry (All-contains (λ (e : Keyed). HasNotToLapse state.horizon e.1.op) state.entries (key, entry) valid.have_lapsed among)
 
--- a horizon that isn't greater changes nothing
+-- setting a horizon that isn't greater than the state's changes nothing
 pub not_greater : (horizon : ℕ) (state : State) → IsValid state → horizon ≤ state.horizon → raise_horizon horizon state ≡ state
 not_greater horizon state valid low = ap (λ h. lapse_state h state) (max-eq_left low) ∙ lapsed_already state.horizon state valid.have_lapsed
 
--- if a valid state loses its horizon and the same horizon is set again, the state is as it was
+-- a valid state that loses its horizon, and gets it again, is the same state
 pub set_last : (state : State) → IsValid state → raise_horizon state.horizon (without_horizon state) ≡ state
 set_last state valid =
     ap (λ h. lapse_state h (without_horizon state)) (zero-max state.horizon) ∙ lapsed_already state.horizon (without_horizon state) valid.have_lapsed
 
--- ---- lapsing again
+-- ---- a horizon that is set after a join
 
--- joining a state without its horizon, and setting that horizon last, gives the join
+-- to join a state without its horizon, and then set this horizon, gives the join
 pub join_then_set : (a b c : State) → IsJoin a (without_horizon b) c → IsJoin a b (raise_horizon b.horizon c)
 join_then_set a b c is = record {
   horizon = horizons;
@@ -86,7 +86,8 @@ none_to_lapse entries = All-from_recursion (λ (entry : Keyed). HasNotToLapse 0 
     each [] = tt
     each (x ∷ xs) = (none_has_to x.1.op, each xs)
 
--- the summary of files without a horizon: each key has its greatest entry as it is
+-- this state is the summary of the files without a horizon: each key has its greatest entry,
+-- unchanged
 pub record IsPlainSummary (files : List (List (List ℕ))) (state : State) : Type 0 where
   pub no_horizon : state.horizon ≡ 0
   pub floor : Option FileStamp
@@ -99,7 +100,7 @@ pub record IsPlainSummary (files : List (List (List ℕ))) (state : State) : Typ
 lapse_entry_none : (entry : Entry) → lapse_entry 0 entry ≡ entry
 lapse_entry_none entry = λ i. record { stamp = entry.stamp; op = lapse_none entry.op i }
 
--- a summary without a horizon is the summary under the horizon 0
+-- the summary without a horizon is the summary under the horizon 0
 pub plain_summary : (files : List (List (List ℕ))) (state : State) → IsPlainSummary files state ↔ IsSummary files 0 state
 plain_summary files state = (
   λ is. record {

@@ -1,4 +1,4 @@
--- One more entry is offered: it is staged or left out. The entry that a state has at a key.
+-- One more entry is offered, and is staged or left out. Also the entry that a state has at a key.
 use Rattle.std.proofs.Common.{◌≡◌, List, [], ◌∷◌, ◌++◌, refl, ap, sym, ◌∙◌, subst, inl, inr, ◌⊎◌, Some, None, Contains, arith}
 use Rattle.std.specs.Prelude.{Option, ◌↔◌, option_and_then}
 use Rattle.std.specs.declared.cmp.Ordering.TheVariants.{Less}
@@ -26,7 +26,7 @@ use Rattle.state_laws.proofs.joins.StagedJoin.{commit_is_join}
 Some_is : {A : Type 0} (a b : A) → Some a ≡ Some b → a ≡ b
 Some_is a b h = cc
 
--- a state has an entry at a key if and only if it is among the state's entries
+-- a state has an entry at a key exactly if the list of its entries has it
 pub entry_at_iff : (state : State) → AreAscending state.entries → (key : Key) (entry : Entry) → (entry_at state key ≡ Some entry) ↔ Contains state.entries
     (key, entry)
 entry_at_iff state up key entry = by (find_in state.entries key)
@@ -43,7 +43,8 @@ entry_at_iff state up key entry = by (find_in state.entries key)
           λ among. absurd (none entry among),
         )
 
--- an entry is to be staged if it is kept and is greater than the state's entry at its key
+-- an entry is to be staged exactly if it isn't below the floor and is greater than the state's
+-- entry at its key
 pub to_stage_by_get : (own : State) → AreAscending own.entries → (floor : Option FileStamp) (key : Key) (entry : Entry)
     → IsToStage own floor key entry ↔ (IsKept floor entry.stamp.file × IsGreaterThan (entry_at own key) entry)
 to_stage_by_get own up floor key entry = by (entry_at own key) refl
@@ -61,9 +62,9 @@ to_stage_by_get own up floor key entry = by (entry_at own key) refl
       },
     )
 
--- ---- the steps
+-- ---- staging step by step
 
--- at first nothing is staged
+-- before the first offer nothing is staged
 pub nothing_staged : (own : State) (floor : Option FileStamp) → IsStaged own floor [] []
 nothing_staged own floor = record {
   ascending = tt;
@@ -72,7 +73,7 @@ nothing_staged own floor = record {
 
 module _ (own : State) (floor : Option FileStamp) (offered staged : List (Key × Entry)) (key : Key) (entry : Entry)
     (stages : IsStaged own floor offered staged) where
-  -- an entry that is to be staged is added at the end
+  -- an offered entry that is to be staged becomes the last of the staged entries
   pub one_staged_more : ((other : Key × Entry) → Contains staged other → key_cmp other.0 key ≡ Less) → IsToStage own floor key entry
       → IsStaged own floor (offered ++ (key, entry) ∷ []) (staged ++ (key, entry) ∷ [])
   one_staged_more above to = record {
@@ -99,7 +100,7 @@ module _ (own : State) (floor : Option FileStamp) (offered staged : List (Key ×
       back k e to_stage (inl here) = Contains-append_left staged ((key, entry) ∷ []) (k, e) ((stages.members k e).1 (here, to_stage))
       back k e to_stage (inr here) = Contains-append_right staged ((key, entry) ∷ []) (k, e) here
 
-  -- an entry that isn't to be staged is left out
+  -- an offered entry that isn't to be staged leaves the staged entries as they are
   pub one_left_out : ¬ IsToStage own floor key entry → IsStaged own floor (offered ++ (key, entry) ∷ []) staged
   one_left_out out = record {
     ascending = stages.ascending;
@@ -117,8 +118,8 @@ module _ (own : State) (floor : Option FileStamp) (offered staged : List (Key ×
 
 -- ---- all entries
 
--- staging and committing all entries of a received state makes the join with the received state
--- without its horizon
+-- when all entries of a received state have been staged and committed, the result is the join with
+-- the received state without its horizon
 pub staging_joins_before : (own received : State) (floor : Option FileStamp) (staged : List (Key × Entry)) (after : State) → IsValid own → IsValid received
     → IsFloor (own.ledger ++ received.ledger) floor → IsStaged own floor received.entries staged → IsCommit own received.ledger staged after
     → IsJoin own (without_horizon received) after
@@ -127,7 +128,8 @@ staging_joins_before own received floor staged after valid valid_too is_floor st
     (λ item. (λ x. x, λ x. x)) floor commit.floor is_floor commit.is_floor in
     commit_is_join own received valid valid_too staged after commit (subst (λ f. IsStaged own f received.entries staged) floors stages)
 
--- setting the received state's horizon after the commit makes the join with the received state
+-- when the horizon of the received state is then set, the result is the join with the received
+-- state
 pub staging_joins : (own received : State) (floor : Option FileStamp) (staged : List (Key × Entry)) (after : State) → IsValid own → IsValid received
     → IsFloor (own.ledger ++ received.ledger) floor → IsStaged own floor received.entries staged → IsCommit own received.ledger staged after
     → IsJoin own received (raise_horizon received.horizon after)
@@ -144,7 +146,7 @@ commit_is_valid own received floor staged after valid valid_too is_floor stages 
     without : IsValid (without_horizon received)
     without = record { horizon = omega arith; ledger = valid_too.ledger; entries = valid_too.entries; have_lapsed = none_to_lapse received.entries }
 
--- no entry of the state itself is staged
+-- of the entries that the state has already, none is staged
 pub own_stages_nothing : (own : State) (floor : Option FileStamp) → IsStaged own floor own.entries []
 own_stages_nothing own floor = record {
   ascending = tt;

@@ -1,5 +1,5 @@
--- Staging and committing all entries of a received state makes the join with the received state
--- without its horizon.
+-- When all entries of a received state have been staged and committed, the result is the join with
+-- the received state without its horizon.
 use Rattle.std.proofs.Common.{◌≡◌, ℕ, List, ◌++◌, ap, sym, ◌∙◌, subst, inl, inr, ◌⊎◌, Some, None, Contains}
 use Rattle.std.specs.Prelude.{Option}
 use Rattle.std.specs.declared.cmp.Ordering.TheVariants.{Equal}
@@ -21,11 +21,11 @@ use Rattle.cif_laws.proofs.orders.AtMost.{at_most_trans, at_most_itself, at_most
 use Rattle.state_laws.proofs.states.OneJoin.{floor_unique}
 use Rattle.state_laws.proofs.states.ExactEntries.{exact_entry}
 
--- the file stamp of the greater of two entries isn't below the other's
+-- the file stamp of the greater of two entries isn't below the file stamp of the other
 stamp_up : (low high : Entry) → IsAtMost entry_cmp low high → IsAtMost file_stamp_cmp low.stamp.file high.stamp.file
 stamp_up low high up greater = up (λ i. ordering_then (ordering_then (greater i) (nat_cmp low.stamp.number high.stamp.number)) (op_cmp low.op high.op))
 
--- if the lower of two entries is kept, so is the greater
+-- if the lower of two entries isn't below the floor, the greater isn't either
 pub kept_up : (floor : Option FileStamp) (low high : Entry) → IsAtMost entry_cmp low high → IsKept floor low.stamp.file → IsKept floor high.stamp.file
 kept_up None low high up kept = tt
 kept_up (Some floor) low high up kept = at_most_trans file_stamp_total floor low.stamp.file high.stamp.file kept (stamp_up low high up)
@@ -39,7 +39,7 @@ module _ (own received : State) (valid : IsValid own) (valid_too : IsValid recei
   good_received : (key : Key) (entry : Entry) → Contains received.entries (key, entry) → IsGoodEntry received.ledger (key, entry)
   good_received key entry among = All-contains (IsGoodEntry received.ledger) received.entries (key, entry) valid_too.entries.0 among
 
-  -- two entries of one key that tie are equal
+  -- an entry of the state and a received entry of the same key are equal if they tie in the order
   tied_equal : (key : Key) (one two : Entry) → Contains own.entries (key, one) → Contains received.entries (key, two) → entry_cmp one two ≡ Equal → one ≡ two
   tied_equal key one two in_own in_received e = exact_entry key one two (good_own key one in_own).op (good_received key two in_received).op e
 
@@ -52,7 +52,7 @@ module _ (own received : State) (valid : IsValid own) (valid_too : IsValid recei
   Best : Key → Entry → Type 0
   Best key entry = IsGreatestAmong (own.entries ++ received.entries) key entry × IsKept commit.floor entry.stamp.file
 
-  -- a staged entry is kept, and is the greatest of its key
+  -- a staged entry isn't below the floor, and is the greatest of its key
   staged_best : (key : Key) (entry : Entry) → Contains staged (key, entry) → Best key entry
   unfolding Best
   staged_best key entry among =
@@ -69,7 +69,8 @@ module _ (own received : State) (valid : IsValid own) (valid_too : IsValid recei
       under offered to other (inl here) = at_most_below entry_cmp other entry (to.greater other here)
       under offered to other (inr here) = subst (λ e. IsAtMost entry_cmp other e) (one_received key other entry here offered) (at_most_itself entry_total other)
 
-  -- an entry of ours is the greatest of its key, if it is kept and no entry of the key is staged
+  -- an entry of the state is the greatest of its key, if it isn't below the floor and no entry of
+  -- the key is staged
   own_best : (key : Key) (entry : Entry) → Contains own.entries (key, entry) → IsKept commit.floor entry.stamp.file → HasNoEntryOf staged key → Best key entry
   unfolding Best
   own_best key entry among kept none = (
@@ -102,12 +103,12 @@ module _ (own received : State) (valid : IsValid own) (valid_too : IsValid recei
   forth key entry (inl here) = staged_best key entry here
   forth key entry (inr told) = own_best key entry told.0 told.1 told.2
 
-  -- the greatest entry of a key is staged, or it is ours and no entry of the key is staged
+  -- the greatest entry of a key is staged, or it is in the state and no entry of the key is staged
   back : (key : Key) (entry : Entry) → Best key entry → IsPutIn own staged commit.floor key entry
   unfolding Best
   back key entry best = by (Contains-append_cases own.entries received.entries (key, entry) best.0.among)
     where
-      -- if an entry of ours is the greatest of its key, no entry of the key is staged
+      -- if the state's entry is the greatest of its key, no entry of the key is staged
       none_staged : Contains own.entries (key, entry) → HasNoEntryOf staged key
       none_staged here other inside =
           let told = (stages.members key other).0 inside in
@@ -155,7 +156,7 @@ module _ (own received : State) (valid : IsValid own) (valid_too : IsValid recei
     );
   }
 
--- a state, items and staged entries have only one commit
+-- a state, ledger items and staged entries determine what a commit leaves
 pub one_commit : (own : State) (items : List LedgerItem) (staged : List (Key × Entry)) (a b : State) → IsCommit own items staged a → IsCommit own items staged b
     → a ≡ b
 one_commit own items staged a b one two =
@@ -181,7 +182,7 @@ one_commit own items staged a b one two =
     moved : (key : Key) (entry : Entry) (f g : Option FileStamp) (m n : ℕ) → f ≡ g → m ≡ n → Told key entry f m → Told key entry g n
     moved key entry f g m n floors horizons told = subst (λ h. Told key entry g h) horizons (subst (λ floor. Told key entry floor m) floors told)
 
--- the offered entries determine the list of staged entries
+-- the offered entries determine the staged entries
 pub one_staged : (own : State) (floor : Option FileStamp) (offered a b : List (Key × Entry)) → IsStaged own floor offered a → IsStaged own floor offered b
     → a ≡ b
 one_staged own floor offered a b one two =

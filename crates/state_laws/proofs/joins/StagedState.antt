@@ -1,5 +1,5 @@
--- The received items and the staged entries make a valid state. The join with this state is the
--- commit.
+-- The received ledger items and the staged entries make a valid state. A join with this state does
+-- the same as the commit.
 use Rattle.std.proofs.Common.{◌≡◌, List, ◌++◌, ◌∙◌, ap, subst, arith, inl, inr, ◌⊎◌, Contains}
 use Rattle.std.specs.Prelude.{Option}
 use Rattle.std.specs.Ordering.{ordering_reverse}
@@ -18,7 +18,7 @@ use Rattle.cif_laws.proofs.orders.AtMost.{at_most_itself, at_most_below}
 use Rattle.state_laws.proofs.joins.RaisedHorizon.{none_to_lapse}
 use Rattle.state_laws.proofs.states.OneJoin.{floor_unique}
 
--- the items of a valid state and its staged entries make a valid state
+-- the ledger items of a valid state and the staged entries make a valid state
 pub staged_is_valid : (own received : State) (floor : Option FileStamp) (staged : List (Key × Entry)) → IsValid received
     → IsStaged own floor received.entries staged
     → IsValid (staged_state received.ledger staged)
@@ -42,7 +42,7 @@ module _ (own received : State) (floor : Option FileStamp) (staged : List (Key �
   floors : floor ≡ join.floor
   floors = floor_unique (own.ledger ++ received.ledger) (own.ledger ++ received.ledger) (λ item. (λ x. x, λ x. x)) floor join.floor is_floor join.is_floor
 
-  -- a staged entry is greater than our entry of its key
+  -- a staged entry is greater than the state's entry of its key
   above : (key : Key) (mine entry : Entry) → Contains own.entries (key, mine) → Contains staged (key, entry) → ¬ IsAtMost entry_cmp entry mine
   above key mine entry here there low = low (entry_total.antisymm entry mine ∙ ap ordering_reverse (((stages.members key entry).0 there).1.greater mine here))
 
@@ -89,7 +89,7 @@ module _ (own received : State) (floor : Option FileStamp) (staged : List (Key �
           subst (λ e. IsAtMost entry_cmp other e) (one_per_key own.entries up key other entry here told.0) (at_most_itself entry_total other)
       under other (inr there) = absurd (told.2 other there)
 
-  -- the join with the state of the received items and staged entries is the commit
+  -- the join with the state of received items and staged entries is what the commit leaves
   pub join_with_staged : IsCommit own received.ledger staged after
   unfolding Best
   join_with_staged = record {

@@ -1,4 +1,4 @@
--- The greatest entry of a key.
+-- The greatest entry of a key in a list, and that each key has one or no entry at all.
 use Rattle.std.proofs.Common.{List, Contains, ◌≡◌, ◌∷◌, subst, inl, inr, ◌⊎◌, ap, [], refl, Bool, true, false}
 use Rattle.std.specs.Ordering.{is_eq}
 use Rattle.docker_model.specs.file.Change.{Key}
@@ -11,7 +11,7 @@ use Rattle.state_laws.proofs.states.PlainTable.{Keyed}
 
 -- ---- the greatest entry of a key
 
--- no entry of the list has the key
+-- no entry in the list has the key
 abbrev pub NoEntry : List Keyed → Key → Type 0
 NoEntry entries key = (entry : Entry) → ¬ Contains entries (key, entry)
 
@@ -19,7 +19,7 @@ NoEntry entries key = (entry : Entry) → ¬ Contains entries (key, entry)
 abbrev pub GreatestEntry : List Keyed → Key → Type 0
 GreatestEntry entries key = (entry : Entry) × Contains entries (key, entry) × ((other : Entry) → Contains entries (key, other) → IsAtMost entry_cmp other entry)
 
--- with one more entry of the key first, the list has a greatest entry of the key
+-- a list whose first entry has the key has a greatest entry of the key
 greater_of : (first : Keyed) (entries : List Keyed) (key : Key) → first.0 ≡ key → NoEntry entries key ⊎ GreatestEntry entries key
     → GreatestEntry (first ∷ entries) key
 greater_of first entries key same (inl none) =
@@ -69,7 +69,7 @@ still first entries key apart (inr best) =
     by other (inl e) = absurd (apart (ap (λ (pair : Keyed). pair.0) e))
     by other (inr inside) = best.2 other inside
 
--- a list has no entry of a key, or a greatest one
+-- a list has no entry of a key, or it has a greatest one
 pub greatest_in : (entries : List Keyed) (key : Key) → NoEntry entries key ⊎ GreatestEntry entries key
 greatest_in [] key = inl (λ entry among. nil-Contains (key, entry) among)
 greatest_in (first ∷ entries) key = by (is_eq (key_cmp first.0 key)) refl (greatest_in entries key)

@@ -1,5 +1,5 @@
--- Entries under a floor and a horizon: which are kept, and what becomes of entries in key order
--- when they lapse.
+-- Entries under a floor and a horizon: which are kept, and what the lapse makes of entries in key
+-- order.
 use Rattle.std.proofs.Common.{◌≡◌, ℕ, ◌<◌, ◌≤◌, List, [], ◌∷◌, subst, inl, inr, ◌⊎◌, refl, sym, ◌∙◌, Some, None}
 use Rattle.std.specs.Prelude.{Option}
 use Rattle.std.specs.List.{AllByRecursion}
@@ -16,14 +16,14 @@ use Rattle.cif_laws.proofs.orders.AtMost.{at_most_trans, level, at_most_itself}
 use Rattle.state_laws.proofs.states.PlainTable.{Keyed}
 use Rattle.state_laws.proofs.states.Lapse.{below_or, put_lapses, put_stays, entry_stays}
 
--- an entry that is at least a kept one is kept too
+-- if the lower of two entries isn't below the floor, the greater isn't either
 pub kept_up : (floor : Option FileStamp) (low high : Entry) → IsAtMost entry_cmp low high → IsKept floor low.stamp.file → IsKept floor high.stamp.file
 kept_up None low high most kept = tt
 kept_up (Some floor) low high most kept =
     at_most_trans file_stamp_total floor low.stamp.file high.stamp.file kept
     (λ greater. most (λ i. ordering_then (ordering_then (greater i) (nat_cmp low.stamp.number high.stamp.number)) (op_cmp low.op high.op)))
 
--- lapsing never makes an op greater
+-- the lapse never makes an op greater
 op_lapse_below : (horizon : ℕ) (op : Op) → IsAtMost op_cmp (lapse horizon op) op
 op_lapse_below horizon deleted = at_most_itself op_total deleted
 op_lapse_below horizon lapsed = at_most_itself op_total lapsed
@@ -33,7 +33,7 @@ op_lapse_below horizon (put_with body) = by (below_or horizon body)
     by (inl below) = subst (λ op. IsAtMost op_cmp op (put_with body)) (sym (put_lapses horizon body below)) (λ greater. cc)
     by (inr above) = subst (λ op. IsAtMost op_cmp op (put_with body)) (sym (put_stays horizon body above)) (at_most_itself op_total (put_with body))
 
--- lapsing never makes an entry greater
+-- the lapse never makes an entry greater
 pub lapse_below : (horizon : ℕ) (entry : Entry) → IsAtMost entry_cmp (lapse_entry horizon entry) entry
 lapse_below horizon entry = by (stamp_cmp entry.stamp entry.stamp) (at_most_itself entry_total entry)
   where
@@ -48,14 +48,14 @@ tied_lapsed deleted tied = cc
 tied_lapsed lapsed tied = refl
 tied_lapsed (put_with body) tied = cc
 
--- two entries that tie are equal, if one has lapsed
+-- two entries that tie in the order are equal, if one has lapsed
 pub level_lapsed : (first second : Entry) → second.op ≡ lapsed → IsAtMost entry_cmp first second → IsAtMost entry_cmp second first → first ≡ second
 level_lapsed first second is up down =
     let parts = then_equal (stamp_cmp first.stamp second.stamp) (op_cmp first.op second.op) (level entry_total first second up down) in
     let ops : first.op ≡ second.op = tied_lapsed first.op (subst (λ op. op_cmp first.op op ≡ Equal) is parts.1) ∙ sym is in
     λ i. record { stamp = exact_stamp first.stamp second.stamp parts.0 i; op = ops i }
 
--- an op becomes `lapsed`, or doesn't lapse
+-- the lapse turns an op into `lapsed`, or leaves it as it is
 pub lapses_or_not : (horizon : ℕ) (op : Op) → (lapse horizon op ≡ lapsed) ⊎ HasNotToLapse horizon op
 lapses_or_not horizon deleted = inr tt
 lapses_or_not horizon lapsed = inl refl
@@ -72,7 +72,7 @@ above_lapsed : (horizon : ℕ) (first : Keyed) (entries : List Keyed) → AllByR
 above_lapsed horizon first [] all = tt
 above_lapsed horizon first (entry ∷ entries) all = (all.0, above_lapsed horizon first entries all.1)
 
--- entries in key order stay in order when they lapse
+-- entries in key order are in key order after the lapse
 pub lapse_ascends : (horizon : ℕ) (entries : List Keyed) → AreAscending entries → AreAscending (lapse_entries horizon entries)
 lapse_ascends horizon [] up = tt
 lapse_ascends horizon (entry ∷ entries) up = (above_lapsed horizon entry entries up.0, lapse_ascends horizon entries up.1)

@@ -1,5 +1,5 @@
 -- The lapse keeps the order of ops and entries. A second lapse under the same horizon changes
--- nothing. A lapse under two horizons is a lapse under the greater one.
+-- nothing. A lapse under two horizons, one after the other, is a lapse under the greater one.
 use Rattle.std.proofs.Common.{◌≡◌, ℕ, ◌<◌, ◌≤◌, subst, inl, inr, ◌⊎◌, refl, ap, sym, ◌∙◌, Bool, true, false, cond, arith}
 use Rattle.std.specs.Prelude.{max, nat_lt}
 use Rattle.std.specs.declared.cmp.Ordering.{Ordering}
@@ -16,7 +16,7 @@ use Rattle.docker_model.specs.state.Lapse.{lapse, HasNotToLapse, lapse_entry}
 
 -- ---- a put lapses or stays
 
--- a body ends before the horizon, or it doesn't
+-- a body ended before the horizon, or it didn't
 pub below_or : (horizon : ℕ) (body : Body) → (body_end body < horizon) ⊎ (horizon ≤ body_end body)
 below_or horizon body = by (nat_lt (body_end body) horizon) refl
   where
@@ -24,11 +24,11 @@ below_or horizon body = by (nat_lt (body_end body) horizon) refl
     by true h = inl (ltb-true (body_end body) horizon h)
     by false h = inr (ltb-false (body_end body) horizon h)
 
--- a put whose end number is below the horizon lapses
+-- a put of a body that ended before the horizon lapses
 pub put_lapses : (horizon : ℕ) (body : Body) → body_end body < horizon → lapse horizon (put_with body) ≡ lapsed
 put_lapses horizon body below = λ i. cond (lt-ltb (body_end body) horizon below i) lapsed (put_with body)
 
--- a put whose end number isn't below the horizon stays
+-- a put of a body that didn't end before the horizon stays
 pub put_stays : (horizon : ℕ) (body : Body) → horizon ≤ body_end body → lapse horizon (put_with body) ≡ put_with body
 put_stays horizon body above = λ i. cond (le-ltb (body_end body) horizon above i) lapsed (put_with body)
 
@@ -38,7 +38,7 @@ op_stays horizon deleted has_not = refl
 op_stays horizon lapsed has_not = refl
 op_stays horizon (put_with body) has_not = put_stays horizon body has_not
 
--- an op that has lapsed doesn't lapse again
+-- an op that has been lapsed doesn't lapse again under the same horizon
 pub has_lapsed : (horizon : ℕ) (op : Op) → HasNotToLapse horizon (lapse horizon op)
 has_lapsed horizon deleted = tt
 has_lapsed horizon lapsed = tt
@@ -58,9 +58,9 @@ lapse_none deleted = refl
 lapse_none lapsed = refl
 lapse_none (put_with body) = put_stays 0 body (omega arith)
 
--- ---- two horizons
+-- ---- two horizons, one after the other
 
--- if two numbers are at most a third, so is the greater of them
+-- if two numbers are at most `n`, the greater of them is at most `n`
 pub max_most : (a b n : ℕ) → a ≤ n → b ≤ n → max a b ≤ n
 max_most a b n first second = by (nat_lt a b) refl
   where
@@ -68,7 +68,7 @@ max_most a b n first second = by (nat_lt a b) refl
     by true h = let below = ltb-true a b h in subst (λ m. m ≤ n) (sym (max-eq_right (omega arith))) second
     by false h = subst (λ m. m ≤ n) (sym (max-eq_left (ltb-false a b h))) first
 
--- a lapse under two horizons is a lapse under the greater one
+-- a lapse under two horizons, one after the other, is a lapse under the greater one
 pub lapse_twice : (second first : ℕ) (op : Op) → lapse second (lapse first op) ≡ lapse (max second first) op
 lapse_twice second first deleted = refl
 lapse_twice second first lapsed = refl
@@ -86,9 +86,9 @@ lapse_twice second first (put_with body) = by (below_or first body) (below_or se
         ap (lapse second) (put_stays first body above) ∙ put_stays second body over
         ∙ sym (put_stays (max second first) body (max_most second first (body_end body) over above))
 
--- ---- the order
+-- ---- the order of ops after a lapse
 
--- `lapsed` is at most what a put becomes
+-- the op `lapsed` is at most what the lapse makes of a put
 lapsed_least : (horizon : ℕ) (body : Body) → IsAtMost op_cmp lapsed (lapse horizon (put_with body))
 lapsed_least horizon body = by (below_or horizon body)
   where
@@ -106,7 +106,7 @@ deleted_least horizon body = by (below_or horizon body)
 number_above : (m n : ℕ) → n < m → nat_cmp m n ≡ Greater
 number_above m n below = sym (nat_cmp_is m n Greater below)
 
--- if bodies are in order, so are their end numbers
+-- if one body is at most another in the order, its end number is at most the other's
 ends_in_order : (a b : Body) → IsAtMost body_cmp a b → body_end a ≤ body_end b
 ends_in_order a b most = by (nat_lt (body_end b) (body_end a)) refl
   where
@@ -116,7 +116,7 @@ ends_in_order a b most = by (nat_lt (body_end b) (body_end a)) refl
         (nat_cmp (body_tag a) (body_tag b)))))
     by false h = ltb-false _ _ h
 
--- if ops are in order, so are the lapsed ops
+-- if one op is at most another, it still is after the lapse of both
 pub lapse_keeps_order : (horizon : ℕ) (a b : Op) → IsAtMost op_cmp a b → IsAtMost op_cmp (lapse horizon a) (lapse horizon b)
 lapse_keeps_order horizon deleted deleted most = most
 lapse_keeps_order horizon deleted lapsed most = most
@@ -135,7 +135,7 @@ lapse_keeps_order horizon (put_with a) (put_with b) most = by (below_or horizon 
         subst (λ op. IsAtMost op_cmp op (lapse horizon (put_with b))) (sym (put_stays horizon a above))
         (subst (IsAtMost op_cmp (put_with a)) (sym (put_stays horizon b (omega arith))) most)
 
--- if entries are in order, so are the lapsed entries: their stamps stay
+-- if one entry is at most another, it still is after the lapse of both
 pub lapse_entry_keeps_order : (horizon : ℕ) (a b : Entry) → IsAtMost entry_cmp a b → IsAtMost entry_cmp (lapse_entry horizon a) (lapse_entry horizon b)
 lapse_entry_keeps_order horizon a b most = by (stamp_cmp a.stamp b.stamp) most
   where
@@ -144,9 +144,9 @@ lapse_entry_keeps_order horizon a b most = by (stamp_cmp a.stamp b.stamp) most
     by Equal told = lapse_keeps_order horizon a.op b.op told
     by Greater told = told
 
--- ---- entries and lists of them
+-- ---- entries
 
--- an entry that lapses under two horizons lapses under the greater
+-- a lapse of an entry under two horizons, one after the other, is a lapse under the greater one
 pub entry_twice : (second first : ℕ) (entry : Entry) → lapse_entry second (lapse_entry first entry) ≡ lapse_entry (max second first) entry
 entry_twice second first entry = λ i. record { stamp = entry.stamp; op = lapse_twice second first entry.op i }
 

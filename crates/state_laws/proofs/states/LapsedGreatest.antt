@@ -1,4 +1,4 @@
--- The greatest entry, lapsed, is the greatest of the lapsed entries.
+-- The greatest of some entries is also the greatest after the lapse of all.
 use Rattle.std.proofs.Common.{◌≡◌, ℕ, List, map, Contains, subst, ap}
 use Rattle.docker_model.specs.file.Change.{Key}
 use Rattle.docker_model.specs.state.Order.{IsAtMost}
@@ -8,7 +8,7 @@ use Rattle.docker_model.specs.state.State.{IsGreatestAmong}
 use Rattle.cif_laws.proofs.lists.Membership.{Contains-map, map-Contains}
 use Rattle.state_laws.proofs.states.Lapse.{lapse_keeps_order, lapse_entry_keeps_order}
 
--- a lapsed entry of a key comes from an entry of the key
+-- an entry of a list after the lapse comes from an entry of the same key in the list before
 pub lapsed_from : (horizon : ℕ) (entries : List (Key × Entry)) (key : Key) (entry : Entry) → Contains (lapse_entries horizon entries) (key, entry)
     → (before : Entry) × Contains entries (key, before) × (lapse_entry horizon before ≡ entry)
 lapsed_from horizon entries key entry among =
@@ -16,12 +16,12 @@ lapsed_from horizon entries key entry among =
     let same : found.0.0 ≡ key = ap (λ (pair : Key × Entry). pair.0) found.2 in
     (found.0.1, subst (λ k. Contains entries (k, found.0.1)) same found.1, ap (λ (pair : Key × Entry). pair.1) found.2)
 
--- if an entry is in a list, the lapsed entry is among the list's lapsed entries
+-- an entry of a list is, after its lapse, in the list after the lapse
 pub lapsed_to : (horizon : ℕ) (entries : List (Key × Entry)) (key : Key) (entry : Entry) → Contains entries (key, entry)
     → Contains (lapse_entries horizon entries) (key, lapse_entry horizon entry)
 lapsed_to horizon entries key entry among = map-Contains (lapse_keyed horizon) entries (key, entry) among
 
--- the greatest entry of a key, lapsed, is the greatest lapsed entry of the key
+-- the greatest entry of a key is, after its lapse, the greatest after the lapse of all
 pub greatest_lapses : (horizon : ℕ) (entries : List (Key × Entry)) (key : Key) (entry : Entry) → IsGreatestAmong entries key entry
     → IsGreatestAmong (lapse_entries horizon entries) key (lapse_entry horizon entry)
 greatest_lapses horizon entries key entry best = record {
@@ -31,7 +31,7 @@ greatest_lapses horizon entries key entry best = record {
       subst (λ e. IsAtMost entry_cmp e (lapse_entry horizon entry)) found.2 (lapse_entry_keeps_order horizon found.0 entry (best.greatest found.0 found.1));
 }
 
--- the greatest op, lapsed, is the greatest of the lapsed ops
+-- the greatest op is, after its lapse, the greatest after the lapse of all
 pub greatest_op_lapses : (horizon : ℕ) (ops : List Op) (op : Op) → Contains ops op → ((other : Op) → Contains ops other → IsAtMost op_cmp other op)
     → Contains (map (lapse horizon) ops) (lapse horizon op) × ((other : Op) → Contains (map (lapse horizon) ops) other
     → IsAtMost op_cmp other (lapse horizon op))

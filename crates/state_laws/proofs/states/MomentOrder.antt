@@ -1,5 +1,5 @@
 -- A set of files with distinct moments can be put in the order of moments, so it has a plain table.
--- The plain table is the live table of its summary.
+-- Without a horizon, the plain table is the live table of the set's summary.
 use Rattle.std.proofs.Common.{◌≡◌, ℕ, List, [], ◌∷◌, Contains, subst, inl, inr, ◌⊎◌, refl, ap, sym, ◌∙◌}
 use Rattle.std.specs.List.{AllByRecursion}
 use Rattle.std.specs.declared.cmp.Ordering.{Ordering}
@@ -15,7 +15,7 @@ use Rattle.cif_laws.proofs.lists.Membership.{Contains-cons, cons-Contains, cons-
 abbrev File : Type 0
 File = List (List ℕ)
 
--- files in moment order, with one more file at its place
+-- a list of files in moment order, with one more file at its place in the order
 abbrev put_in_place : Ordering → File → File → List File → List File → List File
 put_in_place Less file first rest below = file ∷ first ∷ rest
 put_in_place Equal file first rest below = first ∷ rest
@@ -99,7 +99,7 @@ insert_puts file (first ∷ rest) distinct =
         subst (Contains (first ∷ rest)) (sym same) (cons-Contains-first first rest)
     by Greater h inner = cons-Contains first (insert_file file rest) file inner
 
--- the files in moment order
+-- files with distinct moments can be put in moment order
 pub moment_order : (files : List File) → HaveDistinctMoments files → (ordered : List File) × IsInMomentOrder files ordered
 moment_order [] distinct = ([], record { same = λ file. (λ among. among, λ among. among); ascending = tt })
 moment_order (file ∷ files) distinct =

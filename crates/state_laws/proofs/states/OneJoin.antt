@@ -1,5 +1,5 @@
--- A set of files has at most one summary, two states at most one join, and a place at most one
--- docker on a day.
+-- A set of files has at most one summary, two states have at most one join, and a place has at most
+-- one docker on a day.
 use Rattle.std.proofs.Common.{◌≡◌, List, refl, ap, subst, Contains, Some, None}
 use Rattle.std.specs.Prelude.{◌↔◌, Option}
 use Rattle.docker_model.specs.state.Order.{IsAtMost}
@@ -21,7 +21,7 @@ floor_unique first second same (Some s) (Some t) f g =
     let down : IsAtMost file_stamp_cmp t s = subst (λ x. IsAtMost file_stamp_cmp x s) g.stamped (f.greatest g.full ((same g.full).1 g.among) g.is_full) in
     ap Some (exact_file_stamp s t (level file_stamp_total s t up down))
 
--- a docker list is determined by its lines
+-- two docker lists with the same lines are equal
 pub docker_unique : (IsLine : DockerLine → Type 0) (xs ys : List DockerLine) → Lists IsLine xs → Lists IsLine ys → xs ≡ ys
 docker_unique IsLine xs ys is_x is_y =
     same_list docker_line_total xs ys is_x.ascending is_y.ascending (λ line.

@@ -1,4 +1,4 @@
--- A set of files with distinct moments has one plain table.
+-- A set of files with distinct moments has exactly one plain table.
 use mathlib.Core.Path.{fun_ext}
 use Rattle.std.proofs.Common.{◌≡◌, ℕ, List, sym, ◌∙◌, refl}
 use Rattle.std.specs.Cmp.{on_total}

@@ -24,25 +24,26 @@ use Rattle.cif_laws.proofs.lists.AllOf.{all_append, all_map, all_weaker}
 use Rattle.cif_laws.proofs.files.ChangeOrder.{Apart, changes_apart}
 use Rattle.cif_laws.proofs.orders.AtMost.{less_not_greater, at_most_trans}
 
--- ---- a table as what a list of entries leaves
+-- ---- the table that a list of entries leaves
 
 -- a key with its entry
 abbrev pub Keyed : Type 0
 Keyed = Key × Entry
 
--- a table after one more entry
+-- the table after one more entry
 abbrev pub step : Table → Keyed → Table
 step table entry key = cond (is_eq (key_cmp entry.0 key)) (body_of entry.1.op) (table key)
 
--- a later entry of the same key has a greater stamp
+-- the second entry has a greater stamp than the first, if both have the same key
 abbrev pub Ascends : Keyed → Keyed → Type 0
 Ascends first second = first.0 ≡ second.0 → IsBelow stamp_cmp first.1.stamp second.1.stamp
 
--- no entry has this key, and the entries leave the table there as it was
+-- no entry in the list has this key, so the entries leave the table there as it was
 abbrev pub NoneThere : List Keyed → Table → Key → Type 0
 NoneThere entries table key = ((entry : Entry) → ¬ Contains entries (key, entry)) × (fold step table entries key ≡ table key)
 
--- the entries leave at this key the body of its last entry, which is the greatest
+-- the list has a last entry of this key, which is also its greatest, and the entries leave its body
+-- in the table there
 abbrev pub LastThere : List Keyed → Table → Key → Type 0
 LastThere entries table key =
     (entry : Entry) × Contains entries (key, entry) × (fold step table entries key ≡ body_of entry.op)
@@ -80,7 +81,7 @@ not_first entry entries table key above last =
         inr (subst (λ (pair : Keyed). IsBelow stamp_cmp pair.1.stamp last.0.stamp) e below)
     by other (inr inside) = last.3 other inside
 
--- at each key the table is as it was, or has the body of the key's last entry
+-- at each key the table is as it was, or has the body of the last entry of the key
 pub last_there : (entries : List Keyed) (table : Table) (key : Key) → AllLater Ascends entries → NoneThere entries table key ⊎ LastThere entries table key
 last_there [] table key up = inl (λ entry among. nil-Contains (key, entry) among, refl)
 last_there (entry ∷ entries) table key up = by (last_there entries (step table entry) key up.1)
@@ -92,19 +93,19 @@ last_there (entry ∷ entries) table key up = by (last_there entries (step table
 
 -- ---- the entries of files
 
--- a change of a file, as a key with its entry
+-- the entry that a change of a file leaves, with its key
 abbrev pub entry_of_change : List (List ℕ) → Change → Keyed
 entry_of_change file change = (change.key, entry_of file change)
 
--- the entries that a file's changes make
+-- the entries that the changes of a file leave
 abbrev pub entries_of : List (List ℕ) → List Keyed
 entries_of file = map (entry_of_change file) (changes file)
 
--- the entries that the changes of files make, file by file
+-- the entries that the changes of files leave, file by file
 abbrev pub entries_along : List (List (List ℕ)) → List Keyed
 entries_along files = flat_map entries_of files
 
--- the changes of a file leave the same table as their entries
+-- the changes of a file make the same table as their entries
 pub fold_entries : (file : List (List ℕ)) (table : Table) (cs : List Change) → fold after_change table cs ≡ fold step table (map (entry_of_change file) cs)
 fold_entries file table [] = refl
 fold_entries file table (change ∷ cs) = fold_entries file (after_change table change) cs
@@ -113,7 +114,7 @@ fold_append : (table : Table) (xs ys : List Keyed) → fold step table (xs ++ ys
 fold_append table [] ys = refl
 fold_append table (x ∷ xs) ys = fold_append (step table x) xs ys
 
--- files leave the same table as the entries of their changes
+-- files make the same table as the entries of their changes
 pub after_files_is : (table : Table) (files : List (List (List ℕ))) → after_files table files ≡ fold step table (entries_along files)
 after_files_is table [] = refl
 after_files_is table (file ∷ files) =
@@ -124,13 +125,13 @@ after_files_is table (file ∷ files) =
 number_below : (m n : ℕ) → m < n → nat_cmp m n ≡ Less
 number_below m n below = λ i. cond (lt-ltb m n below i) Less (cond (m == n) Equal Greater)
 
--- of two entries of a file with one key, the later has a greater stamp
+-- of two entries of one file with the same key, the later has the greater stamp
 pub within_file : (file : List (List ℕ)) (first second : Change) → Apart first second → Ascends (entry_of_change file first) (entry_of_change file second)
 within_file file first second (inl below) same =
     (λ i. ordering_then (tied_itself file_stamp_total (file_stamp_of file) i) (number_below first.number second.number below i))
 within_file file first second (inr apart) same = absurd (apart same)
 
--- the entry comes from a later file
+-- the entry comes from a file with a later moment
 abbrev IsLaterThan : List (List ℕ) → Keyed → Type 0
 IsLaterThan file entry = IsBelow moment_cmp (moment_of file) entry.1.stamp.file.moment
 
@@ -150,7 +151,7 @@ across_files file change second below same =
     λ i. ordering_then (ordering_then (below i) (bytes_cmp (file_stamp_of file).reference second.1.stamp.file.reference))
     (nat_cmp change.number second.1.stamp.number)
 
--- the entries of files in moment order ascend by stamp
+-- the entries of files in moment order are in the order of their stamps
 pub entries_ascend : (files : List (List (List ℕ))) → IsStrictlyAscending (on moment_of moment_cmp) files → AllLater Ascends (entries_along files)
 entries_ascend [] up = tt
 entries_ascend (file ∷ files) up =
@@ -168,7 +169,7 @@ entries_ascend (file ∷ files) up =
       each cs,
     )
 
--- ---- the kept files are the last full extract and all after it
+-- ---- the files that count are the last full extract and all files after it
 
 abbrev CmpStamps : List (List ℕ) → List (List ℕ) → Ordering
 CmpStamps first second = file_stamp_cmp (file_stamp_of first) (file_stamp_of second)
@@ -213,7 +214,7 @@ NoneAbove files file = (other : List (List ℕ)) → Contains files other → is
 abbrev SomeAbove : List (List (List ℕ)) → List (List ℕ) → Type 0
 SomeAbove files file = (other : List (List ℕ)) × Contains files other × (is_full other ≡ true) × (CmpStamps file other ≡ Less)
 
--- the file is kept: it is one of the files, and no full extract among them is newer
+-- the file counts: it is one of the files, and no full extract among them is newer
 abbrev KeptThere : List (List (List ℕ)) → List (List ℕ) → Type 0
 KeptThere files file = Contains files file × NoneAbove files file
 
@@ -227,7 +228,7 @@ none_above_head first files file above among none other there full = by (Contain
         less_not_greater (CmpStamps other file) (subst (λ f. CmpStamps f file ≡ Less) same below)
     by (inr inside) = none other inside full
 
--- if no later file is a full extract, every file is kept
+-- if no later file is a full extract, every file counts
 all_kept : (first : List (List ℕ)) (files : List (List (List ℕ))) (file : List (List ℕ)) → AllByRecursion (IsBelow (on moment_of moment_cmp) first) files
     → list_any is_full files ≡ false → Contains (first ∷ files) file → NoneAbove (first ∷ files) file
 all_kept first files file above none among other there full = by (Contains-cons first files other there) (Contains-cons first files file among)
@@ -280,7 +281,7 @@ kept_or_dropped (first ∷ files) up file among = by (list_any is_full files) re
         deeper (inl kept) = inl (subst (λ v. Contains (cond v (from_last_full files) (first ∷ files)) file) (sym h) kept)
         deeper (inr above) = inr (above.0, cons-Contains first files above.0 above.1, above.2, above.3)
 
--- the last full extract and the files after it are still in moment order
+-- the last full extract and the files after it are in moment order, if all files are
 pub suffix_ascends : (files : List (List (List ℕ))) → Ascending files → Ascending (from_last_full files)
 suffix_ascends [] up = tt
 suffix_ascends (first ∷ files) up = by (list_any is_full files) (suffix_ascends files up.1)
@@ -289,7 +290,7 @@ suffix_ascends (first ∷ files) up = by (list_any is_full files) (suffix_ascend
     by true rest = rest
     by false rest = up
 
--- ---- what is kept under the floor
+-- ---- files under the floor
 
 full_item : (file : List (List ℕ)) → is_full file ≡ true → IsFull (ledger_item_of file)
 full_item file full = eqb-true (ledger_item_of file).indicator 70 full
@@ -314,11 +315,11 @@ not_dropped files ordered same (Some stamp) is file kept above =
     at_most_trans file_stamp_total (file_stamp_of above.0) stamp (file_stamp_of file) high kept
     (file_stamp_total.antisymm (file_stamp_of above.0) (file_stamp_of file) ∙ ap ordering_reverse above.3)
 
--- ---- entries of the kept files
+-- ---- entries of the files that count
 
 module _ (files ordered : List (List (List ℕ))) (order : IsInMomentOrder files ordered) (floor : Option FileStamp)
     (is_floor : IsFloor (map ledger_item_of files) floor) where
-  -- an entry of a kept file is among the entries from the last full extract on
+  -- an entry of a file that counts is among the entries from the last full extract on
   pub in_entries : (key : Key) (entry : Entry) → IsEntryOf files floor key entry → Contains (entries_along (from_last_full ordered)) (key, entry)
   in_entries key entry made =
       let there = (order.same made.file).1 made.kept.among in
@@ -331,7 +332,7 @@ module _ (files ordered : List (List (List ℕ))) (order : IsInMomentOrder files
       by (inl kept) = kept
       by (inr above) = absurd (not_dropped files ordered order.same floor is_floor made.file made.kept.kept above)
 
-  -- an entry from the last full extract on comes from a kept file
+  -- an entry from the last full extract on comes from a file that counts
   pub out_entries : (key : Key) (entry : Entry) → Contains (entries_along (from_last_full ordered)) (key, entry) → IsEntryOf files floor key entry
   out_entries key entry among =
       let found = Contains-flat_map entries_of (from_last_full ordered) (key, entry) among in
@@ -348,15 +349,15 @@ module _ (files ordered : List (List (List ℕ))) (order : IsInMomentOrder files
 
 -- ---- the entry of a key in a state
 
--- a search finds an entry of the key
+-- a search finds an entry of the key in the list
 abbrev pub Found : List Keyed → Key → Type 0
 Found entries key = (pair : Keyed) × (find (λ entry. is_eq (key_cmp entry.0 key)) entries ≡ Some pair) × Contains entries (key, pair.1)
 
--- a search finds no entry of the key
+-- a search finds no entry of the key, since the list has none
 abbrev pub NotFound : List Keyed → Key → Type 0
 NotFound entries key = (find (λ entry. is_eq (key_cmp entry.0 key)) entries ≡ None) × ((entry : Entry) → ¬ Contains entries (key, entry))
 
--- a search finds an entry of the key, or there is none
+-- a search finds an entry of the key, or the list has none
 pub find_in : (entries : List Keyed) (key : Key) → Found entries key ⊎ NotFound entries key
 find_in [] key = inr (refl, λ entry among. nil-Contains (key, entry) among)
 find_in (first ∷ entries) key = by (is_eq (key_cmp first.0 key)) refl (find_in entries key)
@@ -391,7 +392,7 @@ find_in (first ∷ entries) key = by (is_eq (key_cmp first.0 key)) refl (find_in
         no entry (inl e) = other_key first.0 key h (ap (λ (pair : Keyed). pair.0) e)
         no entry (inr inside) = none.1 entry inside
 
--- entries in key order have at most one entry of each key
+-- entries in key order have at most one entry for each key
 pub one_per_key : (entries : List Keyed) → IsStrictlyAscending (on (λ (entry : Keyed). entry.0) key_cmp) entries → (key : Key) (first second : Entry)
     → Contains entries (key, first) → Contains entries (key, second) → first ≡ second
 one_per_key [] up key first second in_first in_second = absurd (nil-Contains (key, first) in_first)
@@ -410,11 +411,11 @@ one_per_key (entry ∷ entries) up key first second in_first in_second =
     by rest (inr inside) (inl f) = absurd (not_both_here first second f inside)
     by rest (inr inside) (inr within) = rest inside within
 
--- at a key whose entry is found, the live table has the entry's body
+-- at a key with an entry, the live table has the body of that entry
 pub live_at : (state : State) (key : Key) (pair : Keyed) → find (λ entry. is_eq (key_cmp entry.0 key)) state.entries ≡ Some pair
     → live_table state key ≡ body_of pair.1.op
 live_at state key pair h = λ i. option_and_then (λ (entry : Entry). body_of entry.op) (option_and_then (λ (entry : Keyed). Some entry.1) (h i))
 
--- at a key without an entry, the live table has nothing
+-- at a key without an entry, the live table has no body
 pub live_none : (state : State) (key : Key) → find (λ entry. is_eq (key_cmp entry.0 key)) state.entries ≡ None → live_table state key ≡ None
 live_none state key h = λ i. option_and_then (λ (entry : Entry). body_of entry.op) (option_and_then (λ (entry : Keyed). Some entry.1) (h i))

@@ -1,5 +1,5 @@
--- What is kept depends only on which items and entries there are, not on their order. Under one
--- horizon, items and entries are reduced to only one state.
+-- A reduction depends only on which items and entries there are, not on their order. Under one
+-- horizon it is only one state.
 use Rattle.std.proofs.Common.{List, Some, None, ◌≡◌, subst, sym}
 use Rattle.std.specs.Prelude.{Option}
 use Rattle.std.specs.Cmp.{on_total}
@@ -38,7 +38,7 @@ kept_of_along : (entries others : List Keyed) → SameMembers entries others →
 kept_of_along entries others same f g floors h key entry told =
     (told.0, greatest_along entries others same key told.0 told.1, subst (λ floor. IsKept floor told.0.stamp.file) floors told.2, told.3)
 
--- what is kept depends only on which items and entries there are
+-- a reduction depends only on which items and entries there are
 pub reduced_along : (items more : List LedgerItem) (entries others : List Keyed) → SameMembers items more → SameMembers entries others
     → (state : State) → IsReduced items entries state → IsReduced more others state
 reduced_along items more entries others same same_entries state is = record {
@@ -57,7 +57,7 @@ reduced_along items more entries others same same_entries state is = record {
   );
 }
 
--- under one horizon, items and entries are reduced to only one state
+-- under one horizon, items and entries have only one reduction
 pub reduced_unique : (items : List LedgerItem) (entries : List Keyed) (s t : State) → s.horizon ≡ t.horizon → IsReduced items entries s
     → IsReduced items entries t → s ≡ t
 reduced_unique items entries s t horizons is_s is_t =
@@ -79,4 +79,4 @@ reduced_unique items entries s t horizons is_s is_t =
     moved f g fs h k hs key entry told =
         (told.0, told.1, subst (λ floor. IsKept floor told.0.stamp.file) fs told.2, subst (λ n. lapse_entry n told.0 ≡ entry) hs told.3)
 
--- ---- members of joined lists
+-- ---- the members of two lists, one after the other

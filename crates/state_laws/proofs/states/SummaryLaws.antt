@@ -1,6 +1,6 @@
 -- A set of files has at most one summary under each horizon. The join of two summaries is the
--- summary of the union under the greater horizon. A summary on which a greater horizon is set is
--- the summary under that horizon.
+-- summary of all files of both under the greater horizon. A summary on which a horizon is set is
+-- the summary under the greater of the two.
 use Rattle.std.proofs.Common.{◌≡◌, ℕ, ◌≤◌, List, ◌++◌, map, Contains, subst, inl, inr, ◌⊎◌, ap, sym, ◌∙◌}
 use Rattle.std.specs.Prelude.{max}
 use Rattle.std.specs.List.{flat_map}
@@ -21,7 +21,7 @@ use Rattle.state_laws.proofs.states.ReducedMembers.{reduced_along, reduced_uniqu
 use Rattle.state_laws.proofs.joins.JoinLaws.{join_reduced, horizon_left, horizon_right}
 use Rattle.state_laws.proofs.states.SummaryReduced.{File, summary_reduced, reduced_summary}
 
--- ---- items and entries of a union of files
+-- ---- the items and entries of two sets of files
 
 members_of_map : {A B : Type 0} (f : A → B) (xs ys : List A) → ((x : A) → Contains xs x → Contains ys x) → (y : B) → Contains (map f xs) y
     → Contains (map f ys) y
@@ -51,7 +51,7 @@ members_of_append xs ys zs left right x among = by (Contains-append_cases xs ys 
     by (inl here) = left x here
     by (inr here) = right x here
 
--- the items of two sets of files are the items of their union
+-- the ledger items of two sets of files are the ledger items of their union
 items_of_union : (files others : List File) → SameMembers (map ledger_item_of others ++ map ledger_item_of files) (map ledger_item_of (files ++ others))
 items_of_union files others item = (
   members_of_append (map ledger_item_of others) (map ledger_item_of files) (map ledger_item_of (files ++ others))
@@ -87,7 +87,7 @@ entries_of_union files others entry = (
 
 -- ---- the laws
 
--- a set of files has one summary under a horizon, in whatever order a list has them
+-- a set of files has only one summary under a horizon, in whatever order a list has them
 pub summary_unique : (files others : List File) → SameMembers files others → (horizon : ℕ) (s t : State) → IsSummary files horizon s
     → IsSummary others horizon t → s ≡ t
 summary_unique files others same horizon s t is_s is_t =
@@ -113,7 +113,7 @@ join_is_summary files others g h one two joined of_files of_others is =
     (entries_along (files ++ others))
     (items_of_union files others) (entries_of_union files others) joined second)
 
--- a summary, lapsed under a horizon not below its own, is the summary under the new horizon
+-- the lapse of a summary under a horizon that isn't lower gives the summary under that horizon
 pub lapsed_summary : (files : List File) (low high : ℕ) (state : State) → low ≤ high → IsSummary files low state → IsSummary files high (lapse_state high state)
 lapsed_summary files low high state rises is = record {
   horizon_is = λ i. high;
@@ -137,7 +137,7 @@ lapsed_summary files low high state rises is = record {
     twofold : (entry : Entry) → lapse_entry high (lapse_entry low entry) ≡ lapse_entry high entry
     twofold entry = entry_twice high low entry ∙ ap (λ h. lapse_entry h entry) (max-eq_left rises)
 
--- a summary on which a horizon is set is the summary under the greater of the two
+-- a summary on which a horizon is set is the summary under the greater of the two horizons
 pub raised_summary : (files : List File) (g h : ℕ) (state : State) → IsSummary files g state → IsSummary files (max g h) (raise_horizon h state)
 raised_summary files g h state is =
     let same : max state.horizon h ≡ max g h = ap (λ n. max n h) is.horizon_is in

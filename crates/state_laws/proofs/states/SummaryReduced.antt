@@ -1,4 +1,5 @@
--- A summary is reduced from its files' items and from the entries that their changes make.
+-- A summary is the reduction of its files' ledger items and of the entries that the files' changes
+-- leave.
 use Rattle.std.proofs.Common.{◌≡◌, ℕ, List, map, Contains, subst, inl, inr, ◌⊎◌, ap, sym, ◌∙◌, Some, None}
 use Rattle.std.specs.Prelude.{Option}
 use Rattle.std.specs.Ordering.{ordering_reverse, ordering_then, nat_cmp}
@@ -15,11 +16,11 @@ use Rattle.cif_laws.proofs.lists.Membership.{Contains-flat_map, flat_map-Contain
 use Rattle.state_laws.proofs.states.PlainTable.{Keyed, entry_of_change, entries_of, entries_along}
 use Rattle.state_laws.proofs.states.ReducedEntries.{IsReduced}
 
--- a file, as its records
+-- a file, as the list of its records
 abbrev pub File : Type 0
 File = List (List ℕ)
 
--- an entry below the floor is at most any kept entry
+-- an entry below the floor is at most any entry that isn't
 pub below_kept : (floor : Option FileStamp) (low high : Entry) → IsKept floor high.stamp.file → IsKept floor low.stamp.file ⊎ IsAtMost entry_cmp low high
 below_kept None low high kept = inl tt
 below_kept (Some floor) low high kept = by (at_most_or file_stamp_total floor low.stamp.file)
@@ -40,7 +41,7 @@ below_kept (Some floor) low high kept = by (at_most_or file_stamp_total floor lo
         (op_cmp low.op high.op)))
 
 module _ (files : List File) (floor : Option FileStamp) (key : Key) where
-  -- an entry of a kept file is among all entries, and is kept
+  -- an entry of a file that counts is among all entries, and isn't below the floor
   pub entry_in : (entry : Entry) → IsEntryOf files floor key entry → Contains (entries_along files) (key, entry) × IsKept floor entry.stamp.file
   entry_in entry made =
       let pair : entry_of_change made.file made.change ≡ (key, entry) = (λ i. (made.key_is i, made.entry_is i)) in (
@@ -49,7 +50,7 @@ module _ (files : List File) (floor : Option FileStamp) (key : Key) where
         subst (λ (e : Entry). IsKept floor e.stamp.file) made.entry_is made.kept.kept,
       )
 
-  -- a kept entry among all entries comes from a kept file
+  -- an entry that isn't below the floor comes from a file that counts
   pub entry_out : (entry : Entry) → Contains (entries_along files) (key, entry) → IsKept floor entry.stamp.file → IsEntryOf files floor key entry
   entry_out entry among kept =
       let found = Contains-flat_map entries_of files (key, entry) among in
@@ -64,7 +65,8 @@ module _ (files : List File) (floor : Option FileStamp) (key : Key) where
         entry_is = is;
       }
 
-  -- the greatest entry of the kept files is kept, and is the greatest of all entries
+  -- the greatest entry from files that count is the greatest of all entries, and isn't below the
+  -- floor
   pub greatest_forth : (entry : Entry) → IsGreatestEntryOf files floor key entry → IsGreatestAmong (entries_along files) key entry
       × IsKept floor entry.stamp.file
   greatest_forth entry best =
@@ -76,7 +78,7 @@ module _ (files : List File) (floor : Option FileStamp) (key : Key) where
       by other among (inl kept) = best.greatest other (entry_out other among kept)
       by other among (inr low) = low
 
-  -- if the greatest of all entries is kept, it is the greatest of the kept files
+  -- if the greatest of all entries isn't below the floor, it is the greatest from files that count
   pub greatest_back : (entry : Entry) → IsGreatestAmong (entries_along files) key entry → IsKept floor entry.stamp.file
       → IsGreatestEntryOf files floor key entry
   greatest_back entry best kept = record {
@@ -84,7 +86,7 @@ module _ (files : List File) (floor : Option FileStamp) (key : Key) where
     greatest = λ other made. best.greatest other (entry_in other made).0;
   }
 
--- a summary is reduced from its files' items and entries
+-- a summary is the reduction of its files' items and entries
 pub summary_reduced : (files : List File) (horizon : ℕ) (state : State) → IsSummary files horizon state → IsReduced (map ledger_item_of files)
     (entries_along files) state
 summary_reduced files horizon state summary = record {
@@ -119,7 +121,7 @@ summary_reduced files horizon state summary = record {
   );
 }
 
--- a state reduced from files' items and entries is the files' summary under its horizon
+-- the reduction of files' items and entries is the summary of the files
 pub reduced_summary : (files : List File) (horizon : ℕ) (state : State) → state.horizon ≡ horizon → IsReduced (map ledger_item_of files)
     (entries_along files) state → IsSummary files horizon state
 reduced_summary files horizon state horizon_is is = record {

@@ -20,7 +20,7 @@ use Rattle.cif_laws.proofs.files.FileChanges.{file_change}
 
 -- ---- the ledger item of a file
 
--- the ledger item of a file is good
+-- the ledger item of a CIF file is good
 pub item_good : (file : List (List ℕ)) → IsFile file → IsGoodItem (ledger_item_of file)
 item_good file is =
     subst (λ f. IsGoodItem (ledger_item_of f)) (sym is.whole)

@@ -21,7 +21,7 @@ use Rattle.state_laws.proofs.texts.StateReadBack.{read_16, item_read, item_width
 use Rattle.state_laws.proofs.texts.TextStages.{Leads, one_step, then_leads}
 use Rattle.state_laws.proofs.texts.TextsBefore.{after_items_text, read_64, after_entries_text, entry_done_text, after_lines_text, read_32}
 
--- the first parts: mark, horizon and count
+-- the first parts are the mark, the horizon and the number of items
 step_mark_1 : Leads dks_1 before_mark (before_ledger_count 0)
 step_mark_1 = one_step dks_1 before_mark (before_ledger_count 0) (mark dks_1) refl (omega arith) (λ cause bad. bad.1 refl) refl refl
 
@@ -36,30 +36,30 @@ step_horizon horizon day =
     one_step dks_2 before_horizon (before_ledger_count horizon) (to_be_bytes w16 horizon) refl (omega arith)
     (λ cause bad. bad.1 (subst IsDay (sym (day_read horizon day)) day)) (ap before_ledger_count (day_read horizon day)) refl
 
--- the mark leads to the horizon
+-- after the mark comes the horizon, in the format that has one
 pub horizon_leads : (format : Format) → AreGood format before_horizon → Leads format before_mark before_horizon
 horizon_leads dks_1 good = absurd good
 horizon_leads dks_2 good = step_mark_2
 
--- mark and horizon lead to the count of items
+-- the mark and the horizon lead to the number of items
 pub head_leads : (format : Format) (horizon : ℕ) → IsHorizonOf format horizon → Leads format before_mark (before_ledger_count horizon)
 head_leads dks_1 horizon none = subst (λ h. Leads dks_1 before_mark (before_ledger_count h)) (sym none) step_mark_1
 head_leads dks_2 horizon day = then_leads dks_2 before_mark before_horizon (before_ledger_count horizon) step_mark_2 (step_horizon horizon day)
 
--- the text up to the first item ends with the count of items
+-- the text before the first item ends with the number of items
 pub count_of_ledger : (format : Format) (horizon count : ℕ) → text_before format (after_items horizon count []) ≡ text_before format
     (before_ledger_count horizon) ++ to_be_bytes w64 count
 count_of_ledger format horizon count =
     after_items_text format horizon count [] (omega arith) ∙ append-nil (head_text format horizon ++ to_be_bytes w64 count)
     ∙ ap (λ xs. xs ++ to_be_bytes w64 count) (sym (append-nil (head_text format horizon)))
 
--- the count of items leads to the items
+-- the number of items leads to the first item
 pub step_ledger_count : (format : Format) (horizon : ℕ) (count : ℕ) → count < 2 ^ 64 → Leads format (before_ledger_count horizon) (after_items horizon count [])
 step_ledger_count format horizon count fits =
     one_step format (before_ledger_count horizon) (after_items horizon count []) (to_be_bytes w64 count) refl (omega arith) (λ cause bad. bad)
     (ap (λ n. after_items horizon n []) (read_64 count fits)) (count_of_ledger format horizon count)
 
--- the text after one more item ends with the item's bytes
+-- the text before the next item ends with the bytes of the item before it
 pub item_text : (format : Format) (horizon : ℕ) → (count : ℕ) (ledger : List LedgerItem) (item : LedgerItem) → length ledger < count
     → text_before format (after_items horizon count (ledger ++ item ∷ [])) ≡ text_before format (before_item horizon count ledger) ++ item_bytes item
 item_text format horizon count ledger item below =
@@ -78,7 +78,7 @@ no_bad_item ledger item bad_order good above floor bad = bad.1 above
 no_bad_item ledger item bad_floor good above floor bad = floor bad.2
 no_bad_item ledger item _ good above floor bad = bad
 
--- an item that isn't bad leads to the next part
+-- an item that isn't bad leads to the part after it
 pub step_item : (format : Format) (horizon : ℕ) → (count : ℕ) (ledger : List LedgerItem) (item : LedgerItem) → length ledger < count → IsGoodItem item
     → IsAboveItems ledger item → ¬ RaisesFloor ledger item
     → Leads format (before_item horizon count ledger) (after_items horizon count (ledger ++ item ∷ []))
@@ -88,7 +88,7 @@ step_item format horizon count ledger item below good above floor =
     (ap (λ it. after_items horizon count (ledger ++ it ∷ [])) (item_read item good))
     (item_text format horizon count ledger item below)
 
--- the count of entries leads to the entries
+-- the number of entries leads to the first entry
 pub step_entry_count : (format : Format) (horizon : ℕ) → (count : ℕ) (ledger : List LedgerItem) → count < 2 ^ 64
     → Leads format (before_entry_count horizon ledger) (after_entries count (record { horizon = horizon; ledger = ledger; entries = [] }))
 step_entry_count format horizon count ledger fits =
@@ -101,12 +101,12 @@ step_entry_count format horizon count ledger fits =
     ∙ ap (λ xs. xs ++ to_be_bytes w64 count) (sym (append-nil (ledger_text format horizon (length ledger) ledger)))
     )
 
--- one more part of an entry follows the text so far
+-- one more part of an entry is added at the end of the text read
 pub part_more : (format : Format) → (count : ℕ) (state : State) (old part : List ℕ) → entries_text format count state ++ (old ++ part) ≡
     (entries_text format count state ++ old) ++ part
 part_more format count state old part = sym (append_assoc (entries_text format count state) old part)
 
--- a tag leads to its key
+-- a tag leads to the key
 pub step_tag : (format : Format) → (count : ℕ) (state : State) (tag : ℕ) → IsTag tag → Leads format (in_entry count state before_tag)
     (in_entry count state (before_key tag))
 step_tag format count state tag is =
@@ -125,7 +125,7 @@ key_some (tiploc_key code) = omega arith
 key_some (association_key key) = omega arith
 key_some (schedule_key key) = omega arith
 
--- a key that isn't bad leads to its stamp
+-- a key that isn't bad leads to the stamp
 pub step_key : (format : Format) → (count : ℕ) (state : State) (key : Key) → IsGoodKey key → IsAboveEntries state key
     → Leads format (in_entry count state (before_key (key_tag key))) (in_entry count state (before_stamp key))
 step_key format count state key good above =
@@ -135,7 +135,7 @@ step_key format count state key good above =
     (ap (λ k. in_entry count state (before_stamp k)) (key_read key good))
     (part_more format count state (key_tag key ∷ []) (key_bytes key))
 
--- a stamp whose file is in the ledger leads to its op
+-- a stamp whose file is in the ledger leads to the op
 pub step_stamp : (format : Format) → (count : ℕ) (state : State) (key : Key) (stamp : Stamp) → IsLedger state.ledger → IsStampIn state.ledger stamp
     → Leads format (in_entry count state (before_stamp key)) (in_entry count state (before_op key stamp))
 step_stamp format count state key stamp ledger is =
@@ -145,7 +145,7 @@ step_stamp format count state key stamp ledger is =
     (ap (λ s. in_entry count state (before_op key s)) (stamp_read state.ledger stamp ledger is))
     (part_more format count state (key_text key) (stamp_bytes stamp))
 
--- 0 and 1 are op bytes of each format, and 2 if the format has lapsed ops
+-- an op may begin with 0 and 1 in each format, and with 2 in the format that has lapsed ops
 zero_told : (format : Format) → IsOpByte format 0
 zero_told dks_1 = inl refl
 zero_told dks_2 = inl refl
@@ -158,7 +158,7 @@ two_told : (format : Format) → TellsOp format lapsed → IsOpByte format 2
 two_told dks_1 told = absurd told
 two_told dks_2 told = inr (inr refl)
 
--- a deletion leads to the part after the entry
+-- a deletion leads to the part after its entry
 pub step_deleted : (format : Format) → (count : ℕ) (state : State) (key : Key) (stamp : Stamp) → length state.entries < count
     → Leads format (in_entry count state (before_op key stamp)) (after_entries count (with_entry state key stamp deleted))
 step_deleted format count state key stamp below =
@@ -166,7 +166,7 @@ step_deleted format count state key stamp below =
     (λ cause bad. bad.1 (zero_told format)) refl
     (entry_done_text format count state key stamp deleted below ∙ part_more format count state (key_text key ++ stamp_bytes stamp) (0 ∷ []))
 
--- if the format has lapsed ops, a lapsed op leads to the part after the entry
+-- in the format that has lapsed ops, a lapsed op leads to the part after its entry
 pub step_lapsed : (format : Format) → (count : ℕ) (state : State) (key : Key) (stamp : Stamp) → TellsOp format lapsed → length state.entries < count
     → Leads format (in_entry count state (before_op key stamp)) (after_entries count (with_entry state key stamp lapsed))
 step_lapsed format count state key stamp told below =
@@ -182,7 +182,7 @@ step_put format count state key stamp =
     (λ cause bad. bad.1 (one_told format)) refl
     (part_more format count state (key_text key ++ stamp_bytes stamp) (1 ∷ []))
 
--- the text after a put's entry ends with the body
+-- the text after an entry that puts a body ends with that body
 pub body_text : (format : Format) → (count : ℕ) (state : State) (key : Key) (stamp : Stamp) (body : Body) → length state.entries < count
     → text_before format (after_entries count (with_entry state key stamp (put_with body))) ≡
     (entries_text format count state ++ (key_text key ++ stamp_bytes stamp ++ 1 ∷ [])) ++ put_bytes body
@@ -191,7 +191,7 @@ body_text format count state key stamp body below =
     ∙ ap (λ xs. entries_text format count state ++ xs) (sym (append_assoc (key_text key ++ stamp_bytes stamp) (1 ∷ []) (put_bytes body)))
     ∙ part_more format count state (key_text key ++ stamp_bytes stamp ++ 1 ∷ []) (put_bytes body)
 
--- a TIPLOC's body leads to the part after the entry
+-- the body of a TIPLOC leads to the part after its entry
 pub step_tiploc : (format : Format) → (count : ℕ) (state : State) (code : List ℕ) (stamp : Stamp) (bytes : List ℕ) → length state.entries < count
     → IsTextOfLength 63 bytes
     → Leads format (in_entry count state (before_body (tiploc_key code) stamp))
@@ -201,7 +201,7 @@ step_tiploc format count state code stamp bytes below is =
     (after_entries count (with_entry state (tiploc_key code) stamp (put_with (tiploc_body bytes)))) bytes is.0 (omega arith)
     (λ cause bad. bad.1 is) refl (body_text format count state (tiploc_key code) stamp (tiploc_body bytes) below)
 
--- an association's body that hasn't lapsed leads to the part after the entry
+-- the body of an association that hasn't lapsed leads to the part after its entry
 pub step_association : (format : Format) → (count : ℕ) (state : State) (key : _) (stamp : Stamp) (line : List ℕ) → length state.entries < count
     → IsAssociationOf key line → state.horizon ≤ body_end (association_body line)
     → Leads format (in_entry count state (before_body (association_key key) stamp))
@@ -211,7 +211,7 @@ step_association format count state key stamp line below is stays =
     (after_entries count (with_entry state (association_key key) stamp (put_with (association_body line)))) line is.is_record.0 (omega arith)
     (λ cause bad. bad.1 (is, stays)) refl (body_text format count state (association_key key) stamp (association_body line) below)
 
--- the text up to a schedule's first line ends with the number of lines
+-- the text before the first line of a schedule ends with the number of lines
 pub count_text : (format : Format) → (count : ℕ) (state : State) (key : ScheduleKey) (stamp : Stamp) (n : ℕ) → length state.entries < count
     → text_before format (after_lines count state key stamp n []) ≡ text_before format
     (in_entry count state (before_body (schedule_key key) stamp)) ++ to_be_bytes w32 n
@@ -236,7 +236,7 @@ concat-append : (xs ys : List (List ℕ)) → concat (xs ++ ys) ≡ concat xs ++
 concat-append [] ys = refl
 concat-append (x ∷ xs) ys = ap (λ zs. x ++ zs) (concat-append xs ys) ∙ sym (append_assoc x (concat xs) (concat ys))
 
--- the text after one more line of a schedule ends with this line
+-- the text after one more line of a schedule ends with that line
 pub line_text : (format : Format) → (count : ℕ) (state : State) (key : ScheduleKey) (stamp : Stamp) (n : ℕ) (lines : List (List ℕ)) (line : List ℕ)
     → length state.entries < count → length lines < n
     → text_before format (after_lines count state key stamp n (lines ++ line ∷ [])) ≡ text_before format
@@ -249,7 +249,7 @@ line_text format count state key stamp n lines line below more =
     ∙ ap (λ xs. entries_text format count state ++ xs) (sym (append_assoc head (concat lines) line))
     ∙ part_more format count state (head ++ concat lines) line
 
--- a good line of a schedule leads to the next part
+-- a good line of a schedule leads to the part after it
 pub step_line : (format : Format) → (count : ℕ) (state : State) (key : ScheduleKey) (stamp : Stamp) (n : ℕ) (lines : List (List ℕ)) (line : List ℕ)
     → length state.entries < count → length lines < n
     → length line ≡ 80 → AreLinesUpTo key n (lines ++ line ∷ []) → HaveNotToLapse state (lines ++ line ∷ [])

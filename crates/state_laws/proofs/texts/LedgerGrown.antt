@@ -17,7 +17,7 @@ use Rattle.cif_laws.proofs.lists.AllOf.{all_append, all_weaker}
 use Rattle.cif_laws.proofs.lists.Decisions.{Decided, nat_decided}
 use Rattle.cif_laws.proofs.orders.Ascending.{ascending_last}
 
--- if an item is below another, its file stamp isn't above the other's
+-- if one item is below another, its file stamp isn't above the other's
 pub stamps_below : (first second : LedgerItem) → IsBelow ledger_item_cmp first second → IsAtMost file_stamp_cmp first.stamp second.stamp
 stamps_below first second below above =
     by (ordering_then (nat_cmp first.indicator second.indicator) (bytes_cmp first.last_reference second.last_reference))
@@ -27,7 +27,7 @@ stamps_below first second below above =
     by : (o : Ordering) → ordering_then Greater o ≡ Less → ⊥
     by o e = cc
 
--- a ledger and one more item, which is well formed, above the others, and doesn't raise the floor
+-- let `item` be a well-formed item above all items of the ledger that doesn't raise the floor
 module _ (ledger : List LedgerItem) (item : LedgerItem) (is : IsLedger ledger) (good : IsGoodItem item) (above : IsAboveItems ledger item)
     (floor : ¬ RaisesFloor ledger item) where
   above_each : AllByRecursion (λ earlier. IsBelow ledger_item_cmp earlier item) ledger
@@ -43,7 +43,7 @@ module _ (ledger : List LedgerItem) (item : LedgerItem) (is : IsLedger ledger) (
   each_ascends : IsStrictlyAscending ledger_item_cmp (ledger ++ item ∷ [])
   each_ascends = ascending_last ledger_item_cmp ledger item is.ascending above_each
 
-  -- if the item isn't of a full extract, the floor stays
+  -- if the item isn't for a full extract, the floor stays
   same_floor : ¬ IsFull item → (at : Option FileStamp) → IsFloor ledger at → IsFloor (ledger ++ item ∷ []) at
   same_floor other None none = λ it among full. by it full (Contains-append_cases ledger (item ∷ []) it among)
     where
@@ -66,7 +66,7 @@ module _ (ledger : List LedgerItem) (item : LedgerItem) (is : IsLedger ledger) (
   kept_last None none = tt
   kept_last (Some stamp) greatest = subst (λ s. IsAtMost file_stamp_cmp s item.stamp) greatest.stamped (at_most_last greatest.full greatest.among)
 
-  -- if the item is of a full extract, its file stamp is the floor
+  -- if the item is for a full extract, its file stamp is the floor
   floor_at_last : IsFull item → IsFloor (ledger ++ item ∷ []) (Some item.stamp)
   floor_at_last full = record {
     full = item;

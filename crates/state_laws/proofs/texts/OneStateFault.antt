@@ -1,4 +1,4 @@
--- A text has at most one fault. The text of a state has no fault.
+-- A text has at most one fault, and the text of a state has none.
 use Rattle.std.proofs.Common.{◌≡◌, ℕ, ◌+◌, ◌≤◌, List, [], ◌∷◌, ◌++◌, length, refl, ap, sym, ◌∙◌}
 use Rattle.std.proofs.Common.{subst, inl, inr, arith, append_assoc, append-nil, length-append}
 use Rattle.docker_model.specs.file.Change.{Key}
@@ -13,7 +13,7 @@ use Rattle.docker_model.specs.state.StateFault.{IsBadEntryPart, IsBadPart, HasBa
 use Rattle.cif_laws.proofs.lists.Fronts.{same_front}
 use Rattle.state_laws.proofs.texts.TextsApart.{same_end, IsStopped, one_stop, stop_of_bad, stop_of_long, stop_of_short, stop_at_end}
 
--- a bad part has only one cause
+-- a bad item has only one cause
 one_item_cause : (ledger : List LedgerItem) (item : LedgerItem) (first second : StateCause) → IsBadItem ledger item first → IsBadItem ledger item second
     → first ≡ second
 one_item_cause ledger item bad_item bad_item one two = refl
@@ -99,7 +99,7 @@ bad_and_short format limit text first second one two =
     let ends = two.ends in
     omega arith
 
--- at the end of a state's text no part is bad; only a byte may follow
+-- at the end of a state no part is bad, but more bytes may follow
 end_and_bad : (format : Format) → (limit : ℕ) (text : List ℕ) (state : State) (fault : StateFault) → IsStopped format limit text (at_end state)
     → HasBadPart format limit text fault → ⊥
 end_and_bad format limit text state fault stopped one =

@@ -1,4 +1,4 @@
--- It is decided whether a part of a state's text is good.
+-- Whether a part of a state's text is good can be decided: it is, or it isn't.
 use Rattle.std.proofs.Common.{◌≡◌, ℕ, ◌-◌, ◌^◌, List, [], ◌∷◌, length, map, subst, inl, inr, ◌⊎◌, true, Contains}
 use Rattle.std.specs.Prelude.{slice_index}
 use Rattle.std.specs.Int.{w32, from_be_bytes}
@@ -28,7 +28,7 @@ text_of_length_decided n bytes =
 tiploc_decided : (code : List ℕ) → Decided (IsTiploc code)
 tiploc_decided code = both_decided (text_of_length_decided 7 code) (not_decided (nat_decided (slice_index code 0) 32))
 
--- a ledger item is well formed, or it isn't
+-- an item is well formed, or it isn't
 pub good_item_decided : (item : LedgerItem) → Decided (IsGoodItem item)
 good_item_decided item =
     decided_along (λ h. record { day = h.0; minute = h.1.0; reference = h.1.1.0; indicator = h.1.1.1.0; last_reference = h.1.1.1.1 })
@@ -46,7 +46,7 @@ pub raises_floor_decided : (ledger : List LedgerItem) (item : LedgerItem) → De
 raises_floor_decided [] item = inr (λ h. h)
 raises_floor_decided (first ∷ ledger) item = both_decided (nat_decided item.indicator 70) (less_decided (file_stamp_cmp first.stamp item.stamp))
 
--- a number is a tag, or it isn't
+-- a number is one of the tags, or it isn't
 pub tag_decided : (tag : ℕ) → Decided (IsTag tag)
 tag_decided tag = by (nat_decided tag 1) (nat_decided tag 2) (nat_decided tag 3)
   where
@@ -103,7 +103,7 @@ stamp_in_decided ledger stamp =
     (both_decided (contains_decided (map (λ (item : LedgerItem). item.stamp) ledger) stamp.file)
     (both_decided (le_decided 2 stamp.number) (lt_decided stamp.number (2 ^ 32 - 1))))
 
--- a byte is an op of the format, or it isn't
+-- a byte may begin an op in the format, or it may not
 pub op_byte_decided : (format : Format) (byte : ℕ) → Decided (IsOpByte format byte)
 op_byte_decided dks_1 byte = either_decided (nat_decided byte 0) (nat_decided byte 1)
 op_byte_decided dks_2 byte = either_decided (nat_decided byte 0) (either_decided (nat_decided byte 1) (nat_decided byte 2))
@@ -118,7 +118,7 @@ association_decided key line =
     (both_decided (record_decided line) (both_decided (has_kind_decided association line) (both_decided (good_fields_decided line)
     (both_decided (nat_decided (column 3 line) 78) (same_key_decided (association_named line) (association_key key))))))
 
--- a number may be a count of lines, or it may not
+-- a number may be the number of a schedule's lines, or it may not
 pub line_count_decided : (count : ℕ) → Decided (IsLineCount count)
 line_count_decided count = both_decided (lt_decided 0 count) (lt_decided count (2 ^ 32 - 1))
 

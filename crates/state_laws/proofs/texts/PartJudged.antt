@@ -32,12 +32,13 @@ use Rattle.state_laws.proofs.texts.PartDecisions.{stamp_in_decided, above_entrie
 use Rattle.state_laws.proofs.texts.LedgerGrown.{one_item_more, no_items}
 use Rattle.state_laws.proofs.texts.StateGrown.{good_after_items, good_after_entries, tells_deleted, tells_put, no_entries, one_entry_more}
 
--- the part leads to the next one: what is read is good, and the text so far ends with the part
+-- the part leads to the next one: all that has been read is good, and the text read ends with the
+-- part
 abbrev pub Good : (format : Format) → Before → List ℕ → Type 0
 Good format before bytes =
     AreGood format (advance format before bytes) × (text_before format (advance format before bytes) ≡ text_before format before ++ bytes)
 
--- the part is bad, or leads to the next one
+-- the part is bad for some cause, or it leads to the next one
 abbrev pub Judged : (format : Format) → Before → List ℕ → Type 0
 Judged format before bytes = ((cause : StateCause) × IsBadPart format before bytes cause) ⊎ Good format before bytes
 
@@ -106,11 +107,11 @@ judge_entry_count format horizon ledger bytes good size small =
           ∙ (λ i. sym (append-nil (items_before format (before_entry_count horizon ledger))) i ++ eight_bytes bytes size small i),
     )
 
--- a state that the format can hold, and after which an entry is still to come
+-- the format can hold the state, and an entry follows those in it
 abbrev pub StateHere : (format : Format) → ℕ → State → Type 0
 StateHere format count state = IsToldState format state × (length state.ledger < 2 ^ 64) × (length state.entries < count) × (count < 2 ^ 64)
 
--- if an entry is good, so is what is read up to the part after it
+-- after a good entry all that has been read is good
 pub entry_done : (format : Format) → (count : ℕ) (state : State) (key : Key) (stamp : Stamp) (op : Op) → StateHere format count state
     → IsStampHere state key stamp → IsOpOf key op → HasNotToLapse state.horizon op → TellsOp format op
     → AreGood format (after_entries count (with_entry state key stamp op))
@@ -120,7 +121,7 @@ entry_done format count state key stamp op told here of stays tells =
     good_after_entries format count (with_entry state key stamp op) (one_entry_more format state key stamp op told.0 here of stays tells) told.1
     (omega arith) told.3
 
--- if lines are good, so is what is read up to the part after them
+-- after good lines of a schedule all that has been read is good
 pub good_after_lines : (format : Format) → (count : ℕ) (state : State) (key : ScheduleKey) (stamp : Stamp) (n : ℕ) (lines : List (List ℕ))
     → StateHere format count state → IsStampHere state (schedule_key key) stamp
     → IsLineCount n → length lines ≤ n → (lines ≡ []) ⊎ (AreLinesUpTo key n lines × HaveNotToLapse state lines)
@@ -198,7 +199,7 @@ judge_stamp format count state key bytes told here size small = by (stamp_in_dec
         )
     by (inr bad) = inl (bad_stamp, (refl, bad))
 
--- an op byte is 0, 1, or 2 if the format has lapsed ops
+-- the byte of an op is 0 or 1, or it is 2 and the format has lapsed ops
 op_of_byte : (format : Format) (byte : ℕ) → IsOpByte format byte → (byte ≡ 0) ⊎ (byte ≡ 1) ⊎ ((byte ≡ 2) × TellsOp format lapsed)
 op_of_byte dks_1 byte (inl e) = inl e
 op_of_byte dks_1 byte (inr e) = inr (inl e)
@@ -291,7 +292,7 @@ judge_part format count state (before_op key stamp) bytes told here size small =
 judge_part format count state (before_body key stamp) bytes told here size small = judge_body format count state key stamp bytes told here size small
 judge_part format count state (before_line key stamp n lines) bytes told here size small = judge_line format count state key stamp n lines bytes told here
 
--- any part of the right width is bad or leads to the next one
+-- a part with the right number of bytes is bad or leads to the next one
 pub judge : (format : Format) → (before : Before) (bytes : List ℕ) → AreGood format before → 0 < width before → length bytes ≡ width before → AreBytes bytes
     → Judged format before bytes
 judge format before_mark bytes good some size small = judge_mark format bytes

@@ -1,5 +1,5 @@
--- If everything before a point in a state's text is good, reading reaches the point from the start,
--- part by part.
+-- A reader reaches each point of a state's text part by part, if everything before that point is
+-- good.
 use Rattle.std.proofs.Common.{List, ◌∷◌, ◌++◌, ◌≡◌, [], refl, ap, sym, ◌∙◌, subst, Contains, Some, None, ℕ, ◌<◌}
 use Rattle.std.proofs.Common.{◌≤◌, length, arith, append_assoc, append-nil, length-append, inl, inr, ◌^◌, ◌⊎◌}
 use Rattle.std.specs.Prelude.{Option}
@@ -32,16 +32,16 @@ use Rattle.state_laws.proofs.texts.GoodPartLeads.{step_count, step_deleted, step
 use Rattle.cif_laws.proofs.lists.AllOf.{all_behind, all_front}
 use Rattle.cif_laws.proofs.orders.Ascending.{below_next}
 
--- an item of a ledger is well formed
+-- each item of a ledger is well formed
 pub item_good : (before : List LedgerItem) (item : LedgerItem) (later : List LedgerItem) → IsLedger (before ++ item ∷ later) → IsGoodItem item
 item_good before item later is = (all_behind IsGoodItem before (item ∷ later) (recursion_from_All IsGoodItem (before ++ item ∷ later) is.each)).0
 
--- an item of a ledger is above those before it
+-- each item of a ledger is above the items before it
 pub item_above : (before : List LedgerItem) (item : LedgerItem) (later : List LedgerItem) → IsLedger (before ++ item ∷ later) → IsAboveItems before item
 item_above before item later is =
     All-from_recursion (λ earlier. IsBelow ledger_item_cmp earlier item) before (below_next ledger_item_cmp before item later is.ascending)
 
--- an item of a ledger does not raise the floor
+-- no item of a ledger raises the floor of the items before it
 pub item_floor : (before : List LedgerItem) (item : LedgerItem) (later : List LedgerItem) → IsLedger (before ++ item ∷ later) → ¬ RaisesFloor before item
 item_floor [] item later is raises = raises
 item_floor (first ∷ before) item later is raises =
@@ -62,7 +62,7 @@ item_floor (first ∷ before) item later is raises =
     by None none kept = none item among raises.0
     by (Some stamp) greatest kept = not_above stamp (file_stamp_cmp stamp first.stamp) refl kept (greatest.greatest item among raises.0)
 
--- the items of a ledger lead on, one by one
+-- each item of a ledger leads to the next
 pub items_lead : (format : Format) (horizon : ℕ) → (count : ℕ) (before later : List LedgerItem) → IsLedger (before ++ later) → length (before ++ later) ≤ count
     → Leads format (after_items horizon count before) (after_items horizon count (before ++ later))
 items_lead format horizon count before [] is within = no_step format _ _ (ap (after_items horizon count) (sym (append-nil before)))
@@ -77,7 +77,7 @@ items_lead format horizon count before (item ∷ later) is within =
     (item_floor before item later is))
     (then_leads format _ _ _ rest (no_step format _ _ (ap (after_items horizon count) grouped))))
 
--- a prefix of a schedule's lines begins a schedule
+-- the first lines of a schedule begin a schedule
 pub begins_front : (front rest : List (List ℕ)) → BeginsSchedule (front ++ rest) → BeginsSchedule front
 begins_front front rest begins = (rest ++ begins.0, subst IsSchedule (append_assoc front rest begins.0) begins.1)
 
@@ -102,7 +102,7 @@ lines_front key n front rest some are within =
     by [] low whole done = subst IsSchedule (append-nil front) (done (ap length (append-nil front) ∙ whole))
     by (line ∷ more) low whole done = let size = length-append front (line ∷ more) in absurd (omega arith)
 
--- if lines haven't lapsed, a prefix of them hasn't either
+-- the first lines of a schedule haven't lapsed if all its lines haven't
 front_stays : (state : State) (front rest : List (List ℕ)) → 0 < length front → HaveNotToLapse state (front ++ rest) → HaveNotToLapse state front
 front_stays state front rest some stays = subst (λ line. state.horizon ≤ readable_end (columns 16 21 line)) (first_of_front front rest some) stays
 
@@ -111,7 +111,7 @@ line_size lines line more begins =
     let all = recursion_from_All IsRecord ((lines ++ line ∷ more) ++ begins.0) begins.1.records in
     (all_behind IsRecord lines (line ∷ more) (all_front IsRecord (lines ++ line ∷ more) begins.0 all)).0.0
 
--- the lines of a schedule lead to the part after the entry
+-- the lines of a schedule lead, one by one, to the part after its entry
 pub lines_lead : (format : Format) → (count : ℕ) (state : State) (key : ScheduleKey) (stamp : Stamp) (n : ℕ) (lines more : List (List ℕ))
     → length state.entries < count
     → AreLinesUpTo key n (lines ++ more) → HaveNotToLapse state (lines ++ more) → length (lines ++ more) ≤ n
@@ -138,7 +138,7 @@ is_tag (tiploc_key code) = inl refl
 is_tag (association_key key) = inr (inl refl)
 is_tag (schedule_key key) = inr (inr refl)
 
--- the parts of an entry lead on, one by one
+-- the parts of an entry lead, one by one, to the part after the entry
 tag_leads : (format : Format) → (count : ℕ) (state : State) (tag : ℕ) → length state.entries < count → IsTag tag → Leads format (after_entries count state)
     (in_entry count state (before_key tag))
 tag_leads format count state tag below is = then_leads format _ _ _ (no_step format _ _ (more_entries count state below)) (step_tag format count state tag is)
@@ -186,7 +186,7 @@ body_leads format count state (association_key key) stamp (schedule_body lines) 
 body_leads format count state (schedule_key key) stamp (tiploc_body bytes) below is stays = absurd is
 body_leads format count state (schedule_key key) stamp (association_body line) below is stays = absurd is
 
--- an entry that a state under this horizon may have in the format
+-- this may be an entry of a state with this horizon and ledger, in this format
 abbrev pub IsToldEntry : Format → ℕ → List LedgerItem → Key × Entry → Type 0
 IsToldEntry format horizon ledger entry = IsGoodEntry ledger entry × HasNotToLapse horizon entry.1.op × TellsOp format entry.1.op
 
@@ -203,11 +203,11 @@ entry_leads format count state key stamp (put_with body) below ledger told above
     then_leads format _ _ _ (put_leads format count state key stamp below ledger ((told.0.key, above), told.0.stamp))
     (body_leads format count state key stamp body below told.0.op told.1)
 
--- a state with this horizon, ledger and entries
+-- the state with this horizon, ledger and entries
 abbrev state_of : (horizon : ℕ) → List LedgerItem → List (Key × Entry) → State
 state_of horizon ledger entries = record { horizon = horizon; ledger = ledger; entries = entries }
 
--- the entries of a state lead on, one by one
+-- the entries of a state lead, one by one, to the end of the text
 pub entries_lead : (format : Format) (horizon : ℕ) → (count : ℕ) (ledger : List LedgerItem) (before later : List (Key × Entry)) → IsLedger ledger
     → AllByRecursion (IsToldEntry format horizon ledger) later → AreAscending (before ++ later)
     → length (before ++ later) ≤ count → Leads format (after_entries count (record { horizon = horizon; ledger = ledger; entries = before }))
@@ -224,7 +224,7 @@ entries_lead format horizon count ledger before (entry ∷ later) is good up wit
     then_leads format _ _ _ (entry_leads format count (state_of horizon ledger before) entry.0 entry.1.stamp entry.1.op (omega arith) is good.0 above)
     (then_leads format _ _ _ rest (no_step format _ _ (ap (λ entries. after_entries count (state_of horizon ledger entries)) grouped)))
 
--- the mark leads to any item of a ledger, and to the count of entries
+-- the mark leads to each item of a ledger and to the number of entries
 ledger_leads : (format : Format) (horizon : ℕ) → (count : ℕ) (ledger : List LedgerItem) → IsHorizonOf format horizon → IsLedger ledger → count < 2 ^ 64
     → length ledger ≤ count → Leads format before_mark (after_items horizon count ledger)
 ledger_leads format horizon count ledger is_horizon is fits within =
@@ -237,7 +237,7 @@ entry_count_leads format horizon ledger is_horizon is fits =
     then_leads format _ _ _ (ledger_leads format horizon (length ledger) ledger is_horizon is fits (omega arith))
     (no_step format _ _ (all_items horizon ledger))
 
--- the format can hold each entry that is good, hasn't to lapse and has an op of the format
+-- the format can hold entries that are good, haven't lapsed, and have only ops of the format
 told_entries : (format : Format) (horizon : ℕ) (ledger : List LedgerItem) (entries : List (Key × Entry)) → AllByRecursion (IsGoodEntry ledger) entries
     → AllByRecursion (λ (entry : Key × Entry). HasNotToLapse horizon entry.1.op) entries
     → AllByRecursion (λ (entry : Key × Entry). TellsOp format entry.1.op) entries
@@ -275,7 +275,7 @@ part_leads format count state (before_line key stamp n lines) below ledger here 
         let more = here.2 in
         lines_lead format count state key stamp n [] lines below (record { lines_of = are.0; complete = λ whole. absurd (omega arith) }) are.1 (omega arith)
 
--- the start leads to any point before which all is good
+-- a reader comes from the start to each point before which all is good
 pub reach : (format : Format) (before : Before) → AreGood format before → Leads format before_mark before
 reach format before_mark good = no_step format _ _ refl
 reach format before_horizon good = horizon_leads format good

@@ -1,4 +1,4 @@
--- Bytes of the right width, decoded and encoded again, are the same bytes.
+-- Bytes that are decoded and encoded again are the same bytes, if their number is right.
 use Rattle.std.proofs.Common.{◌≡◌, ℕ, zero, suc, ◌<◌, ◌^◌, List, [], ◌∷◌, ◌++◌, length, take, drop, get_or, refl, ap, sym, subst, inl, inr, arith}
 use Rattle.std.specs.Prelude.{slice_index, slice_range}
 use Rattle.std.specs.List.{AllByRecursion}
@@ -8,17 +8,17 @@ use Rattle.docker_model.specs.state.Op.{key_tag}
 use Rattle.docker_model.specs.state.StateText.{item_bytes, key_bytes, stamp_bytes, item_in, key_in, stamp_in, association_key_in, schedule_key_in}
 use Rattle.docker_model.specs.state.StatePart.{key_width, IsTag}
 
--- each number is a byte
+-- each number in the list is a byte, from 0 to 255
 abbrev pub AreBytes : List ℕ → Type 0
 AreBytes bytes = AllByRecursion (λ b. b < 256) bytes
 
--- the number at each index is a byte
+-- each element of a list of bytes is a byte; past its end, the element 0 is a byte too
 pub small_at : (bytes : List ℕ) → AreBytes bytes → (i : ℕ) → get_or bytes i 0 < 256
 small_at [] small i = omega arith
 small_at (b ∷ bytes) small zero = small.0
 small_at (b ∷ bytes) small (suc i) = small_at bytes small.1 i
 
--- a list of known length, written out element by element
+-- the first element of a list, by which a list of known length is written out
 abbrev head_of : List ℕ → ℕ
 head_of [] = 0
 head_of (x ∷ xs) = x
@@ -48,7 +48,7 @@ four_bytes bytes size small = be_bytes_4 bytes _ size (small_at bytes small) ref
 pub eight_bytes : (bytes : List ℕ) → length bytes ≡ 8 → AreBytes bytes → to_be_bytes w64 (from_be_bytes w64 bytes) ≡ bytes
 eight_bytes bytes size small = be_bytes_8 bytes _ size (small_at bytes small) refl
 
--- eight bytes encode a number below 2^64
+-- eight bytes spell a number below 2^64
 pub eight_fit : (bytes : List ℕ) → AreBytes bytes → from_be_bytes w64 bytes < 2 ^ 64
 eight_fit bytes small =
     let b0 = small_at bytes small 0 in
@@ -98,7 +98,7 @@ schedule_written bytes size all = subst (λ xs. AreBytes xs → key_bytes (sched
         let day = two_bytes _ _ small.1.1.1.1.1.1.0 small.1.1.1.1.1.1.1.0 in
         λ i. take 6 (cells 9 bytes) ++ day i ++ drop 8 (cells 9 bytes)
 
--- the bytes of a key, decoded and encoded again, are the same
+-- the bytes of a key, decoded and encoded again, are the same bytes
 pub key_written : (tag : ℕ) (bytes : List ℕ) → IsTag tag → length bytes ≡ key_width tag → AreBytes bytes → key_bytes (key_in tag bytes) ≡ bytes
 key_written tag bytes (inl e) size all = subst (λ t. key_bytes (key_in t bytes) ≡ bytes) (sym e) refl
 key_written tag bytes (inr (inl e)) size all =
@@ -106,7 +106,7 @@ key_written tag bytes (inr (inl e)) size all =
 key_written tag bytes (inr (inr e)) size all =
     subst (λ t. length bytes ≡ key_width t → key_bytes (key_in t bytes) ≡ bytes) (sym e) (λ wide. schedule_written bytes wide all) size
 
--- a key decoded under a tag has that tag
+-- the key decoded for a tag has that tag
 pub tag_of_key : (tag : ℕ) (bytes : List ℕ) → IsTag tag → key_tag (key_in tag bytes) ≡ tag
 tag_of_key tag bytes (inl e) = subst (λ t. key_tag (key_in t bytes) ≡ t) (sym e) refl
 tag_of_key tag bytes (inr (inl e)) = subst (λ t. key_tag (key_in t bytes) ≡ t) (sym e) refl

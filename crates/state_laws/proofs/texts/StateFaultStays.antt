@@ -1,11 +1,11 @@
--- What is wrong with a text stays wrong in every longer one: a bad part, a byte needed past the
--- limit, a byte after the state.
+-- Three kinds of fault remain when a text is continued: a bad part, a byte needed past the limit,
+-- and a byte after the state.
 use Rattle.std.proofs.Common.{ℕ, List, ◌∷◌, ◌++◌, ◌∙◌, arith, append_assoc, length-append}
 use Rattle.docker_model.specs.state.StateText.{Format, state_text}
 use Rattle.docker_model.specs.state.StatePart.{text_before}
 use Rattle.docker_model.specs.state.StateFault.{StateFault, HasBadPart, IsLong, HasTail}
 
--- a bad part is also bad in every longer text
+-- a bad part is bad in each longer text
 pub bad_part_stays : (format : Format) → (limit : ℕ) (text more : List ℕ) (fault : StateFault) → HasBadPart format limit text fault
     → HasBadPart format limit (text ++ more) fault
 bad_part_stays format limit text more fault has = record {
@@ -20,7 +20,7 @@ bad_part_stays format limit text more fault has = record {
   item_at = has.item_at;
 }
 
--- a byte needed past the limit is also needed in every longer text
+-- a byte needed past the limit is needed in each longer text
 pub long_stays : (format : Format) → (limit : ℕ) (text more : List ℕ) (fault : StateFault) → IsLong format limit text fault
     → IsLong format limit (text ++ more) fault
 long_stays format limit text more fault is = record {
@@ -35,7 +35,7 @@ long_stays format limit text more fault is = record {
   limit_at = is.limit_at;
 }
 
--- a byte after the state also comes after it in every longer text
+-- a byte after the state comes after it in each longer text
 pub tail_stays : (format : Format) → (limit : ℕ) (text more : List ℕ) (fault : StateFault) → HasTail format limit text fault
     → HasTail format limit (text ++ more) fault
 tail_stays format limit text more fault has = record {

@@ -1,4 +1,4 @@
--- If a format can hold a state, it can also hold it with one more good entry.
+-- If a format can hold a state, it can also hold the state with one more good entry.
 use Rattle.std.proofs.Common.{ℕ, arith, List, [], ◌∷◌, ◌++◌, All, ◌≡◌, ◌<◌, ◌≤◌, ◌^◌, length, sym, subst, inl, inr, ◌⊎◌, true, false, cond, nat_le}
 use Rattle.std.specs.Ordering.{on}
 use Rattle.std.proofs.lemmas.List.Elements.{All-from_recursion, recursion_from_All}
@@ -16,7 +16,7 @@ use Rattle.state_laws.specs.TextStage.{with_entry, after_items, after_entries}
 use Rattle.cif_laws.proofs.lists.AllOf.{all_append}
 use Rattle.cif_laws.proofs.orders.Ascending.{ascending_last}
 
--- a horizon of any format is a day
+-- a horizon of either format is a day number
 pub horizon_day : (format : Format) (horizon : ℕ) → IsHorizonOf format horizon → IsDay horizon
 horizon_day dks_1 horizon none = omega (arith, none)
 horizon_day dks_2 horizon day = day
@@ -41,7 +41,7 @@ valid_without horizon ledger day is = record {
   have_lapsed = All-from_recursion (λ (entry : Key × Entry). HasNotToLapse horizon entry.1.op) [] tt;
 }
 
--- a ledger and no entries are a state that the format can hold
+-- the format can hold a state with a ledger and no entries
 pub no_entries : (format : Format) (horizon : ℕ) (ledger : List LedgerItem) → IsHorizonOf format horizon → IsLedger ledger
     → IsToldState format (record { horizon = horizon; ledger = ledger; entries = [] })
 no_entries format horizon ledger is_horizon is = record {
@@ -50,7 +50,7 @@ no_entries format horizon ledger is_horizon is = record {
   ops = All-from_recursion (λ (entry : Key × Entry). TellsOp format entry.1.op) [] tt;
 }
 
--- if some entries and one more have a property, all of them together have it
+-- a property of all entries and of one more is a property of the longer list
 one_more : (P : Key × Entry → Type 0) (entries : List (Key × Entry)) (entry : Key × Entry) → All P entries → P entry → All P (entries ++ entry ∷ [])
 one_more P entries entry all last =
     All-from_recursion P (entries ++ entry ∷ []) (all_append P entries (entry ∷ []) (recursion_from_All P entries all) (last, tt))
@@ -72,7 +72,7 @@ valid_more state key stamp op valid here of stays = record {
     entry : Entry
     entry = record { stamp = stamp; op = op }
 
--- if a format can hold a state and one more good entry, it can hold the state with the entry
+-- if a format can hold a state and one more good entry, it can hold the state with that entry
 pub one_entry_more : (format : Format) (state : State) (key : Key) (stamp : Stamp) (op : Op) → IsToldState format state → IsStampHere state key stamp
     → IsOpOf key op
     → HasNotToLapse state.horizon op → TellsOp format op → IsToldState format (with_entry state key stamp op)
@@ -82,7 +82,7 @@ one_entry_more format state key stamp op told here of stays tells = record {
   ops = one_more (λ (e : Key × Entry). TellsOp format e.1.op) state.entries (key, record { stamp = stamp; op = op }) told.ops tells;
 }
 
--- what is read up to the part after these items is good
+-- all that is read before the part after these items is good
 pub good_after_items : (format : Format) (horizon : ℕ) → (count : ℕ) (ledger : List LedgerItem) → IsHorizonOf format horizon → IsLedger ledger
     → length ledger ≤ count → count < 2 ^ 64 → AreGood format (after_items horizon count ledger)
 good_after_items format horizon count ledger is_horizon is within fits = by (leb_tells count (length ledger))
@@ -94,7 +94,7 @@ good_after_items format horizon count ledger is_horizon is within fits = by (leb
     by (inr told) =
         subst (λ b. AreGood format (cond b (before_entry_count horizon ledger) (before_item horizon count ledger))) (sym told.0) (is_horizon, is, told.1, fits)
 
--- what is read up to the part after a state's entries is good
+-- all that is read before the part after these entries is good
 pub good_after_entries : (format : Format) → (count : ℕ) (state : State) → IsToldState format state → length state.ledger < 2 ^ 64
     → length state.entries ≤ count → count < 2 ^ 64 → AreGood format (after_entries count state)
 good_after_entries format count state valid items within fits = by (leb_tells count (length state.entries))

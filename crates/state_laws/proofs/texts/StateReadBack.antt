@@ -1,4 +1,5 @@
--- An item, a key and a stamp are read back from their bytes, which have the right width.
+-- A ledger item, a key and a stamp can be read back from their bytes, and have as many bytes as the
+-- format says.
 use Rattle.std.proofs.Common.{◌≡◌, ℕ, suc, ◌+◌, ◌-◌, ◌<◌, ◌^◌, List, [], ◌∷◌, ◌++◌, length, take, drop}
 use Rattle.std.proofs.Common.{refl, ap, ◌∙◌, subst, arith, append_assoc, length-append, Contains}
 use Rattle.std.specs.Prelude.{slice_index, slice_range}
@@ -14,14 +15,15 @@ use Rattle.docker_model.specs.state.StateText.{item_in, key_in, stamp_in, associ
 use Rattle.docker_model.specs.state.StatePart.{key_width}
 use Rattle.cif_laws.proofs.lists.Membership.{Contains-map}
 
--- dropping the first list and `k` more elements leaves the second list without its first `k`
+-- to drop `n + k` elements of two lists, the first of which has `n`, drops `k` elements of the
+-- second
 pub drop_past : (xs ys : List ℕ) (n k : ℕ) → length xs ≡ n → drop (n + k) (xs ++ ys) ≡ drop k ys
 drop_past [] ys n k size = ap (λ j. drop j ys) (omega arith)
 drop_past (x ∷ xs) ys n k size =
     let up : n + k ≡ suc ((n - 1) + k) = omega arith in
     ap (λ j. drop j (x ∷ xs ++ ys)) up ∙ drop_past xs ys (n - 1) k (omega arith)
 
--- a file stamp that a header can give
+-- a header can have this file stamp
 record IsGoodFileStamp (stamp : FileStamp) : Type 0 where
   day : stamp.moment.day < 2 ^ 16
   minute : stamp.moment.minute < 2 ^ 16
@@ -30,7 +32,7 @@ record IsGoodFileStamp (stamp : FileStamp) : Type 0 where
 good_stamp : (item : LedgerItem) → IsGoodItem item → IsGoodFileStamp item.stamp
 good_stamp item good = let low = good.day in let minute = good.minute in record { day = omega arith; minute = omega arith; reference = good.reference.0 }
 
--- a number in two bytes is read back
+-- a number below 2^16 can be read back from its two bytes
 pub read_16 : (n : ℕ) → n < 2 ^ 16 → from_be_bytes w16 (to_be_bytes w16 n) ≡ n
 read_16 = from_be_bytes-to_be_bytes_2
 
@@ -41,7 +43,7 @@ file_stamp_read stamp rest good =
     let reference : slice_range (file_stamp_bytes stamp ++ rest) 4 11 ≡ stamp.reference = take_at stamp.reference rest 7 good.reference in
     λ i. record { moment = record { day = day i; minute = minute i }; reference = reference i }
 
--- a good ledger item is read back
+-- a good ledger item can be read back from its bytes
 pub item_read : (item : LedgerItem) → IsGoodItem item → item_in (item_bytes item) ≡ item
 item_read item good =
     let size = good.reference.0 in
@@ -69,7 +71,7 @@ stamp_of_ledger ledger stamp is in_it =
     of_all : (item : LedgerItem) → Contains ledger item → IsGoodItem item
     of_all item among = subst IsGoodItem among.2 (is.each among.0 item among.1)
 
--- a stamp in a ledger is read back
+-- a stamp that names a file of the ledger can be read back from its bytes
 pub stamp_read : (ledger : List LedgerItem) (stamp : Stamp) → IsLedger ledger → IsStampIn ledger stamp → stamp_in (stamp_bytes stamp) ≡ stamp
 stamp_read ledger stamp is in_it =
     let good = stamp_of_ledger ledger stamp is in_it in
@@ -80,7 +82,7 @@ stamp_read ledger stamp is in_it =
     ∙ from_be_bytes-to_be_bytes_4 stamp.number (omega arith) in
     λ i. record { file = file i; number = number i }
 
--- a stamp in a ledger has 15 bytes
+-- a stamp that names a file of the ledger has 15 bytes
 pub stamp_width : (ledger : List LedgerItem) (stamp : Stamp) → IsLedger ledger → IsStampIn ledger stamp → length (stamp_bytes stamp) ≡ 15
 stamp_width ledger stamp is in_it =
     let good = stamp_of_ledger ledger stamp is in_it in
@@ -162,7 +164,7 @@ schedule_read key good =
     let indicator : slice_index (schedule_bytes key) 8 ≡ key.indicator = get_or-append_right key.uid behind 6 8 0 size (omega arith) in
     λ i. schedule_key (record { uid = uid i; runs_from = runs_from i; indicator = indicator i })
 
--- a good key is read back
+-- a good key can be read back from its bytes
 pub key_read : (key : Key) → IsGoodKey key → key_in (key_tag key) (key_bytes key) ≡ key
 key_read (tiploc_key code) good = refl
 key_read (association_key key) good = ap association_key_in (association_bytes_are key) ∙ association_read key good
@@ -187,7 +189,7 @@ schedule_sized key good =
     let one = length-append key.uid (to_be_bytes w16 key.runs_from ++ (key.indicator ∷ [])) in
     omega arith
 
--- a good key has as many bytes as its tag says
+-- a good key has as many bytes as `key_width` says for its tag
 pub key_width_is : (key : Key) → IsGoodKey key → length (key_bytes key) ≡ key_width (key_tag key)
 key_width_is (tiploc_key code) good = good.0.0
 key_width_is (association_key key) good = ap length (association_bytes_are key) ∙ association_sized key good

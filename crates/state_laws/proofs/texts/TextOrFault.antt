@@ -1,4 +1,5 @@
--- A walk over a text's parts: every text is the text of a state within the limit, or has a fault.
+-- A walk over the parts of a text finds that it is the text of a state within the limit, or finds a
+-- fault.
 use Rattle.std.proofs.Common.{◌≡◌, ℕ, zero, suc, ◌+◌, ◌<◌, ◌≤◌, List, [], ◌∷◌, ◌++◌, length, take, drop, refl, ap}
 use Rattle.std.proofs.Common.{sym, ◌∙◌, subst, inl, inr, ◌⊎◌, arith, append_assoc, append-nil, length-append, All}
 use Rattle.std.proofs.lemmas.List.{take-append-drop, length-take-le}
@@ -42,7 +43,7 @@ end_or_part format (before_entry_count horizon ledger) good = inr (omega arith)
 end_or_part format (in_entry count state part) good = inr (part_some state part good.4)
 end_or_part format (at_end state) good = inl (state, refl)
 
--- what the walk finds: a state, or a fault
+-- the text is the text of a state within the limit, or it has a fault
 abbrev pub Answer : (format : Format) → ℕ → List ℕ → Type 0
 Answer format limit text = ((state : State) × IsStateText format limit text state) ⊎ ((fault : StateFault) × IsStateFault format limit text fault)
 
@@ -203,7 +204,7 @@ walk format limit text zero before rest told few = one_step_on format limit text
 walk format limit text (suc steps) before rest told few =
     one_step_on format limit text before rest told (λ after more further less. walk format limit text steps after more further (omega arith))
 
--- a text of bytes is the text of a state within the limit, or it has a fault
+-- each text of bytes is the text of a state within the limit, or has a fault
 pub text_or_fault : (format : Format) → (limit : ℕ) (text : List ℕ) → All (λ b. b < 256) text → Answer format limit text
 text_or_fault format limit text small =
     walk format limit text (length text) before_mark text

@@ -1,5 +1,5 @@
--- Reading a text part by part. The parts so far determine the text so far. If two points in one
--- text differ, one is later.
+-- Reading a text part by part. The parts that have been read determine the text that has been read.
+-- Of two different points in one text, one is later.
 use Rattle.std.proofs.Common.{◌≡◌, ℕ, ◌<◌, List, ◌++◌, length, [], ◌∷◌, ap, ◌∙◌, sym, subst, append_assoc, append-nil, ◌⊎◌, refl, inl, inr}
 use Rattle.std.specs.Prelude.{⊤}
 use Rattle.std.specs.List.{concat}
@@ -10,14 +10,14 @@ use Rattle.docker_model.specs.state.StateFault.{StateCause, IsBadPart}
 use Rattle.state_laws.specs.TextStage.{advance}
 use Rattle.cif_laws.proofs.lists.Fronts.{same_front}
 
--- the bytes are the next part, and not bad
+-- these bytes are the next part, and aren't bad
 pub record IsNextPart (format : Format) (before : Before) (part : List ℕ) : Type 0 where
   pub size : length part ≡ width before
   pub some : 0 < width before
   pub not_bad : (cause : StateCause) → ¬ IsBadPart format before part cause
   pub text : text_before format (advance format before part) ≡ text_before format before ++ part
 
--- each of these parts is the next one after those before it
+-- each of these parts is a good next part after the parts before it
 abbrev pub Follow : (format : Format) → Before → List (List ℕ) → Type 0
 Follow format before [] = ⊤
 Follow format before (part ∷ parts) = IsNextPart format before part × Follow format (advance format before part) parts
@@ -27,7 +27,7 @@ abbrev pub after_parts : (format : Format) → Before → List (List ℕ) → Be
 after_parts format before [] = before
 after_parts format before (part ∷ parts) = after_parts format (advance format before part) parts
 
--- some parts lead from one point of the text to the other
+-- good parts lead from the point `before` to the point `after`
 pub record Leads (format : Format) (before after : Before) : Type 0 where
   pub parts : List (List ℕ)
   pub follow : Follow format before parts
@@ -47,7 +47,7 @@ one_step format before after part size some not_bad to text = record {
   to = to;
 }
 
--- if a point leads to a second one, and the second to a third, the first leads to the third
+-- if one point leads to a second and that to a third, the first leads to the third
 pub then_leads : (format : Format) → (before between after : Before) → Leads format before between → Leads format between after → Leads format before after
 then_leads format before between after first second = by before first.parts first.follow first.to
   where
@@ -57,7 +57,7 @@ then_leads format before between after first second = by before first.parts firs
         let rest = by (advance format from part) parts follow.1 to in
         record { parts = part ∷ rest.parts; follow = (follow.0, rest.follow); to = rest.to }
 
--- the text up to the point after some parts is the text so far and these parts
+-- the text before the point that some parts lead to is the text before them, then the parts
 pub after_text : (format : Format) → (before : Before) (parts : List (List ℕ)) → Follow format before parts
     → text_before format (after_parts format before parts) ≡ text_before format before ++ concat parts
 after_text format before [] follow = sym (append-nil (text_before format before))
@@ -65,8 +65,8 @@ after_text format before (part ∷ parts) follow =
     after_text format (advance format before part) parts follow.1 ∙ ap (λ front. front ++ concat parts) follow.0.text
     ∙ append_assoc (text_before format before) part (concat parts)
 
--- the second point is later: the text up to the second point has at least the next part after the
--- text up to the first
+-- the point `after` is later: the text before it has at least one more part than the text before
+-- the other
 pub record IsLater (format : Format) (before after : Before) : Type 0 where
   pub part : List ℕ
   pub more : List ℕ
@@ -103,7 +103,7 @@ in_line_from format from (part ∷ parts) (other ∷ others) rest more f g same 
     (after_parts format (advance format from v) others)) told.0
     (λ follow. in_line_from format (advance format from part) parts others rest more f.1 follow told.1) g.1
 
--- two points reached in one text are equal, or one is later than the other
+-- two points that are reached in one text are equal, or one is later than the other
 pub in_line : (format : Format) → (from first second : Before) (rest more : List ℕ) → Leads format from first → Leads format from second
     → text_before format first ++ rest ≡ text_before format second ++ more → AreInLine format first second
 in_line format from first second rest more one two same =

@@ -1,4 +1,4 @@
--- States with the same text are equal. Reading a text under a limit stops at only one point.
+-- States with the same text are equal. A reader of a text under a limit stops at only one point.
 use Rattle.std.proofs.Common.{◌≡◌, ℕ, ◌+◌, ◌≤◌, List, [], ◌++◌, length, ap, sym, ◌∙◌, subst, inl, inr, arith, append_assoc, append-nil, length-append}
 use Rattle.std.proofs.lemmas.List.{append_cancel_left}
 use Rattle.docker_model.specs.state.State.{State}
@@ -9,12 +9,12 @@ use Rattle.cif_laws.proofs.lists.Fronts.{same_front}
 use Rattle.state_laws.proofs.texts.TextStages.{IsLater, AreInLine, in_line}
 use Rattle.state_laws.proofs.texts.PartsReached.{reach}
 
--- the state at the end of a state's text; at any other point the default state
+-- the state at this point, if the point is the end of a text, and otherwise the other state
 pub state_or : State → Before → State
 state_or other (at_end state) = state
 state_or other _ = other
 
--- equal ends of a text have one state
+-- two ends that are equal have the same state
 pub same_end : (first second : State) → at_end first ≡ at_end second → first ≡ second
 unfolding state_or
 same_end first second same = ap (state_or first) same
@@ -23,7 +23,7 @@ same_end first second same = ap (state_or first) same
 pub no_part_at_end : (format : Format) → (state : State) (after : Before) → IsLater format (at_end state) after → ⊥
 no_part_at_end format state after later = let some = later.is_next.some in omega arith
 
--- two good points in one text are equal, or one is later than the other
+-- two points of one text before which all is good are equal, or one is later than the other
 pub both_in_line : (format : Format) → (text : List ℕ) (first second : Before) (rest more : List ℕ) → AreGood format first → AreGood format second
     → text ≡ text_before format first ++ rest → text ≡ text_before format second ++ more → AreInLine format first second
 both_in_line format text first second rest more good also one two =
@@ -49,7 +49,7 @@ pub one_text : (format : Format) → (first second : State) → AreGood format (
     → state_text format first ≡ state_text format second → first ≡ second
 one_text format first second good also same = (no_front format first second [] good also (append-nil (state_text format first) ∙ same)).0
 
--- if a part is bad, no point of the text is later
+-- no point of a text is later than a bad part
 pub bad_stops : (format : Format) → (text : List ℕ) (before after : Before) (bytes rest more : List ℕ) (cause : StateCause) → length bytes ≡ width before
     → IsBadPart format before bytes cause
     → text ≡ text_before format before ++ bytes ++ rest → text ≡ text_before format after ++ more → IsLater format before after → ⊥
@@ -78,7 +78,7 @@ no_bad_part format limit text state rest fault good is has =
     by (inr (inl later)) = bad_stops format text has.before (at_end state) has.bytes has.rest rest fault.cause has.size has.bad has.whole whole later
     by (inr (inr later)) = no_part_at_end format state has.before later
 
--- reading the text under the limit comes to this point, and to no later one
+-- a reader of the text under the limit reaches this point, and none later
 pub record IsStopped (format : Format) (limit : ℕ) (text : List ℕ) (before : Before) : Type 0 where
   pub good : AreGood format before
   pub rest : List ℕ
@@ -87,7 +87,7 @@ pub record IsStopped (format : Format) (limit : ℕ) (text : List ℕ) (before :
   pub stops : (after : Before) (more : List ℕ) → IsLater format before after → text ≡ text_before format after ++ more
       → length (text_before format after) ≤ limit → ⊥
 
--- reading a text under a limit stops at only one point
+-- a reader of a text under a limit stops at only one point
 pub one_stop : (format : Format) → (limit : ℕ) (text : List ℕ) (first second : Before) → IsStopped format limit text first → IsStopped format limit text second
     → first ≡ second
 one_stop format limit text first second one two = by (both_in_line format text first second one.rest two.rest one.good two.good one.whole two.whole)
@@ -97,7 +97,7 @@ one_stop format limit text first second one two = by (both_in_line format text f
     by (inr (inl later)) = absurd (one.stops second two.rest later two.whole two.within)
     by (inr (inr later)) = absurd (two.stops first one.rest later one.whole one.within)
 
--- the bytes between a point and a later one are the next part and whatever follows it
+-- from one point to a later one, the text has the next part and whatever follows it
 pub later_size : (format : Format) → (before after : Before) (later : IsLater format before after)
     → length (text_before format before) + width before + length later.more ≡ length (text_before format after)
 later_size format before after later =
@@ -107,7 +107,7 @@ later_size format before after later =
     let size = later.is_next.size in
     omega arith
 
--- reading stops before a bad part
+-- a reader stops before a bad part
 pub stop_of_bad : (format : Format) → (limit : ℕ) (text : List ℕ) (fault : StateFault) (has : HasBadPart format limit text fault)
     → IsStopped format limit text has.before
 stop_of_bad format limit text fault has = record {
@@ -118,7 +118,7 @@ stop_of_bad format limit text fault has = record {
   stops = λ after more later is within. bad_stops format text has.before after has.bytes has.rest more fault.cause has.size has.bad has.whole is later;
 }
 
--- reading stops before a part that goes past the limit
+-- a reader stops before a part that goes past the limit
 pub stop_of_long : (format : Format) → (limit : ℕ) (text : List ℕ) (fault : StateFault) (is : IsLong format limit text fault)
     → IsStopped format limit text is.before
 stop_of_long format limit text fault is = record {
@@ -129,7 +129,7 @@ stop_of_long format limit text fault is = record {
   stops = λ after more later whole within. (let size = later_size format is.before after later in let needs = is.needs in omega arith);
 }
 
--- reading stops before a part that isn't whole because the text ends
+-- a reader stops before a part in which the text ends
 pub stop_of_short : (format : Format) → (limit : ℕ) (text : List ℕ) (fault : StateFault) (is : IsShort format limit text fault)
     → IsStopped format limit text is.before
 stop_of_short format limit text fault is =
@@ -146,7 +146,7 @@ stop_of_short format limit text fault is =
           omega arith);
     }
 
--- reading stops at the end of a state
+-- a reader stops at the end of a state
 pub stop_at_end : (format : Format) → (limit : ℕ) (text : List ℕ) (state : State) (rest : List ℕ) → AreGood format (at_end state)
     → text ≡ state_text format state ++ rest → length (state_text format state) ≤ limit → IsStopped format limit text (at_end state)
 stop_at_end format limit text state rest good whole within = record {

@@ -15,41 +15,41 @@ use Rattle.docker_model.specs.state.StateText.{stamp_bytes, Format, op_bytes, en
 use Rattle.docker_model.specs.state.StatePart.{before_tag, before_line, part_text, key_text, before_item, before_entry_count, in_entry, at_end, text_before}
 use Rattle.state_laws.specs.TextStage.{after_items, after_entries, with_entry, after_lines}
 
--- a number in four bytes is read back
+-- a number below 2^32 can be read back from its four bytes
 pub read_32 : (n : ℕ) → n < 2 ^ 32 → from_be_bytes w32 (to_be_bytes w32 n) ≡ n
 read_32 = from_be_bytes-to_be_bytes_4
 
--- a number in eight bytes is read back
+-- a number below 2^64 can be read back from its eight bytes
 pub read_64 : (n : ℕ) → n < 2 ^ 64 → from_be_bytes w64 (to_be_bytes w64 n) ≡ n
 read_64 = from_be_bytes-to_be_bytes_8
 
--- after some of the items comes another item
+-- after some of the items another item comes
 pub more_items : (horizon : ℕ) → (count : ℕ) (ledger : List LedgerItem) → length ledger < count
     → after_items horizon count ledger ≡ before_item horizon count ledger
 more_items horizon count ledger below = λ i. cond (lt-leb count (length ledger) below i) (before_entry_count horizon ledger) (before_item horizon count ledger)
 
--- after all items comes the count of entries
+-- after all items the number of entries comes
 pub all_items : (horizon : ℕ) → (ledger : List LedgerItem) → after_items horizon (length ledger) ledger ≡ before_entry_count horizon ledger
 all_items horizon ledger =
     λ i. cond (le-leb (length ledger) (length ledger) (omega arith) i) (before_entry_count horizon ledger) (before_item horizon (length ledger) ledger)
 
--- after some of the entries comes another entry
+-- after some of the entries another entry comes
 pub more_entries : (count : ℕ) (state : State) → length state.entries < count → after_entries count state ≡ in_entry count state before_tag
 more_entries count state below = λ i. cond (lt-leb count (length state.entries) below i) (at_end state) (in_entry count state before_tag)
 
--- after all entries comes the end
+-- after all entries the text ends
 pub all_entries : (state : State) → after_entries (length state.entries) state ≡ at_end state
 all_entries state =
     λ i. cond (le-leb (length state.entries) (length state.entries) (omega arith) i) (at_end state) (in_entry (length state.entries) state before_tag)
 
--- after some of the lines comes another line
+-- after some lines of a schedule another line comes
 pub more_lines : (count : ℕ) (state : State) (key : ScheduleKey) (stamp : Stamp) (n : ℕ) (lines : List (List ℕ)) → length lines < n
     → after_lines count state key stamp n lines ≡ in_entry count state (before_line key stamp n lines)
 more_lines count state key stamp n lines below =
     λ i. cond (lt-leb n (length lines) below i) (after_entries count (with_entry state (schedule_key key) stamp (put_with (schedule_body lines))))
     (in_entry count state (before_line key stamp n lines))
 
--- after all lines the entry is complete
+-- after all lines of a schedule its entry is complete
 pub all_lines : (count : ℕ) (state : State) (key : ScheduleKey) (stamp : Stamp) (lines : List (List ℕ))
     → after_lines count state key stamp (length lines) lines ≡ after_entries count (with_entry state (schedule_key key) stamp (put_with (schedule_body lines)))
 all_lines count state key stamp lines =
@@ -57,7 +57,7 @@ all_lines count state key stamp lines =
     (after_entries count (with_entry state (schedule_key key) stamp (put_with (schedule_body lines))))
     (in_entry count state (before_line key stamp (length lines) lines))
 
--- the text up to the point after some items is the ledger's text with these items
+-- the text before the point after some items is the text of the ledger up to these items
 pub after_items_text : (format : Format) (horizon : ℕ) → (count : ℕ) (ledger : List LedgerItem) → length ledger ≤ count
     → text_before format (after_items horizon count ledger) ≡ ledger_text format horizon count ledger
 after_items_text format horizon count ledger within = by (leb_tells count (length ledger))
@@ -73,7 +73,7 @@ after_items_text format horizon count ledger within = by (leb_tells count (lengt
         (λ i. text_before format (cond (told.0 i) (before_entry_count horizon ledger) (before_item horizon count ledger)))
         ∙ append-nil (ledger_text format horizon count ledger)
 
--- the text up to the point after some entries is the state's text with these entries
+-- the text before the point after some entries is the text of the state up to these entries
 pub after_entries_text : (format : Format) → (count : ℕ) (state : State) → length state.entries ≤ count
     → text_before format (after_entries count state) ≡ entries_text format count state
 after_entries_text format count state within = by (leb_tells count (length state.entries))
@@ -88,7 +88,7 @@ after_entries_text format count state within = by (leb_tells count (length state
         ∙ append-nil (entries_text format (length state.entries) state) ∙ ap (λ n. entries_text format n state) same
     by (inr told) = (λ i. text_before format (cond (told.0 i) (at_end state) (in_entry count state before_tag))) ∙ append-nil (entries_text format count state)
 
--- one more entry adds its own text after the other entries
+-- one more entry adds its bytes at the end of the text
 pub with_entry_text : (format : Format) → (count : ℕ) (state : State) (key : Key) (stamp : Stamp) (op : Op)
     → entries_text format count (with_entry state key stamp op) ≡ entries_text format count state ++ entry_bytes (key, record { stamp = stamp; op = op })
 with_entry_text format count state key stamp op =
@@ -98,7 +98,7 @@ with_entry_text format count state key stamp op =
     ∙ ap (λ xs. flat_map entry_bytes state.entries ++ xs) (append-nil bytes))
     ∙ sym (append_assoc front (flat_map entry_bytes state.entries) bytes)
 
--- the text up to the point after an entry ends with the entry's text
+-- the text before the point after an entry ends with the bytes of the entry
 pub entry_done_text : (format : Format) → (count : ℕ) (state : State) (key : Key) (stamp : Stamp) (op : Op) → length state.entries < count
     → text_before format (after_entries count (with_entry state key stamp op)) ≡ entries_text format count state ++
     (key_text key ++ stamp_bytes stamp ++ op_bytes op)
@@ -106,7 +106,7 @@ entry_done_text format count state key stamp op below =
     let size = length-append state.entries ((key, record { stamp = stamp; op = op }) ∷ []) in
     after_entries_text format count (with_entry state key stamp op) (omega arith) ∙ with_entry_text format count state key stamp op
 
--- the text up to the point after some lines of a schedule ends with these lines
+-- the text before the point after some lines of a schedule ends with these lines
 pub after_lines_text : (format : Format) → (count : ℕ) (state : State) (key : ScheduleKey) (stamp : Stamp) (n : ℕ) (lines : List (List ℕ))
     → length state.entries < count → length lines ≤ n
     → text_before format (after_lines count state key stamp n lines) ≡ entries_text format count state ++ part_text (before_line key stamp n lines)

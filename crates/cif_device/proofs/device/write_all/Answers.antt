@@ -1,4 +1,4 @@
--- Each write continues after the bytes that were written.
+-- Each write continues after the bytes that were written before.
 use Rattle.std.proofs.Common.{rules}
 use Rattle.cif_device.proofs.DeviceLemmas.{Takes-take, take-drop_all}
 use Rattle.cif_device.proofs.device.write_all.Goals as goal

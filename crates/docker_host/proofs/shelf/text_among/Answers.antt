@@ -1,4 +1,4 @@
--- The text is from the first place that has the name.
+-- The text is the text of the first place with the name.
 use Rattle.std.proofs.Common.{sym, ap, ◌∙◌}
 use Rattle.std.specs.Str.{bytes_eq}
 use Rattle.docker_host.specs.History.{Text}

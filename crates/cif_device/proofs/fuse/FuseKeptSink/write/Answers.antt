@@ -1,4 +1,5 @@
--- `auto` proves these goals too. Written out, they let a wrong body fail without a long search.
+-- The tactic `auto` proves these goals too. With written answers a wrong body is refused without a
+-- long search.
 use Rattle.std.proofs.Common.{rules}
 use Rattle.cif_device.proofs.fuse.FuseKeptSink.write.Goals as goal
 

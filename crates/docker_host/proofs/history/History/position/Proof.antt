@@ -1,4 +1,4 @@
--- A position is the number of events so far. Assumes `Logic`.
+-- A position is the number of events before it. Assumes `Logic`.
 use Rattle.std.proofs.Common.{[], ◌∷◌, length, refl}
 use seplogic.Ra.Ura.{Ura}
 use base.Logic.{SProp}

@@ -1,4 +1,4 @@
--- A history with the event of the note as its last event. Assumes `Logic`.
+-- The history has the event of the note as its last event. Assumes `Logic`.
 use Rattle.std.proofs.Common.{[], ◌∷◌, ◌++◌, refl}
 use seplogic.Ra.Ura.{Ura}
 use mir.Syntax.{named}

@@ -1,4 +1,4 @@
--- The history of the new position is kept.
+-- The invariant holds for the history with one more event.
 use Rattle.std.proofs.Common.{refl}
 use Rattle.docker_host.proofs.ShelfLemmas.{kept_still}
 use Rattle.docker_host.proofs.shelf.ShelfFolder.create.Goals as goal

@@ -1,4 +1,4 @@
--- The history of the new position is kept.
+-- The invariant holds for the history with one more event.
 use Rattle.std.proofs.Common.{refl, ap, ◌∙◌}
 use Rattle.docker_host.specs.Folder.{FolderView}
 use Rattle.docker_host.specs.Shelf.{text_under}
