@@ -1,5 +1,5 @@
 -- Each day number up to the last belongs to one day of the calendar.
-use Rattle.std.proofs.Common.{◌≡◌, ℕ, ℤ, zero, suc, ◌+◌, ◌<◌, ◌≤◌, ◌⊎◌, refl, ap, subst, pos, negsuc, ◌+ℤ◌, ◌<ℤ◌, arith, inl, inr}
+use Rattle.std.proofs.Common.{◌≡◌, ℕ, ℤ, zero, suc, ◌+◌, ◌<◌, ◌≤◌, ◌⊎◌, refl, subst, pos, negsuc, ◌+ℤ◌, ◌<ℤ◌, arith, inl, inr}
 use Rattle.std.specs.Prelude.{unsigned_abs}
 use Rattle.std.proofs.lemmas.Bool.{cases_order}
 use Rattle.std.proofs.lemmas.Int.{by_lt_z}
@@ -21,7 +21,7 @@ pub record IsDayOf (number year month day : ℕ) : Type 0 where
   pub is_civil : IsCivilDate (pos year) month day
   pub count : day_count (pos year) month day ≡ number + 4_368_300
 
--- the calendar's counts of days for 1 January 1960, 31 December 2059 and 1 January 2060
+-- the calendar's counts of days for 1 January 1960 and 31 December 2059
 start_of_1960 : day_count (pos 1960) 1 1 ≡ 4_368_300
 unfolding day_count days_of_years days_of_months
 start_of_1960 = refl
@@ -29,10 +29,6 @@ start_of_1960 = refl
 end_of_2059 : day_count (pos 2059) 12 31 ≡ 4_404_824
 unfolding day_count days_of_years days_of_months
 end_of_2059 = refl
-
-start_of_2060 : day_count (pos 2060) 1 1 ≡ 4_404_825
-unfolding day_count days_of_years days_of_months
-start_of_2060 = refl
 
 -- the day number of a day is the number that `IsDayOf` gives
 pub number_is : (number year month day : ℕ) → IsDayOf number year month day → day_number year month day ≡ number
@@ -151,24 +147,3 @@ day_at (suc number) low = let before = day_at number (omega arith) in by before.
         by_lt day (days_in_month (pos year) month) (λ lt. (year, month, day + 1, next_day number year month day low h lt))
         (λ last. by_lt month 12 (λ lt. (year, month + 1, 1, next_month number year month day low h last lt))
         (λ end. (year + 1, 1, 1, next_year number year month day low h last end)))
-
--- a date has the day number of its year, month and day, which is at most the last day number
-pub day_of_parts : (date : Date) (days year month day : ℕ) → 1960 ≤ year → year ≤ 2059 → date.year ≡ pos year → pos date.month ≡ pos month
-    → pos date.day ≡ pos day
-    → epoch_day date +ℤ pos 4_371_587 ≡ pos days → (days ≡ day_number year month day + 4_367_934) × (day_number year month day ≤ last_day)
-day_of_parts date days year month day low high years months ds since =
-    let day_is = ap unsigned_abs ds in
-    let month_is = ap unsigned_abs months in
-    by (subst (λ d. IsCivilDate (pos year) month d) day_is
-    (subst (λ m. IsCivilDate (pos year) m date.day) month_is (subst (λ y. IsCivilDate y date.month date.day) years (civil date))))
-    (subst (λ d. day_count (pos year) month d ≡ days + 366) day_is
-    (subst (λ m. day_count (pos year) m date.day ≡ days + 366) month_is
-    (subst (λ y. day_count y date.month date.day ≡ days + 366) years (count_of date days since))))
-  where
-    by : IsCivilDate (pos year) month day → day_count (pos year) month day ≡ days + 366
-        → (days ≡ day_number year month day + 4_367_934) × (day_number year month day ≤ last_day)
-    by is_civil count =
-        let there = day_number-day_count year month day low (omega arith) is_civil.1.0 is_civil.2.0 in
-        let next = day_count-lt_year (pos year) month day (pos 2060) 1 1 is_civil (omega arith) (omega (arith, signed_arith)) in
-        let end = start_of_2060 in
-        (omega arith, omega arith)

@@ -1,4 +1,5 @@
 pub mod CivilDays
+pub mod Dates
 pub mod DateFields
 pub mod Lanes
 pub mod Times

@@ -1,47 +1,15 @@
-//! Tests of the checked fields, except of times, and the fault that names the leftmost bad field.
+//! Tests of the checked fields, except of dates, days and times, and the fault that names the leftmost bad field.
 ghost use Rattle.std.specs.Prelude.{◌≡◌};
-ghost use Rattle.docker_model.specs.records.Date.{is_date, is_date_day_first, is_end_date, is_days};
 ghost use Rattle.docker_model.specs.records.Clock.{is_blank};
 ghost use Rattle.docker_model.specs.records.Field.{is_tiploc, is_new_tiploc, is_update_indicator, is_transaction, is_stp_indicator};
 
-use crate::day::Day;
-use crate::days::Days;
 use crate::letter::{Extract, Stp, Transaction};
-use crate::until::Until;
 use thiserror::Error;
 
 /// A checked field of a record isn't good: the first column, from 1, of the leftmost such field.
 #[derive(Clone, Copy, PartialEq, Eq, Debug, Error)]
 #[error("Field {0}")]
 pub struct FieldFault(pub u8);
-
-/// Whether a field is a date with the day first.
-pub(crate) fn is_date_day_first(field: &[u8; 6]) -> bool
-    ensures { result ≡ is_date_day_first field.now }
-{
-    Day::from_ddmmyy(field).is_some()
-}
-
-/// Whether a field is a date with the year first.
-pub(crate) fn is_date(field: &[u8; 6]) -> bool
-    ensures { result ≡ is_date field.now }
-{
-    Day::from_yymmdd(field).is_some()
-}
-
-/// Whether a field is an end date: a date with the year first, or `999999`.
-pub(crate) fn is_end_date(field: &[u8; 6]) -> bool
-    ensures { result ≡ is_end_date field.now }
-{
-    Until::from_field(field).is_some()
-}
-
-/// Whether a field is seven flags, each `0` or `1`.
-pub(crate) fn is_days(field: &[u8; 7]) -> bool
-    ensures { result ≡ is_days field.now }
-{
-    Days::from_field(field).is_some()
-}
 
 /// Whether an update indicator is `F` or `U`.
 pub(crate) fn is_update_indicator(field: &[u8; 1]) -> bool

@@ -1,15 +1,13 @@
 //! Days of the calendar, as numbers counted from 1 January 1960.
-ghost use Rattle.std.specs.Prelude.{◌≡◌, ℕ, ◌+◌, ◌<◌, ◌≤◌, ◌↔◌, pos, ◌+ℤ◌, IsTrue, IsSome, IfSome, Some, unsigned_abs};
-ghost use Rattle.std.specs.Int.{IsInRange};
+ghost use Rattle.std.specs.Prelude.{◌≡◌, ℕ, ◌+◌, ◌<◌, ◌≤◌, ◌↔◌, pos, ◌+ℤ◌, IsTrue, true, IsSome, IfSome, Some, unsigned_abs};
 ghost use Rattle.std.specs.Option.{SomeIff};
 ghost use Rattle.std.specs.Str.{IsAscii};
 ghost use Rattle.jiff.specs.Words.{IsBetween};
-ghost use Rattle.docker_model.specs.records.Date.{is_date, date_number, is_date_day_first, date_number_day_first, is_calendar_day};
-ghost use Rattle.docker_model.specs.records.Date.{day_number, last_day, weekday_of, full_year as full_year_of};
+ghost use Rattle.docker_model.specs.records.Date.{is_date, date_number, is_date_day_first, date_number_day_first};
+ghost use Rattle.docker_model.specs.records.Date.{last_day, weekday_of};
 ghost use Rattle.docker_model.specs.records.PrintedTime.{day_text, date_text};
 
-use crate::digits::{are_digits, two_digits};
-use jiff::civil::Date;
+use crate::date::{date_number, date_number_day_first, is_date, is_date_day_first};
 use jiff_core::civil;
 use std::marker::Model;
 use std::{fmt, str};
@@ -45,11 +43,21 @@ impl Day {
         ensures some { IsSome result ↔ IsTrue (is_date field.now) }
         ensures value { IfSome result (λ day. day ≡ date_number field.now) }
     {
-        if !are_digits(field) {
+        if !is_date(field) {
             return None;
         }
-        let year = full_year(two_digits(field, 0));
-        day_of(year, two_digits(field, 2), two_digits(field, 4))
+        Some(Day::of_date(field))
+    }
+
+    /// The day of a field that is known to be a date YYMMDD.
+    #[inline(always)]
+    pub(crate) fn of_date(field: &[u8; 6]) -> Day
+        requires good { is_date field.now ≡ true }
+        ensures { result ≡ date_number field.now }
+    {
+        Day {
+            number: date_number(field),
+        }
     }
 
     /// The day that six digits DDMMYY give, as in a header (HD). Years are as in `from_yymmdd`.
@@ -58,11 +66,21 @@ impl Day {
         ensures some { IsSome result ↔ IsTrue (is_date_day_first field.now) }
         ensures value { IfSome result (λ day. day ≡ date_number_day_first field.now) }
     {
-        if !are_digits(field) {
+        if !is_date_day_first(field) {
             return None;
         }
-        let year = full_year(two_digits(field, 4));
-        day_of(year, two_digits(field, 2), two_digits(field, 0))
+        Some(Day::of_date_day_first(field))
+    }
+
+    /// The day of a field that is known to be a date DDMMYY.
+    #[inline(always)]
+    pub(crate) fn of_date_day_first(field: &[u8; 6]) -> Day
+        requires good { is_date_day_first field.now ≡ true }
+        ensures { result ≡ date_number_day_first field.now }
+    {
+        Day {
+            number: date_number_day_first(field),
+        }
     }
 
     /// The day that a text YYYY-MM-DD gives, as `iso` writes it. None for any other text.
@@ -164,32 +182,6 @@ impl fmt::Display for Day {
             Err(_) => unreachable!(),
         }
     }
-}
-
-/// The day with this year, month and day, for a year from 1960 to 2059. None if the calendar has no
-/// such day.
-fn day_of(year: u16, month: u16, day: u16) -> Option<Day>
-    requires year_in { IsInRange 1960 2059 year }
-    requires month_in { month < 100 }
-    requires day_in { day < 100 }
-    ensures some { IsSome result ↔ IsTrue (is_calendar_day year month day) }
-    ensures value { IfSome result (λ d. d ≡ day_number year month day) }
-{
-    match Date::new(year as i16, month as i8, day as i8) {
-        Ok(date) => Some(Day {
-            number: (date.to_plain().days_since_min() - FIRST) as u16,
-        }),
-        Err(_) => None,
-    }
-}
-
-/// The year that a year of two digits means.
-fn full_year(year: u16) -> u16
-    requires { year < 100 }
-    ensures value { result ≡ full_year_of year }
-    ensures bound { IsInRange 1960 2059 result }
-{
-    if year >= 60 { 1900 + year } else { 2000 + year }
 }
 
 /// A digit below 10, in ASCII.

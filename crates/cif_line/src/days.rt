@@ -1,8 +1,9 @@
 //! The days run of a basic schedule (BS) or of an association (AA).
-ghost use Rattle.std.specs.Prelude.{◌≡◌, ℕ, ◌<◌, ◌↔◌, List, IsTrue, IsSome, IfSome};
+ghost use Rattle.std.specs.Prelude.{◌≡◌, ℕ, ◌<◌, ◌≤◌, ◌==◌, ◌||◌, ◌↔◌, length, take, true, IsTrue, IsSome, IfSome};
 ghost use Rattle.docker_model.specs.records.Date.{is_days, runs_on_weekday};
 
 use std::marker::Model;
+use std::simd::prelude::*;
 
 /// The weekdays on which a schedule or an association runs: seven flags, Monday first. A flag is
 /// `1` if it runs on that day, and otherwise `0`.
@@ -30,11 +31,20 @@ impl Days {
         ensures some { IsSome result ↔ IsTrue (is_days field.now) }
         ensures value { IfSome result (λ days. days ≡ field.now) }
     {
-        if are_flags(field) {
-            Some(Days { flags: *field })
+        if is_days(field) {
+            Some(Days::of_flags(field))
         } else {
             None
         }
+    }
+
+    /// The weekdays of a field that is known to be seven flags.
+    #[inline(always)]
+    pub(crate) fn of_flags(field: &[u8; 7]) -> Days
+        requires good { is_days field.now ≡ true }
+        ensures { result ≡ field.now }
+    {
+        Days { flags: *field }
     }
 
     /// Whether it runs on a weekday: 0 for Monday to 6 for Sunday.
@@ -46,9 +56,29 @@ impl Days {
     }
 }
 
-/// Whether each byte is `0` or `1`.
-fn are_flags(field: &[u8; 7]) -> bool
+/// Whether each byte is `0` or `1`, without a branch per byte.
+#[inline(always)]
+#[tactic(auto, using(crate::proofs::Dates::seven_flags))]
+pub(crate) fn is_days(field: &[u8; 7]) -> bool
     ensures { result ≡ is_days field.now }
 {
-    field.iter().all(|b| *b == b'0' || *b == b'1')
+    are_four_flags(field) & is_flag(field[4]) & is_flag(field[5]) & is_flag(field[6])
+}
+
+/// Whether each of the first four bytes of a field is `0` or `1`, tested at once.
+#[inline(always)]
+fn are_four_flags(field: &[u8]) -> bool
+    requires { 4 ≤ length field.now }
+    ensures { result ≡ is_days (take 4 field.now) }
+{
+    let above_zero = u8x4::from_slice(field) - u8x4::splat(b'0');
+    above_zero.simd_gt(u8x4::splat(1)).to_bitmask() == 0
+}
+
+/// Whether a byte is `0` or `1`.
+#[inline(always)]
+fn is_flag(byte: u8) -> bool
+    ensures { result ≡ ((byte == 48) || (byte == 49)) }
+{
+    (byte == b'0') | (byte == b'1')
 }

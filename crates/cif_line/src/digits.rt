@@ -1,14 +1,37 @@
-//! Digits of a field, and the numbers that two of them spell.
-ghost use Rattle.std.specs.Prelude.{◌≡◌, ◌+◌, ◌<◌, length, true};
+//! Digits of a field, and the numbers that two of them spell. Several bytes are tested at once,
+//! without a branch per byte.
+ghost use Rattle.std.specs.Prelude.{◌≡◌, ◌+◌, ◌-◌, ◌*◌, ◌≤◌, ◌<◌, length, take, true};
 ghost use Rattle.std.specs.List.{list_all};
 ghost use Rattle.std.specs.Char.{is_ascii_digit};
 ghost use Rattle.docker_model.specs.records.Date.{two_digits};
 
-/// Whether the field is all digits.
-pub(crate) fn are_digits(field: &[u8]) -> bool
+use std::simd::prelude::*;
+
+/// Whether the first four bytes of a field are digits, tested at once.
+#[inline(always)]
+pub(crate) fn are_four_digits(field: &[u8]) -> bool
+    requires { 4 ≤ length field.now }
+    ensures { result ≡ list_all is_ascii_digit (take 4 field.now) }
+{
+    let above_zero = u8x4::from_slice(field) - u8x4::splat(b'0');
+    above_zero.simd_gt(u8x4::splat(9)).to_bitmask() == 0
+}
+
+/// Whether six bytes are digits.
+#[inline(always)]
+#[tactic(auto, using(crate::proofs::Dates::six_digits))]
+pub(crate) fn are_six_digits(field: &[u8; 6]) -> bool
     ensures { result ≡ list_all is_ascii_digit field.now }
 {
-    field.iter().all(|byte| byte.is_ascii_digit())
+    are_four_digits(field) & field[4].is_ascii_digit() & field[5].is_ascii_digit()
+}
+
+/// The number that two bytes spell, if they are digits.
+#[inline(always)]
+pub(crate) fn spelled(tens: u8, units: u8) -> u16
+    ensures { 48 ≤ tens → 48 ≤ units → result ≡ 10 * (tens - 48) + (units - 48) }
+{
+    (10 * u16::from(tens) + u16::from(units)).wrapping_sub(11 * u16::from(b'0'))
 }
 
 /// The number that two digits of a field spell, from this place on, counted from 0. If they are

@@ -83,10 +83,7 @@ impl Line {
         requires good { is_date (field_at first 6 self.now) ≡ true }
         ensures { result ≡ date_number (field_at first 6 self.now) }
     {
-        match Day::from_yymmdd(self.field(first)) {
-            Some(day) => day,
-            None => unreachable!(),
-        }
+        Day::of_date(self.field(first))
     }
 
     /// The end date in six columns, from this one on. None if the transaction is a deletion.
@@ -100,7 +97,7 @@ impl Line {
         if self.is_deletion() {
             return None;
         }
-        Until::from_field(self.field(first))
+        Some(Until::of_end_date(self.field(first)))
     }
 
     /// The days run in seven columns, from this one on. None if the transaction is a deletion.
@@ -113,7 +110,7 @@ impl Line {
         if self.is_deletion() {
             return None;
         }
-        Days::from_field(self.field(first))
+        Some(Days::of_flags(self.field(first)))
     }
 
     /// Whether the transaction is a deletion: column 3 is `D`.

@@ -52,10 +52,7 @@ impl<'a> Header<'a> {
     pub fn day(&self) -> Day
         ensures { result ≡ date_number_day_first (columns 23 28 self.now) }
     {
-        match Day::from_ddmmyy(self.line.field(23)) {
-            Some(day) => day,
-            None => unreachable!(),
-        }
+        Day::of_date_day_first(self.line.field(23))
     }
 
     /// The time of extract, as the minute of the day from 0 to 1439: columns 29 to 32.

@@ -5,9 +5,11 @@
 
 mod association;
 mod basic_schedule;
+mod calendar;
 mod call_fields;
 mod change_en_route;
 mod check;
+mod date;
 mod day;
 mod days;
 mod digits;

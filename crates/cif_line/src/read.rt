@@ -14,9 +14,10 @@ use crate::basic_schedule::Basic;
 use crate::call_fields::CallFields;
 use crate::change_en_route::ChangeEnRoute;
 use crate::check::{
-    FieldFault, is_date, is_date_day_first, is_days, is_end_date, is_new_tiploc, is_stp_indicator,
-    is_tiploc, is_transaction, is_update_indicator,
+    FieldFault, is_new_tiploc, is_stp_indicator, is_tiploc, is_transaction, is_update_indicator,
 };
+use crate::date::{is_date, is_date_day_first};
+use crate::days::is_days;
 use crate::header_record::Header;
 use crate::identity::is_amendment;
 use crate::intermediate_location::{Call, CallTimes};
@@ -26,6 +27,7 @@ use crate::terminating_location::Terminus;
 use crate::time::{Time, is_clock, is_public_time};
 use crate::time_field::TimeField;
 use crate::tiploc_record::TiplocRecord;
+use crate::until::is_end_date;
 
 /// A view of a header (HD), or the first column of its leftmost bad field: 23 for the date of
 /// extract, 29 for its time, 47 for the update indicator.

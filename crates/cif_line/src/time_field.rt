@@ -1,12 +1,10 @@
 //! Fields of times, read whether or not they are good. A field is read without a branch per byte,
 //! so that all tests of a record can be joined.
-ghost use Rattle.std.specs.Prelude.{◌≡◌, ◌+◌, ◌-◌, ◌*◌, ◌≤◌, ◌<◌, ◌||◌, length, true, take, Some, None, if◌then◌else◌};
-ghost use Rattle.std.specs.List.{list_all};
-ghost use Rattle.std.specs.Char.{is_ascii_digit};
+ghost use Rattle.std.specs.Prelude.{◌≡◌, ◌≤◌, ◌<◌, ◌||◌, length, true, Some, None, if◌then◌else◌};
 ghost use Rattle.docker_model.specs.records.Clock.{is_blank, is_clock, minute_of};
 
+use crate::digits::{are_four_digits, spelled};
 use crate::time::Time;
-use std::simd::prelude::*;
 
 /// What the first four bytes of a field give, read as HHMM.
 #[derive(Clone, Copy, PartialEq, Eq, Debug)]
@@ -84,24 +82,6 @@ impl TimeField {
             None
         }
     }
-}
-
-/// The number that two bytes spell, if they are digits.
-#[inline(always)]
-fn spelled(tens: u8, units: u8) -> u16
-    ensures { 48 ≤ tens → 48 ≤ units → result ≡ 10 * (tens - 48) + (units - 48) }
-{
-    (10 * u16::from(tens) + u16::from(units)).wrapping_sub(11 * u16::from(b'0'))
-}
-
-/// Whether the first four bytes of a field are digits, tested at once.
-#[inline(always)]
-fn are_four_digits(field: &[u8]) -> bool
-    requires { 4 ≤ length field.now }
-    ensures { result ≡ list_all is_ascii_digit (take 4 field.now) }
-{
-    let above_zero = u8x4::from_slice(field) - u8x4::splat(b'0');
-    above_zero.simd_gt(u8x4::splat(9)).to_bitmask() == 0
 }
 
 /// Whether the field of a public time is all spaces.

@@ -1,8 +1,8 @@
 //! The end date of a basic schedule (BS) or of an association (AA).
-ghost use Rattle.std.specs.Prelude.{◌≡◌, ℕ, ◌≤◌, ◌⊎◌, ◌↔◌, IsTrue, IsSome, IfSome};
-ghost use Rattle.docker_model.specs.records.Date.{is_end_date, end_number, last_day, no_end_number};
+ghost use Rattle.std.specs.Prelude.{◌≡◌, ℕ, ◌≤◌, ◌⊎◌, ◌↔◌, IsTrue, true, IsSome, IfSome};
+ghost use Rattle.docker_model.specs.records.Date.{is_end_date, end_number, is_no_end, last_day, no_end_number};
 
-use crate::Day;
+use crate::date::{date_number, is_date};
 use std::marker::Model;
 
 /// The end number that stands for no end. It is greater than the number of any day.
@@ -31,13 +31,24 @@ impl Until {
         ensures some { IsSome result ↔ IsTrue (is_end_date field.now) }
         ensures value { IfSome result (λ end. end ≡ end_number field.now) }
     {
-        if field == b"999999" {
-            return Some(Until { number: NO_END });
+        if !is_end_date(field) {
+            return None;
         }
-        let day = Day::from_yymmdd(field)?;
-        Some(Until {
-            number: day.number(),
-        })
+        Some(Until::of_end_date(field))
+    }
+
+    /// The end date of a field that is known to be one.
+    #[inline(always)]
+    pub(crate) fn of_end_date(field: &[u8; 6]) -> Until
+        requires good { is_end_date field.now ≡ true }
+        ensures { result ≡ end_number field.now }
+    {
+        let number = if is_no_end(field) {
+            NO_END
+        } else {
+            date_number(field)
+        };
+        Until { number }
     }
 
     /// The end number: the day number of the last day, or 65535 for no end.
@@ -47,4 +58,20 @@ impl Until {
     {
         self.number
     }
+}
+
+/// Whether a field is an end date: a date with the year first, or `999999`.
+#[inline(always)]
+pub(crate) fn is_end_date(field: &[u8; 6]) -> bool
+    ensures { result ≡ is_end_date field.now }
+{
+    is_no_end(field) | is_date(field)
+}
+
+/// Whether a field is `999999`.
+#[inline(always)]
+fn is_no_end(field: &[u8; 6]) -> bool
+    ensures { result ≡ is_no_end field.now }
+{
+    field == b"999999"
 }

@@ -3,7 +3,7 @@ use Rattle.std.proofs.lemmas.Simd.{length-chunk, chunk-fits}
 use lib.Lanes.{chunk}
 use Rattle.std.specs.Char.{is_ascii_digit}
 use Rattle.cif_line.proofs.Lanes.{no_lane_set}
-use Rattle.cif_line.proofs.time_field.are_four_digits.Goals as goal
+use Rattle.cif_line.proofs.digits.are_four_digits.Goals as goal
 
 -- the lane of a byte: set if it is above another
 above : ℕ → ℕ → ℕ

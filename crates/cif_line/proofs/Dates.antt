@@ -1,0 +1,122 @@
+-- Dates, judged and numbered by tables of the months, as the definitions say.
+use Rattle.std.proofs.Common.{◌≡◌, ℕ, zero, suc, ◌+◌, ◌-◌, ◌*◌, ◌/◌, ◌<◌, ◌≤◌, nat_lt, Bool, true, false, cond, ◌&&◌, List}
+use Rattle.std.proofs.Common.{[], ◌∷◌, length, slice_index_or, take, refl, sym, pos, ◌∙◌, arith}
+use Rattle.std.specs.Prelude.{◌==◌, ◌||◌, slice_index}
+use Rattle.std.specs.List.{list_all}
+use Rattle.std.specs.Char.{is_ascii_digit}
+use Rattle.jiff_core.specs.Calendar.{is_leap_year, days_of_months, day_count, days_of_years, IsCivilDate}
+use Rattle.jiff_core.proofs.SignedLemmas.{signed_arith}
+use Rattle.jiff_core.proofs.MarchLemmas.{day_count-early}
+use Rattle.jiff_core.proofs.CalendarLemmas.{days_of_months_table, day_count-day_of_year, day_count-lt_year}
+use Rattle.docker_model.specs.records.Date.{is_calendar_day, day_number, last_day, is_days}
+use Rattle.cif_laws.proofs.records.Dates.{is_calendar_day-IsDate, day_number-day_count}
+
+-- six bytes are digits if and only if the first four are, and the other two
+pub six_digits : (field : List ℕ) → length field ≡ 6
+    → ((list_all is_ascii_digit (take 4 field) && is_ascii_digit (slice_index field 4)) && is_ascii_digit (slice_index field 5))
+    ≡ list_all is_ascii_digit field
+six_digits [] size = absurd (omega arith)
+six_digits (a ∷ []) size = absurd (omega arith)
+six_digits (a ∷ b ∷ []) size = absurd (omega arith)
+six_digits (a ∷ b ∷ c ∷ []) size = absurd (omega arith)
+six_digits (a ∷ b ∷ c ∷ d ∷ []) size = absurd (omega arith)
+six_digits (a ∷ b ∷ c ∷ d ∷ e ∷ []) size = absurd (omega arith)
+six_digits (a ∷ b ∷ c ∷ d ∷ e ∷ f ∷ []) size =
+    regrouped (is_ascii_digit a) (is_ascii_digit b) (is_ascii_digit c) (is_ascii_digit d) (is_ascii_digit e) (is_ascii_digit f)
+  where
+    regrouped : (p q r s t u : Bool) → (((p && (q && (r && (s && true)))) && t) && u) ≡ (p && (q && (r && (s && (t && (u && true))))))
+    regrouped true true true true true true = refl
+    regrouped true true true true true false = refl
+    regrouped true true true true false u = refl
+    regrouped true true true false t u = refl
+    regrouped true true false s t u = refl
+    regrouped true false r s t u = refl
+    regrouped false q r s t u = refl
+six_digits (a ∷ b ∷ c ∷ d ∷ e ∷ f ∷ g ∷ field) size = absurd (omega arith)
+
+-- whether a byte is 0 or 1
+abbrev is_flag : ℕ → Bool
+is_flag b = (b == 48) || (b == 49)
+
+-- seven bytes are flags if and only if the first four are, and the other three
+pub seven_flags : (field : List ℕ) → length field ≡ 7
+    → (((is_days (take 4 field) && is_flag (slice_index field 4)) && is_flag (slice_index field 5)) && is_flag (slice_index field 6)) ≡ is_days field
+seven_flags [] size = absurd (omega arith)
+seven_flags (a ∷ []) size = absurd (omega arith)
+seven_flags (a ∷ b ∷ []) size = absurd (omega arith)
+seven_flags (a ∷ b ∷ c ∷ []) size = absurd (omega arith)
+seven_flags (a ∷ b ∷ c ∷ d ∷ []) size = absurd (omega arith)
+seven_flags (a ∷ b ∷ c ∷ d ∷ e ∷ []) size = absurd (omega arith)
+seven_flags (a ∷ b ∷ c ∷ d ∷ e ∷ f ∷ []) size = absurd (omega arith)
+seven_flags (a ∷ b ∷ c ∷ d ∷ e ∷ f ∷ g ∷ []) size = regrouped (is_flag a) (is_flag b) (is_flag c) (is_flag d) (is_flag e) (is_flag f) (is_flag g)
+  where
+    regrouped : (p q r s t u v : Bool) → ((((p && (q && (r && (s && true)))) && t) && u) && v) ≡ (p && (q && (r && (s && (t && (u && (v && true)))))))
+    regrouped true true true true true true true = refl
+    regrouped true true true true true true false = refl
+    regrouped true true true true true false v = refl
+    regrouped true true true true false u v = refl
+    regrouped true true true false t u v = refl
+    regrouped true true false s t u v = refl
+    regrouped true false r s t u v = refl
+    regrouped false q r s t u v = refl
+seven_flags (a ∷ b ∷ c ∷ d ∷ e ∷ f ∷ g ∷ h ∷ field) size = absurd (omega arith)
+
+-- the days of a year before each month from 1 to 12, in a year that isn't a leap year
+abbrev pub days_before : ℕ → ℕ
+days_before month = slice_index_or {A = ℕ} (0 ∷ 0 ∷ 31 ∷ 59 ∷ 90 ∷ 120 ∷ 151 ∷ 181 ∷ 212 ∷ 243 ∷ 273 ∷ 304 ∷ 334 ∷ []) month 0
+
+-- a leap day comes after February
+abbrev pub leap_before : Bool → ℕ → ℕ
+leap_before leap month = cond (nat_lt 2 month && leap) 1 0
+
+-- the days before a month of any year
+before_month : (y n : ℕ) → n < 12 → days_of_months (pos y) n ≡ days_before (suc n) + leap_before (is_leap_year (pos y)) (suc n)
+before_month y zero low = days_of_months_table (pos y) 0 low
+before_month y (suc zero) low = days_of_months_table (pos y) 1 low
+before_month y (suc (suc zero)) low = days_of_months_table (pos y) 2 low
+before_month y (suc (suc (suc zero))) low = days_of_months_table (pos y) 3 low
+before_month y (suc (suc (suc (suc zero)))) low = days_of_months_table (pos y) 4 low
+before_month y (suc (suc (suc (suc (suc zero))))) low = days_of_months_table (pos y) 5 low
+before_month y (suc (suc (suc (suc (suc (suc zero)))))) low = days_of_months_table (pos y) 6 low
+before_month y (suc (suc (suc (suc (suc (suc (suc zero))))))) low = days_of_months_table (pos y) 7 low
+before_month y (suc (suc (suc (suc (suc (suc (suc (suc zero)))))))) low = days_of_months_table (pos y) 8 low
+before_month y (suc (suc (suc (suc (suc (suc (suc (suc (suc zero))))))))) low = days_of_months_table (pos y) 9 low
+before_month y (suc (suc (suc (suc (suc (suc (suc (suc (suc (suc zero)))))))))) low = days_of_months_table (pos y) 10 low
+before_month y (suc (suc (suc (suc (suc (suc (suc (suc (suc (suc (suc zero))))))))))) low = days_of_months_table (pos y) 11 low
+before_month y (suc (suc (suc (suc (suc (suc (suc (suc (suc (suc (suc (suc n)))))))))))) low = absurd (omega arith)
+
+-- the library's count of days for 1 January 2060
+start_of_2060 : day_count (pos 2060) 1 1 ≡ 4_404_825
+unfolding day_count days_of_years days_of_months
+start_of_2060 = refl
+
+-- a day of the years 1960 to 2059, some years after 1960
+module _ (years y month day : ℕ) (since : years + 1960 ≡ y) (high : y ≤ 2059) (good : is_calendar_day y month day ≡ true) where
+  its_parts : IsCivilDate (pos y) month day
+  its_parts =
+      let date = (is_calendar_day-IsDate y month day (omega arith)).0 good in (
+        date.0,
+        (omega (arith, signed_arith, date.1), omega (arith, signed_arith, date.1)),
+        (omega (arith, signed_arith, date.2), omega (arith, signed_arith, date.2)),
+      )
+
+  -- the days before the year, the days before the month and the day make one more than the day
+  -- number
+  pub numbered : (leap : Bool) → leap ≡ is_leap_year (pos y)
+      → 365 * years + ((years + 3) / 4 + leap_before leap month) + days_before month + day ≡ day_number y month day + 1
+  numbered leap is =
+      let back : suc (month - 1) ≡ month = omega (arith, its_parts.1.0) in
+      let low : month - 1 < 12 = omega (arith, its_parts.1.0, its_parts.1.1) in
+      let before : days_of_months (pos y) (month - 1) ≡ days_before month + leap_before leap month =
+      before_month y (month - 1) low ∙ (λ i. days_before (back i) + leap_before (sym is i) (back i)) in
+      let number = day_number-day_count y month day (omega arith) (omega arith) its_parts.1.0 its_parts.2.0 in
+      let place = day_count-day_of_year (pos y) month day its_parts.2.0 in
+      let start = day_count-early (pos y) (y + 9999) 1 1 (omega (arith, signed_arith)) (omega arith) (omega arith) (omega arith) in
+      omega arith
+
+  -- the last day is 31 December 2059
+  pub number_bound : day_number y month day ≤ last_day
+  number_bound =
+      let number = day_number-day_count y month day (omega arith) (omega arith) its_parts.1.0 its_parts.2.0 in
+      let next = day_count-lt_year (pos y) month day (pos 2060) 1 1 its_parts (omega arith) (omega (arith, signed_arith)) in
+      omega (arith, start_of_2060)

@@ -1,0 +1,16 @@
+use Rattle.std.proofs.Common.{ℕ, w8, nat_lt, cond, refl, arith}
+use Rattle.std.specs.Prelude.{◌==◌, ◌||◌}
+use Rattle.std.proofs.lemmas.Simd.{length-chunk, chunk-fits}
+use lib.Lanes.{chunk}
+use Rattle.cif_line.proofs.Lanes.{no_lane_set}
+use Rattle.cif_line.proofs.days.are_four_flags.Goals as goal
+
+-- the lane of a byte: set if it is above another
+above : ℕ → ℕ → ℕ
+above limit x = cond (nat_lt limit x) 255 0
+
+pub returns : goal.returns
+unfolding above
+returns c =
+    no_lane_set (λ b. (b == 48) || (b == 49)) (chunk 0 4 c.args.field.now) 4 above _ 1 48 (length-chunk 0 4 c.args.field.now c.requires) (omega arith)
+    (chunk-fits w8 0 4 c.args.field.now c.type_inv.field) refl
