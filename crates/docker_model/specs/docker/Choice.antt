@@ -1,4 +1,4 @@
--- Which of a train's schedules counts on a day, and which association of a group. A day is any
+-- Which schedule of a UID is chosen for a day, and which association of a group. A day is any
 -- number here, without a bound; dockers are made only for days 0 to 36524.
 use Rattle.std.specs.Prelude.{◌≡◌, ℕ, Bool, false, ◌&&◌, nat_le, IsTrue, List, Option, Some, None}
 use Rattle.std.specs.declared.cmp.Ordering.{Ordering}
@@ -44,11 +44,12 @@ IsCancellation indicator = indicator ≡ 67
 abbrev pub choice_cmp : ℕ → ℕ → ℕ → ℕ → Ordering
 choice_cmp indicator first other_indicator other_first = ordering_then (nat_cmp indicator other_indicator) (nat_cmp other_first first)
 
--- the order of choice between two schedules of one UID: the first one is chosen
+-- the order of choice between two schedules of one UID: the schedule that comes first is chosen
 abbrev pub schedule_choice_cmp : ScheduleKey → ScheduleKey → Ordering
 schedule_choice_cmp a b = choice_cmp a.indicator a.runs_from b.indicator b.runs_from
 
--- the order of choice between two associations of one group: the first one is chosen
+-- the order of choice between two associations of one group: the association that comes first is
+-- chosen
 abbrev pub association_choice_cmp : AssociationKey → AssociationKey → Ordering
 association_choice_cmp a b = choice_cmp a.indicator a.start b.indicator b.start
 

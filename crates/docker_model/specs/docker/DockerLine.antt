@@ -9,8 +9,8 @@ use Rattle.docker_model.specs.file.Change.{ScheduleKey}
 use Rattle.docker_model.specs.state.Order.{bytes_cmp}
 use Rattle.docker_model.specs.docker.Event.{has_identity, Event, event_line, event_identity}
 
--- what a docker line has at its end: for an event the TIPLOCs of the train's origin and
--- destination, and for an association the associated train's UID and identity
+-- the end of a docker line: for an event the TIPLOCs of the train's origin and destination, and for
+-- an association the associated train's UID and identity
 pub data Detail : Type 0 where
   ends : (origin destination : List ℕ) → Detail
   partner : (uid identity : List ℕ) → Detail

@@ -26,8 +26,8 @@ events_of lines =
     map (λ counted. record { number = counted.0; place = counted.1.0; occasion = counted.1.1.0; time = counted.1.1.1 })
     (enumerate_from 1 (placed_times lines))
 
--- how often a schedule passes midnight before or at the event with this number. It is 0 for the
--- numbers 0 and 1; above the last number it counts every midnight
+-- how often a schedule passes midnight before or at the event with this number. For the numbers 0
+-- and 1 the result is 0. For a number above the last event's, the result counts every midnight
 abbrev pub falls_to : List (List ℕ) → ℕ → ℕ
 falls_to lines number = fall_count (take number (times_along lines))
 
@@ -50,7 +50,7 @@ abbrev pub has_identity : List ℕ → List ℕ → Bool
 has_identity identity line = bytes_eq (columns 1 2 line) identity
 
 -- the train identity at an event: from the last change en route before the event's record, or from
--- the basic schedule if there is none
+-- the basic schedule if there is no such change
 abbrev pub event_identity : List (List ℕ) → Event → List ℕ
 event_identity lines event =
     changed_identity (last_or None (filter (λ line. has_identity (codes "CR") line) (take event.place lines))) (first_record lines)
@@ -59,7 +59,7 @@ event_identity lines event =
 abbrev pub is_at : List ℕ → ℕ → List ℕ → Bool
 is_at location suffix line = bytes_eq (columns 3 9 line) location && (column 10 line == suffix)
 
--- the first event with this TIPLOC and suffix: the first time in the first such location record
--- that has a time. The docker line of an association belongs to this event of the base train
+-- the first event whose record has this TIPLOC and suffix, or `None` if there is no such event. The
+-- docker line of an association is printed for this event of the base train
 abbrev pub first_event_at : List (List ℕ) → List ℕ → ℕ → Option Event
 first_event_at lines location suffix = find (λ event. is_at location suffix (event_line lines event)) (events_of lines)

@@ -7,9 +7,8 @@ use Rattle.docker_model.specs.records.Clock.{is_blank}
 use Rattle.docker_model.specs.records.Field.{is_deletion, as_new}
 use Rattle.docker_model.specs.file.File.{follows_basic}
 
--- the key of an association. It has the UIDs of the base train and the associated train, and the
--- first date as a day number. It also has the timing point, the base train's suffix and the STP
--- indicator
+-- the key of an association: the UIDs of the base train and the associated train, the first date as
+-- a day number, the timing point, the base train's suffix and the STP indicator
 pub record AssociationKey : Type 0 where
   pub base : List ℕ
   pub associated : List ℕ
@@ -31,14 +30,14 @@ pub data Key : Type 0 where
   association_key : (key : AssociationKey) → Key
   schedule_key : (key : ScheduleKey) → Key
 
--- a body, which a put leaves at its key: columns 10 to 72 of a TIPLOC record, the whole record of
--- an association, or the records of a schedule
+-- a body, which is the value that a put stores at its key: columns 10 to 72 of a TIPLOC record, the
+-- whole record of an association, or the records of a schedule
 pub data Body : Type 0 where
   tiploc_body : (bytes : List ℕ) → Body
   association_body : (line : List ℕ) → Body
   schedule_body : (lines : List (List ℕ)) → Body
 
--- what a change does to its key: it deletes the key, or puts a body there
+-- what a change does to its key: it deletes the key, or puts a body at the key
 pub data Act : Type 0 where
   delete : Act
   put : (body : Body) → Act
@@ -84,16 +83,16 @@ tiploc_details line = tiploc_body (columns 10 72 line)
 abbrev pub keeps_code : List ℕ → Bool
 keeps_code line = is_blank (columns 73 79 line) || bytes_eq (columns 73 79 line) (columns 3 9 line)
 
--- the records of a schedule after its basic schedule. Of all records that follow in the file, these
--- are the ones before the next unit or the trailer
+-- the records of a schedule after its basic schedule, from all records that follow in the file.
+-- They end before the next unit or the trailer
 abbrev pub schedule_rest : List (List ℕ) → List (List ℕ)
 schedule_rest following = take_while (λ line. follows_basic (kind_of line)) following
 
--- what a record of this kind does: a list of keys, each with its act. The last argument is the
--- records that follow it. A TIPLOC amendment with a new code does two things: it deletes the old
--- code and puts the new one. A basic schedule puts the whole schedule, and the records after it in
--- the schedule do nothing. A schedule or an association is put with its transaction set to N, so a
--- new record and a revision put the same body
+-- the acts of a record of this kind: a list of keys, each with its act. The last argument is the
+-- records that follow this record in the file. A TIPLOC amendment with a new code does two things:
+-- it deletes the old code and puts the new one. A basic schedule puts the whole schedule, and the
+-- records after it in the schedule do nothing. A schedule or an association is put with its
+-- transaction set to N, so a new record and a revision put the same body
 abbrev pub acts_by_kind : Option Kind → List ℕ → List (List ℕ) → List (Key × Act)
 acts_by_kind (Some tiploc_insert) line following = (tiploc_named line, put (tiploc_details line)) ∷ []
 acts_by_kind (Some tiploc_amend) line following =
@@ -107,7 +106,7 @@ acts_by_kind (Some basic_schedule) line following =
 acts_by_kind _ line following = []
 
 -- the changes that one record makes, each with this record number. The last argument is the records
--- that follow it
+-- that follow this record in the file
 abbrev pub changes_of_record : ℕ → List ℕ → List (List ℕ) → List Change
 changes_of_record number line following =
     map (λ act. record { number = number; key = act.0; act = act.1 }) (acts_by_kind (kind_of line) line following)

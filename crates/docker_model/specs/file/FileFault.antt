@@ -76,8 +76,9 @@ pub record FileFault : Type 0 where
   pub number : ℕ
   pub cause : FileCause
 
--- this is the fault of the first record at fault. All records before it are within the limit and
--- begin a file; with it they are over the limit or no longer begin a file
+-- this is the fault of the first record at fault. The records before that record are within the
+-- limit and begin a file. Together with that record, they are over the limit or no longer begin a
+-- file
 pub record IsRecordFault (limit : ℕ) (records : List (List ℕ)) (fault : FileFault) : Type 0 where
   pub earlier : List (List ℕ)
   pub line : List ℕ

@@ -82,12 +82,12 @@ runs_on_weekday field weekday = slice_index field weekday == 49
 abbrev pub weekday_of : ℕ → ℕ
 weekday_of day = (day + 4) % 7
 
--- the year of a day number from 0 to 36524. It is found as the last year that has begun by then
+-- the year of a day number from 0 to 36524: the last year that begins on or before that day
 abbrev pub year_of : ℕ → ℕ
 year_of day = 1959 + count_by (λ year. nat_le (day_number year 1 1) day) (range_with_len 1960 100)
 
--- the month of a day number from 0 to 36524. It is found as the last month of the year that has
--- begun by then
+-- the month of a day number from 0 to 36524: the last month of its year that begins on or before
+-- that day
 abbrev pub month_of : ℕ → ℕ
 month_of day = count_by (λ month. nat_le (day_number (year_of day) month 1) day) (range_with_len 1 12)
 

@@ -69,6 +69,6 @@ is_location (Some intermediate_location) = true
 is_location (Some terminating_location) = true
 is_location _ = false
 
--- a list of lines, each a list of bytes. They may be records
+-- a list of lines, each a list of bytes, such as the records of a file
 abbrev pub Lines : Type 0
 Lines = List (List ℕ)

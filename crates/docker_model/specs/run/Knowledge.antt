@@ -11,7 +11,7 @@ use Rattle.docker_model.specs.run.Run.{take_file, send_state, deliver, reload, h
 abbrev pub HaveSameFiles : Files → Files → Type 0
 HaveSameFiles first second = (file : List (List ℕ)) → Contains first file ↔ Contains second file
 
--- both know the same: the same files and the same horizon
+-- both have the same knowledge: the same files and the same horizon
 abbrev pub AreOneKnowledge : Known → Known → Type 0
 AreOneKnowledge first second = HaveSameFiles first.files second.files × (first.horizon ≡ second.horizon)
 
@@ -23,8 +23,8 @@ AreFiles files = All IsFile files × All (λ file. length file ≤ most_records)
 abbrev pub IsGoodKnown : Format → Known → Type 0
 IsGoodKnown format known = AreFiles known.files × IsHorizonOf format known.horizon
 
--- this event may be part of a run: a limit on a file is at most 4,294,967,294 records, and the
--- format allows a horizon
+-- this event may be part of a run. If it takes a file, its limit is at most 4,294,967,294 records.
+-- If it sets a horizon, the format allows that horizon
 abbrev pub IsGoodEvent : Format → RunEvent → Type 0
 IsGoodEvent format (take_file office text limit) = limit ≤ most_records
 IsGoodEvent format (horizon_event office day) = IsHorizonOf format day

@@ -61,7 +61,7 @@ office_known known office = slice_index_or known.offices office nothing
 abbrev pub message_known : KnownSets → ℕ → Known
 message_known known message = slice_index_or known.messages message nothing
 
--- what is known once this office knows `now` instead
+-- the knowledge after this office's part of it is replaced by `now`
 abbrev pub with_office : KnownSets → ℕ → Known → KnownSets
 with_office known office now = record { offices = slice_set known.offices office now; messages = known.messages }
 
@@ -97,8 +97,8 @@ IsOffice known office = office < length known.offices
 abbrev pub IsMessage : KnownSets → ℕ → Type 0
 IsMessage known message = message < length known.messages
 
--- this reply may follow when an office takes a file: `done` if the text is a file, its fault if
--- not, or out of memory in either case
+-- this reply is allowed when an office takes a file: `done` if the text is a file, the text's fault
+-- if it isn't, and out of memory in either case
 abbrev pub IsFileReply : ℕ → List ℕ → Reply → Type 0
 IsFileReply limit text done = IsFileText limit text (lines_of text)
 IsFileReply limit text (refused (bad_file fault)) = IsFileFault limit text fault
@@ -149,16 +149,16 @@ IsStateOf known state = IsSummary known.files known.horizon state
 abbrev pub IsMessageOf : Format → Known → List ℕ → Type 0
 IsMessageOf format known text = (state : State) × IsStateOf known state × (text ≡ state_text format state)
 
--- what a run leaves: the state of each office, the text of each message, and the reply to each
+-- the result of a run: the state of each office, the text of each message, and the reply to each
 -- event
 pub record Exchange : Type 0 where
   pub states : List State
   pub messages : List (List ℕ)
   pub replies : List Reply
 
--- these events at this many offices may leave this exchange. Each reply is one that its event may
--- have. Each state is the summary of what its office knows at the end. Each message is the text, in
--- this format, of the summary of what the message knows
+-- this exchange is a possible result of these events at this many offices. Each event may have its
+-- reply. Each state is the summary of what its office knows at the end. Each message is the text,
+-- in this format, of the summary of what the message knows
 pub record IsRun (format : Format) (offices : ℕ) (events : List RunEvent) (exchange : Exchange) : Type 0 where
   pub replies : AreReplies (none_known offices) events exchange.replies
   pub states : AllZip IsStateOf (known_sets offices events exchange.replies).offices exchange.states
