@@ -42,14 +42,14 @@ impl<D> Fuse<D> {
         }
     }
 
-    /// The device within it.
+    /// The device within the fuse.
     pub fn device(&self) -> &D
         ensures { result.now ≡ self.now.device }
     {
         &self.device
     }
 
-    /// Counts a call, and returns whether it is the one that fails.
+    /// Counts a call, and returns whether this call is the one that fails.
     fn blows(&mut self) -> bool
         ensures blows { IsTrue result ↔ (self.old.calls ≡ 1) }
         ensures counted { self.new ≡ record self.old { calls = self.old.calls - 1 } }

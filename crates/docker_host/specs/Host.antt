@@ -2,9 +2,11 @@
 use Rattle.std.specs.Prelude.{ℕ, ◌^◌, ◌-◌, ◌<◌, Bool, List}
 use Rattle.docker_host.specs.History.{Bytes, Event}
 
--- All devices of a program at one position. The bytes of a device that can't name them are `None`.
+-- All devices of a program at one moment. If contracts don't know the bytes of a device, they are
+-- `None`.
 pub record HostView : Type 0 where
-  -- the bytes left in the input, whether its end was reported, and whether it was read after that
+  -- the bytes left in the input, whether its end was reported, and whether the input was read after
+  -- that
   pub input : Bytes
   pub ended : Bool
   pub passed : Bool

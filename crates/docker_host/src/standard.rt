@@ -5,7 +5,7 @@ use std::os::fd::AsRawFd;
 /// The highest file descriptor of a standard stream, which is standard error.
 const LAST_STANDARD: i32 = 2;
 
-/// What is open under the descriptors of closed standard streams. It can be neither read nor
+/// Files that hold the descriptors of closed standard streams. They can be neither read nor
 /// written.
 #[derive(Drop)]
 pub struct Standard {

@@ -4,7 +4,7 @@ use std::fs::{File, Metadata};
 use std::os::unix::fs::MetadataExt;
 
 /// The identity of a file, its size, and the time when it was last written. They distinguish the
-/// file from one that takes its place.
+/// file from a file that replaces it.
 #[derive(Clone, Copy, PartialEq, Eq)]
 pub(crate) struct Version {
     device: u64,
