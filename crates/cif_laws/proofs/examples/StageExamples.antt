@@ -22,7 +22,7 @@ no_header = refl
 whole_schedule : stage_of f2_schedule ≡ Some after_journey
 whole_schedule = refl
 
--- if several causes hold for a record, the first in their order is reported
+-- if several causes hold for a record, the cause with the lowest rank is reported
 over_limit : cause_of 5 5 after_end zz ≡ too_many
 over_limit = refl
 
