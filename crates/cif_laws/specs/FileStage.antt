@@ -50,8 +50,8 @@ place_by_kind (in_schedule stage lines) kind line =
     in_stage_or (lines ++ line ∷ []) (stage_after stage kind) (cond (may_end stage lines) (unit_by_kind kind line) None)
 place_by_kind after_end kind line = None
 
--- whether a record at this place is sound: it has good fields and, in a schedule, isn't the third
--- passage of midnight. In a deletion neither is checked
+-- whether a record at this place is sound: it has good fields and, in a schedule, the schedule
+-- doesn't pass midnight for the third time at the record. In a deletion neither is checked
 abbrev pub is_sound_at : Place → List ℕ → Bool
 is_sound_at (in_schedule stage lines) line = cond (is_some (stage_after stage (kind_of line))) (is_sound_next lines line) (has_good_fields line)
 is_sound_at _ line = has_good_fields line

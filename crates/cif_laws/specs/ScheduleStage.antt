@@ -38,8 +38,8 @@ may_end after_journey lines = true
 may_end in_journey lines = false
 may_end _ lines = may_lack (first_record lines)
 
--- whether the next record is sound: it has good fields and isn't the third passage of midnight. In
--- a deletion neither is checked
+-- whether the next record is sound: it has good fields, and the schedule doesn't pass midnight for
+-- the third time at the record. In a deletion neither is checked
 abbrev pub is_sound_next : Lines → List ℕ → Bool
 is_sound_next lines line = is_deletion (first_record lines) || (has_good_fields line && nat_le (midnights (lines ++ line ∷ [])) 2)
 

@@ -214,7 +214,7 @@ at_from (line ∷ rest) place records final at found =
 pub at_of_place : (records : Lines) (place : Place) → IsPlaceOf records place → IsAt place records
 at_of_place records place found = at_from records before_header [] place refl found
 
--- ---- records that lead to a place begin some file
+-- ---- records that have a place begin some file
 
 -- for each kind that may follow there is a good record that has a next place
 pub witness_next : (place : Place) (records : Lines) (kind : Kind) (next : Place) → IsAt place records → place_by_kind place (Some kind)
@@ -270,7 +270,7 @@ at_begins (in_schedule in_journey lines) records at = journey_begins lines recor
 at_begins (in_schedule after_journey lines) records at = between_begins records (within_ended after_journey lines records at refl)
 at_begins after_end records at = file_begins records at
 
--- ---- the records of a file lead to the place after the trailer
+-- ---- the place after the records of a file
 
 place_from_append : (front : Lines) (place middle : Place) (more : Lines) → place_from place front ≡ Some middle
     → place_from place (front ++ more) ≡ place_from middle more

@@ -77,7 +77,7 @@ behind_front (first ∷ front) last (second ∷ earlier) line later e same =
     let rest = behind_front front last earlier line later tails (omega arith) in
     (λ i. sym heads i ∷ rest.0 i, rest.1)
 
--- ---- a fault that has been shown stays
+-- ---- a determined fault is preserved
 
 -- two lines that don't have 80 bytes have the same cause at the same place
 cause_stays : (limit : ℕ) (earlier : Lines) (line other : List ℕ) (cause : FileCause) → length line ≢ 80 → length other ≢ 80 → IsCause limit earlier line cause
@@ -199,7 +199,7 @@ fault_in_the_end limit text more fault told = inl (fault_stays limit text more f
 pub one_fault_so_far : (limit : ℕ) (text : List ℕ) (first second : FileFault) → IsFaultSoFar limit text first → IsFaultSoFar limit text second → first ≡ second
 one_fault_so_far limit text first second one two = one_fault limit text first second (inl one.is) (inl two.is)
 
--- ---- bytes show a fault, or their complete lines begin a file
+-- ---- bytes determine a fault, or their complete lines begin a file
 
 -- if the incomplete line has at most 81 bytes, the number of certain lines is the number of complete lines
 pub sure_lines_short : (text : List ℕ) → length (open_line text) ≤ 81 → sure_lines text ≡ length (complete_lines text)

@@ -34,7 +34,7 @@ piece_is piece = by (slice_index piece (length piece - 1) == 13) refl
     by true h = inr (last_is piece (eqb-true _ _ h) ∙ (λ i. cond (sym h i) (take (length piece - 1) piece) piece ++ 13 ∷ []))
     by false h = inl (λ i. cond (sym h i) (take (length piece - 1) piece) piece)
 
--- if a text consists of lines, then a piece, a line feed and this text consist of the line in the piece and these lines
+-- if a text consists of some lines, then a piece followed by a line feed and this text consists of the line in the piece and these lines
 one_more : (piece : List ℕ) (lines : List (List ℕ)) (rest : List ℕ) → IsTextOf lines rest → IsTextOf (strip_carriage_return piece ∷ lines) (piece ++ 10 ∷ rest)
 one_more piece [] rest told = by (piece_is piece)
   where
@@ -56,7 +56,7 @@ one_more piece (line ∷ lines) rest told = by (piece_is piece)
       told,
     )
 
--- pieces joined with line feeds consist of the lines in these pieces
+-- if pieces are joined with line feeds, the text consists of the lines in these pieces
 pieces_text : (pieces : List (List ℕ)) → IsTextOf (map strip_carriage_return (without_empty_last pieces)) (join_with_byte 10 pieces)
 pieces_text [] = refl
 pieces_text ([] ∷ []) = refl
