@@ -20,7 +20,7 @@ use Rattle.state_laws.proofs.states.Lapse.{below_or, put_lapses, put_stays, has_
 use Rattle.state_laws.proofs.states.LapsedGreatest.{lapsed_from}
 use Rattle.state_laws.proofs.states.KeptEntries.{lapse_ascends}
 
--- items keep their floor when the items below it are left out
+-- leaving out items below the floor leaves the floor unchanged
 pub kept_floor : (items ledger : List LedgerItem) (floor : Option FileStamp) → IsFloor items floor
     → ((item : LedgerItem) → Contains ledger item → Contains items item) → ((item : LedgerItem) → Contains items item → IsKept floor item.stamp
     → Contains ledger item)
@@ -34,7 +34,7 @@ kept_floor items ledger (Some stamp) greatest from to = record {
   greatest = λ item among. greatest.greatest item (from item among);
 }
 
--- a ledger that has all kept items has the file stamp of each kept item
+-- if the joined ledger has all kept items of a ledger, it has the file stamp of each of them
 pub stamp_stays : (ledger joined : List LedgerItem) (floor : Option FileStamp) → ((item : LedgerItem) → Contains ledger item → IsKept floor item.stamp
     → Contains joined item)
     → (stamp : FileStamp) → IsKept floor stamp → Contains (map (λ (item : LedgerItem). item.stamp) ledger) stamp
@@ -44,7 +44,7 @@ stamp_stays ledger joined floor to stamp kept among =
     subst (Contains (map (λ (item : LedgerItem). item.stamp) joined)) found.2
     (map-Contains (λ (item : LedgerItem). item.stamp) joined found.0 (to found.0 found.1 (subst (IsKept floor) (sym found.2) kept)))
 
--- a well-formed op is well formed after the lapse
+-- the lapse preserves that an op is well formed
 op_lapses : (horizon : ℕ) (key : Key) (op : Op) → IsOpOf key op → IsOpOf key (lapse horizon op)
 op_lapses horizon key deleted good = tt
 op_lapses horizon key lapsed good = tt
@@ -54,7 +54,7 @@ op_lapses horizon key (put_with body) good = by (below_or horizon body)
     by (inl below) = subst (IsOpOf key) (sym (put_lapses horizon body below)) tt
     by (inr above) = subst (IsOpOf key) (sym (put_stays horizon body above)) good
 
--- a good entry is good after the lapse
+-- the lapse preserves that an entry is good
 pub good_lapses : (horizon : ℕ) (ledger : List LedgerItem) (key : Key) (entry : Entry) → IsGoodEntry ledger (key, entry)
     → IsGoodEntry ledger (key, lapse_entry horizon entry)
 good_lapses horizon ledger key entry good = record { key = good.key; stamp = good.stamp; op = op_lapses horizon key entry.op good.op }
@@ -112,7 +112,7 @@ join_is_valid first second joined one two is = record {
         moved second.ledger (λ item among keeps. (is.ledger item).1 (Contains-append_right first.ledger second.ledger item among, keeps)) entry kept
         (All-contains (IsGoodEntry second.ledger) second.entries entry two.entries.0 here)
 
--- a valid state is valid after the lapse, if the horizon is a day number
+-- the lapse under a day number preserves that a state is valid
 pub lapsed_is_valid : (horizon : ℕ) (state : State) → IsDay horizon → IsValid state → IsValid (lapse_state horizon state)
 lapsed_is_valid horizon state day valid = record {
   horizon = day;
@@ -129,13 +129,13 @@ lapsed_is_valid horizon state day valid = record {
       subst (HasNotToLapse horizon) (ap (λ (e : Entry). e.op) told.2) (has_lapsed horizon told.0.op));
 }
 
--- a valid state is valid after a horizon is set, if the horizon is a day number
+-- setting a horizon that is a day number preserves that a state is valid
 pub raised_is_valid : (horizon : ℕ) (state : State) → IsDay horizon → IsValid state → IsValid (raise_horizon horizon state)
 raised_is_valid horizon state day valid = lapsed_is_valid (max state.horizon horizon) state (max_most state.horizon horizon last_day valid.horizon day) valid
 
 -- ---- the floor of a ledger
 
--- the ledger of a state has only one floor
+-- the ledger of a state has at most one floor
 pub one_floor : (state : State) (first second : Option FileStamp) → IsFloor state.ledger first → IsFloor state.ledger second → first ≡ second
 one_floor state = floor_unique state.ledger state.ledger (λ item. (λ x. x, λ x. x))
 
@@ -143,8 +143,7 @@ one_floor state = floor_unique state.ledger state.ledger (λ item. (λ x. x, λ 
 abbrev pub first_full : List LedgerItem → Option FileStamp
 first_full ledger = option_map (λ (item : LedgerItem). item.stamp) (find (λ (item : LedgerItem). item.indicator == 70) ledger)
 
--- this is the file stamp of some full extract among the items. It is `None` if no item is for a
--- full extract
+-- this is the file stamp of some full extract among the items, or `None` if no item is for a full extract
 FirstFull : List LedgerItem → Option FileStamp → Type 0
 FirstFull ledger None = (item : LedgerItem) → Contains ledger item → ¬ IsFull item
 FirstFull ledger (Some stamp) = (item : LedgerItem) × Contains ledger item × IsFull item × (item.stamp ≡ stamp)
