@@ -73,9 +73,9 @@ pub record Round : Type 0 where
   pub again : List ℕ
   pub step : ℕ
 
--- the endless source returned these bytes. They are the first bytes of what was left followed by
--- enough repetitions of the repeated text; the rest of this text is left now. For example, with `a`
--- left and `bc` repeated, a read of `abcb` leaves `c`
+-- the endless source returned these bytes. The bytes are a prefix of the text that was left,
+-- followed by enough repetitions of the repeated text. The rest of that concatenation is left now.
+-- For example, with `a` left and `bc` repeated, a read of `abcb` leaves `c`
 abbrev pub Goes : Round → List ℕ → Round → Type 0
 Goes old bytes new = (new.again ≡ old.again) × (new.step ≡ old.step)
     × (times : ℕ) × (old.left ++ concat (replicate times old.again) ≡ bytes ++ new.left)

@@ -38,7 +38,7 @@ byte_cause place line = with_column bad_byte (leftmost_bad_byte line) (kind_caus
 abbrev pub length_cause : Place → List ℕ → FileCause
 length_cause place line = cond (length line == 80) (byte_cause place line) bad_length
 
--- `after_trailer` if the trailer came before the record, and otherwise `length_cause`
+-- `after_trailer` if the place is after the trailer, and otherwise `length_cause`
 abbrev pub end_cause : Place → List ℕ → FileCause
 end_cause place line = cond (is_after_end place) after_trailer (length_cause place line)
 

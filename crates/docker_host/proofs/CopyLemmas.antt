@@ -1,4 +1,4 @@
--- A search through the places of a shelf for the text of a name.
+-- The search for the text of a name in the places of a shelf.
 use Rattle.std.proofs.Common.{◌≡◌, ℕ, ◌+◌, ◌<◌, ◌≤◌, List, ◌∷◌, Some, None, true, false, length, drop, refl, ap, sym, ◌∙◌, string_bytes, add-one}
 use Rattle.std.proofs.Math.Seq.{drop-cons}
 use Rattle.std.proofs.Math.ListN.{drop_of_length-le, get_or}

@@ -1,4 +1,4 @@
--- How to make a struct that has only ghost fields. Such a struct takes no memory. Assumes `Logic`.
+-- Making a struct that has only ghost fields. The struct takes no memory. Assumes `Logic`.
 use Rattle.std.proofs.Common.{List, [], ◌∷◌, refl}
 use seplogic.Ra.Ura.{Ura}
 use mir.Val.{Val, vstruct, vnil}

@@ -1,4 +1,4 @@
--- The invariant of a shelf: its files hold what its history says.
+-- The invariant of a shelf: the shelf agrees with its history.
 use Rattle.std.proofs.Common.{◌≡◌, List, [], ◌∷◌, ◌++◌, Some, refl, sym, ap, ◌∙◌, string_bytes}
 use Rattle.docker_host.specs.History.{Text, Event, opened, placed}
 use Rattle.docker_host.specs.Shelf.{Texts, no_texts, with_text, after_event, after_events, IsMet, AreMet, text_under}
@@ -11,7 +11,7 @@ pub after_events-append : (texts : Texts) (events : List Event) (event : Event)
 after_events-append texts [] event = refl
 after_events-append texts (first ∷ events) event = after_events-append (after_event texts first) events event
 
--- if each file that some events open has the text last placed under its name, this still holds after one more event that satisfies it
+-- appending an event that satisfies `IsMet` to events that satisfy `AreMet` preserves `AreMet`
 pub AreMet-append : (texts : Texts) (events : List Event) (event : Event)
     → AreMet texts events → IsMet (after_events texts events) event → AreMet texts (events ++ event ∷ [])
 AreMet-append texts [] event met last = (last, tt)

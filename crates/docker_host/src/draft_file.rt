@@ -73,8 +73,8 @@ impl DraftFile {
         let Some(place) = place else {
             return Ok(None);
         };
-        // The version is read from the open draft, before the draft has the name of the file. So it
-        // can't be the version of any other file.
+        // The version is read from the open draft, before the draft has the name of the file. So
+        // the version can't be the version of any other file.
         let version = Version::of_open(&file);
         if place.replace(rt, &file).is_err() {
             place.remove(rt);

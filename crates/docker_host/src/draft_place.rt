@@ -1,12 +1,12 @@
 //! Drafts, each in the folder of the file that it will replace. A draft is locked while its command
 //! runs, and marked until it has replaced its file. So a marked draft without a lock was left over
-//! by a command that was stopped. The next command removes such a draft.
+//! by a command that was stopped. The next command removes this draft.
 use crate::folder::OpenFault;
 use std::fs::{File, Metadata, Permissions, TryLockError};
 use std::os::unix::fs::{MetadataExt, OpenOptionsExt, PermissionsExt};
 use std::{fs, io};
 
-/// What the name of a draft adds to the name of its file.
+/// The suffix of a draft's name. The rest of the name is the name of the file.
 const SUFFIX: &str = ".new";
 
 /// The permission bit that marks a draft: the sticky bit, which means nothing else on a regular
@@ -96,8 +96,8 @@ fn stands_under(rt: &HostRuntime, file: &File, name: &str) -> bool {
     held.dev() == there.dev() && held.ino() == there.ino()
 }
 
-/// Removes the file with the name of a draft, if a stopped command left it over. Any other file
-/// stays.
+/// Removes the file with the name of a draft, if a stopped command left it over. Leaves any other
+/// file.
 fn remove_left_over(rt: &HostRuntime, name: &str) {
     let Ok(there) = fs::symlink_metadata(rt, name) else {
         return;
@@ -114,7 +114,8 @@ fn remove_left_over(rt: &HostRuntime, name: &str) {
 }
 
 /// Whether a file that this command has locked is still a marked draft under this name. The file is
-/// no longer such a draft if the command that made it has ended meanwhile.
+/// no longer a marked draft, or no longer under this name, if the command that made the draft has
+/// ended meanwhile.
 fn is_left_over(rt: &HostRuntime, left: &File, name: &str) -> bool {
     let Ok(held) = left.metadata() else {
         return false;

@@ -11,8 +11,8 @@ use std::io::ErrorKind;
 /// Why a file couldn't be opened, or no draft could be made.
 #[derive(Clone, Copy, PartialEq, Eq, Debug)]
 pub enum OpenFault {
-    /// The file doesn't exist, may not be opened in this way, is no longer the one that was seen,
-    /// or the device failed.
+    /// The file doesn't exist, may not be opened in this way, or is no longer the file that was
+    /// seen, or the device failed.
     Failed,
     /// Out of memory: an allocation was refused.
     Memory,

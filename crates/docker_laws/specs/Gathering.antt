@@ -108,8 +108,8 @@ row_lines trains links place day _ _ = []
 abbrev pub gathered : (List ℕ → ℕ → Option Train) → (Group → ℕ → Option Link) → List ℕ → ℕ → List Row → List DockerLine
 gathered trains links place day rows = flat_map (λ row. row_lines trains links place day row.0 row.1) rows
 
--- a walk over these rows finds each docker line of the place. The rows are live and in key order,
--- and include each schedule that calls at the place and each association at the place
+-- a walk over these rows can find each docker line of the place. The rows are live and in key
+-- order, and include each schedule that calls at the place and each association at the place
 pub record IsWalk (live : Table) (place : List ℕ) (rows : List Row) : Type 0 where
   pub ascending : AreInKeyOrder rows
   pub each : (key : Key) (body : Body) → Contains rows (key, body) → live key ≡ Some body

@@ -89,7 +89,7 @@ pub record IsThinning (place : List ℕ) (day : ℕ) (changes kept : List Change
 abbrev pub HasNoChangeOf : Key → List Change → Type 0
 HasNoChangeOf key changes = (change : Change) → Contains changes change → ¬ (change.key ≡ key)
 
--- no change in the list has a key above this one
+-- no change in the list has a key above this key
 abbrev pub AreAtMost : Key → List Change → Type 0
 AreAtMost highest changes = (change : Change) → Contains changes change → IsAtMost key_cmp change.key highest
 

@@ -22,7 +22,7 @@ use Rattle.cif_laws.proofs.files.CompleteLines.{GoesOn, goes_on, lines_of_told, 
 
 -- ---- a piece of more than 81 bytes is no record
 
--- stripping the carriage return makes a piece at most one byte shorter
+-- the line of a piece is at most one byte shorter than the piece
 pub strip_long : (piece : List ℕ) → length piece ≤ length (strip_carriage_return piece) + 1
 strip_long piece = by (slice_index piece (length piece - 1) == 13)
   where

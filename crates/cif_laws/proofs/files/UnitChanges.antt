@@ -39,7 +39,7 @@ basic_alike n basic following others is run =
 
 -- ---- the records after a basic schedule
 
--- a record that can follow a basic schedule makes no change
+-- a record that can follow a basic schedule has no changes
 follower_changes_nothing : (kind : Option Kind) (line : List ℕ) (following : List (List ℕ)) → follows_basic kind ≡ true → acts_by_kind kind line following ≡ []
 follower_changes_nothing (Some extra_details) line following h = refl
 follower_changes_nothing (Some origin_location) line following h = refl
@@ -48,7 +48,7 @@ follower_changes_nothing (Some terminating_location) line following h = refl
 follower_changes_nothing (Some change_en_route) line following h = refl
 follower_changes_nothing _ line following h = cc
 
--- a prefix of records that can follow a basic schedule makes no changes, so the changes are the changes of the records after this prefix
+-- if all records of a prefix can follow a basic schedule, the changes of all records are the changes of the records after the prefix
 behind_followers : (n : ℕ) (lines rest : List (List ℕ)) → AllByRecursion Follows lines → changes_from n (lines ++ rest) ≡ changes_from (n + length lines) rest
 behind_followers n [] rest all = ap (λ k. changes_from k rest) (omega arith)
 behind_followers n (line ∷ lines) rest all =

@@ -200,7 +200,7 @@ pub test_by_next_line : (stage : Stage) (lines : Lines) (line : List ℕ) (next 
 test_by_next_line stage lines line next told =
     (λ i. cond (and_true (is_record line) _ ((record_iff_test line).0 told.is) told.sound i) (stage_after stage (kind_of line)) None) ∙ told.stage_is
 
--- appending an intermediate location or a change en route to an incomplete journey gives an incomplete journey
+-- appending an intermediate location or a change en route preserves that a journey is incomplete
 journey_more : (journey : Lines) (line : List ℕ) → IsOpenJourney journey → IsWithinJourney line → IsOpenJourney (journey ++ line ∷ [])
 journey_more journey line so_far is = (
   so_far.0,

@@ -17,7 +17,7 @@ known = known_sets 2 events replies
 horizons : List Known → List ℕ
 horizons xs = map (λ (one : Known). one.horizon) xs
 
--- an office that has set a horizon loses it when it reloads an older message
+-- an office that has set a horizon has no horizon after it reloads an older message
 offices_at_end : horizons known.offices ≡ 0 ∷ 23542 ∷ []
 unfolding known horizons
 offices_at_end = refl

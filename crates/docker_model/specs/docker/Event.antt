@@ -1,5 +1,5 @@
 -- The events of a train: the departures, arrivals and passes of its schedule, numbered from 1. A
--- schedule is given as the list of its records.
+-- schedule is represented by the list of its records.
 use Rattle.std.specs.Prelude.{ℕ, ◌+◌, Bool, ◌&&◌, ◌==◌, List, [], map, take, filter, find, slice_index_or, Option, Some, None, codes}
 use Rattle.std.specs.List.{flat_map, enumerate_from, last_or}
 use Rattle.std.specs.Str.{bytes_eq}

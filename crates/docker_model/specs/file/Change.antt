@@ -1,4 +1,4 @@
--- The changes that a file makes: each record puts a body at a key or deletes a key.
+-- The changes of a file: a change puts a body at a key or deletes a key.
 use Rattle.std.specs.Prelude.{ℕ, List, Bool, ◌||◌, take_while, if◌then◌else◌, [], ◌∷◌, Option, Some, map, ◌+◌, ◌++◌}
 use Rattle.std.specs.Str.{bytes_eq}
 use Rattle.docker_model.specs.records.Record.{columns, column, kind_of, Kind, tiploc_insert, tiploc_amend, tiploc_delete, association, basic_schedule}
@@ -42,7 +42,7 @@ pub data Act : Type 0 where
   delete : Act
   put : (body : Body) → Act
 
--- a change: the number of the record that makes it, its key, and what it does to the key
+-- a change of a key by a record: the number of the record, the key, and the act
 pub record Change : Type 0 where
   pub number : ℕ
   pub key : Key
@@ -56,7 +56,7 @@ tiploc_named line = tiploc_key (columns 3 9 line)
 abbrev pub new_tiploc_named : List ℕ → Key
 new_tiploc_named line = tiploc_key (columns 73 79 line)
 
--- the key that an association record names
+-- the key of an association record
 abbrev pub association_named : List ℕ → Key
 association_named line = association_key (record {
   base = columns 4 9 line;
@@ -67,7 +67,7 @@ association_named line = association_key (record {
   indicator = column 80 line;
 })
 
--- the key that a basic schedule names
+-- the key of a basic schedule
 abbrev pub schedule_named : List ℕ → Key
 schedule_named line = schedule_key (record {
   uid = columns 4 9 line;
@@ -105,17 +105,17 @@ acts_by_kind (Some basic_schedule) line following =
     (schedule_named line, if is_deletion line then delete else put (schedule_body (as_new line ∷ schedule_rest following))) ∷ []
 acts_by_kind _ line following = []
 
--- the changes that one record makes, each with this record number. The last argument is the records
--- that follow this record in the file
+-- the changes of one record, each with this record number. The last argument is the records that
+-- follow this record in the file
 abbrev pub changes_of_record : ℕ → List ℕ → List (List ℕ) → List Change
 changes_of_record number line following =
     map (λ act. record { number = number; key = act.0; act = act.1 }) (acts_by_kind (kind_of line) line following)
 
--- the changes that these records make. The first record has this number
+-- the changes of these records. The first record has this number
 abbrev pub changes_from : ℕ → List (List ℕ) → List Change
 changes_from number [] = []
 changes_from number (line ∷ following) = changes_of_record number line following ++ changes_from (number + 1) following
 
--- the changes that a file makes, in the order of its records. The header has the record number 1
+-- the changes of a file, in the order of its records. The header has the record number 1
 abbrev pub changes : List (List ℕ) → List Change
 changes file = changes_from 1 file
