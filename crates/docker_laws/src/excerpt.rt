@@ -17,7 +17,7 @@ ghost use Rattle.docker_laws.specs.Excerpt.{IsNeeded, IsExcerpt, IsSublist, IsEx
 ghost use Rattle.docker_laws.specs.ExcerptWalk.{ExcerptSoFar, nothing_kept, is_here, has_uid, names_in, is_call, is_run_calling, is_run_needed};
 ghost use Rattle.docker_laws.specs.ExcerptWalk.{kept_after_run, goes_on, next_kept, kept_from, kept_so_far, excerpt_for, HasKept};
 
-/// A table and an excerpt of it for a place have the same docker of that place on each day.
+/// A table and each of its excerpts for a place have the same docker of the place on each day.
 pub fn excerpt_has_one_docker()
     ensures list { (place : List ℕ) (live part : Table) (day : ℕ) (lines : List DockerLine)
         → IsExcerpt place live part

@@ -211,7 +211,7 @@ single_acts line following is (inr (inr (inr kind))) good =
 
 -- ---- schedules
 
--- setting the transaction to N preserves that records are a schedule, unless the schedule is a deletion
+-- a schedule that isn't a deletion is still a schedule after its transaction is set to N
 pub new_is_schedule : (lines : List (List ℕ)) (schedule : IsSchedule lines) → is_deletion schedule.basic ≡ false
     → IsSchedule (as_new schedule.basic ∷ schedule.extra ++ schedule.journey)
 new_is_schedule lines schedule kept =

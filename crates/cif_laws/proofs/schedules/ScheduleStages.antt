@@ -155,7 +155,7 @@ pub sound_next_by_count : (lines : Lines) (line : List ℕ)
     (times_along (line ∷ []))) 2))
 sound_next_by_count lines line = λ i. is_deletion (first_record lines) || (has_good_fields line && nat_le (midnights_step lines line i) 2)
 
--- appending a record that passes the test preserves that a journey is sound
+-- a sound journey is still sound after a record that passes the test is appended
 sound_more : (stage : Stage) (lines : Lines) (line : List ℕ) (front : IsFront stage lines) → is_sound_next lines line ≡ true
     → IsSound front.basic (front.journey ++ line ∷ [])
 sound_more stage lines line front test = by (sound_next_by_test lines line test) front.sound
@@ -200,7 +200,7 @@ pub test_by_next_line : (stage : Stage) (lines : Lines) (line : List ℕ) (next 
 test_by_next_line stage lines line next told =
     (λ i. cond (and_true (is_record line) _ ((record_iff_test line).0 told.is) told.sound i) (stage_after stage (kind_of line)) None) ∙ told.stage_is
 
--- appending an intermediate location or a change en route preserves that a journey is incomplete
+-- an incomplete journey is still incomplete after an intermediate location or a change en route is appended
 journey_more : (journey : Lines) (line : List ℕ) → IsOpenJourney journey → IsWithinJourney line → IsOpenJourney (journey ++ line ∷ [])
 journey_more journey line so_far is = (
   so_far.0,

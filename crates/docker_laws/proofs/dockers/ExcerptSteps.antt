@@ -257,7 +257,7 @@ module _ (place : List ℕ) where
       → names_in (kept_so_far place entries).kept ≡ names_in (filter (λ (entry : Keyed). is_here place entry.0) entries)
   names_so_far entries = (all_along place AreNamed (λ done so_far x here. named_more done so_far x.0 x.1 here) (refl, refl) entries).0
 
-  -- one more schedule leaves the UIDs of associated trains unchanged
+  -- a schedule leaves the UIDs of associated trains in the kept entries unchanged
   pub names_stay : (entries : List Keyed) (key : ScheduleKey) (entry : Entry)
       → names_in (kept_so_far place (entries ++ (schedule_key key, entry) ∷ [])).kept ≡ names_in (kept_so_far place entries).kept
   names_stay entries key entry =

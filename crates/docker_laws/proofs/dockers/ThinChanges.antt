@@ -114,7 +114,7 @@ module _ (place : List ℕ) (day : ℕ) where
           (λ i. fold after_change left (map (thin_change place day) (cond (h i) (change ∷ matter changes) (matter changes))) key)
           ∙ rest (after_change table change) left (λ k. same k ∙ sym (step_elsewhere table change k h)) key
 
-  -- the table after the kept changes of a thinned table equals the thinning of the table after all changes
+  -- from a thinned table, the table after the kept changes equals the thinning of the table after all changes
   pub thin_over : (table : Table) (changes : List Change) (key : Key)
       → fold after_change (thinned place day table) (thin_changes place day changes) key ≡ thinned place day (fold after_change table changes) key
   thin_over table changes key = kept_from changes table (thinned place day table) (λ k. refl) key
@@ -257,7 +257,7 @@ module _ (place : List ℕ) (day : ℕ) where
 
 -- ---- what may be kept
 
--- applying a function to each element of both lists preserves that one is a sublist of the other
+-- if one list is a sublist of another, mapping both with the same function gives a sublist of the mapped list
 sublist_map : {A B : Type 0} (f : A → B) (xs ys : List A) → IsSublist xs ys → IsSublist (map f xs) (map f ys)
 sublist_map f [] ys is = tt
 sublist_map f (x ∷ xs) [] is = absurd is
@@ -292,7 +292,7 @@ module _ (place : List ℕ) (day : ℕ) where
         (sublist_onward others kept (before ++ thin_change place day change ∷ []) inside
         (sublist_onward kept before (before ++ thin_change place day change ∷ []) is.some (sublist_front before (thin_change place day change ∷ []))))
 
-    -- appending the same thin change to a sublist and to the thin changes preserves that one is a sublist of the other
+    -- a sublist of the thin changes, with a thin change appended, is a sublist of the thin changes with that change appended
     some_more : (others : List Change) → IsSublist others kept
         → IsSublist (others ++ thin_change place day change ∷ []) (map (thin_change place day) (changes ++ change ∷ []))
     some_more others inside =

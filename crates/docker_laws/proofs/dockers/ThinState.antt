@@ -151,7 +151,7 @@ no_lapse deleted = tt
 no_lapse lapsed = tt
 no_lapse (put_with body) = omega arith
 
--- a kept change is well formed, and has a record number after the header's
+-- a kept change is well formed, and its record number is at least 2
 pub kept_good : (place : List ℕ) (day : ℕ) (file : List (List ℕ)) → IsFile file → length file ≤ most_records → (kept : List Change)
     → IsThinning place day (changes file) kept → (change : Change) → Contains kept change
     → (IsGoodKey change.key × IsOpOf change.key (op_of change.act)) × ((2 ≤ change.number) × (change.number < 2 ^ 32 - 1))

@@ -118,7 +118,7 @@ same_schedule : (key other : ScheduleKey) → is_eq (schedule_key_cmp key other)
 unfolding schedule_in
 same_schedule key other h = ap schedule_in (same_key (schedule_key key) (schedule_key other) h)
 
--- this is the only live schedule
+-- the live table has no other schedule
 only_stops : (other : ScheduleKey) (others : List (List ℕ)) → table_of stops_alone (schedule_key other) ≡ Some (schedule_body others) → stops_key ≡ other
 only_stops other others h = by (is_eq (schedule_key_cmp stops_key other)) refl h
   where

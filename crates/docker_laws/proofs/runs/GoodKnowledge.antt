@@ -66,7 +66,7 @@ good_at P [] i d all one = one
 good_at P (x ∷ xs) zero d all one = All-head P x xs all
 good_at P (x ∷ xs) (suc i) d all one = good_at P xs i d (All-tail P x xs all) one
 
--- what each office and each message knows is good
+-- the knowledge of each office and each message is good
 abbrev pub AllGood : Format → KnownSets → Type 0
 AllGood format known = All (IsGoodKnown format) known.offices × All (IsGoodKnown format) known.messages
 

@@ -1,4 +1,4 @@
--- What is known after one more event of a run, and how many offices and messages there are.
+-- The knowledge after one more event of a run, and the number of offices and messages.
 use Rattle.std.proofs.Common.{◌≡◌, ℕ, suc, ◌+◌, Bool, true, false, cond, List, [], ◌∷◌, ◌++◌, length, refl, ap, ◌∙◌, arith, length-append, length-set}
 use Rattle.std.specs.Prelude.{fold, filter}
 use Rattle.std.specs.List.{zip}
@@ -30,7 +30,7 @@ replies_long known [] (reply ∷ replies) are = absurd are
 replies_long known (event ∷ events) [] are = absurd are
 replies_long known (event ∷ events) (reply ∷ replies) are = ap suc (replies_long (after_reply known (event, reply)) events replies are.1)
 
--- appending an event and a possible reply preserves that all replies are possible, for a run that begins with any knowledge
+-- if all replies are possible, they are still possible after an event and its possible reply are appended, for a run that begins with any knowledge
 pub replies_after : (known : KnownSets) (events : List RunEvent) (replies : List Reply) (event : RunEvent) (reply : Reply)
     → AreReplies known events replies → IsReply (fold after_reply known (zip events replies)) event reply → AreReplies known (events ++ event ∷ [])
     (replies ++ reply ∷ [])
@@ -40,7 +40,7 @@ replies_after known (other ∷ events) [] event reply are is = absurd are
 replies_after known (other ∷ events) (answer ∷ replies) event reply are is =
     (are.0, replies_after (after_reply known (other, answer)) events replies event reply are.1 is)
 
--- appending an event and a possible reply preserves that all replies are possible, for a run from its start
+-- if all replies are possible, they are still possible after an event and its possible reply are appended, for a run from its start
 pub replies_more : (offices : ℕ) (events : List RunEvent) (replies : List Reply) (event : RunEvent) (reply : Reply)
     → AreReplies (none_known offices) events replies → IsReply (known_sets offices events replies) event reply → AreReplies (none_known offices)
     (events ++ event ∷ []) (replies ++ reply ∷ [])

@@ -1,4 +1,4 @@
--- Each event of a run preserves that the states and messages match what is known.
+-- The states and messages of a run match what is known, at the start and after each event.
 use Rattle.std.proofs.Common.{◌≡◌, ℕ, ◌^◌, ◌<◌, ◌≤◌, List, [], ◌∷◌, ◌++◌, length, refl, sym, ◌∙◌, subst, arith, All, set}
 use Rattle.std.proofs.Math.Nat.{max_comm}
 use Rattle.std.proofs.lemmas.List.Elements.{All-set, All-push, All-nil, All-replicate, All-get_or}
@@ -30,11 +30,11 @@ module _ (format : Format) (known : KnownSets) (states : List State) (messages :
   pub message_is : (message : ℕ) → IsMessage known message → IsMessageOf format (message_known known message) (message_text messages message)
   message_is message there = zip_at (IsMessageOf format) known.messages messages message nothing [] holds.messages_are there
 
-  -- what an office knows is good
+  -- the knowledge of an office is good
   pub office_good : (office : ℕ) → IsOffice known office → IsGoodKnown format (office_known known office)
   office_good office there = All-get_or (IsGoodKnown format) known.offices office nothing there holds.offices
 
-  -- what a message knows is good
+  -- the knowledge of a message is good
   pub message_good : (message : ℕ) → IsMessage known message → IsGoodKnown format (message_known known message)
   message_good message there = All-get_or (IsGoodKnown format) known.messages message nothing there holds.sent
 

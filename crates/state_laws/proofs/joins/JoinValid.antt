@@ -44,7 +44,7 @@ stamp_stays ledger joined floor to stamp kept among =
     subst (Contains (map (λ (item : LedgerItem). item.stamp) joined)) found.2
     (map-Contains (λ (item : LedgerItem). item.stamp) joined found.0 (to found.0 found.1 (subst (IsKept floor) (sym found.2) kept)))
 
--- the lapse preserves that an op is well formed
+-- a well-formed op is well formed after the lapse
 op_lapses : (horizon : ℕ) (key : Key) (op : Op) → IsOpOf key op → IsOpOf key (lapse horizon op)
 op_lapses horizon key deleted good = tt
 op_lapses horizon key lapsed good = tt
@@ -54,7 +54,7 @@ op_lapses horizon key (put_with body) good = by (below_or horizon body)
     by (inl below) = subst (IsOpOf key) (sym (put_lapses horizon body below)) tt
     by (inr above) = subst (IsOpOf key) (sym (put_stays horizon body above)) good
 
--- the lapse preserves that an entry is good
+-- a good entry is good after the lapse
 pub good_lapses : (horizon : ℕ) (ledger : List LedgerItem) (key : Key) (entry : Entry) → IsGoodEntry ledger (key, entry)
     → IsGoodEntry ledger (key, lapse_entry horizon entry)
 good_lapses horizon ledger key entry good = record { key = good.key; stamp = good.stamp; op = op_lapses horizon key entry.op good.op }
@@ -112,7 +112,7 @@ join_is_valid first second joined one two is = record {
         moved second.ledger (λ item among keeps. (is.ledger item).1 (Contains-append_right first.ledger second.ledger item among, keeps)) entry kept
         (All-contains (IsGoodEntry second.ledger) second.entries entry two.entries.0 here)
 
--- the lapse under a day number preserves that a state is valid
+-- a valid state is valid after the lapse, if the horizon is a day number
 pub lapsed_is_valid : (horizon : ℕ) (state : State) → IsDay horizon → IsValid state → IsValid (lapse_state horizon state)
 lapsed_is_valid horizon state day valid = record {
   horizon = day;
@@ -129,7 +129,7 @@ lapsed_is_valid horizon state day valid = record {
       subst (HasNotToLapse horizon) (ap (λ (e : Entry). e.op) told.2) (has_lapsed horizon told.0.op));
 }
 
--- setting a horizon that is a day number preserves that a state is valid
+-- a valid state is valid after a horizon is set, if the horizon is a day number
 pub raised_is_valid : (horizon : ℕ) (state : State) → IsDay horizon → IsValid state → IsValid (raise_horizon horizon state)
 raised_is_valid horizon state day valid = lapsed_is_valid (max state.horizon horizon) state (max_most state.horizon horizon last_day valid.horizon day) valid
 
