@@ -52,7 +52,7 @@ abbrev pub is_basic_kind : Option Kind → Bool
 is_basic_kind (Some basic_schedule) = true
 is_basic_kind _ = false
 
--- whether the record can be the first of a schedule: a basic schedule with good fields
+-- whether the record can be the first record of a schedule: a basic schedule with good fields
 abbrev pub is_first_line : List ℕ → Bool
 is_first_line line = is_record line && is_basic_kind (kind_of line) && has_good_fields line
 

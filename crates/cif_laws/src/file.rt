@@ -46,8 +46,8 @@ pub fn schedule_body_is_schedule()
 {}
 
 /// The changes of a file are the changes of its units, in order. A change has the number of the
-/// first record of its unit, which is 2 for the first unit. The changes of a schedule are one
-/// change, which has all records of the schedule.
+/// first record of its unit, which is 2 for the first unit. A schedule has exactly one change,
+/// which deletes its key or puts all its records.
 pub fn changes_by_units()
     ensures units { (file : List (List ℕ)) (is : IsFile file)
         → changes file ≡ changes_of_units 2 is.units }

@@ -13,7 +13,7 @@ Bytes = Option Text
 pub data Event : Type 0 where
   -- the named file was looked at
   looked : (name : Text) → Event
-  -- the named file was opened, and held these bytes then
+  -- the named file was opened, and held these bytes at that moment
   opened : (name : Text) (bytes : Bytes) → Event
   -- the named file couldn't be opened
   unopened : (name : Text) → Event

@@ -22,7 +22,7 @@ pub record HostView : Type 0 where
   pub output_failures : ℕ
   pub faults_failures : ℕ
 
--- each device has failed less than 2^64 - 1 times, so one more failure can be counted
+-- each device has failed fewer than 2^64 - 1 times, so one more failure can be counted
 pub record AreFew (host : HostView) : Type 0 where
   pub input : host.input_failures < 2 ^ 64 - 1
   pub folder : host.folder_failures < 2 ^ 64 - 1

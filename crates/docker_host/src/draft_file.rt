@@ -22,7 +22,7 @@ pub struct DraftFile {
     failures: u64,
 }
 
-/// A draft that has taken the place of a named file.
+/// A draft that has replaced a named file.
 #[derive(Drop)]
 pub(crate) struct Placed {
     /// The name of the file.
@@ -60,7 +60,7 @@ impl DraftFile {
         })
     }
 
-    /// Replaces the file by the draft. Returns the version that the next look will see, or `None`
+    /// Replaces the file with the draft. Returns the version that the next look will see, or `None`
     /// if that can't be known, as for a file that was written directly. If the file can't be
     /// replaced, removes the draft as far as possible and returns `Failed`.
     pub(crate) fn place(self, rt: &HostRuntime) -> Result<Option<Placed>, Failed> {
@@ -142,7 +142,7 @@ fn open_in_folder_of(
     Ok((file, Some(place)))
 }
 
-/// Whether what was seen is a pipe or a device that is still there.
+/// Whether a pipe or a device was seen, and is still under the name.
 fn is_still_pipe(seen: Option<Version>, there: &Version) -> bool {
     match seen {
         Some(seen) => seen.is_same_pipe(there),

@@ -36,7 +36,7 @@ pub enum Fails {
     AtCreateForMemory,
     /// Writing to a draft after this many bytes.
     AfterWriting(usize),
-    /// Replacing a file by its draft.
+    /// Replacing a file with its draft.
     AtComplete,
 }
 

@@ -35,7 +35,8 @@ abbrev pub calls_of : Key → Body → List CallingRow
 calls_of (schedule_key key) (schedule_body lines) = map (λ line. (columns 3 9 line, key)) (filter (λ line. is_location (kind_of line)) lines)
 calls_of _ _ = []
 
--- the index row of associations for one row of the table, if that is an association
+-- the index row of associations for one row of the table, or no index row if the row isn't an
+-- association
 abbrev pub links_of : Key → Body → List LinkedRow
 links_of (association_key key) (association_body line) = (key.location, key) ∷ []
 links_of _ _ = []

@@ -42,8 +42,9 @@ pub fn staging_and_commit_is_join()
         → first ≡ second }
 {}
 
-/// The horizon of a state that is being read may be set at the end. The state may be read without
-/// its horizon, and the horizon is then set on it, or on the join with it.
+/// The horizon of a received state may be set last. Setting it on the state without its horizon
+/// gives the state. Setting it on the join with the state without its horizon gives the join with
+/// the state.
 pub fn horizon_is_set_last()
     ensures state { (state : State) → IsValid state
         → raise_horizon state.horizon (without_horizon state) ≡ state }

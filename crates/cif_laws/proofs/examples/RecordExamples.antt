@@ -133,7 +133,7 @@ numbers_of_units = refl
 units_of_f2 : changes_of_units 2 (f2_schedule ∷ []) ≡ changes f2
 units_of_f2 = refl
 
--- the changes of a deletion with a journey are only one change
+-- a deletion with a journey has only one change
 change_of_deletion : changes_of_unit 2 (bs (codes "D") (codes "C10001") (codes "240610") no_text no_text no_text (codes "P") ∷ f2_origin ∷ f2_terminus ∷ [])
     ≡ record { number = 2; key = schedule_named f2_basic; act = delete } ∷ []
 change_of_deletion = refl

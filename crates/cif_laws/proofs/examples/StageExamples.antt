@@ -58,7 +58,7 @@ deleted_time = refl
 deleted_alone : place_at (f2_header ∷ deleted_basic ∷ zz ∷ []) ≡ Some after_end
 deleted_alone = refl
 
--- records with which a schedule passes midnight for the third time
+-- records at which a schedule passes midnight for the third time
 abbrev call_at : List ℕ → List ℕ
 call_at time = li (codes "COLWELL") no_text no_text no_text time no_text no_text no_text no_text no_text
 

@@ -151,7 +151,7 @@ complete_lines_cut text front rest plain =
     ∙ ap (λ pieces. but_last (pieces_of text) ++ pieces) (but_first (open_line text ++ front) (pieces_of rest) (some_pieces (λ b. b == 10) rest)))
     ∙ map-append strip_carriage_return (but_last (pieces_of text)) ((open_line text ++ front) ∷ but_last (pieces_of rest))
 
--- after a line feed, the incomplete line is that of the bytes after this line feed
+-- after a line feed, the incomplete line is the incomplete line of the bytes after this line feed
 pub open_line_cut : (text front rest : List ℕ) → HasNoFeed front → open_line (text ++ (front ++ 10 ∷ rest)) ≡ open_line rest
 open_line_cut text front rest plain =
     ap last_of (pieces_cut text front rest plain)

@@ -75,7 +75,7 @@ is_basic basic others is = subst (HasKind basic_schedule) (sym (ap head is.whole
     head [] = []
     head (line ∷ lines) = line
 
--- the changes of a schedule are one change, which has all records of the schedule
+-- a schedule has exactly one change, `change_of_schedule`
 pub schedule_change : (n : ℕ) (basic : List ℕ) (others : List (List ℕ)) → IsSchedule (basic ∷ others)
     → changes_of_unit n (basic ∷ others) ≡ change_of_schedule n basic others ∷ []
 schedule_change n basic others is =

@@ -24,7 +24,7 @@ one_before R (x ∷ xs) a b later in_a in_b = by (one_before R xs a b later.1) (
     by rest (inr here) (inl f) = inr (inr (subst (λ v. R v a) f (below_by_recursion (R x) xs a later.0 here)))
     by rest (inr here) (inr there) = rest here there
 
--- if a relation of each member to each later one implies another relation for members, the list has the other relation too
+-- if each member is related to each later one, and this relation implies another relation for members, the list has the other relation too
 pub later_weaker : {A : Type 0} (R S : A → A → Type 0) (xs : List A) → ((a b : A) → Contains xs a → Contains xs b → R a b → S a b) → AllLater R xs
     → AllLater S xs
 later_weaker R S [] to later = tt
@@ -99,7 +99,7 @@ later_map_weaker f R S keeps [] all = tt
 later_map_weaker f R S keeps (x ∷ xs) all =
     (all_map f (S (f x)) xs (all_weaker (R x) (λ y. S (f x) (f y)) (λ y r. keeps x y r) xs all.0), later_map_weaker f R S keeps xs all.1)
 
--- if a relation implies another one for all values, a list with the first relation has the second
+-- if a relation implies another for all values, a list with the first relation has the second
 pub later_weaker_always : {A : Type 0} (R S : A → A → Type 0) → ((x y : A) → R x y → S x y) → (xs : List A) → AllLater R xs → AllLater S xs
 later_weaker_always R S weaker [] all = tt
 later_weaker_always R S weaker (x ∷ xs) all = (all_weaker (R x) (S x) (weaker x) xs all.0, later_weaker_always R S weaker xs all.1)

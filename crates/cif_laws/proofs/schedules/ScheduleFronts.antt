@@ -1,4 +1,4 @@
--- It is decided whether records are a schedule, and whether they begin one.
+-- It is decided whether records are a schedule, and whether they begin some schedule.
 use Rattle.std.proofs.Common.{◌≡◌, ℕ, List, length, true, Some, [], ◌∷◌, ◌⊎◌, inr, inl, ◌+◌, ◌++◌, ap, refl, sym, subst, ◌≤◌, IsTrue, All}
 use Rattle.std.proofs.Common.{Bool, false, arith, if◌then◌else◌, nat_lt, map, ◌||◌, None, cond, not, find, ◌∙◌, codes, append-nil, lit≤}
 use Rattle.std.specs.Prelude.{⊤, slice_index, ◌==◌, option_map, Option}
@@ -134,7 +134,7 @@ extra_and_journey_decided : (basic : List ℕ) (lines : Lines) → Decided (Extr
 extra_and_journey_decided basic [] = inr (λ h. h)
 extra_and_journey_decided basic (extra ∷ lines) = both_decided (has_kind_decided extra_details extra) (journey_part_decided basic lines)
 
--- the record is a basic schedule with good fields. It is the first of the parts of a schedule, each of which is stated by recursion here
+-- the record is a basic schedule with good fields. This file states each part of a schedule by recursion
 abbrev BasicHere : List ℕ → Type 0
 BasicHere basic = HasKind basic_schedule basic × HasGoodFields basic
 

@@ -26,7 +26,7 @@ use Rattle.state_laws.proofs.joins.StagedJoin.{commit_is_join}
 Some_is : {A : Type 0} (a b : A) → Some a ≡ Some b → a ≡ b
 Some_is a b h = cc
 
--- `entry_at` finds an entry if and only if the list of the state's entries contains it
+-- `entry_at` is `Some entry` for a key if and only if the list of the state's entries contains the key with this entry
 pub entry_at_iff : (state : State) → AreAscending state.entries → (key : Key) (entry : Entry) → (entry_at state key ≡ Some entry) ↔ Contains state.entries
     (key, entry)
 entry_at_iff state up key entry = by (find_in state.entries key)

@@ -64,7 +64,7 @@ after_text format before (part ∷ parts) follow =
     after_text format (advance format before part) parts follow.1 ∙ ap (λ front. front ++ concat parts) follow.0.text
     ∙ append_assoc (text_before format before) part (concat parts)
 
--- the point `after` is later than the point `before`: a reader reaches `after` from `before` through at least one part
+-- the point `after` is later than the point `before`: the text before `after` is the text before `before`, followed by its next part and any further bytes
 pub record IsLater (format : Format) (before after : Before) : Type 0 where
   pub part : List ℕ
   pub more : List ℕ
