@@ -1,4 +1,4 @@
--- Several writes or reads, one after the other, and the number of failures of a device.
+-- Sequences of writes or reads, and the number of failures of a device.
 use Rattle.std.proofs.Common.{◌≡◌, ℕ, ◌+◌, ◌-◌, List, ◌++◌, arith, length, take, drop, replicate, Option, None, Some, refl, ap, sym, subst, ◌∙◌, append_assoc}
 use Rattle.std.proofs.lemmas.Grind.{common_steps}
 use Rattle.std.specs.Prelude.{◌≢◌, true, false, Result, Ok, Err, IsErr, OnOk, OnErr}

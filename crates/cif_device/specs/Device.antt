@@ -36,8 +36,8 @@ TakesPart old piece new = (n : ℕ) × (n < length piece) × Takes old (take n p
 abbrev pub CountsFailure : Type 0 → ℕ → ℕ → Type 0
 CountsFailure failed before after = (failed ↔ (after ≡ before + 1)) × (¬ failed → after ≡ before)
 
--- a source over a slice: the bytes left in it, the most bytes that one read returns, whether the
--- source has reported its end, and whether it was read after that
+-- a source over a slice: the bytes left in it, the most bytes that one read returns, whether it has
+-- reported its end, and whether it was read after that
 pub record Feed : Type 0 where
   pub left : List ℕ
   pub step : ℕ

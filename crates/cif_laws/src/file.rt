@@ -100,8 +100,9 @@ pub fn reported_fault_stays()
         → IsFaultSoFar limit text first → IsFaultSoFar limit text second → first ≡ second }
 {}
 
-/// Bytes either determine a fault or satisfy `BeginsWithin`, never both: the complete lines begin
-/// some file and are within the limit, and at most 81 bytes follow the last line feed.
+/// Bytes either determine a fault or satisfy `BeginsWithin`, never both. `BeginsWithin` says that
+/// the complete lines begin some file and are within the limit, and that at most 81 bytes follow
+/// the last line feed.
 pub fn no_fault_in_complete_lines()
     ensures either { (limit : ℕ) (text : List ℕ)
         → ((fault : FileFault) × IsFaultSoFar limit text fault) ⊎ BeginsWithin limit text }

@@ -135,8 +135,8 @@ fn hold(rt: &HostRuntime, made: &File, name: &str) -> Result<(), OpenFault> {
     Ok(())
 }
 
-/// Sets the permissions of a draft to those of the old file, if there is an old file, and adds the
-/// mark of a draft. Returns the permissions that the file is to have in the end.
+/// Sets the permissions of a draft to the permissions of the old file, if there is an old file, and
+/// adds the mark of a draft. Returns the permissions that the file is to have in the end.
 fn give_permissions(made: &File, old: Option<Metadata>, draft_bit: u32) -> io::Result<u32> {
     let Some(file) = old else {
         return Ok(made.metadata()?.permissions().mode() & !MARK);

@@ -20,14 +20,14 @@ pub record IsNamed (live : Table) (place uid : List ℕ) : Type 0 where
   pub associated_is : key.associated ≡ uid
   pub linked : IsLinked live place key line
 
--- the UID matters to the docker of the place: a schedule of the UID calls at the place, or the UID
+-- the UID matters to the docker of the place. A schedule of the UID calls at the place, or the UID
 -- is the associated train of an association at the place. All schedules of the UID are needed,
 -- since together they determine by which schedule the train runs
 abbrev pub IsConcerned : Table → List ℕ → List ℕ → Type 0
 IsConcerned live place uid = HasCall live place uid ⊎ IsNamed live place uid
 
--- the docker of the place may depend on this key: it is the place's TIPLOC, an association at the
--- place, or a schedule of a UID that matters to the docker
+-- the docker of the place may depend on this key. The key is the place's TIPLOC, an association at
+-- the place, or a schedule of a UID that matters to the docker
 abbrev pub IsNeeded : Table → List ℕ → Key → Type 0
 IsNeeded live place (tiploc_key code) = code ≡ place
 IsNeeded live place (association_key key) = key.location ≡ place

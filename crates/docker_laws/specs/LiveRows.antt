@@ -59,7 +59,7 @@ associations_in rows = filter_map (λ row. association_of row.0 row.1) rows
 abbrev pub is_running : List ℕ → ℕ → Train → Bool
 is_running uid day train = bytes_eq train.key.uid uid && schedule_runs (first_record train.lines) day
 
--- whether the schedule is the choice for the UID on the day: it runs on the day, and no other
+-- whether the schedule is the choice for the UID on the day. It runs on the day, and no other
 -- running schedule of the UID comes before it in the order of choice
 abbrev pub is_choice : List Train → List ℕ → ℕ → Train → Bool
 is_choice trains uid day train =

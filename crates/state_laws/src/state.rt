@@ -21,8 +21,8 @@ pub fn one_summary()
         (one two : State) → IsSummary files horizon one → IsSummary others horizon two → one ≡ two }
 {}
 
-/// The join of two summaries is the summary of the union of both sets of files, under the greater
-/// of the two horizons.
+/// The join of two summaries is the summary of both sets of files together, under the greater of
+/// the two horizons.
 pub fn join_of_summaries()
     ensures { (files others : List (List (List ℕ))) (g h : ℕ) (one two joined : State)
         → IsSummary files g one → IsSummary others h two → IsJoin one two joined

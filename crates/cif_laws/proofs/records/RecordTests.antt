@@ -71,8 +71,8 @@ record_iff_test line = (
 
 -- ---- how often a schedule passes midnight
 
--- the number of falls in the concatenation of two lists of times is the number in the first list plus the number in the second list after the last time of the
--- first. A fall is a time that is earlier than the time before it
+-- the number of falls in a concatenation is the number in the first list, plus the number in the second list after the last time of the first. A fall is a time
+-- that is earlier than the time before it
 pub fall_count-append : (times later : List ℕ) → fall_count (times ++ later) ≡ fall_count times + falls_after (last_of times) later
 fall_count-append [] later = omega arith
 fall_count-append (time ∷ []) later = omega arith

@@ -1,5 +1,5 @@
--- The first value, in an order, that has a property. It can be found by a search in a list, if the list has each value with the property and a value passes the
--- test if and only if it has the property.
+-- The first value, in an order, that has a property. A search in a list finds it under two conditions. The list has each value with the property, and a value
+-- passes the test if and only if it has the property.
 use Rattle.std.proofs.Common.{◌≡◌, List, refl, sym, ◌∙◌, Some, None, Bool, true, Contains}
 use Rattle.std.specs.Prelude.{Option, find}
 use Rattle.std.specs.declared.cmp.Ordering.{Ordering}

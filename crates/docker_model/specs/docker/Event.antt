@@ -7,16 +7,16 @@ use Rattle.docker_model.specs.records.Record.{columns, column}
 use Rattle.docker_model.specs.file.Journey.{Occasion, times_of, times_along, fall_count}
 use Rattle.docker_model.specs.file.File.{first_record}
 
--- an event of a train. It has its number, the place of its record in the schedule counted from 0,
--- what happens, and when, in half minutes
+-- an event of a train: its number, the place of its record in the schedule counted from 0, its
+-- occasion, and its time in half minutes
 pub record Event : Type 0 where
   pub number : ℕ
   pub place : ℕ
   pub occasion : Occasion
   pub time : ℕ
 
--- every time in the schedule, each with the place of its record, counted from 0. A record has from
--- none to three times
+-- every time in the schedule, each with the place of its record, counted from 0. A record has at
+-- most three times
 abbrev pub placed_times : List (List ℕ) → List (ℕ × (Occasion × ℕ))
 placed_times lines = flat_map (λ placed. map (λ time. (placed.0, time)) (times_of placed.1)) (enumerate_from 0 lines)
 

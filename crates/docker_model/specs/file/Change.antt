@@ -7,8 +7,8 @@ use Rattle.docker_model.specs.records.Clock.{is_blank}
 use Rattle.docker_model.specs.records.Field.{is_deletion, as_new}
 use Rattle.docker_model.specs.file.File.{follows_basic}
 
--- the key of an association: the UIDs of the base train and the associated train, the first date as
--- a day number, the timing point, the base train's suffix and the STP indicator
+-- the key of an association. Its fields are the UIDs of base and associated train, the first date
+-- as a day number, the timing point, the base train's suffix and the STP indicator
 pub record AssociationKey : Type 0 where
   pub base : List ℕ
   pub associated : List ℕ
@@ -30,7 +30,7 @@ pub data Key : Type 0 where
   association_key : (key : AssociationKey) → Key
   schedule_key : (key : ScheduleKey) → Key
 
--- a body, which is the value that a put stores at its key: columns 10 to 72 of a TIPLOC record, the
+-- a body: the value that a put stores at its key. It is columns 10 to 72 of a TIPLOC record, the
 -- whole record of an association, or the records of a schedule
 pub data Body : Type 0 where
   tiploc_body : (bytes : List ℕ) → Body
@@ -79,7 +79,7 @@ schedule_named line = schedule_key (record {
 abbrev pub tiploc_details : List ℕ → Body
 tiploc_details line = tiploc_body (columns 10 72 line)
 
--- whether a TIPLOC amendment keeps the code: its new code is blank or the same as the old one
+-- whether a TIPLOC amendment keeps the code: its new code is blank or the same as the old code
 abbrev pub keeps_code : List ℕ → Bool
 keeps_code line = is_blank (columns 73 79 line) || bytes_eq (columns 73 79 line) (columns 3 9 line)
 
@@ -89,10 +89,10 @@ abbrev pub schedule_rest : List (List ℕ) → List (List ℕ)
 schedule_rest following = take_while (λ line. follows_basic (kind_of line)) following
 
 -- the acts of a record of this kind: a list of keys, each with its act. The last argument is the
--- records that follow this record in the file. A TIPLOC amendment with a new code does two things:
--- it deletes the old code and puts the new one. A basic schedule puts the whole schedule, and the
--- records after it in the schedule do nothing. A schedule or an association is put with its
--- transaction set to N, so a new record and a revision put the same body
+-- records that follow this record in the file. A TIPLOC amendment with a new code has two acts: a
+-- deletion of the old code, and a put of the new code. A basic schedule puts the whole schedule,
+-- and the records after it in the schedule have no acts. A schedule or an association is put with
+-- its transaction set to N, so a new record and a revision put the same body
 abbrev pub acts_by_kind : Option Kind → List ℕ → List (List ℕ) → List (Key × Act)
 acts_by_kind (Some tiploc_insert) line following = (tiploc_named line, put (tiploc_details line)) ∷ []
 acts_by_kind (Some tiploc_amend) line following =

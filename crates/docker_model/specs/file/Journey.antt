@@ -53,7 +53,7 @@ fall_count (time ∷ later ∷ times) = (if nat_lt later time then 1 else 0) + f
 abbrev pub midnights : List (List ℕ) → ℕ
 midnights lines = fall_count (times_along lines)
 
--- the schedule calls at this TIPLOC: one of its LO, LI and LT records names it
+-- the schedule calls at this TIPLOC: one of its LO, LI and LT records has it in columns 3 to 9
 pub record CallsAt (place : List ℕ) (lines : List (List ℕ)) : Type 0 where
   pub line : List ℕ
   pub among : Contains lines line

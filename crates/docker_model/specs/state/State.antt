@@ -20,8 +20,8 @@ pub record State : Type 0 where
   pub ledger : List LedgerItem
   pub entries : List (Key × Entry)
 
--- the item can come from a header: its day and minute exist, and its references and indicator are
--- well formed
+-- this can be the ledger item of a header: its day and minute exist, and its references and
+-- indicator are well formed
 pub record IsGoodItem (item : LedgerItem) : Type 0 where
   pub day : IsDay item.stamp.moment.day
   pub minute : item.stamp.moment.minute < 1440
@@ -80,8 +80,8 @@ IsOpOf key deleted = ⊤
 IsOpOf key lapsed = ⊤
 IsOpOf key (put_with body) = IsBodyOf key body
 
--- the ledger is well formed: its items ascend, each could come from a header, and none is below
--- their floor
+-- the ledger is well formed: its items are strictly ascending, each can be the item of a header,
+-- and no item is below their floor
 pub record IsLedger (ledger : List LedgerItem) : Type 0 where
   pub each : All IsGoodItem ledger
   pub ascending : IsStrictlyAscending ledger_item_cmp ledger
@@ -106,7 +106,8 @@ pub record IsGoodEntry (ledger : List LedgerItem) (entry : Key × Entry) : Type 
 abbrev pub AreAscending : List (Key × Entry) → Type 0
 AreAscending entries = IsStrictlyAscending (on (λ (entry : Key × Entry). entry.0) key_cmp) entries
 
--- these may be the entries of a state with this ledger: each is well formed, and they ascend by key
+-- these may be the entries of a state with this ledger: each entry is well formed, and the entries
+-- are strictly ascending by key
 abbrev pub AreEntries : List LedgerItem → List (Key × Entry) → Type 0
 AreEntries ledger entries = All (IsGoodEntry ledger) entries × AreAscending entries
 
@@ -136,7 +137,8 @@ live_table state key = option_and_then (λ (entry : Entry). body_of entry.op) (e
 abbrev pub HasGoodBodies : Table → Type 0
 HasGoodBodies live = (key : Key) (body : Body) → live key ≡ Some body → IsBodyOf key body
 
--- the state with this horizon in place of the old one. Its entries have lapsed under this horizon
+-- the state with this horizon in place of the old horizon. Its entries have lapsed under this
+-- horizon
 abbrev pub lapse_state : ℕ → State → State
 lapse_state horizon state = record { horizon = horizon; ledger = state.ledger; entries = lapse_entries horizon state.entries }
 

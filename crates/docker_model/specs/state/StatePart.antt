@@ -49,7 +49,7 @@ items_before format (at_end state) = state_text format state
 abbrev pub key_text : Key → List ℕ
 key_text key = key_tag key ∷ key_bytes key
 
--- the bytes of an entry before this point in it
+-- the bytes of an entry before this point in the entry
 abbrev pub part_text : EntryPart → List ℕ
 part_text before_tag = []
 part_text (before_key tag) = tag ∷ []
@@ -144,7 +144,7 @@ IsStampHere state key stamp = IsKeyHere state key × IsStampIn state.ledger stam
 abbrev pub HaveNotToLapse : State → List (List ℕ) → Type 0
 HaveNotToLapse state lines = state.horizon ≤ body_end (schedule_body lines)
 
--- the parts of an entry before this point in it are good
+-- the parts of an entry before this point in the entry are good
 abbrev pub IsPartHere : State → EntryPart → Type 0
 IsPartHere state before_tag = ⊤
 IsPartHere state (before_key tag) = IsTag tag

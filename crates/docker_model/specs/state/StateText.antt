@@ -1,5 +1,5 @@
--- The bytes of a state's text, in two formats. The format DKS1 has no horizon, and DKS2 has one
--- after its mark. All numbers are big endian.
+-- The bytes of a state's text, in two formats. The format DKS1 has no horizon, and DKS2 has a
+-- horizon after its mark. All numbers are big endian.
 use Rattle.std.specs.Prelude.{ℕ, List, codes, [], ◌++◌, ◌∷◌, length, slice_range, slice_index, ◌==◌, if◌then◌else◌, ⊤, ◌≡◌, ◌⊎◌, All}
 use Rattle.std.specs.List.{concat, flat_map}
 use Rattle.std.specs.Int.{w16, to_be_bytes, w32, w64, from_be_bytes}
@@ -19,7 +19,7 @@ abbrev pub mark : Format → List ℕ
 mark dks_1 = codes "DKS1"
 mark dks_2 = codes "DKS2"
 
--- the two bytes of the horizon, or none if the format has no horizon
+-- the two bytes of the horizon, or no bytes if the format has no horizon
 abbrev pub horizon_bytes : Format → ℕ → List ℕ
 horizon_bytes dks_1 horizon = []
 horizon_bytes dks_2 horizon = to_be_bytes w16 horizon

@@ -1,5 +1,5 @@
 -- The summary of a set of files under a horizon, which is the state of an office that knows these
--- files. The set is given as a list in any order.
+-- files. The set is represented by a list in any order.
 use Rattle.std.specs.Prelude.{◌≡◌, ℕ, ◌↔◌, List, map, Option, Contains}
 use Rattle.docker_model.specs.file.Change.{Key, Change, changes}
 use Rattle.docker_model.specs.state.Order.{IsStrictlyAscending, IsAtMost}

@@ -1,4 +1,4 @@
--- A set of files has at most one summary under each horizon. The join of two summaries is the summary of the union of both sets of files, under the greater
+-- A set of files has at most one summary under each horizon. The join of two summaries is the summary of both sets of files together, under the greater
 -- horizon. Setting a horizon on a summary gives the summary under the greater of the two horizons.
 use Rattle.std.proofs.Common.{◌≡◌, ℕ, ◌≤◌, List, ◌++◌, map, Contains, subst, inl, inr, ◌⊎◌, ap, sym, ◌∙◌}
 use Rattle.std.specs.Prelude.{max}
