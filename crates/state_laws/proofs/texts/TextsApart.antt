@@ -97,7 +97,7 @@ one_stop format limit text first second one two = by (both_in_line format text f
     by (inr (inl later)) = absurd (one.stops second two.rest later two.whole two.within)
     by (inr (inr later)) = absurd (two.stops first one.rest later one.whole one.within)
 
--- the text before a later point is longer than the text before the earlier point by the width of the next part and the length of the bytes after that part
+-- from an earlier point to a later point, the text grows by the width of the next part and the length of the bytes after that part
 pub later_size : (format : Format) → (before after : Before) (later : IsLater format before after)
     → length (text_before format before) + width before + length later.more ≡ length (text_before format after)
 later_size format before after later =
