@@ -15,14 +15,16 @@ Takes-append None middle new front back first second = rw first at second
 Takes-append (Some taken) middle new front back first second =
     (rw first at second) ∙ ap Some (append_assoc taken front back)
 
--- if a sink takes the first `done` bytes of a piece and then the next `n` bytes, it takes the first `done + n` bytes
+-- if a sink takes the first `done` bytes of a piece and then the next `n` bytes, it takes the first
+-- `done + n` bytes
 pub Takes-take : (old middle new : Option (List ℕ)) (piece : List ℕ) (done n : ℕ) →
     Takes old (take done piece) middle → Takes middle (take n (drop done piece)) new →
     Takes old (take (done + n) piece) new
 Takes-take old middle new piece done n first second =
     rw take-add (Takes-append old middle new (take done piece) (take n (drop done piece)) first second)
 
--- after `n` elements of a list are dropped, the first `length xs - n` elements of the rest are the whole rest
+-- after `n` elements of a list are dropped, the first `length xs - n` elements of the rest are the
+-- whole rest
 pub take-drop_all : (n : ℕ) (xs : List ℕ) → take (length xs - n) (drop n xs) ≡ drop n xs
 take-drop_all n xs = grind (arith, common_steps)
 
@@ -33,7 +35,8 @@ concat-replicate_add : (m n : ℕ) (text : List ℕ) →
 concat-replicate_add m n text =
     ap concat (sym (replicate-append-replicate m n text)) ∙ concat-append (replicate m text) (replicate n text)
 
--- if an endless source returns one list of bytes and then another, it returns the concatenation of both
+-- if an endless source returns one list of bytes and then another, it returns the concatenation of
+-- both
 pub Goes-append : (old middle new : Round) (front back : List ℕ) →
     Goes old front middle → Goes middle back new → Goes old (front ++ back) new
 Goes-append old middle new front back (again, step, m, first) (again', step', n, second) =

@@ -25,7 +25,8 @@ pub at_start : {T Terms : Type 0} (takes : Taking T Terms) (terms : Terms) (text
 at_start takes terms text left taker taken =
     record { bytes = []; size = refl; lost = lost_nothing left; taken = subst (takes taker terms) (sym (append-nil text)) taken }
 
--- a taker that was fed some bytes and takes the next piece was fed these bytes followed by the piece
+-- a taker that was fed some bytes and takes the next piece was fed these bytes followed by the
+-- piece
 pub next_turn : {T Terms : Type 0} (takes : Taking T Terms) (fed n : ℕ) (terms : Terms) (text : List ℕ) (initial now next : Option (List ℕ)) (before after : T)
     (piece : List ℕ) → (at : HasFed takes fed terms text initial now before) → length piece ≡ n → Reads now piece next
     → takes after terms ((text ++ at.bytes) ++ piece) → HasFed takes (fed + n) terms text initial next after
@@ -55,14 +56,16 @@ pub fed_where_failed : {T Terms : Type 0} (takes : Taking T Terms) (fed : ℕ) (
 fed_where_failed takes fed terms text initial now next taker at same =
     (fed, subst (λ left. HasFed takes fed terms text initial left taker) (sym same) at)
 
--- if the source returns one more piece of at most 65,536 bytes, it has returned at most this piece beyond what the taker has taken
+-- if the source returns one more piece of at most 65,536 bytes, it has returned at most this piece
+-- beyond what the taker has taken
 pub one_more : {T Terms : Type 0} (takes : Taking T Terms) (fed : ℕ) (terms : Terms) (text : List ℕ) (initial now next : Option (List ℕ)) (taker : T)
     (piece : List ℕ) → HasFed takes fed terms text initial now taker → Reads now piece next → length piece ≤ 65536
     → LosesOnePieceMore takes 65536 terms text initial next
 one_more takes fed terms text initial now next taker piece at more few =
     record { bytes = at.bytes; piece = piece; lost = lost_more initial now next at.bytes piece at.lost more; few = few; taker = taker; taken = at.taken }
 
--- a source that returned only fed bytes has returned at most one piece beyond what the taker has taken
+-- a source that returned only fed bytes has returned at most one piece beyond what the taker has
+-- taken
 pub no_more : {T Terms : Type 0} (takes : Taking T Terms) (fed : ℕ) (terms : Terms) (text : List ℕ) (initial now next : Option (List ℕ)) (taker : T)
     → HasFed takes fed terms text initial now taker → next ≡ now → LosesOnePieceMore takes 65536 terms text initial next
 no_more takes fed terms text initial now next taker at same =
@@ -73,7 +76,8 @@ pub nothing_read : {T Terms : Type 0} (takes : Taking T Terms) (terms : Terms) (
     → LosesOnePieceMore takes 65536 terms text left left
 nothing_read takes terms text left taker taken = no_more takes 0 terms text left left left taker (at_start takes terms text left taker taken) refl
 
--- if the taker refuses the next piece, it has taken its first text and the fed bytes, and then refused this piece
+-- if the taker refuses the next piece, it has taken its first text and the fed bytes, and then
+-- refused this piece
 pub refused_behind : {T Terms Fault : Type 0} (takes : Taking T Terms) (refuses : Refusing T Terms Fault) (fed : ℕ) (terms : Terms) (text : List ℕ)
     (initial now next : Option (List ℕ)) (before after : T) (piece : List ℕ) (fault : Fault) → (at : HasFed takes fed terms text initial now before)
     → Reads now piece next → length piece ≤ 65536 → refuses after terms (text ++ at.bytes) piece fault
@@ -82,7 +86,8 @@ unfolding one_more
 refused_behind takes refuses fed terms text initial now next before after piece fault at more few refused =
     record { more = one_more takes fed terms text initial now next before piece at more few; refused = refused }
 
--- if the text with the fed bytes and the next piece has fewer than 2^64 bytes, the number of fed bytes with this piece fits in 64 bits
+-- if the text with the fed bytes and the next piece has fewer than 2^64 bytes, the number of fed
+-- bytes with this piece fits in 64 bits
 pub fits_still : (fed n : ℕ) (text bytes piece : List ℕ) → length bytes ≡ fed → length piece ≡ n → length ((text ++ bytes) ++ piece) < 2 ^ 64
     → Fits w64 (fed + n)
 fits_still fed n text bytes piece size long below =

@@ -12,14 +12,16 @@ drop_next : (i : ℕ) (places : List Place) (place : Place) → i < length place
     → drop i places ≡ place ∷ drop (i + 1) places
 drop_next i places place below at = drop-cons places i place below ∙ (λ j. sym at j ∷ drop (sym (add-one i) j) places)
 
--- if the place at index `i` has another name, the text of the name is its text in the places from index `i + 1` on
+-- if the place at index `i` has another name, the text of the name is its text in the places from
+-- index `i + 1` on
 pub next_place : (i : ℕ) (places : List Place) (place : Place) (name : Text) → i < length places → place ≡ get_or places i place
     → texts_of places name ≡ texts_of (drop i places) name → bytes_eq (string_bytes place.name) name ≡ false
     → texts_of places name ≡ texts_of (drop (i + 1) places) name
 next_place i places place name below at so_far other =
     so_far ∙ ap (λ (ps : List Place). texts_of ps name) (drop_next i places place below at) ∙ rw other refl
 
--- if the place at index `i` has the name and no earlier place does, the text of the name is the text of this place
+-- if the place at index `i` has the name and no earlier place does, the text of the name is the
+-- text of this place
 pub this_place : (i : ℕ) (places : List Place) (place : Place) (name text : Text) → i < length places → place ≡ get_or places i place
     → texts_of places name ≡ texts_of (drop i places) name → bytes_eq (string_bytes place.name) name ≡ true
     → text ≡ place.text.items → texts_of places name ≡ Some text

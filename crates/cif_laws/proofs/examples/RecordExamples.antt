@@ -98,7 +98,8 @@ night_times = refl
 one_midnight : midnights night_schedule ≡ 1
 one_midnight = refl
 
--- a line may end with a line feed, or with a carriage return and a line feed, and the last line needs no line end
+-- a line may end with a line feed, or with a carriage return and a line feed, and the last line
+-- needs no line end
 line_ends : map lines_of ((codes "ab" ++ 10 ∷ codes "c" ++ 10 ∷ []) ∷ (codes "ab" ++ 13 ∷ 10 ∷ codes "c" ++ 13 ∷ 10 ∷ []) ∷ (codes "ab" ++ 10 ∷ codes "c") ∷
     (codes "ab" ++ 10 ∷ codes "c" ++ 13 ∷ []) ∷ [])
     ≡ (codes "ab" ∷ codes "c" ∷ []) ∷ (codes "ab" ∷ codes "c" ∷ []) ∷ (codes "ab" ∷ codes "c" ∷ []) ∷ (codes "ab" ∷ codes "c" ∷ []) ∷ []

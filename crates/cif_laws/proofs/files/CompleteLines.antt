@@ -65,7 +65,8 @@ go_on_empty : (pieces : Lines) → 0 < length pieces → pieces ≡ going_on [] 
 go_on_empty [] some = absurd (omega arith)
 go_on_empty (piece ∷ pieces) some = refl
 
--- the pieces of a text with appended bytes: the first of the new bytes extend the last piece, and each separator in them begins a new piece
+-- the pieces of a text with appended bytes: the first of the new bytes extend the last piece, and
+-- each separator in them begins a new piece
 pub split_append : (p : ℕ → Bool) (text more : List ℕ) → slice_split p (text ++ more) ≡ but_last (slice_split p text) ++ going_on (last_of (slice_split p text))
     (slice_split p more)
 split_append p [] more = go_on_empty (slice_split p more) (some_pieces p more)
@@ -107,7 +108,8 @@ length_complete_lines text =
     let mapped = length-map (but_last (pieces_of text)) strip_carriage_return in
     omega arith
 
--- the number of certain lines is the number of complete lines, plus one if the incomplete line has more than 81 bytes
+-- the number of certain lines is the number of complete lines, plus one if the incomplete line has
+-- more than 81 bytes
 pub sure_lines_is : (text : List ℕ) → sure_lines text ≡ length (complete_lines text) + (if nat_le 82 (length (open_line text)) then 1 else 0)
 sure_lines_is text = ap (λ n. n + (if nat_le 82 (length (open_line text)) then 1 else 0)) (sym (length_complete_lines text))
 
@@ -141,7 +143,8 @@ last_rest : (piece : List ℕ) (pieces : Lines) → 0 < length pieces → last_o
 last_rest piece [] some = absurd (omega arith)
 last_rest piece (next ∷ pieces) some = refl
 
--- a line feed completes the incomplete line. The complete lines of the bytes after the line feed follow
+-- a line feed completes the incomplete line. The complete lines of the bytes after the line feed
+-- follow
 pub complete_lines_cut : (text front rest : List ℕ) → HasNoFeed front
     → complete_lines (text ++ (front ++ 10 ∷ rest)) ≡ complete_lines text ++ strip_carriage_return (open_line text ++ front) ∷ complete_lines rest
 complete_lines_cut text front rest plain =
@@ -169,7 +172,8 @@ open_line_ended text front plain = open_line_cut text front [] plain
 
 -- ---- the lines of a longer text
 
--- how appending bytes changes a text: the bytes before their first line feed extend the incomplete line, and each line feed completes a line
+-- how appending bytes changes a text: the bytes before their first line feed extend the incomplete
+-- line, and each line feed completes a line
 pub record GoesOn (text more : List ℕ) : Type 0 where
   pub first : List ℕ
   pub pieces : Lines

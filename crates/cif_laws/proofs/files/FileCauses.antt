@@ -1,4 +1,5 @@
--- The cause of a record at fault, from the place of the reader before the record. A text that isn't the text of a file has a fault.
+-- The cause of a record at fault, from the place of the reader before the record. A text that isn't
+-- the text of a file has a fault.
 use Rattle.std.proofs.Common.{◌≡◌, refl, true, [], ◌∷◌, Some, None, ℕ, ◌+◌, List, ◌++◌, sym, ◌∙◌, Bool, false, cond, ◌⊎◌, inl, inr}
 use Rattle.std.proofs.Common.{Contains, ap, subst, ◌<◌, ◌≤◌, length, arith, eqb-true, append_assoc, append-nil, length-append}
 use Rattle.std.specs.Prelude.{Any, Option, is_some, ◌&&◌, ◌||◌, nat_le, is_none, ◌==◌}
@@ -140,7 +141,8 @@ ends_in_schedule stage lines records within = record {
       (shape_follows stage within.front.extra within.front.journey within.front.shape)));
 }
 
--- if a record has good fields but fails `is_sound_next`, its schedule passes midnight for the third time at this record
+-- if a record has good fields but fails `is_sound_next`, its schedule passes midnight for the third
+-- time at this record
 third_fall : (stage : Stage) (lines records : Lines) (line : List ℕ) → IsWithin stage lines records → HasGoodFields line → is_sound_next lines line ≡ false
     → HasThirdFall records line
 third_fall stage lines records line within fields test = (lines, ends_in_schedule stage lines records within, few within.front.sound, third)
@@ -211,7 +213,8 @@ module _ (limit : ℕ) (earlier : Lines) (place : Place) (line : List ℕ) (foun
           (at_begins there.0 (earlier ++ witness kind ∷ [])
           (next_at place earlier (witness kind) there.0 at (witness_next place earlier kind there.0 at there.1)))
 
-  -- if a record is in place and has good fields, but has no next place, its schedule passes midnight for the third time at this record
+  -- if a record is in place and has good fields, but has no next place, its schedule passes
+  -- midnight for the third time at this record
   third : (next : Place) → IsRecord line → place_by_kind place (kind_of line) line ≡ Some next → HasGoodFields line → next_place place line ≡ None
       → HasThirdFall earlier line
   third next is told fields nowhere = by place at unsound

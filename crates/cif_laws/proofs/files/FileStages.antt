@@ -1,4 +1,5 @@
--- The place of a reader in a file determines which records may follow, and whether the records read are a file.
+-- The place of a reader in a file determines which records may follow, and whether the records read
+-- are a file.
 use Rattle.std.proofs.Common.{◌≡◌, ℕ, List, ◌∷◌, ◌++◌, [], true, Some, refl, Bool, false, cond, None, ◌∙◌, ap, sym}
 use Rattle.std.proofs.Common.{append-nil, inl, inr, subst, append_assoc, ◌<◌, length, arith, length-append, ◌⊎◌}
 use Rattle.std.specs.Prelude.{◌&&◌, Option, is_some, option_and_then, ◌↔◌, ⊤}
@@ -88,7 +89,8 @@ between_more records unit between is = record {
   each = all_append IsUnit between.units (unit ∷ []) between.each (is, tt);
 }
 
--- after complete units and one more record of this kind, the records have the form for the next place
+-- after complete units and one more record of this kind, the records have the form for the next
+-- place
 unit_more : (records : Lines) (kind : Kind) (line : List ℕ) (next : Place) → IsBetween records → IsRecord line → HasKind kind line → HasGoodFields line
     → unit_by_kind (Some kind) line ≡ Some next
     → IsAt next (records ++ line ∷ [])
@@ -153,7 +155,8 @@ within_more stage lines records line next within found = record {
   front = next_front stage lines line next within.front found;
 }
 
--- if records have the form for a place, and one more record has a next place, the records with that record have the form for the next place
+-- if records have the form for a place, and one more record has a next place, the records with that
+-- record have the form for the next place
 pub next_at : (place : Place) (records : Lines) (line : List ℕ) (next : Place) → IsAt place records → next_place place line ≡ Some next
     → IsAt next (records ++ line ∷ [])
 next_at before_header records line next at found = by (next_by_test before_header line next found) (kind_of line) refl
@@ -279,7 +282,8 @@ place_from_append (line ∷ front) place middle more found =
     let step = then_some (λ next. place_from next front) (next_place place line) middle found in
     (λ i. option_and_then (λ next. place_from next (front ++ more)) (step.1 i)) ∙ place_from_append front step.0 middle more step.2
 
--- if a record has a next stage in a schedule, its next place in the file is the place with that stage
+-- if a record has a next stage in a schedule, its next place in the file is the place with that
+-- stage
 pub next_of_stage : (stage : Stage) (lines : Lines) (line : List ℕ) (next : Stage) → next_stage stage lines line ≡ Some next
     → next_place (in_schedule stage lines) line ≡ Some (place_in next (lines ++ line ∷ []))
 next_of_stage stage lines line next found =
@@ -346,7 +350,8 @@ stage_stops in_journey (Some change_en_route) h = cc
 stage_stops in_journey (Some terminating_location) h = cc
 stage_stops _ _ h = refl
 
--- after a schedule that may end, a record that can't follow a basic schedule has the same next place as between units
+-- after a schedule that may end, a record that can't follow a basic schedule has the same next
+-- place as between units
 pub next_behind : (stage : Stage) (lines : Lines) (line : List ℕ) → may_end stage lines ≡ true → follows_basic (kind_of line) ≡ false
     → next_place (in_schedule stage lines) line ≡ next_place between_units line
 next_behind stage lines line may anew =
@@ -432,7 +437,8 @@ one_place records first second one two = let both_are : Some first ≡ Some seco
 pub place_of_more : (records : Lines) (place : Place) (line : List ℕ) → IsPlaceOf records place → place_at (records ++ line ∷ []) ≡ next_place place line
 place_of_more records place line found = place_from_append records before_header place (line ∷ []) found ∙ some_then (next_place place line)
 
--- if records have a place, then they and one more record begin a file if and only if that record has a next place
+-- if records have a place, then they and one more record begin a file if and only if that record
+-- has a next place
 pub begins_next_iff : (records : Lines) (place : Place) (line : List ℕ) → IsPlaceOf records place → BeginsFile (records ++ line ∷ [])
     ↔ ((next : Place) × IsNext place line next)
 begins_next_iff records place line found = (
@@ -451,7 +457,8 @@ begins_file_or_not records = by (place_at records) refl
 
 -- ---- the stage of the schedule at a place
 
--- if the place is inside a schedule, its stage is the stage of that schedule's records, and the journey isn't complete
+-- if the place is inside a schedule, its stage is the stage of that schedule's records, and the
+-- journey isn't complete
 abbrev pub IsTracked : Place → Type 0
 IsTracked (in_schedule stage lines) = (stage_of lines ≡ Some stage) × ¬ (stage ≡ after_journey)
 IsTracked _ = ⊤
@@ -503,6 +510,7 @@ tracked_from (line ∷ rest) place final tracked found =
     let step = then_some (λ next. place_from next rest) (next_place place line) final found in
     tracked_from rest step.0 final (next_tracked place line step.0 tracked (next_by_test place line step.0 step.1)) step.2
 
--- if records have a place inside a schedule, the stage of the place is the stage of that schedule's records
+-- if records have a place inside a schedule, the stage of the place is the stage of that schedule's
+-- records
 pub tracked_place : (records : Lines) (place : Place) → IsPlaceOf records place → IsTracked place
 tracked_place records place found = tracked_from records before_header place tt found

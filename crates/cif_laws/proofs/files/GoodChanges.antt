@@ -243,7 +243,8 @@ new_is_schedule lines schedule kept =
     sound (inl deletion) = let bad : false ≡ true = sym kept ∙ deletion in cc
     sound (inr good) = inr good
 
--- a schedule before these records ends before the first of these records: there are no records, or the first record can't follow a basic schedule
+-- a schedule before these records ends before the first of these records: there are no records, or
+-- the first record can't follow a basic schedule
 abbrev pub StopsHere : List (List ℕ) → Type 0
 StopsHere [] = ⊤
 StopsHere (line ∷ lines) = follows_basic (kind_of line) ≡ false
@@ -259,8 +260,8 @@ prefix_is [] (line ∷ rest) all stops = λ i. cond (stops i) (1 + prefix_len (�
 prefix_is (line ∷ lines) rest all stops =
     (λ i. cond (all.0 i) (1 + prefix_len (λ line. follows_basic (kind_of line)) (lines ++ rest)) 0) ∙ (let e = prefix_is lines rest all.1 stops in omega arith)
 
--- `schedule_rest` of a concatenation is its first list, if all records of the first list can follow a basic schedule and the first record of the second list
--- can't
+-- `schedule_rest` of a concatenation is its first list, if all records of the first list can follow
+-- a basic schedule and the first record of the second list can't
 pub rest_is : (lines rest : List (List ℕ)) → AllByRecursion Follows lines → StopsHere rest → schedule_rest (lines ++ rest) ≡ lines
 rest_is lines rest all stops = ap (λ n. take n (lines ++ rest)) (prefix_is lines rest all stops) ∙ take-append_seam lines rest
 

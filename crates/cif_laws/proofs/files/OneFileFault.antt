@@ -10,7 +10,8 @@ use Rattle.docker_model.specs.file.Text.{lines_of}
 use Rattle.docker_model.specs.file.FileFault.{FileFault, IsRecordFault, FileCause, bad_byte, bad_field, too_many, after_trailer, bad_length, bad_kind}
 use Rattle.docker_model.specs.file.FileFault.{bad_place, third_midnight, no_end, cause_rank, HoldsOf, IsCause, IsUnended, IsFileFault, IsFileText}
 
--- two records of one list, each given with the records before it, have the same index, or the index of one is lower
+-- two records of one list, each given with the records before it, have the same index, or the index
+-- of one is lower
 head_or : List ℕ → Lines → List ℕ
 head_or line [] = line
 head_or line (first ∷ rest) = first
@@ -51,7 +52,8 @@ not_within limit records fault is more begins within = by is.here
     by (inl over) = let size = length-append is.earlier (is.line ∷ more) in omega arith
     by (inr none) = none (begins_front (is.earlier ++ is.line ∷ []) more (subst BeginsFile (sym (append_assoc is.earlier (is.line ∷ []) more)) begins))
 
--- the column of a cause, or 0 for a cause without a column. The rank and the column determine the cause
+-- the column of a cause, or 0 for a cause without a column. The rank and the column determine the
+-- cause
 unfoldable pub column_of : FileCause → ℕ
 column_of (bad_byte at) = at
 column_of (bad_field at) = at

@@ -1,4 +1,5 @@
--- A bound on the number of bytes that determine no fault: at most 82 for each complete line with its line feed, and at most 81 for the incomplete line.
+-- A bound on the number of bytes that determine no fault: at most 82 for each complete line with
+-- its line feed, and at most 81 for the incomplete line.
 use Rattle.std.proofs.Common.{◌≡◌, ℕ, List, length, [], ◌∷◌, Some, ◌+◌, ◌<◌, arith, refl, ap, Bool, true, false, ◌*◌, ◌≤◌, map, ◌⊎◌, inl, inr}
 use Rattle.std.specs.Prelude.{◌==◌}
 use Rattle.std.specs.List.{AllByRecursion, onto_first, slice_split}
@@ -34,7 +35,8 @@ unfolding bytes_in
 bytes_more b [] some = absurd (omega arith)
 bytes_more b (piece ∷ pieces) some = omega arith
 
--- for the pieces of a text, this number is the length of the text plus one, since no line feed follows the last piece
+-- for the pieces of a text, this number is the length of the text plus one, since no line feed
+-- follows the last piece
 bytes_of_split : (p : ℕ → Bool) (text : List ℕ) → bytes_in (slice_split p text) ≡ length text + 1
 unfolding bytes_in
 bytes_of_split p [] = refl
@@ -48,7 +50,8 @@ bytes_of_split p (b ∷ text) = by (p b) refl (bytes_of_split p text)
         let more = bytes_more b (slice_split p text) (omega arith) in
         omega arith
 
--- the number for all pieces is the number for all pieces but the last, plus the length of the last piece, plus one
+-- the number for all pieces is the number for all pieces but the last, plus the length of the last
+-- piece, plus one
 bytes_but_last : (pieces : Lines) → 0 < length pieces → bytes_in pieces ≡ bytes_in (but_last pieces) + length (last_of pieces) + 1
 unfolding bytes_in
 bytes_but_last [] some = absurd (omega arith)

@@ -1,4 +1,5 @@
--- A fault that the first bytes of a text determine is the fault of the whole text. If the first bytes determine no fault, their complete lines begin some file.
+-- A fault that the first bytes of a text determine is the fault of the whole text. If the first
+-- bytes determine no fault, their complete lines begin some file.
 use Rattle.std.proofs.Common.{ℕ, ◌+◌, ◌-◌, ◌≤◌, List, take, length, Bool, true, false, cond, arith, ◌≡◌, refl, Some, None}
 use Rattle.std.proofs.Common.{[], ◌∷◌, ◌++◌, ◌<◌, sym, ◌∙◌, append_assoc, ◌⊎◌, inl, inr, map, subst, length-append, ap}
 use Rattle.std.specs.Prelude.{◌==◌, slice_index, ◌≢◌, Option, nat_le}
@@ -201,12 +202,14 @@ one_fault_so_far limit text first second one two = one_fault limit text first se
 
 -- ---- bytes determine a fault, or their complete lines begin a file
 
--- if the incomplete line has at most 81 bytes, the number of certain lines is the number of complete lines
+-- if the incomplete line has at most 81 bytes, the number of certain lines is the number of
+-- complete lines
 pub sure_lines_short : (text : List ℕ) → length (open_line text) ≤ 81 → sure_lines text ≡ length (complete_lines text)
 sure_lines_short text short =
     sure_lines_is text ∙ ap (λ b. length (complete_lines text) + cond b 1 0) (lt-leb 82 (length (open_line text)) (omega arith)) ∙ omega arith
 
--- if the incomplete line has more than 81 bytes, the number of certain lines is the number of complete lines plus one
+-- if the incomplete line has more than 81 bytes, the number of certain lines is the number of
+-- complete lines plus one
 pub sure_lines_long : (text : List ℕ) → 82 ≤ length (open_line text) → sure_lines text ≡ length (complete_lines text) + 1
 sure_lines_long text long = sure_lines_is text ∙ ap (λ b. length (complete_lines text) + cond b 1 0) (le-leb 82 (length (open_line text)) long)
 
@@ -216,7 +219,8 @@ take_told text short =
     ap (λ lines. take (sure_lines text) lines) (lines_of_told text) ∙ take_at (complete_lines text) (line_left (open_line text)) (sure_lines text)
     (sym (sure_lines_short text short))
 
--- the bytes determine no fault: their complete lines begin some file and are within the limit, and the incomplete line has at most 81 bytes
+-- the bytes determine no fault: their complete lines begin some file and are within the limit, and
+-- the incomplete line has at most 81 bytes
 pub record TellsNoFault (limit : ℕ) (text : List ℕ) : Type 0 where
   pub begin : BeginsFile (complete_lines text)
   pub within : length (complete_lines text) ≤ limit
@@ -307,7 +311,8 @@ cause_of_length limit count place line apart =
     λ i. cond (nat_le limit count) too_many
     (cond (is_after_end place) after_trailer (cond (ne_eqb (length line) 80 apart i) (byte_cause place line) bad_length))
 
--- if the complete lines are within the limit and have a place, and the incomplete line has at most 81 bytes, the bytes determine no fault
+-- if the complete lines are within the limit and have a place, and the incomplete line has at most
+-- 81 bytes, the bytes determine no fault
 pub no_fault_told : (limit : ℕ) (text : List ℕ) (place : Place) → IsPlaceOf (complete_lines text) place → length (complete_lines text) ≤ limit
     → length (open_line text) ≤ 81
     → (fault : FileFault) → ¬ IsFaultSoFar limit text fault
@@ -358,7 +363,8 @@ fault_at_long limit text place found within long =
       told = omega arith;
     })
 
--- at the end of a text, an incomplete line that isn't empty is the last line. If that line has no next place or is beyond the limit, it is at fault
+-- at the end of a text, an incomplete line that isn't empty is the last line. If that line has no
+-- next place or is beyond the limit, it is at fault
 pub fault_at_end : (limit : ℕ) (text : List ℕ) (place : Place) → IsPlaceOf (complete_lines text) place → length (complete_lines text) ≤ limit
     → 0 < length (open_line text)
     → (limit ≤ length (complete_lines text)) ⊎ (next_place place (strip_carriage_return (open_line text)) ≡ None)

@@ -1,4 +1,5 @@
--- Records are the lines of a text if and only if the text consists of these records, each with its line end.
+-- Records are the lines of a text if and only if the text consists of these records, each with its
+-- line end.
 use Rattle.std.proofs.Common.{◌≡◌, ℕ, suc, ◌-◌, ◌<◌, ◌≤◌, ◌⊎◌, List, [], ◌∷◌, ◌++◌, length, map, take, refl, ap, sym, ◌∙◌, subst}
 use Rattle.std.proofs.Common.{inl, inr, Bool, true, false, cond, arith, All, eqb-true, append_assoc, append-nil, length-append}
 use Rattle.std.specs.Prelude.{◌↔◌, ◌==◌, slice_index, ◌≢◌, nat_le, ◌&&◌}
@@ -34,7 +35,8 @@ piece_is piece = by (slice_index piece (length piece - 1) == 13) refl
     by true h = inr (last_is piece (eqb-true _ _ h) ∙ (λ i. cond (sym h i) (take (length piece - 1) piece) piece ++ 13 ∷ []))
     by false h = inl (λ i. cond (sym h i) (take (length piece - 1) piece) piece)
 
--- if a text consists of some lines, then a piece followed by a line feed and this text consists of the line in the piece and these lines
+-- if a text consists of some lines, then a piece followed by a line feed and this text consists of
+-- the line in the piece and these lines
 one_more : (piece : List ℕ) (lines : List (List ℕ)) (rest : List ℕ) → IsTextOf lines rest → IsTextOf (strip_carriage_return piece ∷ lines) (piece ++ 10 ∷ rest)
 one_more piece [] rest told = by (piece_is piece)
   where
@@ -73,7 +75,8 @@ pieces_text (piece ∷ next ∷ pieces) =
 pub text_of_lines : (text : List ℕ) → IsTextOf (lines_of text) text
 text_of_lines text = subst (IsTextOf (lines_of text)) (join_with_byte-slice_split 10 text) (pieces_text (slice_split (λ b. b == 10) text))
 
--- splitting a text into lines leaves this line unchanged: it isn't empty, has no line feed, and doesn't end with a carriage return
+-- splitting a text into lines leaves this line unchanged: it isn't empty, has no line feed, and
+-- doesn't end with a carriage return
 pub record IsPlain (line : List ℕ) : Type 0 where
   pub some : 0 < length line
   pub no_feed : All (λ b. (b == 10) ≡ false) line

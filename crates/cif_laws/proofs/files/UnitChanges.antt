@@ -48,7 +48,8 @@ follower_changes_nothing (Some terminating_location) line following h = refl
 follower_changes_nothing (Some change_en_route) line following h = refl
 follower_changes_nothing _ line following h = cc
 
--- if all records of a prefix can follow a basic schedule, the changes of all records are the changes of the records after the prefix
+-- if all records of a prefix can follow a basic schedule, the changes of all records are the
+-- changes of the records after the prefix
 behind_followers : (n : ℕ) (lines rest : List (List ℕ)) → AllByRecursion Follows lines → changes_from n (lines ++ rest) ≡ changes_from (n + length lines) rest
 behind_followers n [] rest all = ap (λ k. changes_from k rest) (omega arith)
 behind_followers n (line ∷ lines) rest all =
@@ -92,7 +93,8 @@ schedule_then n basic others rest is stops =
     follow : AllByRecursion Follows others
     follow = others_follow basic others is
 
--- the changes of a unit and the records after it are the changes of the unit followed by the changes of those records
+-- the changes of a unit and the records after it are the changes of the unit followed by the
+-- changes of those records
 pub unit_then : (n : ℕ) (unit rest : List (List ℕ)) → IsUnit unit → StopsHere rest → changes_from n (unit ++ rest) ≡ changes_of_unit n unit ++ changes_from
     (n + length unit) rest
 unit_then n unit rest (inl single) stops =

@@ -17,12 +17,14 @@ pub all_behind : {A : Type 0} (P : A → Type 0) (xs ys : List A) → AllByRecur
 all_behind P [] ys all = all
 all_behind P (x ∷ xs) ys all = all_behind P xs ys all.1
 
--- if one property implies another and all elements of a list have the first, all elements have the second
+-- if one property implies another and all elements of a list have the first, all elements have the
+-- second
 pub all_weaker : {A : Type 0} (P Q : A → Type 0) → ((x : A) → P x → Q x) → (xs : List A) → AllByRecursion P xs → AllByRecursion Q xs
 all_weaker P Q weaker [] all = tt
 all_weaker P Q weaker (x ∷ xs) all = (weaker x all.0, all_weaker P Q weaker xs all.1)
 
--- if `f x` has a property for each element `x` of a list, each element of the mapped list has the property
+-- if `f x` has a property for each element `x` of a list, each element of the mapped list has the
+-- property
 pub all_map : {A B : Type 0} (f : A → B) (P : B → Type 0) (xs : List A) → AllByRecursion (λ x. P (f x)) xs → AllByRecursion P (map f xs)
 all_map f P [] all = tt
 all_map f P (x ∷ xs) all = (all.0, all_map f P xs all.1)

@@ -67,7 +67,8 @@ le_decided a b = by (leb_tells a b)
 pub lt_decided : (a b : ℕ) → Decided (a < b)
 lt_decided a b = le_decided (suc a) b
 
--- if a property is decided for each value, it is decided whether all elements of a list have the property
+-- if a property is decided for each value, it is decided whether all elements of a list have the
+-- property
 pub all_decided : {A : Type 0} (P : A → Type 0) → ((x : A) → Decided (P x)) → (xs : List A) → Decided (AllByRecursion P xs)
 all_decided P test [] = inl tt
 all_decided P test (x ∷ xs) = both_decided (test x) (all_decided P test xs)

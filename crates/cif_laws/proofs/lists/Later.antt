@@ -24,7 +24,8 @@ one_before R (x ∷ xs) a b later in_a in_b = by (one_before R xs a b later.1) (
     by rest (inr here) (inl f) = inr (inr (subst (λ v. R v a) f (below_by_recursion (R x) xs a later.0 here)))
     by rest (inr here) (inr there) = rest here there
 
--- if each member is related to each later one, and this relation implies another relation for members, the list has the other relation too
+-- if each member is related to each later one, and this relation implies another relation for
+-- members, the list has the other relation too
 pub later_weaker : {A : Type 0} (R S : A → A → Type 0) (xs : List A) → ((a b : A) → Contains xs a → Contains xs b → R a b → S a b) → AllLater R xs
     → AllLater S xs
 later_weaker R S [] to later = tt
@@ -50,7 +51,8 @@ later_filter {A} R test (x ∷ xs) later = by (test x) (later_filter R test xs l
     by true rest = (above xs later.0, rest)
     by false rest = rest
 
--- if the image of each member is related to the image of each later one, the mapped list has the relation
+-- if the image of each member is related to the image of each later one, the mapped list has the
+-- relation
 pub later_map : {A B : Type 0} (R : B → B → Type 0) (f : A → B) (xs : List A) → AllLater (λ a b. R (f a) (f b)) xs → AllLater R (map f xs)
 later_map R f [] later = tt
 later_map {A} R f (x ∷ xs) later = (above xs later.0, later_map R f xs later.1)
@@ -59,7 +61,8 @@ later_map {A} R f (x ∷ xs) later = (above xs later.0, later_map R f xs later.1
     above [] all = tt
     above (y ∷ ys) all = (all.0, above ys all.1)
 
--- if two lists have the relation and each member of the first is related to each member of the second, their concatenation has the relation
+-- if two lists have the relation and each member of the first is related to each member of the
+-- second, their concatenation has the relation
 pub later_append : {A : Type 0} (R : A → A → Type 0) (xs ys : List A) → AllLater R xs → AllLater R ys → ((a b : A) → Contains xs a → Contains ys b → R a b)
     → AllLater R (xs ++ ys)
 later_append R [] ys first second across = second
@@ -72,7 +75,8 @@ later_append {A} R (x ∷ xs) ys first second across = (
     by z (inl here) = below_by_recursion (R x) xs z first.0 here
     by z (inr there) = across x z (cons-Contains-first x xs) there
 
--- if each of several lists has the relation, and each member of a list is related to each member of every later list, their concatenation has the relation
+-- if each of several lists has the relation, and each member of a list is related to each member of
+-- every later list, their concatenation has the relation
 pub later_flat_map : {A B : Type 0} (R : B → B → Type 0) (S : A → A → Type 0) (f : A → List B) (xs : List A) → AllLater S xs
     → ((x : A) → Contains xs x → AllLater R (f x))
     → ((x y : A) → Contains xs x → Contains xs y → S x y → (a b : B) → Contains (f x) a → Contains (f y) b → R a b) → AllLater R (flat_map f xs)
@@ -91,7 +95,8 @@ pub later_append_all : {A : Type 0} (R : A → A → Type 0) (xs ys : List A) �
 later_append_all R [] ys left right across = right
 later_append_all R (x ∷ xs) ys left right across = (all_append (R x) xs ys left.0 across.0, later_append_all R xs ys left.1 right across.1)
 
--- if a relation of two values implies another relation of their images, the mapped list has the other relation
+-- if a relation of two values implies another relation of their images, the mapped list has the
+-- other relation
 pub later_map_weaker : {A B : Type 0} (f : A → B) (R : A → A → Type 0) (S : B → B → Type 0) → ((x y : A) → R x y → S (f x) (f y))
     → (xs : List A) → AllLater R xs
     → AllLater S (map f xs)

@@ -12,7 +12,8 @@ use Rattle.docker_model.specs.records.Date.{is_calendar_day, day_number, year_of
 use Rattle.docker_model.specs.records.PrintedTime.{day_text, date_text}
 use Rattle.cif_laws.proofs.lists.BoolsAndOptions.{and_true as and_both, both}
 
--- a year, month and day pass the test `is_calendar_day` if and only if they are a date of the crate's calendar
+-- a year, month and day pass the test `is_calendar_day` if and only if they are a date of the
+-- crate's calendar
 pub is_calendar_day-IsDate : (year month day : ℕ) → year ≤ 9999 → (is_calendar_day year month day ≡ true) ↔ IsDate (pos year) (pos month) (pos day)
 is_calendar_day-IsDate year month day low = (
   λ h.
@@ -32,7 +33,8 @@ is_calendar_day-IsDate year month day low = (
       and_both _ _ (and_both _ _ (le-leb 1 month m1) (le-leb month 12 m2)) (and_both _ _ (le-leb 1 day d1) (le-leb day _ d2)),
 )
 
--- if the first `k` numbers of a range pass a test and the other numbers of the range don't, `count_by` is `k`
+-- if the first `k` numbers of a range pass a test and the other numbers of the range don't,
+-- `count_by` is `k`
 count_prefix : (p : ℕ → Bool) (a n k : ℕ) → k ≤ n → ((i : ℕ) → i < k → p (a + i) ≡ true) → ((i : ℕ) → k ≤ i → i < n → p (a + i) ≡ false)
     → count_by p (range_with_len a n) ≡ k
 count_prefix p a zero k within passes fails = omega arith

@@ -71,8 +71,9 @@ record_iff_test line = (
 
 -- ---- how often a schedule passes midnight
 
--- the number of falls in a concatenation is the number in the first list, plus the number in the second list after the last time of the first. A fall is a time
--- that is earlier than the time before it
+-- the number of falls in a concatenation is the number in the first list, plus the number in the
+-- second list after the last time of the first. A fall is a time that is earlier than the time
+-- before it
 pub fall_count-append : (times later : List ℕ) → fall_count (times ++ later) ≡ fall_count times + falls_after (last_of times) later
 fall_count-append [] later = omega arith
 fall_count-append (time ∷ []) later = omega arith
@@ -88,7 +89,8 @@ pub fewer_falls : (times later : List ℕ) → fall_count times ≤ fall_count (
 fewer_falls [] later = omega arith
 fewer_falls (time ∷ times) later = fall_count_behind time times later
 
--- the last time of the concatenation of two lists is the last time of the second list, or of the first list if the second is empty
+-- the last time of the concatenation of two lists is the last time of the second list, or of the
+-- first list if the second is empty
 pub last_of-append : (times later : List ℕ) → last_of (times ++ later) ≡ later_or (last_of later) (last_of times)
 last_of-append [] later = by (last_of later)
   where
@@ -132,12 +134,14 @@ pub fewer_midnights : (lines more : List (List ℕ)) → midnights lines ≤ mid
 fewer_midnights lines more =
     subst (λ times. midnights lines ≤ fall_count times) (sym (times_append lines more)) (fewer_falls (times_along lines) (times_along more))
 
--- appending a record adds the number of falls in the record's times, counted from the last time before the record
+-- appending a record adds the number of falls in the record's times, counted from the last time
+-- before the record
 pub midnights_step : (lines : List (List ℕ)) (line : List ℕ) → midnights (lines ++ line ∷ []) ≡ midnights lines + falls_after (last_of (times_along lines))
     (times_along (line ∷ []))
 midnights_step lines line = ap fall_count (times_append lines (line ∷ [])) ∙ fall_count-append (times_along lines) (times_along (line ∷ []))
 
--- after a record is appended, the last time is the record's last time, or the previous last time if the record has no time
+-- after a record is appended, the last time is the record's last time, or the previous last time if
+-- the record has no time
 pub last_time_step : (lines : List (List ℕ)) (line : List ℕ) → last_of (times_along (lines ++ line ∷ [])) ≡ later_or (last_of (times_along (line ∷ [])))
     (last_of (times_along lines))
 last_time_step lines line = ap last_of (times_append lines (line ∷ [])) ∙ last_of-append (times_along lines) (times_along (line ∷ []))

@@ -1,4 +1,5 @@
--- The cause of a record that can't continue a schedule, from the stage before the record. The record has the same cause in a file.
+-- The cause of a record that can't continue a schedule, from the stage before the record. The
+-- record has the same cause in a file.
 use Rattle.std.proofs.Common.{◌≡◌, ℕ, List, refl, ap, ◌<◌, ◌⊎◌, inl, inr, sym, ◌∙◌, ◌≤◌, None}
 use Rattle.std.proofs.Common.{arith, [], ◌∷◌, Bool, true, false, cond, Some, ◌++◌, subst, length}
 use Rattle.std.specs.Prelude.{unwrap_or, Option, is_none, is_some, option_map, ◌&&◌, ◌==◌}
@@ -263,7 +264,8 @@ no_other stage lines line (inr none) = by (may_end stage lines)
     by true = none
     by false = refl
 
--- if a record can only belong to the schedule, its next place is the place with the schedule's next stage
+-- if a record can only belong to the schedule, its next place is the place with the schedule's next
+-- stage
 pub next_place_of_stage : (stage : Stage) (lines : Lines) (line : List ℕ) → IsOfSchedule stage lines line
     → next_place (in_schedule stage lines) line ≡ option_map (λ next. place_in next (lines ++ line ∷ [])) (next_stage stage lines line)
 next_place_of_stage stage lines line of =

@@ -134,7 +134,8 @@ extra_and_journey_decided : (basic : List ℕ) (lines : Lines) → Decided (Extr
 extra_and_journey_decided basic [] = inr (λ h. h)
 extra_and_journey_decided basic (extra ∷ lines) = both_decided (has_kind_decided extra_details extra) (journey_part_decided basic lines)
 
--- the record is a basic schedule with good fields. This file states each part of a schedule by recursion
+-- the record is a basic schedule with good fields. This file states each part of a schedule by
+-- recursion
 abbrev BasicHere : List ℕ → Type 0
 BasicHere basic = HasKind basic_schedule basic × HasGoodFields basic
 
@@ -327,7 +328,8 @@ small_along (line ∷ lines) good =
     times_of-times : List ℕ → List ℕ
     times_of-times l = times_in (times_of l)
 
--- a prefix of a list of times has at most as many falls as the whole list, and appending the time 23:59½ leaves the number of falls unchanged
+-- a prefix of a list of times has at most as many falls as the whole list, and appending the time
+-- 23:59½ leaves the number of falls unchanged
 falls_front : (times more : List ℕ) → fall_count times ≤ fall_count (times ++ more)
 falls_front [] more = omega arith
 falls_front (time ∷ []) more = omega arith

@@ -1,4 +1,5 @@
--- The stage of a reader in a schedule determines which records may follow, and whether the records read are a schedule.
+-- The stage of a reader in a schedule determines which records may follow, and whether the records
+-- read are a schedule.
 use Rattle.std.proofs.Common.{◌≡◌, ℕ, List, ◌∷◌, [], ◌⊎◌, true, ◌+◌, ◌++◌, inl, refl, Some, ap, inr, arith, ◌∙◌, ◌≤◌}
 use Rattle.std.proofs.Common.{Bool, false, subst, append_assoc, cond, None, sym, eqb-true, append-nil, All, ◌<◌}
 use Rattle.std.specs.Prelude.{Option, ◌&&◌, ◌↔◌, nat_le, ◌||◌, ◌==◌, codes, option_and_then, is_none}
@@ -147,8 +148,8 @@ test_by_sound_next lines line (inr good) = by (is_deletion (first_record lines))
     by true = refl
     by false = and_true (has_good_fields line) _ (test_by_none (leftmost_bad_field line) good.fields) (le-leb (midnights (lines ++ line ∷ [])) 2 good.falls)
 
--- the test `is_sound_next` can be computed from three values that a reader keeps: whether the schedule is a deletion, how often the schedule has passed
--- midnight, and the last time
+-- the test `is_sound_next` can be computed from three values that a reader keeps: whether the
+-- schedule is a deletion, how often the schedule has passed midnight, and the last time
 pub sound_next_by_count : (lines : Lines) (line : List ℕ)
     → is_sound_next lines line
     ≡ (is_deletion (first_record lines) || (has_good_fields line && nat_le (midnights lines + falls_after (last_of (times_along lines))
@@ -178,7 +179,8 @@ sound_more stage lines line front test = by (sound_next_by_test lines line test)
           falls = omega arith;
         })
 
--- the parts of the test of the next record: it is a record, it is sound, and `next` is the next stage by its kind
+-- the parts of the test of the next record: it is a record, it is sound, and `next` is the next
+-- stage by its kind
 pub record IsNextLine (stage : Stage) (lines : Lines) (line : List ℕ) (next : Stage) : Type 0 where
   pub is : IsRecord line
   pub sound : is_sound_next lines line ≡ true
@@ -200,7 +202,8 @@ pub test_by_next_line : (stage : Stage) (lines : Lines) (line : List ℕ) (next 
 test_by_next_line stage lines line next told =
     (λ i. cond (and_true (is_record line) _ ((record_iff_test line).0 told.is) told.sound i) (stage_after stage (kind_of line)) None) ∙ told.stage_is
 
--- an incomplete journey is still incomplete after an intermediate location or a change en route is appended
+-- an incomplete journey is still incomplete after an intermediate location or a change en route is
+-- appended
 journey_more : (journey : Lines) (line : List ℕ) → IsOpenJourney journey → IsWithinJourney line → IsOpenJourney (journey ++ line ∷ [])
 journey_more journey line so_far is = (
   so_far.0,
@@ -252,7 +255,8 @@ no_stage_of_none after_details = refl
 no_stage_of_none in_journey = refl
 no_stage_of_none after_journey = refl
 
--- if records are at a stage and one more record has a next stage, the records with that record are at the next stage
+-- if records are at a stage and one more record has a next stage, the records with that record are
+-- at the next stage
 pub next_front : (stage : Stage) (lines : Lines) (line : List ℕ) (next : Stage) → IsFront stage lines → next_stage stage lines line ≡ Some next
     → IsFront next (lines ++ line ∷ [])
 next_front stage lines line next front test = by (kind_of line) refl (next_line_by_test stage lines line next test)
@@ -435,7 +439,8 @@ witness_sound stage lines kind front = test_by_sound_next lines (witness kind) (
             (along_within front.journey (recursion_from_All HasGoodFields front.journey good.fields)) in
             let falls = good.falls in omega arith
 
--- appending the record `witness kind` to records at a stage gives records at the next stage by this kind
+-- appending the record `witness kind` to records at a stage gives records at the next stage by this
+-- kind
 pub witness_front : (stage : Stage) (lines : Lines) (kind : Kind) (next : Stage) → IsFront stage lines → stage_after stage (Some kind) ≡ Some next
     → IsFront next (lines ++ witness kind ∷ [])
 witness_front stage lines kind next front after =
@@ -515,7 +520,8 @@ stage_of_append (basic ∷ rest) stage more found = by (is_first_line basic) ref
 pub stage_of_more : (lines : Lines) (stage : Stage) (line : List ℕ) → stage_of lines ≡ Some stage → stage_of (lines ++ line ∷ []) ≡ next_stage stage lines line
 stage_of_more lines stage line found = stage_of_append lines stage (line ∷ []) found ∙ some_then (next_stage stage lines line)
 
--- the stage after a single record is the stage after the basic schedule if the record can be the first record of a schedule, and otherwise `None`
+-- the stage after a single record is the stage after the basic schedule if the record can be the
+-- first record of a schedule, and otherwise `None`
 pub stage_of_first : (line : List ℕ) → stage_of (line ∷ []) ≡ cond (is_first_line line) (Some after_basic) None
 stage_of_first line = refl
 
@@ -597,7 +603,8 @@ pub record IsWholeBy (lines : Lines) (stage : Stage) : Type 0 where
   pub found : stage_of lines ≡ Some stage
   pub may : may_end stage lines ≡ true
 
--- the stage after the records, by the kinds of the records after the first, is a stage at which the schedule may end
+-- the stage after the records, by the kinds of the records after the first, is a stage at which the
+-- schedule may end
 record LeadsToEnd (basic : List ℕ) (rest : Lines) : Type 0 where
   pub final : Stage
   pub along : stage_along after_basic rest ≡ Some final
@@ -672,7 +679,8 @@ no_lines_begin =
       fields = witness_fields basic_schedule;
     })))
 
--- if records have a stage, then they and one more record begin a schedule if and only if that record has a next stage
+-- if records have a stage, then they and one more record begin a schedule if and only if that
+-- record has a next stage
 pub begins_more_iff : (basic : List ℕ) (rest : Lines) (stage : Stage) (line : List ℕ) → stage_of (basic ∷ rest) ≡ Some stage
     → BeginsSchedule (basic ∷ rest ++ line ∷ []) ↔ ((next : Stage) × IsNextLine stage (basic ∷ rest) line next)
 begins_more_iff basic rest stage line at = (
@@ -714,7 +722,8 @@ schedule_or_not lines = by (stage_of lines) refl
 
 -- ---- which kinds are in place
 
--- a record that has no next stage by its kind is out of place: no schedule has a record of this kind after the earlier records
+-- a record that has no next stage by its kind is out of place: no schedule has a record of this
+-- kind after the earlier records
 pub schedule_out_of_place : (basic : List ℕ) (rest : Lines) (stage : Stage) (line : List ℕ) → stage_of (basic ∷ rest) ≡ Some stage
     → stage_after stage (kind_of line) ≡ None
     → (next : List ℕ) → kind_of next ≡ kind_of line → ¬ BeginsSchedule (basic ∷ rest ++ next ∷ [])
@@ -731,7 +740,8 @@ schedule_in_place basic rest stage kind next at found =
 
 -- ---- why a record has no next stage
 
--- the record's kind is out of place, a field is bad, or the schedule passes midnight for the third time. In a deletion only the kind is checked
+-- the record's kind is out of place, a field is bad, or the schedule passes midnight for the third
+-- time. In a deletion only the kind is checked
 abbrev pub IsNoNextLine : Stage → Lines → List ℕ → Type 0
 IsNoNextLine stage lines line =
     (stage_after stage (kind_of line) ≡ None)

@@ -1,4 +1,5 @@
--- The docker line of an association for one start day of the base train. The docker has each of these lines, and no other lines of associations.
+-- The docker line of an association for one start day of the base train. The docker has each of
+-- these lines, and no other lines of associations.
 use Rattle.std.proofs.Common.{◌≡◌, ℕ, List, [], ◌∷◌, refl, ap, sym, ◌∙◌, subst, inl, inr, Some, None, Bool, true, false, cond, Contains, eqb-true, arith}
 use Rattle.std.specs.Prelude.{Option, not, ◌&&◌, ◌==◌}
 use Rattle.std.specs.Ordering.{is_eq}
@@ -37,8 +38,8 @@ pub record IsOfAssociation (live : Table) (place : List ℕ) (day : ℕ) (key : 
   pub of_key : made.key ≡ key
   pub of_start : made.start ≡ start
 
--- the association may have a docker line for this start day. It is the chosen association of its group, isn't a cancellation, and its date indicator is S, a
--- space, N or P
+-- the association may have a docker line for this start day. It is the chosen association of its
+-- group, isn't a cancellation, and its date indicator is S, a space, N or P
 pub record IsInForce (live : Table) (start : ℕ) (key : AssociationKey) (line : List ℕ) : Type 0 where
   pub chosen : IsChosenAssociation live (group_of key) start key line
   pub no_cancellation : ¬ (key.indicator ≡ 67)

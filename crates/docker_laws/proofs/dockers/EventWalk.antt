@@ -1,5 +1,5 @@
--- The events of a schedule, computed by a walk over its records. The walk keeps the number of falls and the last change en route. A fall is a time that is
--- earlier than the time before it.
+-- The events of a schedule, computed by a walk over its records. The walk keeps the number of falls
+-- and the last change en route. A fall is a time that is earlier than the time before it.
 use Rattle.std.proofs.Common.{◌≡◌, ℕ, zero, suc, ◌+◌, ◌<◌, ◌≤◌, Bool, true, false, cond, List, [], ◌∷◌, ◌++◌, map, length, get_or}
 use Rattle.std.proofs.Common.{take, refl, ap, sym, ◌∙◌, subst, arith, Contains, Some, None, append_assoc, append-nil, length-append}
 use Rattle.std.specs.Prelude.{Option, ◌↔◌, nat_lt, filter, codes}
@@ -52,7 +52,8 @@ events_walked lines = from_is 1 0 lines
 
 -- ---- falls
 
--- appending a time adds one fall if the time is earlier than the last time, and otherwise leaves the number of falls unchanged
+-- appending a time adds one fall if the time is earlier than the last time, and otherwise leaves
+-- the number of falls unchanged
 pub falls_more : (times : List ℕ) (time : ℕ) → fall_count (times ++ time ∷ []) ≡ fall_count times + fall_at (last_time times) time
 falls_more [] time = refl
 falls_more (first ∷ []) time = (let e : cond (nat_lt time first) 1 0 + 0 ≡ 0 + cond (nat_lt time first) 1 0 = omega arith in e)
@@ -70,7 +71,8 @@ falls_here lines before later time number whole is =
     front : (xs : List ℕ) (x : ℕ) (ys : List ℕ) → take (length xs + 1) ((xs ++ x ∷ []) ++ ys) ≡ xs ++ x ∷ []
     front xs x ys = ap (take (length xs + 1)) (append_assoc xs (x ∷ []) ys) ∙ take-append-add xs (x ∷ ys) 1
 
--- the times of a schedule, split at a record: the times before the record, the times in the record, and the times after the record
+-- the times of a schedule, split at a record: the times before the record, the times in the record,
+-- and the times after the record
 pub times_split : (front : List (List ℕ)) (line : List ℕ) (rest : List (List ℕ))
     → times_along (front ++ line ∷ rest) ≡ times_along front ++ (map (λ (time : Occasion × ℕ). time.1) (times_of line) ++ times_along rest)
 times_split front line rest =
@@ -85,7 +87,8 @@ pub line_here : (front : List (List ℕ)) (line : List ℕ) (rest : List (List �
     → event_line (front ++ line ∷ rest) event ≡ line
 line_here front line rest event is = ap (λ n. get_or (front ++ line ∷ rest) n []) is ∙ get_or-append_seam front line rest []
 
--- the train identity at an event is computed from the last change en route before the event's record
+-- the train identity at an event is computed from the last change en route before the event's
+-- record
 pub identity_here : (front rest : List (List ℕ)) (event : Event) → event.place ≡ length front → event_identity (front ++ rest) event ≡ changed_identity
     (last_change front) (first_record (front ++ rest))
 identity_here front rest event is =
@@ -96,7 +99,8 @@ last_behind : {A : Type 0} (o : Option A) (xs : List A) (x : A) → last_or o (x
 last_behind o [] x = refl
 last_behind o (y ∷ xs) x = last_behind (Some y) xs x
 
--- after one more record, the last change en route is that record if it is a CR record, and otherwise is unchanged
+-- after one more record, the last change en route is that record if it is a CR record, and
+-- otherwise is unchanged
 pub change_more : (front : List (List ℕ)) (line : List ℕ) → last_change (front ++ line ∷ []) ≡ cond (has_identity (codes "CR") line) (Some line)
     (last_change front)
 change_more front line =

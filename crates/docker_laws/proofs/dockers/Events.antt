@@ -51,7 +51,8 @@ one_event lines a b in_a in_b same = by (one_before (λ (x y : Event). x.number 
 
 -- ---- the record of an event
 
--- a member of `enumerate_from n xs` has the number `n + k` and the element of `xs` at index `k`, for some `k`
+-- a member of `enumerate_from n xs` has the number `n + k` and the element of `xs` at index `k`,
+-- for some `k`
 stands_at : {A : Type 0} (n : ℕ) (xs : List A) (z : ℕ × A) (d : A) → Contains (enumerate_from n xs) z → (k : ℕ) × (z.0 ≡ n + k) × (k < length xs)
     × (get_or xs k d ≡ z.1)
 stands_at n [] z d among = absurd (nil-Contains z among)
@@ -63,7 +64,8 @@ stands_at n (x ∷ xs) z d among = by (stands_at (n + 1) xs z d) (Contains-cons 
     by rest (inl e) = (0, (let same : n ≡ z.0 = ap (λ (v : ℕ × _). v.0) e in omega arith), omega arith, ap (λ (v : ℕ × _). v.1) e)
     by rest (inr inside) = let found = rest inside in (suc found.0, (let at = found.1 in omega arith), (let low = found.2 in omega arith), found.3)
 
--- the record of the event is a record of the schedule, and the event's occasion and time are in that record
+-- the record of the event is a record of the schedule, and the event's occasion and time are in
+-- that record
 pub record IsTimeOf (lines : List (List ℕ)) (event : Event) : Type 0 where
   pub among : Contains lines (event_line lines event)
   pub is_time : Contains (times_of (event_line lines event)) (event.occasion, event.time)
@@ -137,7 +139,8 @@ timed_is occasion (Some n) pair among = by (Contains-cons (occasion, n) [] pair 
     by (inl e) = sym (ap (λ (v : Occasion × ℕ). v.0) e)
     by (inr none) = absurd (nil-Contains pair none)
 
--- a record with a time is a location record, and the occasion of the time is an arrival, a pass or a departure
+-- a record with a time is a location record, and the occasion of the time is an arrival, a pass or
+-- a departure
 pub timed_there : (line : List ℕ) (pair : Occasion × ℕ) → Contains (times_of line) pair → IsLocation line × IsOfTrain pair.0
 timed_there line pair among = by (kind_of line) refl among
   where

@@ -71,8 +71,9 @@ association_over one other group day key line same is = record {
 
 -- ---- from the docker of one table to the docker of another
 
--- the table `other` has all schedules and associations on which the docker of the place in `one` depends. These are all schedules of each UID that matters to
--- the docker, and all associations of each group at the place
+-- the table `other` has all schedules and associations on which the docker of the place in `one`
+-- depends. These are all schedules of each UID that matters to the docker, and all associations of
+-- each group at the place
 record Covers (one other : Table) (place : List ℕ) : Type 0 where
   calls : (key : ScheduleKey) (lines : List (List ℕ)) → one (schedule_key key) ≡ Some (schedule_body lines) → CallsAt place lines
       → HaveSameSchedules one other key.uid

@@ -1,5 +1,5 @@
--- An excerpt of a valid state for a place is valid, refuses the same days, and has the same dockers of the place. The entries whose keys the place needs are an
--- excerpt.
+-- An excerpt of a valid state for a place is valid, refuses the same days, and has the same dockers
+-- of the place. The entries whose keys the place needs are an excerpt.
 use Rattle.std.proofs.Common.{◌++◌, ◌≡◌, ℕ, List, [], ◌∷◌, subst, inl, inr, ◌⊎◌, refl, ap, sym, ◌∙◌, Bool, true, false, cond, Some, None}
 use Rattle.std.specs.Prelude.{Option, ◌↔◌, ◌&&◌, ◌||◌, filter, find, option_and_then}
 use Rattle.std.specs.List.{list_any}

@@ -60,7 +60,8 @@ module _ (place : List ℕ) (P : List Keyed → ExcerptSoFar → Type 0)
 
 -- ---- the kept entries and the run are some of the entries passed
 
--- at the end of a run, the kept entries are a sublist of the entries kept before, followed by the run
+-- at the end of a run, the kept entries are a sublist of the entries kept before, followed by the
+-- run
 pub after_run_within : (place : List ℕ) (so_far : ExcerptSoFar) → IsSublist (kept_after_run place so_far) (so_far.kept ++ so_far.run)
 after_run_within place so_far = by (is_run_needed place so_far)
   where
@@ -177,7 +178,8 @@ module _ (place : List ℕ) where
       let first = goes_first (kept_so_far place entries).run uid goes in
       subst (λ other. has_uid other r.0 ≡ true) (uid_once of.0 uid first.0.0 (of.1 first.0 first.1) first.2) (of.1 r among)
 
-  -- in key order, when the walk reaches a TIPLOC or an association, its run is empty, because TIPLOCs and associations are before all schedules
+  -- in key order, when the walk reaches a TIPLOC or an association, its run is empty, because
+  -- TIPLOCs and associations are before all schedules
   pub no_run_before : (entries : List Keyed) (key : Key) → All (λ (e : Keyed). IsBelow key_cmp e.0 key) entries
       → ((uid : List ℕ) → has_uid uid key ≡ false) → (kept_so_far place entries).run ≡ []
   no_run_before entries key above never =
@@ -252,7 +254,8 @@ module _ (place : List ℕ) where
   named_more done so_far (tiploc_key code) entry here = named_other done so_far (tiploc_key code, entry) (is_here place (tiploc_key code)) refl here
   named_more done so_far (association_key key) entry here = named_other done so_far (association_key key, entry) (is_here place (association_key key)) refl here
 
-  -- the UIDs of associated trains are the same in the kept associations as in all live associations at the place that the walk has passed
+  -- the UIDs of associated trains are the same in the kept associations as in all live associations
+  -- at the place that the walk has passed
   pub names_so_far : (entries : List Keyed)
       → names_in (kept_so_far place entries).kept ≡ names_in (filter (λ (entry : Keyed). is_here place entry.0) entries)
   names_so_far entries = (all_along place AreNamed (λ done so_far x here. named_more done so_far x.0 x.1 here) (refl, refl) entries).0
@@ -331,7 +334,8 @@ named_iff names key entry others = (
   λ among. any_forth (λ name. bytes_eq key.uid name) names key.uid among ((bytes_eq-Decides key.uid key.uid).1 refl),
 )
 
--- a run is needed if and only if its UID is the associated train of a kept association or one of its live schedules calls at the place
+-- a run is needed if and only if its UID is the associated train of a kept association or one of
+-- its live schedules calls at the place
 pub run_needed_iff : (place : List ℕ) (so_far : ExcerptSoFar) (key : ScheduleKey) (entry : Entry) (others : List Keyed)
     → so_far.run ≡ (schedule_key key, entry) ∷ others
     → (is_run_needed place so_far ≡ true)
@@ -361,14 +365,16 @@ pub or_false : (b : Bool) → (b || false) ≡ b
 or_false true = refl
 or_false false = refl
 
--- a run with a schedule appended calls at the place if and only if the run or that schedule calls at the place
+-- a run with a schedule appended calls at the place if and only if the run or that schedule calls
+-- at the place
 pub calls_more : (place : List ℕ) (run : List Keyed) (entry : Keyed)
     → is_run_calling place (run ++ entry ∷ []) ≡ (is_run_calling place run || is_call place entry.1.op)
 calls_more place run entry =
     list_any-append (λ (e : Keyed). is_call place e.1.op) run (entry ∷ [])
     ∙ ap (λ b. is_run_calling place run || b) (or_false (is_call place entry.1.op))
 
--- the names in entries with one entry appended are the names in the entries, followed by the name in that entry
+-- the names in entries with one entry appended are the names in the entries, followed by the name
+-- in that entry
 pub names_with : (xs : List Keyed) (entry : Keyed) → names_in (xs ++ entry ∷ []) ≡ names_in xs ++ names_in (entry ∷ [])
 names_with xs entry = filter_map-append (λ (e : Keyed). name_in e.0 e.1.op) xs (entry ∷ [])
 

@@ -1,4 +1,5 @@
--- The walk that computes an excerpt, as a loop. The loop keeps three values: the kept entries, the run, and a flag that says whether the run is needed.
+-- The walk that computes an excerpt, as a loop. The loop keeps three values: the kept entries, the
+-- run, and a flag that says whether the run is needed.
 use Rattle.std.proofs.Common.{◌≡◌, ℕ, List, [], ◌∷◌, ◌++◌, subst, refl, ap, sym, ◌∙◌, Bool, true, false, cond, Contains}
 use Rattle.std.specs.Prelude.{◌||◌, ◌↔◌}
 use Rattle.docker_model.specs.file.Change.{Key, schedule_key, ScheduleKey}
@@ -35,7 +36,8 @@ module _ (place : List ℕ) (entries kept run : List Keyed) (needed : Bool) (has
   same_name names [] uid x goes = false_true goes
   same_name names (first ∷ rest) uid x goes = refl
 
-  -- a schedule with the run's UID is appended to the run. The run is then needed if it was needed or the schedule calls at the place
+  -- a schedule with the run's UID is appended to the run. The run is then needed if it was needed
+  -- or the schedule calls at the place
   pub kept_joins : (key : ScheduleKey) (entry : Entry) → goes_on run key.uid ≡ true
       → HasKept place (entries ++ (schedule_key key, entry) ∷ []) kept (run ++ (schedule_key key, entry) ∷ []) (needed || is_call place entry.op)
   kept_joins key entry goes = record {
@@ -63,8 +65,8 @@ module _ (place : List ℕ) (entries kept run : List Keyed) (needed : Bool) (has
       ∙ names_stay place entries key entry
       ∙ ap (λ (so_far : ExcerptSoFar). names_in so_far.kept) has.so_far
 
-  -- a schedule of another UID ends the run and begins the next run. The next run is needed if its UID is an associated train of a kept association or the
-  -- schedule calls at the place
+  -- a schedule of another UID ends the run and begins the next run. The next run is needed if its
+  -- UID is an associated train of a kept association or the schedule calls at the place
   pub kept_begins : (key : ScheduleKey) (entry : Entry) (named : Bool) → goes_on run key.uid ≡ false
       → (named ≡ true) ↔ Contains (names_in kept) key.uid
       → HasKept place (entries ++ (schedule_key key, entry) ∷ []) (cond needed (kept ++ run) kept) ((schedule_key key, entry) ∷ [])

@@ -1,4 +1,5 @@
--- A walk over entries in key order keeps an entry if and only if the place needs its key. The test `is_needed` decides this from the entries.
+-- A walk over entries in key order keeps an entry if and only if the place needs its key. The test
+-- `is_needed` decides this from the entries.
 use Rattle.std.proofs.Common.{◌≡◌, ℕ, List, [], ◌∷◌, ◌++◌, subst, inl, inr, ◌⊎◌, refl, ap, sym, ◌∙◌}
 use Rattle.std.proofs.Common.{Bool, true, false, cond, Some, None, Contains, append-nil, append_assoc}
 use Rattle.std.specs.Prelude.{◌↔◌, Option, ◌||◌, filter}
@@ -87,7 +88,8 @@ between_uid (association_key a) b c uid up further h g = false_true h
 abbrev pub Below : Keyed → Keyed → Type 0
 Below a b = IsBelow (on (λ (entry : Keyed). entry.0) key_cmp) a b
 
--- if the concatenation of two lists is in key order, each entry of the first list is below each entry of the second
+-- if the concatenation of two lists is in key order, each entry of the first list is below each
+-- entry of the second
 pub later_across : (xs ys : List Keyed) (x y : Keyed) → AllLater Below (xs ++ ys) → Contains xs x → Contains ys y → Below x y
 later_across [] ys x y later in_x in_y = absurd (nil-Contains x in_x)
 later_across (z ∷ xs) ys x y later in_x in_y = by (λ inside. later_across xs ys x y later.1 inside in_y) (Contains-cons z xs x in_x)
@@ -122,8 +124,9 @@ same_tests false false to back = refl
 
 -- ---- the position of a walk
 
--- The invariant of the walk. The list of all entries is `done`, followed by the run of `so_far` and by `rest`. The kept entries are the needed entries of
--- `done`. All entries of the run have one UID. No entry in `done` has a UID of the run or of `rest`.
+-- The invariant of the walk. The list of all entries is `done`, followed by the run of `so_far` and
+-- by `rest`. The kept entries are the needed entries of `done`. All entries of the run have one
+-- UID. No entry in `done` has a UID of the run or of `rest`.
 record IsAt (place : List ℕ) (all done : List Keyed) (so_far : ExcerptSoFar) (rest : List Keyed) : Type 0 where
   whole : all ≡ (done ++ so_far.run) ++ rest
   kept : so_far.kept ≡ filter (λ (entry : Keyed). is_needed place all entry.0) done

@@ -45,7 +45,8 @@ not_itself a less = let tied = tied_itself key_total a in cc
 
 -- ---- one more entry
 
--- after an older entry is inserted, each entry of the list was in the list before, or is the inserted entry, and then no entry before had its key
+-- after an older entry is inserted, each entry of the list was in the list before, or is the
+-- inserted entry, and then no entry before had its key
 member_forth : (entry : Keyed) (entries : List Keyed) → AreAscending entries → (z : Keyed) → Contains (with_earlier entry entries) z
     → Contains entries z ⊎ ((entry ≡ z) × NoEntry entries entry.0)
 member_forth entry [] up z among = inr (Contains-single entry z among, λ other inside. nil-Contains (entry.0, other) inside)

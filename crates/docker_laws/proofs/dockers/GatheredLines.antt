@@ -1,4 +1,5 @@
--- The lines that a walk over rows gathers are the lines of the docker, and no two of these lines tie. After sorting, they are the docker list.
+-- The lines that a walk over rows gathers are the lines of the docker, and no two of these lines
+-- tie. After sorting, they are the docker list.
 use Rattle.std.proofs.Common.{◌≡◌, ℕ, ◌-◌, ◌<◌, ◌≤◌, lit<, List, [], ◌∷◌, refl, ap, sym, ◌∙◌, subst, inl}
 use Rattle.std.proofs.Common.{inr, ◌⊎◌, Some, Bool, true, false, cond, Contains, arith, ◌++◌, append-nil}
 use Rattle.std.specs.Prelude.{Option, filter, nat_le}
@@ -208,7 +209,8 @@ module _ (live : Table) (trains : List ℕ → ℕ → Option Train) (links : Gr
       );
     }
 
--- the lines gathered from rows with one row appended are the lines of the rows, followed by the lines of that row
+-- the lines gathered from rows with one row appended are the lines of the rows, followed by the
+-- lines of that row
 pub gathered_more : (trains : List ℕ → ℕ → Option Train) (links : Group → ℕ → Option Link) (place : List ℕ) (day : ℕ) (rows : List Row) (key : Key)
     (body : Body)
     → gathered trains links place day (rows ++ (key, body) ∷ []) ≡ gathered trains links place day rows ++ row_lines trains links place day key body

@@ -1,5 +1,6 @@
--- On each day from a horizon on, a table and the table lapsed under the horizon choose the same schedules and associations. A schedule or association that runs
--- on one of these days hasn't lapsed.
+-- On each day from a horizon on, a table and the table lapsed under the horizon choose the same
+-- schedules and associations. A schedule or association that runs on one of these days hasn't
+-- lapsed.
 use Rattle.std.proofs.Common.{ℕ, ◌≤◌, List, Bool, true, false, cond, arith}
 use Rattle.std.specs.Prelude.{◌↔◌, ◌&&◌, IsTrue, nat_le}
 use Rattle.std.proofs.lemmas.Bool.{leb-true}

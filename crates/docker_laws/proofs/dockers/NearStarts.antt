@@ -1,4 +1,5 @@
--- The train of a docker line starts on the day or on one of the two days before it. A walk over a whole table finds each docker line of a place.
+-- The train of a docker line starts on the day or on one of the two days before it. A walk over a
+-- whole table finds each docker line of a place.
 use Rattle.std.proofs.Common.{ℕ, ◌+◌, ◌≤◌, List, Contains, arith}
 use Rattle.std.specs.Prelude.{◌↔◌}
 use Rattle.docker_model.specs.file.Change.{schedule_key, association_key, schedule_body, association_body}

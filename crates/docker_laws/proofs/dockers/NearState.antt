@@ -1,5 +1,5 @@
--- A valid state with only the entries that may count on a day is valid, and has the same dockers on that day. Its excerpt for a place is valid, and has the
--- same docker of the place on that day.
+-- A valid state with only the entries that may count on a day is valid, and has the same dockers on
+-- that day. Its excerpt for a place is valid, and has the same docker of the place on that day.
 use Rattle.std.proofs.Common.{◌≡◌, ℕ, List, [], ◌∷◌, ◌++◌, inl, inr, ◌⊎◌, refl, ap, sym, ◌∙◌, Bool, true, false, cond, None, Contains, append-nil}
 use Rattle.std.specs.Prelude.{◌↔◌, filter}
 use Rattle.std.proofs.lemmas.List.Elements.{filter-append}
@@ -29,7 +29,8 @@ may_not day (put_with (association_body line)) h = absurd (let bad : true ≡ fa
 may_not day deleted h = absurd (let bad : true ≡ false = h in cc)
 may_not day lapsed h = absurd (let bad : true ≡ false = h in cc)
 
--- the live table of the state with only the entries that may count is the live table without the schedules that don't run near the day
+-- the live table of the state with only the entries that may count is the live table without the
+-- schedules that don't run near the day
 pub near_part : (day : ℕ) (state : State) → AreAscending state.entries → IsNearPart day (live_table state) (live_table (near_state day state))
 near_part day state up key = by (find_in (near_entries day state.entries) key) (find_in state.entries key)
   where

@@ -1,4 +1,5 @@
--- Docker lines that tie in the order of docker lines are equal. They belong to the same schedule or association, and to the same start day.
+-- Docker lines that tie in the order of docker lines are equal. They belong to the same schedule or
+-- association, and to the same start day.
 use Rattle.std.proofs.Common.{◌≡◌, ℕ, List, ap, sym, ◌∙◌, subst, inl, inr, ◌⊎◌, Some, None, Bool, true, false, cond, Contains, arith}
 use Rattle.std.specs.Prelude.{Option, codes, ◌==◌}
 use Rattle.std.specs.Str.{bytes_eq}
@@ -147,7 +148,8 @@ pub record AreOneAssociation (live : Table) (place : List ℕ) (day : ℕ) (a b 
   pub starts : one.start ≡ two.start
   pub lines : a ≡ b
 
--- the first event with a TIPLOC and a suffix is an event of the schedule, and its record has this TIPLOC and suffix
+-- the first event with a TIPLOC and a suffix is an event of the schedule, and its record has this
+-- TIPLOC and suffix
 pub first_event_is : (base : List (List ℕ)) (location : List ℕ) (suffix : ℕ) (event : Event) → first_event_at base location suffix ≡ Some event
     → Contains (events_of base) event × (column 10 (event_line base event) ≡ suffix) × (columns 3 9 (event_line base event) ≡ location)
 first_event_is base location suffix event is =

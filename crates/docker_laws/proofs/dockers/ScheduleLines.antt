@@ -1,4 +1,5 @@
--- The docker lines of a schedule for one start day. The docker has each of these lines, and no other lines of events.
+-- The docker lines of a schedule for one start day. The docker has each of these lines, and no
+-- other lines of events.
 use Rattle.std.proofs.Common.{◌≡◌, ℕ, true, rules, List, Contains, ◌<◌, ap, sym, ◌∙◌, subst, Bool, eqb-true, arith, [], cond, refl, Some, None, false}
 use Rattle.std.specs.Prelude.{◌==◌, filter, ◌&&◌, Option}
 use Rattle.std.specs.Str.{bytes_eq}

@@ -300,7 +300,8 @@ thin_elsewhere place lines none = by (calls_at place (thin_lines lines)) refl
         absurd (let worse : false ≡ true = bad in cc)
     by false h = refl
 
--- appending a record to a schedule appends it to the thin records if and only if it is an origin or a terminus
+-- appending a record to a schedule appends it to the thin records if and only if it is an origin or
+-- a terminus
 thin_more : (basic : List ℕ) (others : List (List ℕ)) (line : List ℕ) (b : Bool) → is_end (kind_of line) ≡ b
     → thin_lines (basic ∷ others ++ line ∷ []) ≡ thin_lines (basic ∷ others) ++ cond b (line ∷ []) []
 thin_more basic others line b h =
@@ -318,7 +319,8 @@ pub thin_without : (basic : List ℕ) (others : List (List ℕ)) (line : List �
     → thin_lines (basic ∷ others ++ line ∷ []) ≡ thin_lines (basic ∷ others)
 thin_without basic others line h = thin_more basic others line false h ∙ append-nil (thin_lines (basic ∷ others))
 
--- a schedule with a record appended calls at a place if and only if the schedule calls at the place or the record is a location record of the place
+-- a schedule with a record appended calls at a place if and only if the schedule calls at the place
+-- or the record is a location record of the place
 pub calls_more : (place : List ℕ) (lines : List (List ℕ)) (line : List ℕ) → calls_at place (lines ++ line ∷ [])
     ≡ (calls_at place lines || (is_location (kind_of line) && bytes_eq (columns 3 9 line) place))
 calls_more place lines line =

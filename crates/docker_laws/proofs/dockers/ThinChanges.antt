@@ -1,4 +1,5 @@
--- The table after the changes kept for a place and a day equals the thinned table after all changes.
+-- The table after the changes kept for a place and a day equals the thinned table after all
+-- changes.
 use Rattle.std.proofs.Common.{arith, append-nil, append_assoc, ◌≡◌, ℕ, List, [], ◌∷◌, ◌++◌, subst, inl, inr}
 use Rattle.std.proofs.Common.{◌⊎◌, refl, ap, sym, ◌∙◌, Bool, true, false, cond, Some, None, Contains, map}
 use Rattle.std.specs.Prelude.{Option, option_and_then, filter, fold, not}
@@ -75,7 +76,8 @@ module _ (place : List ℕ) (day : ℕ) where
           nothing (after_change table change) none ∙ sym (nothing table none)
       by false h = left_at place day (after_change table change) table key (after_there table change key h)
 
-  -- thinning commutes with a change whose key may matter: the thinned table after the thin form of the change equals the thinning of the table after the change
+  -- thinning commutes with a change whose key may matter: the thinned table after the thin form of
+  -- the change equals the thinning of the table after the change
   step_kept : (table left : Table) (change : Change) (key : Key) → may_matter place change.key ≡ true → left key ≡ thinned place day table key
       → after_change left (thin_change place day change) key ≡ thinned place day (after_change table change) key
   step_kept table left change key matters same = by (is_of key change) refl
@@ -114,18 +116,21 @@ module _ (place : List ℕ) (day : ℕ) where
           (λ i. fold after_change left (map (thin_change place day) (cond (h i) (change ∷ matter changes) (matter changes))) key)
           ∙ rest (after_change table change) left (λ k. same k ∙ sym (step_elsewhere table change k h)) key
 
-  -- from a thinned table, the table after the kept changes equals the thinning of the table after all changes
+  -- from a thinned table, the table after the kept changes equals the thinning of the table after
+  -- all changes
   pub thin_over : (table : Table) (changes : List Change) (key : Key)
       → fold after_change (thinned place day table) (thin_changes place day changes) key ≡ thinned place day (fold after_change table changes) key
   thin_over table changes key = kept_from changes table (thinned place day table) (λ k. refl) key
 
-  -- from the empty table, the table after the kept changes equals the thinning of the table after all changes
+  -- from the empty table, the table after the kept changes equals the thinning of the table after
+  -- all changes
   thin_enough : (changes : List Change) → AreEnough place day changes (thin_changes place day changes)
   thin_enough changes = kept_from changes empty_table empty_table (λ key. sym (none_or (may_matter place key)))
 
 -- ---- change by change
 
--- the table after changes with one change appended is the table after these changes and then that change
+-- the table after changes with one change appended is the table after these changes and then that
+-- change
 table_more : (table : Table) (changes : List Change) (change : Change)
     → fold after_change table (changes ++ change ∷ []) ≡ after_change (fold after_change table changes) change
 table_more table [] change = refl
@@ -257,7 +262,8 @@ module _ (place : List ℕ) (day : ℕ) where
 
 -- ---- what may be kept
 
--- if one list is a sublist of another, mapping both with the same function gives a sublist of the mapped list
+-- if one list is a sublist of another, mapping both with the same function gives a sublist of the
+-- mapped list
 sublist_map : {A B : Type 0} (f : A → B) (xs ys : List A) → IsSublist xs ys → IsSublist (map f xs) (map f ys)
 sublist_map f [] ys is = tt
 sublist_map f (x ∷ xs) [] is = absurd is
@@ -285,14 +291,16 @@ module _ (place : List ℕ) (day : ℕ) where
     abbrev before : List Change
     before = map (thin_change place day) changes
 
-    -- a sublist of the thin changes is also a sublist of the thin changes with one more change appended
+    -- a sublist of the thin changes is also a sublist of the thin changes with one more change
+    -- appended
     still_some : (others : List Change) → IsSublist others kept → IsSublist others (map (thin_change place day) (changes ++ change ∷ []))
     still_some others inside =
         subst (IsSublist others) (sym (map-append (thin_change place day) changes (change ∷ [])))
         (sublist_onward others kept (before ++ thin_change place day change ∷ []) inside
         (sublist_onward kept before (before ++ thin_change place day change ∷ []) is.some (sublist_front before (thin_change place day change ∷ []))))
 
-    -- a sublist of the thin changes, with a thin change appended, is a sublist of the thin changes with that change appended
+    -- a sublist of the thin changes, with a thin change appended, is a sublist of the thin changes
+    -- with that change appended
     some_more : (others : List Change) → IsSublist others kept
         → IsSublist (others ++ thin_change place day change ∷ []) (map (thin_change place day) (changes ++ change ∷ []))
     some_more others inside =
@@ -336,7 +344,8 @@ module _ (place : List ℕ) (day : ℕ) where
       enough = enough_replaced place day changes kept change is.enough matters;
     }
 
--- a thinning can be continued: of any later changes, it is enough to keep the thin forms of those whose keys may matter
+-- a thinning can be continued: of any later changes, it is enough to keep the thin forms of those
+-- whose keys may matter
 pub thinning_more : (place : List ℕ) (day : ℕ) (all kept more : List Change) → IsThinning place day all kept
     → IsThinning place day (all ++ more) (kept ++ thin_changes place day more)
 thinning_more place day all kept [] is =
@@ -378,7 +387,8 @@ module _ (place : List ℕ) (day : ℕ) (lines : List (List ℕ)) where
       → thin_act place day (put (schedule_body lines)) ≡ put (schedule_body lines)
   act_calls near calls = act_near near ∙ (λ i. put (schedule_body (cond (calls i) lines (thin_lines lines))))
 
-  -- the thin form of a put of a schedule that doesn't call at the place is a put of the thin records
+  -- the thin form of a put of a schedule that doesn't call at the place is a put of the thin
+  -- records
   pub act_thin : runs_near day (first_record lines) ≡ true → calls_at place lines ≡ false
       → thin_act place day (put (schedule_body lines)) ≡ put (schedule_body (thin_lines lines))
   act_thin near none = act_near near ∙ (λ i. put (schedule_body (cond (none i) lines (thin_lines lines))))
@@ -400,7 +410,8 @@ none_above highest key kept low below change among same =
 pub none_at_first : (highest : Key) → AreAtMost highest []
 none_at_first highest change among = absurd (nil-Contains change among)
 
--- after a change with a key that isn't above the highest key is kept, the highest key is still an upper bound
+-- after a change with a key that isn't above the highest key is kept, the highest key is still an
+-- upper bound
 pub still_at_most : (highest : Key) (kept : List Change) (change : Change) → AreAtMost highest kept → IsAtMost key_cmp change.key highest
     → AreAtMost highest (kept ++ change ∷ [])
 still_at_most highest kept change low more other among = by (Contains-append_cases kept (change ∷ []) other among)

@@ -70,7 +70,8 @@ needed_stand_in place day lines = by (calls_at place lines) refl
 
 -- ---- two tables with the same docker for a place and a day
 
--- the table `other` has all parts of `one` that the docker needs: each schedule that runs near the day, and each association at the place
+-- the table `other` has all parts of `one` that the docker needs: each schedule that runs near the
+-- day, and each association at the place
 record Covers (one other : Table) (place : List ℕ) (day : ℕ) : Type 0 where
   runs : (start : ℕ) → IsStartNear day start → (uid : List ℕ) (key : ScheduleKey) (lines : List (List ℕ)) → IsRunning one uid start key lines
       → (others : List (List ℕ)) × IsRunning other uid start key others × IsStandIn place day lines others
@@ -110,7 +111,8 @@ module _ (one other : Table) (place : List ℕ) (day : ℕ) (forth : Covers one 
     first = λ another others runs. is.first another others (back.links group here start another others runs);
   }
 
-  -- a train with an event at the place on the day starts on that day or on one of the two days before it
+  -- a train with an event at the place on the day starts on that day or on one of the two days
+  -- before it
   started_near : (start : ℕ) (uid : List ℕ) (key : ScheduleKey) (lines : List (List ℕ)) (event : Event) → CallsAt place lines
       → TrainRuns one uid start key lines → event_day start lines event ≡ day → (start ≤ day) × (day ≤ start + 2)
   started_near start uid key lines event calls runs today = started day start lines event (forth.few key lines runs.chosen.running.is_live calls) today
@@ -254,7 +256,8 @@ module _ (place : List ℕ) (day : ℕ) (live part : Table) (stands : StandsFor 
 -- ---- a table and the thinned table
 
 module _ (place : List ℕ) (day : ℕ) (live : Table) where
-  -- the thinned table has, at the key of a live schedule that runs near the day, the records of this schedule that the place needs
+  -- the thinned table has, at the key of a live schedule that runs near the day, the records of
+  -- this schedule that the place needs
   schedule_left : (key : ScheduleKey) (lines : List (List ℕ)) → live (schedule_key key) ≡ Some (schedule_body lines)
       → runs_near day (first_record lines) ≡ true → thinned place day live (schedule_key key) ≡ Some (schedule_body (lines_for place lines))
   schedule_left key lines is_live runs =

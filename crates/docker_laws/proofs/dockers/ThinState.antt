@@ -1,4 +1,5 @@
--- The state of the kept changes of a file is valid. For the place and the day it has the same docker as the summary of the file.
+-- The state of the kept changes of a file is valid. For the place and the day it has the same
+-- docker as the summary of the file.
 use Rattle.std.proofs.Common.{◌≡◌, ℕ, ◌-◌, ◌^◌, ◌<◌, ◌≤◌, List, [], ◌∷◌, length, map, subst, inl, inr, ◌⊎◌}
 use Rattle.std.proofs.Common.{refl, ap, sym, ◌∙◌, Bool, true, false, cond, Some, None, Contains, All, arith}
 use Rattle.std.specs.Prelude.{Option, option_and_then, ◌↔◌, fold}
@@ -48,7 +49,8 @@ module _ (file : List (List ℕ)) (kept : List Change) (state : State) (of : IsS
   at_least entry other (inr below) greater =
       let less : entry_cmp other entry ≡ Less = (λ i. ordering_then (below i) (op_cmp other.op entry.op)) in cc
 
-  -- the live table of the state equals the table after the changes, if later changes of the same key have higher record numbers
+  -- the live table of the state equals the table after the changes, if later changes of the same
+  -- key have higher record numbers
   live_is_made : AllLater Apart kept → (key : Key) → live_table state key ≡ table_of kept key
   live_is_made apart key =
       by (last_there entries empty_table key (later_map_weaker (entry_of_change file) Apart Ascends (within_file file) kept apart)) (find_in state.entries key)

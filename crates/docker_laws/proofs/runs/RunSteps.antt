@@ -38,7 +38,8 @@ module _ (format : Format) (known : KnownSets) (states : List State) (messages :
   pub message_good : (message : ℕ) → IsMessage known message → IsGoodKnown format (message_known known message)
   message_good message there = All-get_or (IsGoodKnown format) known.messages message nothing there holds.sent
 
-  -- the number of states equals the number of offices, and the number of texts equals the number of messages
+  -- the number of states equals the number of offices, and the number of texts equals the number of
+  -- messages
   pub sizes : (length states ≡ length known.offices) × (length messages ≡ length known.messages)
   sizes = (sym (zip_long IsStateOf known.offices states holds.states_are), sym (zip_long (IsMessageOf format) known.messages messages holds.messages_are))
 
@@ -76,7 +77,8 @@ module _ (format : Format) (known : KnownSets) (states : List State) (messages :
   pub after_refusal : (event : RunEvent) (why : Refusal) → Holds format (after_reply known (event, refused why)) states messages
   after_refusal event why = holds
 
-  -- states and messages still match what is known if an office's knowledge is replaced, and its state is replaced by the state of the new knowledge
+  -- states and messages still match what is known if an office's knowledge is replaced, and its
+  -- state is replaced by the state of the new knowledge
   with_office_holds : (office : ℕ) (now : Known) (state : State) → IsGoodKnown format now → IsStateOf now state
       → Holds format (record { offices = set known.offices office now; messages = known.messages }) (set states office state) messages
   with_office_holds office now state good is = record {

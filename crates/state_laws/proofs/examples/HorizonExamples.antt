@@ -16,7 +16,8 @@ use Rattle.cif_laws.proofs.records.Builders.{f2_basic, f2_schedule}
 use Rattle.state_laws.proofs.examples.StateExamples.{f2_item, end_of_f2}
 use Rattle.state_laws.proofs.examples.SummaryExamples as plain
 
--- the schedule ends on 14 June, day 23541. Under the horizon 14 June the schedule is live, and under the horizon 15 June it has lapsed
+-- the schedule ends on 14 June, day 23541. Under the horizon 14 June the schedule is live, and
+-- under the horizon 15 June it has lapsed
 lives : lapse 23541 (put_with (schedule_body f2_schedule)) ≡ put_with (schedule_body f2_schedule)
 unfolding days_from_civil day_count days_of_years days_of_months
 lives = refl
@@ -153,7 +154,8 @@ op_three = inl (record {
     no_op (inr (inl e)) = omega arith
     no_op (inr (inr e)) = omega arith
 
--- a lapsed op is good even without a horizon. The entry ends after the lapsed op, and the bytes of the old body are a tail after the state
+-- a lapsed op is good even without a horizon. The entry ends after the lapsed op, and the bytes of
+-- the old body are a tail after the state
 op_two : IsStateFault dks_2 1000 (take 66 text ++ 2 ∷ drop 67 text) (record { at = 67; cause = has_tail })
 op_two = inr (inr (inr (record {
   state = state_with 0 (lapsed_entry ∷ []);

@@ -1,4 +1,5 @@
--- The join is commutative, associative and, for valid states, idempotent. Two states have at most one join.
+-- The join is commutative, associative and, for valid states, idempotent. Two states have at most
+-- one join.
 use Rattle.std.proofs.Common.{◌++◌, ◌≡◌, ◌∙◌, sym, ◌≤◌, subst, ℕ, arith, ap, List, Contains, inl, inr, ◌⊎◌, Some, None}
 use Rattle.std.specs.Prelude.{max, Option}
 use Rattle.std.proofs.Math.Nat.{max_comm, le-max_left, le-max_right, max-eq_left}

@@ -1,5 +1,6 @@
--- Setting a horizon. Setting a horizon that isn't greater than the state's leaves the state unchanged. A horizon may be set after a join instead of before it.
--- Without a horizon no entry lapses.
+-- Setting a horizon. Setting a horizon that isn't greater than the state's leaves the state
+-- unchanged. A horizon may be set after a join instead of before it. Without a horizon no entry
+-- lapses.
 use Rattle.std.proofs.Common.{◌≡◌, ℕ, ◌≤◌, List, [], ◌∷◌, Contains, subst, ap, sym, ◌∙◌, arith}
 use Rattle.std.specs.Prelude.{Option, ◌↔◌, max}
 use Rattle.std.proofs.Math.Nat.{le-max_left, max-eq_left, max-zero, zero-max}
@@ -45,7 +46,8 @@ set_last state valid =
 
 -- ---- a horizon that is set after a join
 
--- joining with a state without its horizon, and then setting this horizon, equals joining with the state
+-- joining with a state without its horizon, and then setting this horizon, equals joining with the
+-- state
 pub join_then_set : (a b c : State) → IsJoin a (without_horizon b) c → IsJoin a b (raise_horizon b.horizon c)
 join_then_set a b c is = record {
   horizon = horizons;
@@ -86,7 +88,8 @@ none_to_lapse entries = All-from_recursion (λ (entry : Keyed). HasNotToLapse 0 
     each [] = tt
     each (x ∷ xs) = (none_has_to x.1.op, each xs)
 
--- this state is the summary of the files without a horizon: each key has its greatest entry, which hasn't lapsed under a horizon
+-- this state is the summary of the files without a horizon: each key has its greatest entry, which
+-- hasn't lapsed under a horizon
 pub record IsPlainSummary (files : List (List (List ℕ))) (state : State) : Type 0 where
   pub no_horizon : state.horizon ≡ 0
   pub floor : Option FileStamp

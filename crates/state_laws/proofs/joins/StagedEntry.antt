@@ -1,4 +1,5 @@
--- The staged entries after one more entry is offered: the offered entry is staged or left out. Also the entry that a state has at a key.
+-- The staged entries after one more entry is offered: the offered entry is staged or left out. Also
+-- the entry that a state has at a key.
 use Rattle.std.proofs.Common.{◌≡◌, List, [], ◌∷◌, ◌++◌, refl, ap, sym, ◌∙◌, subst, inl, inr, ◌⊎◌, Some, None, Contains, arith}
 use Rattle.std.specs.Prelude.{Option, ◌↔◌, option_and_then}
 use Rattle.std.specs.declared.cmp.Ordering.TheVariants.{Less}
@@ -26,7 +27,8 @@ use Rattle.state_laws.proofs.joins.StagedJoin.{commit_is_join}
 Some_is : {A : Type 0} (a b : A) → Some a ≡ Some b → a ≡ b
 Some_is a b h = cc
 
--- `entry_at` is `Some entry` for a key if and only if the list of the state's entries contains the key with this entry
+-- `entry_at` is `Some entry` for a key if and only if the list of the state's entries contains the
+-- key with this entry
 pub entry_at_iff : (state : State) → AreAscending state.entries → (key : Key) (entry : Entry) → (entry_at state key ≡ Some entry) ↔ Contains state.entries
     (key, entry)
 entry_at_iff state up key entry = by (find_in state.entries key)
@@ -43,7 +45,8 @@ entry_at_iff state up key entry = by (find_in state.entries key)
           λ among. absurd (none entry among),
         )
 
--- an entry is to be staged if and only if it isn't below the floor and is greater than the state's entry at its key
+-- an entry is to be staged if and only if it isn't below the floor and is greater than the state's
+-- entry at its key
 pub to_stage_by_get : (own : State) → AreAscending own.entries → (floor : Option FileStamp) (key : Key) (entry : Entry)
     → IsToStage own floor key entry ↔ (IsKept floor entry.stamp.file × IsGreaterThan (entry_at own key) entry)
 to_stage_by_get own up floor key entry = by (entry_at own key) refl
@@ -117,7 +120,8 @@ module _ (own : State) (floor : Option FileStamp) (offered staged : List (Key ×
 
 -- ---- all entries
 
--- after all entries of a received state are offered and the staged entries are committed, the state is the join with the received state without its horizon
+-- after all entries of a received state are offered and the staged entries are committed, the state
+-- is the join with the received state without its horizon
 pub staging_joins_before : (own received : State) (floor : Option FileStamp) (staged : List (Key × Entry)) (after : State) → IsValid own → IsValid received
     → IsFloor (own.ledger ++ received.ledger) floor → IsStaged own floor received.entries staged → IsCommit own received.ledger staged after
     → IsJoin own (without_horizon received) after
@@ -126,7 +130,8 @@ staging_joins_before own received floor staged after valid valid_too is_floor st
     (λ item. (λ x. x, λ x. x)) floor commit.floor is_floor commit.is_floor in
     commit_is_join own received valid valid_too staged after commit (subst (λ f. IsStaged own f received.entries staged) floors stages)
 
--- after the horizon of the received state is then set, the state is the join with the received state
+-- after the horizon of the received state is then set, the state is the join with the received
+-- state
 pub staging_joins : (own received : State) (floor : Option FileStamp) (staged : List (Key × Entry)) (after : State) → IsValid own → IsValid received
     → IsFloor (own.ledger ++ received.ledger) floor → IsStaged own floor received.entries staged → IsCommit own received.ledger staged after
     → IsJoin own received (raise_horizon received.horizon after)

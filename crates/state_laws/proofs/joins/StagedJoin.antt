@@ -1,4 +1,5 @@
--- After all entries of a received state are offered and the staged entries are committed, the state is the join with the received state without its horizon.
+-- After all entries of a received state are offered and the staged entries are committed, the state
+-- is the join with the received state without its horizon.
 use Rattle.std.proofs.Common.{◌≡◌, ℕ, List, ◌++◌, ap, sym, ◌∙◌, subst, inl, inr, ◌⊎◌, Some, None, Contains}
 use Rattle.std.specs.Prelude.{Option}
 use Rattle.std.specs.declared.cmp.Ordering.TheVariants.{Equal}
@@ -68,7 +69,8 @@ module _ (own received : State) (valid : IsValid own) (valid_too : IsValid recei
       under offered to other (inl here) = at_most_below entry_cmp other entry (to.greater other here)
       under offered to other (inr here) = subst (λ e. IsAtMost entry_cmp other e) (one_received key other entry here offered) (at_most_itself entry_total other)
 
-  -- an entry of the state is the greatest entry of its key, if it isn't below the floor and no entry of the key is staged
+  -- an entry of the state is the greatest entry of its key, if it isn't below the floor and no
+  -- entry of the key is staged
   own_best : (key : Key) (entry : Entry) → Contains own.entries (key, entry) → IsKept commit.floor entry.stamp.file → HasNoEntryOf staged key → Best key entry
   unfolding Best
   own_best key entry among kept none = (

@@ -1,4 +1,5 @@
--- The received ledger items and the staged entries are a valid state. The join with this state equals the state after the commit.
+-- The received ledger items and the staged entries are a valid state. The join with this state
+-- equals the state after the commit.
 use Rattle.std.proofs.Common.{◌≡◌, List, ◌++◌, ◌∙◌, ap, subst, arith, inl, inr, ◌⊎◌, Contains}
 use Rattle.std.specs.Prelude.{Option}
 use Rattle.std.specs.Ordering.{ordering_reverse}

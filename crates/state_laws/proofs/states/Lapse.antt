@@ -1,5 +1,5 @@
--- The lapse is monotone: it preserves the order of ops and entries. It is idempotent. The lapse under one horizon and then under another equals the lapse under
--- the greater horizon.
+-- The lapse is monotone: it preserves the order of ops and entries. It is idempotent. The lapse
+-- under one horizon and then under another equals the lapse under the greater horizon.
 use Rattle.std.proofs.Common.{◌≡◌, ℕ, ◌<◌, ◌≤◌, subst, inl, inr, ◌⊎◌, refl, ap, sym, ◌∙◌, Bool, true, false, cond, arith}
 use Rattle.std.specs.Prelude.{max, nat_lt}
 use Rattle.std.specs.declared.cmp.Ordering.{Ordering}
@@ -68,7 +68,8 @@ max_most a b n first second = by (nat_lt a b) refl
     by true h = let below = ltb-true a b h in subst (λ m. m ≤ n) (sym (max-eq_right (omega arith))) second
     by false h = subst (λ m. m ≤ n) (sym (max-eq_left (ltb-false a b h))) first
 
--- the lapse of an op under one horizon and then under another equals the lapse under the greater horizon
+-- the lapse of an op under one horizon and then under another equals the lapse under the greater
+-- horizon
 pub lapse_twice : (second first : ℕ) (op : Op) → lapse second (lapse first op) ≡ lapse (max second first) op
 lapse_twice second first deleted = refl
 lapse_twice second first lapsed = refl
@@ -146,7 +147,8 @@ lapse_entry_keeps_order horizon a b most = by (stamp_cmp a.stamp b.stamp) most
 
 -- ---- entries
 
--- the lapse of an entry under one horizon and then under another equals the lapse under the greater horizon
+-- the lapse of an entry under one horizon and then under another equals the lapse under the greater
+-- horizon
 pub entry_twice : (second first : ℕ) (entry : Entry) → lapse_entry second (lapse_entry first entry) ≡ lapse_entry (max second first) entry
 entry_twice second first entry = λ i. record { stamp = entry.stamp; op = lapse_twice second first entry.op i }
 

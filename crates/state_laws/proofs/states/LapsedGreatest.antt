@@ -1,4 +1,5 @@
--- The lapse commutes with the greatest entry: the greatest entry of a key, after its lapse, is the greatest of the lapsed entries.
+-- The lapse commutes with the greatest entry: the greatest entry of a key, after its lapse, is the
+-- greatest of the lapsed entries.
 use Rattle.std.proofs.Common.{◌≡◌, ℕ, List, map, Contains, subst, ap}
 use Rattle.docker_model.specs.file.Change.{Key}
 use Rattle.docker_model.specs.state.Order.{IsAtMost}
@@ -21,7 +22,8 @@ pub lapsed_to : (horizon : ℕ) (entries : List (Key × Entry)) (key : Key) (ent
     → Contains (lapse_entries horizon entries) (key, lapse_entry horizon entry)
 lapsed_to horizon entries key entry among = map-Contains (lapse_keyed horizon) entries (key, entry) among
 
--- the lapse of the greatest entry of a key is the greatest entry of the key in the list after the lapse
+-- the lapse of the greatest entry of a key is the greatest entry of the key in the list after the
+-- lapse
 pub greatest_lapses : (horizon : ℕ) (entries : List (Key × Entry)) (key : Key) (entry : Entry) → IsGreatestAmong entries key entry
     → IsGreatestAmong (lapse_entries horizon entries) key (lapse_entry horizon entry)
 greatest_lapses horizon entries key entry best = record {

@@ -42,7 +42,8 @@ Ascends first second = first.0 ≡ second.0 → IsBelow stamp_cmp first.1.stamp 
 abbrev pub NoneThere : List Keyed → Table → Key → Type 0
 NoneThere entries table key = ((entry : Entry) → ¬ Contains entries (key, entry)) × (fold step table entries key ≡ table key)
 
--- the list has a last entry of this key, which is also the key's greatest entry, and after the entries the table has this entry's body at the key
+-- the list has a last entry of this key, which is also the key's greatest entry, and after the
+-- entries the table has this entry's body at the key
 abbrev pub LastThere : List Keyed → Table → Key → Type 0
 LastThere entries table key =
     (entry : Entry) × Contains entries (key, entry) × (fold step table entries key ≡ body_of entry.op)
@@ -318,7 +319,8 @@ not_dropped files ordered same (Some stamp) is file kept above =
 
 module _ (files ordered : List (List (List ℕ))) (order : IsInMomentOrder files ordered) (floor : Option FileStamp)
     (is_floor : IsFloor (map ledger_item_of files) floor) where
-  -- an entry of a file that counts is among the entries of the last full extract and the files after it
+  -- an entry of a file that counts is among the entries of the last full extract and the files
+  -- after it
   pub in_entries : (key : Key) (entry : Entry) → IsEntryOf files floor key entry → Contains (entries_along (from_last_full ordered)) (key, entry)
   in_entries key entry made =
       let there = (order.same made.file).1 made.kept.among in

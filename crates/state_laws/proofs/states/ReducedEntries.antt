@@ -1,6 +1,7 @@
--- The reduction of ledger items and entries under a horizon. It has the items that aren't below their floor, and the greatest entry of each key if that entry
--- isn't below the floor. All its entries have lapsed. A reduction in two steps equals the reduction in one step, if the horizon of the first step is at most
--- the horizon of the second.
+-- The reduction of ledger items and entries under a horizon. It has the items that aren't below
+-- their floor, and the greatest entry of each key if that entry isn't below the floor. All its
+-- entries have lapsed. A reduction in two steps equals the reduction in one step, if the horizon of
+-- the first step is at most the horizon of the second.
 use Rattle.std.proofs.Common.{◌≡◌, ℕ, ◌≤◌, List, ◌++◌, Contains, subst, inl, inr, ◌⊎◌, ap, sym, ◌∙◌, Some, None}
 use Rattle.std.specs.Prelude.{Option, ◌↔◌}
 use Rattle.std.proofs.Math.Nat.{max-eq_left}
@@ -24,8 +25,9 @@ abbrev pub KeptOf : List Keyed → Option FileStamp → ℕ → Key → Entry �
 KeptOf entries floor horizon key entry =
     (greatest : Entry) × IsGreatestAmong entries key greatest × IsKept floor greatest.stamp.file × (lapse_entry horizon greatest ≡ entry)
 
--- the state is the reduction of these items and entries under its horizon. The state has the items that aren't below their floor, and the greatest entry of
--- each key after its lapse, unless that entry is below the floor
+-- the state is the reduction of these items and entries under its horizon. The state has the items
+-- that aren't below their floor, and the greatest entry of each key after its lapse, unless that
+-- entry is below the floor
 pub record IsReduced (items : List LedgerItem) (entries : List Keyed) (state : State) : Type 0 where
   pub floor : Option FileStamp
   pub is_floor : IsFloor items floor
@@ -116,8 +118,8 @@ module _ (items more : List LedgerItem) (entries others : List Keyed) (once twic
             (subst (λ e. IsAtMost entry_cmp e told.0) told.3 (lapse_below once.horizon told.0))
             (is.greatest told.0 (Contains-append_left entries others (key, told.0) told.1.among))
 
-    -- if the greatest of all entries isn't below the floor, the second step contains it: the result of the first step has its lapse, or the other entries have
-    -- it
+    -- if the greatest of all entries isn't below the floor, the second step contains it: the result
+    -- of the first step has its lapse, or the other entries have it
     stands : (best : Entry) → IsGreatestAmong (entries ++ others) key best → IsKept second.floor best.stamp.file
         → Contains once.entries (key, lapse_entry once.horizon best) ⊎ Contains others (key, best)
     stands best is kept = by (Contains-append_cases entries others (key, best) is.among)
@@ -132,7 +134,8 @@ module _ (items more : List LedgerItem) (entries others : List Keyed) (once twic
           λ i. lapse_entry once.horizon best,
         ))
 
-    -- the greatest entry of the second step and the greatest of all entries are equal after the lapse
+    -- the greatest entry of the second step and the greatest of all entries are equal after the
+    -- lapse
     same_lapse : (best top : Entry) → IsGreatestAmong (entries ++ others) key best → IsGreatestAmong (once.entries ++ others) key top
         → IsKept second.floor best.stamp.file → IsKept second.floor top.stamp.file → lapse_entry twice.horizon best ≡ lapse_entry twice.horizon top
     same_lapse best top is_best is_top kept_best kept_top = by (stands best is_best kept_best)
@@ -150,7 +153,8 @@ module _ (items more : List LedgerItem) (entries others : List Keyed) (once twic
             ))
             ((second.of_keys key (lapse_entry twice.horizon top)).1 (top, is_top, kept_top, λ i. lapse_entry twice.horizon top))
 
-        -- if the second step has the lapse of the greatest of all entries, both are equal after the lapse
+        -- if the second step has the lapse of the greatest of all entries, both are equal after the
+        -- lapse
         between : lapse once.horizon best.op ≡ lapsed → Contains once.entries (key, lapse_entry once.horizon best)
             → lapse_entry twice.horizon best ≡ lapse_entry twice.horizon top
         between has there =

@@ -1,4 +1,5 @@
--- A reduction depends only on the members of the lists of items and entries, not on their order. For a given horizon there is at most one reduction.
+-- A reduction depends only on the members of the lists of items and entries, not on their order.
+-- For a given horizon there is at most one reduction.
 use Rattle.std.proofs.Common.{List, Some, None, ◌≡◌, subst, sym}
 use Rattle.std.specs.Prelude.{Option}
 use Rattle.std.specs.Cmp.{on_total}

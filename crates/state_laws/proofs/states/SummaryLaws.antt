@@ -1,5 +1,6 @@
--- A set of files has at most one summary under each horizon. The join of two summaries is the summary of both sets of files together, under the greater
--- horizon. Setting a horizon on a summary gives the summary under the greater of the two horizons.
+-- A set of files has at most one summary under each horizon. The join of two summaries is the
+-- summary of both sets of files together, under the greater horizon. Setting a horizon on a summary
+-- gives the summary under the greater of the two horizons.
 use Rattle.std.proofs.Common.{◌≡◌, ℕ, ◌≤◌, List, ◌++◌, map, Contains, subst, inl, inr, ◌⊎◌, ap, sym, ◌∙◌}
 use Rattle.std.specs.Prelude.{max}
 use Rattle.std.specs.List.{flat_map}
@@ -112,7 +113,8 @@ join_is_summary files others g h one two joined of_files of_others is =
     (entries_along (files ++ others))
     (items_of_union files others) (entries_of_union files others) joined second)
 
--- the lapse of a summary under a horizon that is at least its own horizon is the summary under that horizon
+-- the lapse of a summary under a horizon that is at least its own horizon is the summary under that
+-- horizon
 pub lapsed_summary : (files : List File) (low high : ℕ) (state : State) → low ≤ high → IsSummary files low state → IsSummary files high (lapse_state high state)
 lapsed_summary files low high state rises is = record {
   horizon_is = λ i. high;

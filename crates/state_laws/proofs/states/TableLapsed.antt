@@ -1,5 +1,5 @@
--- The lapse of a table under a horizon, which leaves the bodies that didn't end before the horizon. The live table of a state after a lapse is the lapse of the
--- state's live table.
+-- The lapse of a table under a horizon, which leaves the bodies that didn't end before the horizon.
+-- The live table of a state after a lapse is the lapse of the state's live table.
 use Rattle.std.proofs.Common.{◌≡◌, ℕ, ◌<◌, ◌≤◌, List, [], ◌∷◌, inl, inr, ◌⊎◌, refl, ap, sym, ◌∙◌, Bool, true, false, cond, Some, None}
 use Rattle.std.specs.Prelude.{Option, find, option_and_then}
 use Rattle.std.specs.Ordering.{is_eq}

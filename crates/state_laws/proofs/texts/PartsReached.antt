@@ -1,4 +1,5 @@
--- A reader reaches each point of a state's text part by part, if all parts before that point are good.
+-- A reader reaches each point of a state's text part by part, if all parts before that point are
+-- good.
 use Rattle.std.proofs.Common.{List, ◌∷◌, ◌++◌, ◌≡◌, [], refl, ap, sym, ◌∙◌, subst, Contains, Some, None, ℕ, ◌<◌}
 use Rattle.std.proofs.Common.{◌≤◌, length, arith, append_assoc, append-nil, length-append, inl, inr, ◌^◌, ◌⊎◌}
 use Rattle.std.specs.Prelude.{Option}
@@ -137,7 +138,8 @@ is_tag (tiploc_key code) = inl refl
 is_tag (association_key key) = inr (inl refl)
 is_tag (schedule_key key) = inr (inr refl)
 
--- from the beginning of an entry, a reader reaches each part of the entry and then the point after the entry
+-- from the beginning of an entry, a reader reaches each part of the entry and then the point after
+-- the entry
 tag_leads : (format : Format) → (count : ℕ) (state : State) (tag : ℕ) → length state.entries < count → IsTag tag → Leads format (after_entries count state)
     (in_entry count state (before_key tag))
 tag_leads format count state tag below is = then_leads format _ _ _ (no_step format _ _ (more_entries count state below)) (step_tag format count state tag is)

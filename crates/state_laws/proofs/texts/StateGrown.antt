@@ -50,7 +50,8 @@ no_entries format horizon ledger is_horizon is = record {
   ops = All-from_recursion (λ (entry : Key × Entry). TellsOp format entry.1.op) [] tt;
 }
 
--- if all entries of a list and one more entry have a property, all entries of the list with that entry appended have it
+-- if all entries of a list and one more entry have a property, all entries of the list with that
+-- entry appended have it
 one_more : (P : Key × Entry → Type 0) (entries : List (Key × Entry)) (entry : Key × Entry) → All P entries → P entry → All P (entries ++ entry ∷ [])
 one_more P entries entry all last =
     All-from_recursion P (entries ++ entry ∷ []) (all_append P entries (entry ∷ []) (recursion_from_All P entries all) (last, tt))

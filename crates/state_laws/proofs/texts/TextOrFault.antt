@@ -1,4 +1,5 @@
--- Each text is the text of a state within the limit, or has a fault. The proof walks over the parts of the text.
+-- Each text is the text of a state within the limit, or has a fault. The proof walks over the parts
+-- of the text.
 use Rattle.std.proofs.Common.{◌≡◌, ℕ, zero, suc, ◌+◌, ◌<◌, ◌≤◌, List, [], ◌∷◌, ◌++◌, length, take, drop, refl, ap}
 use Rattle.std.proofs.Common.{sym, ◌∙◌, subst, inl, inr, ◌⊎◌, arith, append_assoc, append-nil, length-append, All}
 use Rattle.std.proofs.lemmas.List.{take-append-drop, length-take-le}

@@ -1,4 +1,5 @@
--- Reading a text part by part. The text read is the concatenation of the parts read. Of two different points in one text, one is later.
+-- Reading a text part by part. The text read is the concatenation of the parts read. Of two
+-- different points in one text, one is later.
 use Rattle.std.proofs.Common.{◌≡◌, ℕ, ◌<◌, List, ◌++◌, length, [], ◌∷◌, ap, ◌∙◌, sym, subst, append_assoc, append-nil, ◌⊎◌, refl, inl, inr}
 use Rattle.std.specs.Prelude.{⊤}
 use Rattle.std.specs.List.{concat}
@@ -56,7 +57,8 @@ then_leads format before between after first second = by before first.parts firs
         let rest = by (advance format from part) parts follow.1 to in
         record { parts = part ∷ rest.parts; follow = (follow.0, rest.follow); to = rest.to }
 
--- the text before the point after some parts is the text before these parts, followed by their concatenation
+-- the text before the point after some parts is the text before these parts, followed by their
+-- concatenation
 pub after_text : (format : Format) → (before : Before) (parts : List (List ℕ)) → Follow format before parts
     → text_before format (after_parts format before parts) ≡ text_before format before ++ concat parts
 after_text format before [] follow = sym (append-nil (text_before format before))
@@ -64,7 +66,8 @@ after_text format before (part ∷ parts) follow =
     after_text format (advance format before part) parts follow.1 ∙ ap (λ front. front ++ concat parts) follow.0.text
     ∙ append_assoc (text_before format before) part (concat parts)
 
--- the point `after` is later than the point `before`: the text before `after` is the text before `before`, followed by its next part and any further bytes
+-- the point `after` is later than the point `before`: the text before `after` is the text before
+-- `before`, followed by its next part and any further bytes
 pub record IsLater (format : Format) (before after : Before) : Type 0 where
   pub part : List ℕ
   pub more : List ℕ

@@ -1,4 +1,5 @@
--- States with the same text are equal. A reader of a text under a limit stops at no more than one point.
+-- States with the same text are equal. A reader of a text under a limit stops at no more than one
+-- point.
 use Rattle.std.proofs.Common.{◌≡◌, ℕ, ◌+◌, ◌≤◌, List, [], ◌++◌, length, ap, sym, ◌∙◌, subst, inl, inr, arith, append_assoc, append-nil, length-append}
 use Rattle.std.proofs.lemmas.List.{append_cancel_left}
 use Rattle.docker_model.specs.state.State.{State}
@@ -23,7 +24,8 @@ same_end first second same = ap (state_or first) same
 pub no_part_at_end : (format : Format) → (state : State) (after : Before) → IsLater format (at_end state) after → ⊥
 no_part_at_end format state after later = let some = later.is_next.some in omega arith
 
--- if all parts before two points of one text are good, the points are equal, or one is later than the other
+-- if all parts before two points of one text are good, the points are equal, or one is later than
+-- the other
 pub both_in_line : (format : Format) → (text : List ℕ) (first second : Before) (rest more : List ℕ) → AreGood format first → AreGood format second
     → text ≡ text_before format first ++ rest → text ≡ text_before format second ++ more → AreInLine format first second
 both_in_line format text first second rest more good also one two =
@@ -78,7 +80,8 @@ no_bad_part format limit text state rest fault good is has =
     by (inr (inl later)) = bad_stops format text has.before (at_end state) has.bytes has.rest rest fault.cause has.size has.bad has.whole whole later
     by (inr (inr later)) = no_part_at_end format state has.before later
 
--- a reader of the text under the limit stops at this point: it reaches this point, and no later point
+-- a reader of the text under the limit stops at this point: it reaches this point, and no later
+-- point
 pub record IsStopped (format : Format) (limit : ℕ) (text : List ℕ) (before : Before) : Type 0 where
   pub good : AreGood format before
   pub rest : List ℕ
@@ -97,7 +100,8 @@ one_stop format limit text first second one two = by (both_in_line format text f
     by (inr (inl later)) = absurd (one.stops second two.rest later two.whole two.within)
     by (inr (inr later)) = absurd (two.stops first one.rest later one.whole one.within)
 
--- from an earlier point to a later point, the text grows by the width of the next part and the length of the bytes after that part
+-- from an earlier point to a later point, the text grows by the width of the next part and the
+-- length of the bytes after that part
 pub later_size : (format : Format) → (before after : Before) (later : IsLater format before after)
     → length (text_before format before) + width before + length later.more ≡ length (text_before format after)
 later_size format before after later =
