@@ -1,5 +1,5 @@
--- What a read takes from the bytes left in a source, and what a write adds to the bytes that a sink
--- has taken. If contracts don't know the bytes of a device, `None` is used in their place.
+-- How a read changes the bytes left in a source, and how a write changes the bytes that a sink has
+-- taken. If contracts don't know the bytes of a device, `None` is used in their place.
 use Rattle.std.specs.Prelude.{◌≡◌, ℕ, ◌+◌, ◌-◌, ◌<◌, ◌↔◌, min, Bool, true, false, List, [], ◌++◌, length, take, replicate, ⊤, Option, None, Some, option_map}
 use Rattle.std.specs.List.{concat}
 
@@ -16,7 +16,7 @@ IsEnd (Some left) = left ≡ []
 -- how a successful read of `n` bytes into `room` bytes changes two flags. The flag `ended` says
 -- that the end was reported. A read of no bytes into a buffer with room sets `ended`, and a read of
 -- some bytes leaves it unchanged. The flag `passed` says that the source was read after its end was
--- reported. Any such read sets `passed`
+-- reported. A read after the end was reported sets `passed`, and any other read leaves it unchanged
 abbrev pub Ends : ℕ → ℕ → Bool → Bool → Bool → Bool → Type 0
 Ends n room ended now_ended passed now_passed = (n ≡ 0 → 0 < room → now_ended ≡ true)
     × (0 < n → now_ended ≡ ended)
@@ -32,7 +32,7 @@ abbrev pub TakesPart : Option (List ℕ) → List ℕ → Option (List ℕ) → 
 TakesPart old piece new = (n : ℕ) × (n < length piece) × Takes old (take n piece) new
 
 -- the number of failures rises by one, from `before` to `after`, if `failed` holds, and otherwise
--- stays the same
+-- is unchanged
 abbrev pub CountsFailure : Type 0 → ℕ → ℕ → Type 0
 CountsFailure failed before after = (failed ↔ (after ≡ before + 1)) × (¬ failed → after ≡ before)
 

@@ -1,5 +1,5 @@
--- What a taker has taken, and what is left in the source that feeds it. The terms of a taker stay
--- the same while it takes; for example, they may be a limit on the text.
+-- The text that a taker has taken, and the bytes left in the source that feeds the taker. The terms
+-- of a taker stay the same while it takes; for example, they may be a limit on the text.
 use Rattle.std.specs.Prelude.{◌≡◌, ℕ, ◌≤◌, List, ◌++◌, length, Option}
 use Rattle.cif_device.specs.Device.{Reads}
 

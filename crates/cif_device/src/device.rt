@@ -27,7 +27,7 @@ impl<T: Drop> From<AllocFailed<T>> for Memory {
     }
 }
 
-/// A device that bytes are read from.
+/// A device from which bytes are read.
 pub trait Source {
     // The bytes that are left, or `None` if contracts don't know which bytes they are, as for a
     // real file.
@@ -63,7 +63,7 @@ pub trait Source {
         ensures { result ≡ failures self.now };
 }
 
-/// A device that bytes are written to.
+/// A device to which bytes are written.
 pub trait Sink {
     // The bytes that the sink has taken, or `None` if contracts don't know which bytes they are, as
     // for a real file.

@@ -73,7 +73,7 @@ impl Source for Bytes<'_> {
         ensures ending { IfOk result (λ n. Ends n (length into.new)
             self.old.ended self.new.ended self.old.passed self.new.passed) }
 
-        // A source promises the clauses above. This one promises the following clauses too.
+        // A source promises the clauses above. This source promises the following clauses too.
         ensures count { result ≡ Ok (read_count self.old (length into.old)) }
         ensures step { self.new.step ≡ self.old.step }
     {
@@ -171,7 +171,7 @@ impl Sink for Kept {
         ensures counted { OnErr result (self.new.failures ≡ self.old.failures + 1) }
         ensures unmoved { OnErr result (self.new.taken ≡ self.old.taken) }
 
-        // A sink promises the clauses above. This one promises the following clauses too.
+        // A sink promises the clauses above. This sink promises the following clauses too.
         ensures count { IfOk result (λ n. n ≡ min (length piece.now) (room_left self.old)) }
         ensures full { IsErr result ↔ (room_left self.old ≡ 0) }
         ensures room { self.new.room ≡ self.old.room }

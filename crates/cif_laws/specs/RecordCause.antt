@@ -1,5 +1,5 @@
 -- The cause of a record at fault, from the place of the reader before the record. The causes are
--- tested one after the other, in the order of their ranks.
+-- tested in the order of their ranks.
 use Rattle.std.specs.Prelude.{Bool, true, false, ℕ, Some, None, List, length, Option, is_none, ◌==◌, nat_le}
 use Rattle.std.proofs.Common.{cond}
 use Rattle.docker_model.specs.records.Record.{kind_of, leftmost_bad_byte}

@@ -20,7 +20,7 @@ HoldsInSchedule earlier line third_midnight = (midnights earlier ≤ 2) × (2 < 
 HoldsInSchedule earlier line _ = ⊥
 
 -- this is the cause of the record after which the records no longer begin a schedule: of the causes
--- that hold, the one with the lowest rank
+-- that hold, it has the lowest rank
 pub record IsScheduleFault (earlier : List (List ℕ)) (line : List ℕ) (cause : FileCause) : Type 0 where
   pub earlier_begin : BeginsSchedule earlier
   pub here : ¬ BeginsSchedule (earlier ++ line ∷ [])

@@ -2,8 +2,8 @@
 use Rattle.std.specs.Prelude.{ℕ, ◌^◌, ◌-◌, ◌<◌, Bool, List}
 use Rattle.docker_host.specs.History.{Bytes, Event}
 
--- All devices of a program at one moment. If contracts don't know the bytes of a device, they are
--- `None`.
+-- All devices of a program at one moment. If contracts don't know the bytes of a device, `None` is
+-- used in their place.
 pub record HostView : Type 0 where
   -- the bytes left in the input, whether its end was reported, and whether the input was read after
   -- that

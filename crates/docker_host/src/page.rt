@@ -87,7 +87,7 @@ impl Source for Page {
         ensures still { OnErr result
             ((self.new.ended ≡ self.old.ended) × (self.new.passed ≡ self.old.passed)) }
 
-        // A source promises the clauses above. This one promises the following clauses too.
+        // A source promises the clauses above. This source promises the following clauses too.
         ensures count { IfOk result (λ n. n ≡ page_count self.old (length into.old)) }
         ensures sound { IfOk result (λ n. self.new.sound ≡ self.old.sound - n) }
         ensures fails { IsErr result ↔ (self.old.sound ≡ 0) }

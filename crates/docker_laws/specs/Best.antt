@@ -1,5 +1,4 @@
--- The best element of a list: of the elements that pass a test, the one that comes first in an
--- order.
+-- The best element of a list: of the elements that pass a test, the first element in an order.
 use Rattle.std.specs.Prelude.{◌≡◌, Bool, true, false, if◌then◌else◌, List, Option, Some, None, Contains}
 use Rattle.std.specs.declared.cmp.Ordering.{Ordering}
 use Rattle.std.specs.Ordering.{is_lt}

@@ -64,7 +64,8 @@ within_front (first ∷ front) more (second ∷ earlier) line later e below =
     let rest = within_front front more earlier line later tails (omega arith) in
     (rest.0, λ i. heads i ∷ rest.1 i)
 
--- if the index of an element is the length of a prefix, the element is the one after that prefix
+-- if the index of an element is the length of a prefix, the element is the element that follows
+-- this prefix
 behind_front : (front : Lines) (last : List ℕ) (earlier : Lines) (line : List ℕ) (later : Lines) → front ++ last ∷ [] ≡ earlier ++ line ∷ later
     → length earlier ≡ length front
     → (earlier ≡ front) × (line ≡ last)

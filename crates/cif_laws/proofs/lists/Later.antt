@@ -95,8 +95,8 @@ pub later_append_all : {A : Type 0} (R : A → A → Type 0) (xs ys : List A) �
 later_append_all R [] ys left right across = right
 later_append_all R (x ∷ xs) ys left right across = (all_append (R x) xs ys left.0 across.0, later_append_all R xs ys left.1 right across.1)
 
--- if a relation of two values implies another relation of their images, the mapped list has the
--- other relation
+-- if a relation of two values implies another relation of their images, and a list has the first
+-- relation, the mapped list has the second
 pub later_map_weaker : {A B : Type 0} (f : A → B) (R : A → A → Type 0) (S : B → B → Type 0) → ((x y : A) → R x y → S (f x) (f y))
     → (xs : List A) → AllLater R xs
     → AllLater S (map f xs)

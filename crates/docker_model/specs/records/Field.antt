@@ -89,7 +89,7 @@ checked_fields terminating_location line =
 checked_fields change_en_route line = []
 checked_fields trailer line = []
 
--- the fields that are checked in a record. A record of an unknown kind has none
+-- the fields that are checked in a record. A record of an unknown kind has no checked fields
 abbrev pub fields_of : Option Kind → List ℕ → List CheckedField
 fields_of None line = []
 fields_of (Some kind) line = checked_fields kind line

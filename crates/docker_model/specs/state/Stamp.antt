@@ -13,7 +13,7 @@ pub record Moment : Type 0 where
   pub day : ℕ
   pub minute : ℕ
 
--- the stamp of a file: its moment and its current file reference. Of two files the one with the
+-- the stamp of a file: its moment and its current file reference. Of two files, the file with the
 -- greater stamp is newer
 pub record FileStamp : Type 0 where
   pub moment : Moment
