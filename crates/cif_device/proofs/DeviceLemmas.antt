@@ -1,4 +1,4 @@
--- Several writes or reads, one after the other, and the number of failures of a device.
+-- Sequences of writes or reads, and the number of failures of a device.
 use Rattle.std.proofs.Common.{◌≡◌, ℕ, ◌+◌, ◌-◌, List, ◌++◌, arith, length, take, drop, replicate, Option, None, Some, refl, ap, sym, subst, ◌∙◌, append_assoc}
 use Rattle.std.proofs.lemmas.Grind.{common_steps}
 use Rattle.std.specs.Prelude.{◌≢◌, true, false, Result, Ok, Err, IsErr, OnOk, OnErr}
@@ -8,21 +8,23 @@ use Rattle.std.proofs.lemmas.List.Folds.{concat-append}
 use Rattle.std.proofs.Math.Seq.{take-add}
 use Rattle.cif_device.specs.Device.{CountsFailure, Takes, Round, Goes}
 
--- two writes, one after the other, take both pieces
+-- if a sink takes one piece and then another, it takes the concatenation of both
 pub Takes-append : (old middle new : Option (List ℕ)) (front back : List ℕ) →
     Takes old front middle → Takes middle back new → Takes old (front ++ back) new
 Takes-append None middle new front back first second = rw first at second
 Takes-append (Some taken) middle new front back first second =
     (rw first at second) ∙ ap Some (append_assoc taken front back)
 
--- if the first `done` bytes of a piece were taken, a write of `n` more takes the first `done + n`
+-- if a sink takes the first `done` bytes of a piece and then the next `n` bytes, it takes the first
+-- `done + n` bytes
 pub Takes-take : (old middle new : Option (List ℕ)) (piece : List ℕ) (done n : ℕ) →
     Takes old (take done piece) middle → Takes middle (take n (drop done piece)) new →
     Takes old (take (done + n) piece) new
 Takes-take old middle new piece done n first second =
     rw take-add (Takes-append old middle new (take done piece) (take n (drop done piece)) first second)
 
--- the elements from index `n` on are the rest of the list
+-- after `n` elements of a list are dropped, the first `length xs - n` elements of the rest are the
+-- whole rest
 pub take-drop_all : (n : ℕ) (xs : List ℕ) → take (length xs - n) (drop n xs) ≡ drop n xs
 take-drop_all n xs = grind (arith, common_steps)
 
@@ -33,7 +35,8 @@ concat-replicate_add : (m n : ℕ) (text : List ℕ) →
 concat-replicate_add m n text =
     ap concat (sym (replicate-append-replicate m n text)) ∙ concat-append (replicate m text) (replicate n text)
 
--- two reads of an endless source, one after the other, give the bytes of both
+-- if an endless source returns one list of bytes and then another, it returns the concatenation of
+-- both
 pub Goes-append : (old middle new : Round) (front back : List ℕ) →
     Goes old front middle → Goes middle back new → Goes old (front ++ back) new
 Goes-append old middle new front back (again, step, m, first) (again', step', n, second) =
@@ -58,14 +61,14 @@ one_more_is_other before after same more = grind (arith, common_steps)
 false_is_not_true : false ≢ true
 false_is_not_true is = cc
 
--- a number counts failures if it stays without an error and rises by one with an error
+-- a number counts failures if it is unchanged without an error and rises by one with an error
 pub counts_error : {A E : Type 0} (result : Result A E) (before after : ℕ) →
     OnOk result (after ≡ before) → OnErr result (after ≡ before + 1) → CountsFailure (IsErr result) before after
 counts_error (Ok value) before after same more =
     ((λ error. absurd (false_is_not_true error), λ one_more. absurd (one_more_is_other before after same one_more)), λ no_error. same)
 counts_error (Err fault) before after same more = ((λ error. more, λ one_more. refl), λ no_error. absurd (no_error refl))
 
--- without an error the number of failures stays
+-- without an error the number of failures is unchanged
 pub same_if_ok : {A E : Type 0} (result : Result A E) (before after : ℕ) → CountsFailure (IsErr result) before after → OnOk result (after ≡ before)
 same_if_ok (Ok value) before after counted = counted.1 false_is_not_true
 same_if_ok (Err fault) before after counted = tt

@@ -1,4 +1,4 @@
--- Feeding a taker from a source: the taker takes what the source gives.
+-- Feeding a taker from a source: the taker takes the bytes that the source returns.
 use Rattle.std.proofs.Common.{◌≡◌, ℕ, ◌+◌, ◌<◌, ◌≤◌, List, [], ◌∷◌, ◌++◌, length, take, drop, Some, None, refl, sym, ◌∙◌}
 use Rattle.std.proofs.Common.{ap, subst, arith, append_assoc, append-nil, length-append, ◌^◌, Err, Result, Fits, w64, Ok}
 use Rattle.std.specs.Prelude.{Option, option_map, Bool, true, false}
@@ -8,24 +8,25 @@ use Rattle.cif_device.specs.declared.feed.FeedFault.{FeedFault}
 use Rattle.cif_device.specs.declared.feed.FeedFault.TheVariants as feed
 use Rattle.cif_device.specs.Taken.{Taking, Refusing, HasFed, HasRefused, LosesOnePieceMore}
 
--- before the first read the source has given no bytes
+-- an unchanged source has returned no bytes
 pub lost_nothing : (left : Option (List ℕ)) → Reads left [] left
 lost_nothing None = refl
 lost_nothing (Some bytes) = refl
 
--- one more read adds its piece to the bytes that the source gave before
+-- if a source returns a text and then a piece, it returns the concatenation of both
 pub lost_more : (initial now next : Option (List ℕ)) (text piece : List ℕ) → Reads initial text now → Reads now piece next → Reads initial (text ++ piece) next
 lost_more initial now None text piece first more = first ∙ ap (option_map (λ rest. text ++ rest)) more
 lost_more initial now (Some rest) text piece first more =
     first ∙ ap (option_map (λ r. text ++ r)) more ∙ ap (λ t. Some t) (sym (append_assoc text piece rest))
 
--- before the first read the taker was fed no bytes
+-- before the first read, the number of fed bytes is 0
 pub at_start : {T Terms : Type 0} (takes : Taking T Terms) (terms : Terms) (text : List ℕ) (left : Option (List ℕ)) (taker : T) → takes taker terms text
     → HasFed takes 0 terms text left left taker
 at_start takes terms text left taker taken =
     record { bytes = []; size = refl; lost = lost_nothing left; taken = subst (takes taker terms) (sym (append-nil text)) taken }
 
--- a taker that takes one more piece was fed the bytes before it and this piece
+-- a taker that was fed some bytes and takes the next piece was fed these bytes followed by the
+-- piece
 pub next_turn : {T Terms : Type 0} (takes : Taking T Terms) (fed n : ℕ) (terms : Terms) (text : List ℕ) (initial now next : Option (List ℕ)) (before after : T)
     (piece : List ℕ) → (at : HasFed takes fed terms text initial now before) → length piece ≡ n → Reads now piece next
     → takes after terms ((text ++ at.bytes) ++ piece) → HasFed takes (fed + n) terms text initial next after
@@ -36,7 +37,7 @@ next_turn takes fed n terms text initial now next before after piece at long mor
   taken = subst (takes after terms) (append_assoc text at.bytes piece) taken;
 }
 
--- a read of no bytes changes nothing
+-- a read of no bytes leaves the fed bytes unchanged
 pub nothing_more : {T Terms : Type 0} (takes : Taking T Terms) (fed n : ℕ) (terms : Terms) (text : List ℕ) (initial now next : Option (List ℕ)) (taker : T)
     (into : List ℕ) → HasFed takes fed terms text initial now taker → n ≡ 0 → Reads now (take n into) next → HasFed takes fed terms text initial next taker
 nothing_more takes fed n terms text initial now next taker into at none more = record {
@@ -49,31 +50,34 @@ nothing_more takes fed n terms text initial now next taker into at none more = r
     last : Reads now [] next
     last = subst (λ m. Reads now (take m into) next) none more
 
--- a failed read changes nothing in what the taker was fed
+-- a failed read leaves the fed bytes unchanged
 pub fed_where_failed : {T Terms : Type 0} (takes : Taking T Terms) (fed : ℕ) (terms : Terms) (text : List ℕ) (initial now next : Option (List ℕ)) (taker : T)
     → HasFed takes fed terms text initial now taker → next ≡ now → (count : ℕ) × HasFed takes count terms text initial next taker
 fed_where_failed takes fed terms text initial now next taker at same =
     (fed, subst (λ left. HasFed takes fed terms text initial left taker) (sym same) at)
 
--- after one more piece the source has given at most one piece more than the taker has taken
+-- if the source returns one more piece of at most 65,536 bytes, it has returned at most this piece
+-- beyond what the taker has taken
 pub one_more : {T Terms : Type 0} (takes : Taking T Terms) (fed : ℕ) (terms : Terms) (text : List ℕ) (initial now next : Option (List ℕ)) (taker : T)
     (piece : List ℕ) → HasFed takes fed terms text initial now taker → Reads now piece next → length piece ≤ 65536
     → LosesOnePieceMore takes 65536 terms text initial next
 one_more takes fed terms text initial now next taker piece at more few =
     record { bytes = at.bytes; piece = piece; lost = lost_more initial now next at.bytes piece at.lost more; few = few; taker = taker; taken = at.taken }
 
--- if no piece follows, the source has given at most one piece more than the taker has taken
+-- a source that returned only fed bytes has returned at most one piece beyond what the taker has
+-- taken
 pub no_more : {T Terms : Type 0} (takes : Taking T Terms) (fed : ℕ) (terms : Terms) (text : List ℕ) (initial now next : Option (List ℕ)) (taker : T)
     → HasFed takes fed terms text initial now taker → next ≡ now → LosesOnePieceMore takes 65536 terms text initial next
 no_more takes fed terms text initial now next taker at same =
     one_more takes fed terms text initial now next taker [] at (subst (Reads now []) (sym same) (lost_nothing now)) (omega arith)
 
--- if no piece was read, the source has given at most one piece more than the taker has taken
+-- a source that returned nothing has returned at most one piece beyond what the taker has taken
 pub nothing_read : {T Terms : Type 0} (takes : Taking T Terms) (terms : Terms) (text : List ℕ) (left : Option (List ℕ)) (taker : T) → takes taker terms text
     → LosesOnePieceMore takes 65536 terms text left left
 nothing_read takes terms text left taker taken = no_more takes 0 terms text left left left taker (at_start takes terms text left taker taken) refl
 
--- a taker that refuses one more piece refused it after the text that it had taken
+-- if the taker refuses the next piece, it has taken its first text and the fed bytes, and then
+-- refused this piece
 pub refused_behind : {T Terms Fault : Type 0} (takes : Taking T Terms) (refuses : Refusing T Terms Fault) (fed : ℕ) (terms : Terms) (text : List ℕ)
     (initial now next : Option (List ℕ)) (before after : T) (piece : List ℕ) (fault : Fault) → (at : HasFed takes fed terms text initial now before)
     → Reads now piece next → length piece ≤ 65536 → refuses after terms (text ++ at.bytes) piece fault
@@ -82,7 +86,8 @@ unfolding one_more
 refused_behind takes refuses fed terms text initial now next before after piece fault at more few refused =
     record { more = one_more takes fed terms text initial now next before piece at more few; refused = refused }
 
--- with one more piece, the number of bytes that were fed still fits in 64 bits
+-- if the text with the fed bytes and the next piece has fewer than 2^64 bytes, the number of fed
+-- bytes with this piece fits in 64 bits
 pub fits_still : (fed n : ℕ) (text bytes piece : List ℕ) → length bytes ≡ fed → length piece ≡ n → length ((text ++ bytes) ++ piece) < 2 ^ 64
     → Fits w64 (fed + n)
 fits_still fed n text bytes piece size long below =
@@ -90,11 +95,11 @@ fits_still fed n text bytes piece size long below =
     let whole = length-append (text ++ bytes) piece in
     omega (arith, front, whole, size, long, below)
 
--- one read gives at most 65,536 bytes, the length of the buffer
+-- one read returns at most 65,536 bytes, the length of the buffer
 pub at_once : (n len : ℕ) (into : List ℕ) → length into ≡ len → len ≡ 65536 → n ≤ length into → length (take n into) ≤ 65536
 at_once n len into long room within = let size = length-take-le n into within in omega arith
 
--- a source that is at its end stays there
+-- after a read, a source that was at its end is still at its end
 pub end_stays : (now next : Option (List ℕ)) (piece : List ℕ) → Reads now piece next → IsEnd now → IsEnd next
 end_stays now None piece more end = tt
 end_stays None (Some rest) piece more end = cc
@@ -105,17 +110,17 @@ end_stays (Some left) (Some rest) (byte ∷ piece) more end = let none : ⊥ = c
 pub ended_by : (n room : ℕ) (ended now_ended passed now_passed : Bool) → Ends n room ended now_ended passed now_passed → n ≡ 0 → 0 < room → now_ended ≡ true
 ended_by n room ended now_ended passed now_passed (reports, _, _, _) none some = reports none some
 
--- a read of some bytes doesn't report the end
+-- if the end wasn't reported before a read of some bytes, it isn't reported after that read
 pub going_on : (n room : ℕ) (ended now_ended passed now_passed : Bool) → Ends n room ended now_ended passed now_passed → ¬ (n ≡ 0) → ended ≡ false
     → now_ended ≡ false
 going_on n room ended now_ended passed now_passed (_, going, _, _) some was = going (omega (arith, some)) ∙ was
 
--- a read before the end was reported isn't a read after the end
+-- a read before the end was reported leaves the flag `passed` unchanged
 pub not_passed_by : (n room : ℕ) (ended now_ended passed now_passed : Bool) → Ends n room ended now_ended passed now_passed → ended ≡ false
     → now_passed ≡ passed
 not_passed_by n room ended now_ended passed now_passed (_, _, _, stays) was = stays was
 
--- a failed read reports no end, and isn't a read after the end
+-- a failed read leaves the flag `ended` unchanged
 pub still_going : (ended now_ended passed now_passed : Bool) → (now_ended ≡ ended) × (now_passed ≡ passed) → now_ended ≡ ended
 still_going ended now_ended passed now_passed (same, _) = same
 

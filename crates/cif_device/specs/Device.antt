@@ -1,28 +1,29 @@
--- What a read takes from the bytes left in a source, and what a write adds to the bytes that a sink
--- has taken. For a device that can't name its bytes, they are `None`.
+-- How a read changes the bytes left in a source, and how a write changes the bytes that a sink has
+-- taken. If contracts don't know the bytes of a device, `None` is used in their place.
 use Rattle.std.specs.Prelude.{◌≡◌, ℕ, ◌+◌, ◌-◌, ◌<◌, ◌↔◌, min, Bool, true, false, List, [], ◌++◌, length, take, replicate, ⊤, Option, None, Some, option_map}
 use Rattle.std.specs.List.{concat}
 
--- the source gave these bytes: it had them left before the read, followed by what it has left now
+-- a read returned these bytes: what was left before the read is these bytes followed by what is
+-- left now. If contracts don't know the bytes of the source, both are `None`
 abbrev pub Reads : Option (List ℕ) → List ℕ → Option (List ℕ) → Type 0
 Reads old bytes new = old ≡ option_map (λ rest. bytes ++ rest) new
 
--- the source has nothing left, or can't name its bytes
+-- the source has nothing left, or contracts don't know its bytes
 abbrev pub IsEnd : Option (List ℕ) → Type 0
 IsEnd None = ⊤
 IsEnd (Some left) = left ≡ []
 
 -- how a successful read of `n` bytes into `room` bytes changes two flags. The flag `ended` says
--- that the end was reported: with room, a read of no bytes sets it, and a read of some bytes
--- doesn't. The flag `passed` says that the source was read after that: any read after the end was
--- reported sets it
+-- that the end was reported. A read of no bytes into a buffer with room sets `ended`, and a read of
+-- some bytes leaves it unchanged. The flag `passed` says that the source was read after its end was
+-- reported. A read after the end was reported sets `passed`, and any other read leaves it unchanged
 abbrev pub Ends : ℕ → ℕ → Bool → Bool → Bool → Bool → Type 0
 Ends n room ended now_ended passed now_passed = (n ≡ 0 → 0 < room → now_ended ≡ true)
     × (0 < n → now_ended ≡ ended)
     × (ended ≡ true → now_passed ≡ true)
     × (ended ≡ false → now_passed ≡ passed)
 
--- the sink took these bytes, after those that it had taken before
+-- the sink took these bytes: what it has taken is what it had taken before, followed by these bytes
 abbrev pub Takes : Option (List ℕ) → List ℕ → Option (List ℕ) → Type 0
 Takes old bytes new = new ≡ option_map (λ taken. taken ++ bytes) old
 
@@ -31,11 +32,11 @@ abbrev pub TakesPart : Option (List ℕ) → List ℕ → Option (List ℕ) → 
 TakesPart old piece new = (n : ℕ) × (n < length piece) × Takes old (take n piece) new
 
 -- the number of failures rises by one, from `before` to `after`, if `failed` holds, and otherwise
--- stays the same
+-- is unchanged
 abbrev pub CountsFailure : Type 0 → ℕ → ℕ → Type 0
 CountsFailure failed before after = (failed ↔ (after ≡ before + 1)) × (¬ failed → after ≡ before)
 
--- a source over a slice: the bytes left in it, the most bytes that one read gives, whether it has
+-- a source over a slice: the bytes left in it, the most bytes that one read returns, whether it has
 -- reported its end, and whether it was read after that
 pub record Feed : Type 0 where
   pub left : List ℕ
@@ -43,12 +44,12 @@ pub record Feed : Type 0 where
   pub ended : Bool
   pub passed : Bool
 
--- the number of bytes that a read gives into a buffer of length `room`
+-- the number of bytes that a read returns if the buffer has the length `room`
 abbrev pub read_count : Feed → ℕ → ℕ
 read_count feed room = min (min feed.step room) (length feed.left)
 
--- a sink in memory: the bytes that it has taken, the number of bytes that it has room for in all,
--- and the number of its failures
+-- a sink in memory: the bytes that it has taken, the size of its whole room in bytes, and the
+-- number of its failures
 pub record Store : Type 0 where
   pub taken : List ℕ
   pub room : ℕ
@@ -59,21 +60,22 @@ abbrev pub room_left : Store → ℕ
 room_left store = store.room - length store.taken
 
 -- a device that fails at one call: the device within it, the number of calls up to and including
--- that one, and the number of its failures. After that call the number of calls is 0
+-- the failing call, and the number of its failures. After the failing call the number of calls is 0
 pub record Fused (D : Type 0) : Type 0 where
   pub device : D
   pub calls : ℕ
   pub failures : ℕ
 
--- a source that never ends: the bytes left of its current text, the text that it then gives over
--- and over, and the most bytes that one read gives
+-- a source that never ends: the bytes left of its current text, the text that it then repeats
+-- without end, and the most bytes that one read returns
 pub record Round : Type 0 where
   pub left : List ℕ
   pub again : List ℕ
   pub step : ℕ
 
--- the endless source gave these bytes. It started its repeated text as often as that needed. For
--- example, with `a` left and `bc` repeated, the bytes `abcb` leave `c`
+-- the endless source returned these bytes. The bytes are a prefix of the text that was left,
+-- followed by enough repetitions of the repeated text. The rest of that concatenation is left now.
+-- For example, with `a` left and `bc` repeated, a read of `abcb` leaves `c`
 abbrev pub Goes : Round → List ℕ → Round → Type 0
 Goes old bytes new = (new.again ≡ old.again) × (new.step ≡ old.step)
     × (times : ℕ) × (old.left ++ concat (replicate times old.again) ≡ bytes ++ new.left)

@@ -1,5 +1,5 @@
--- What a taker has taken, and what is left in the source that feeds it. The terms of a taker stay
--- the same while it takes; for example, they may be a limit on the text.
+-- The text that a taker has taken, and the bytes left in the source that feeds the taker. The terms
+-- of a taker stay the same while it takes; for example, they may be a limit on the text.
 use Rattle.std.specs.Prelude.{◌≡◌, ℕ, ◌≤◌, List, ◌++◌, length, Option}
 use Rattle.cif_device.specs.Device.{Reads}
 
@@ -19,19 +19,20 @@ pub record IsTaking {T Terms : Type 0} (takes : Taking T Terms) (taker : T) : Ty
   pub text : List ℕ
   pub taken : takes taker terms text
 
--- whatever text the taker has taken, and under whatever terms, this holds for them
+-- the property `holds` is true of each text that the taker has taken, with the terms under which it
+-- has taken the text
 abbrev pub AfterEach : {T Terms : Type 0} → Taking T Terms → T → (Terms → List ℕ → Type 0) → Type 0
 AfterEach {Terms = Terms} takes taker holds = (terms : Terms) (text : List ℕ) → takes taker terms text → holds terms text
 
--- the source gave this number of bytes, and the taker has taken them after the text
+-- the source returned this number of bytes, and the taker has taken these bytes after the text
 pub record HasFed {T Terms : Type 0} (takes : Taking T Terms) (count : ℕ) (terms : Terms) (text : List ℕ) (old new : Option (List ℕ)) (taker : T) : Type 0 where
   pub bytes : List ℕ
   pub size : length bytes ≡ count
   pub lost : Reads old bytes new
   pub taken : takes taker terms (text ++ bytes)
 
--- the source gave some bytes, which a taker has taken after the text, and then one piece of at most
--- `most` bytes
+-- the source returned some bytes, which a taker has taken after the text, and then one more piece
+-- of at most `most` bytes
 pub record LosesOnePieceMore {T Terms : Type 0} (takes : Taking T Terms) (most : ℕ) (terms : Terms) (text : List ℕ) (old new : Option (List ℕ)) : Type 0 where
   pub bytes : List ℕ
   pub piece : List ℕ
@@ -40,8 +41,8 @@ pub record LosesOnePieceMore {T Terms : Type 0} (takes : Taking T Terms) (most :
   pub taker : T
   pub taken : takes taker terms (text ++ bytes)
 
--- the source gave some bytes, which the taker took after the text, and then one piece, which the
--- taker refused with this fault
+-- the source returned some bytes, which the taker took after the text, and then one more piece,
+-- which the taker refused with this fault
 pub record HasRefused {T Terms Fault : Type 0} (takes : Taking T Terms) (refuses : Refusing T Terms Fault) (most : ℕ) (terms : Terms) (text : List ℕ)
     (old new : Option (List ℕ)) (taker : T) (fault : Fault) : Type 0 where
   pub more : LosesOnePieceMore takes most terms text old new

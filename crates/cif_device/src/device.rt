@@ -27,18 +27,19 @@ impl<T: Drop> From<AllocFailed<T>> for Memory {
     }
 }
 
-/// A device that bytes are read from.
+/// A device from which bytes are read.
 pub trait Source {
-    // The bytes that are left, or `None` if the device can't name its bytes, as a real file can't.
+    // The bytes that are left, or `None` if contracts don't know which bytes they are, as for a
+    // real file.
     ghost left: { Self → Option (List ℕ) };
 
-    // The number of its failures.
+    // The number of failures of the device.
     ghost failures: { Self → ℕ };
 
-    // Whether it has reported its end.
+    // Whether the source has reported its end.
     ghost ended: { Self → Bool };
 
-    // Whether it was read after it reported its end.
+    // Whether the source was read after it had reported its end.
     ghost passed: { Self → Bool };
 
     /// Reads the next bytes into the beginning of the buffer and returns their number. If the
@@ -57,18 +58,18 @@ pub trait Source {
         ensures still { OnErr result
             ((ended self.new ≡ ended self.old) × (passed self.new ≡ passed self.old)) };
 
-    /// The number of its failures.
+    /// The number of failures of the device.
     fn failures(&self) -> u64
         ensures { result ≡ failures self.now };
 }
 
-/// A device that bytes are written to.
+/// A device to which bytes are written.
 pub trait Sink {
-    // The bytes that it has taken, or `None` if the device can't name its bytes, as a real file
-    // can't.
+    // The bytes that the sink has taken, or `None` if contracts don't know which bytes they are, as
+    // for a real file.
     ghost taken: { Self → Option (List ℕ) };
 
-    // The number of its failures.
+    // The number of failures of the device.
     ghost failures: { Self → ℕ };
 
     /// Writes some of the first bytes of the piece, at least one, and returns their number. The
@@ -84,13 +85,13 @@ pub trait Sink {
         ensures counted { OnErr result (failures self.new ≡ failures self.old + 1) }
         ensures unmoved { OnErr result (taken self.new ≡ taken self.old) };
 
-    /// The number of its failures.
+    /// The number of failures of the device.
     fn failures(&self) -> u64
         ensures { result ≡ failures self.now };
 }
 
-/// Writes the whole piece, in as many writes as it takes. Stops at the first write that fails; the
-/// sink has then taken the beginning of the piece.
+/// Writes the whole piece, in as many writes as that needs. Stops at the first write that fails;
+/// the sink has then taken a proper prefix of the piece.
 pub fn write_all<K: Sink>(sink: &mut K, piece: &[u8]) -> Result<(), Failed>
     requires { K.failures sink.old < 2 ^ 64 - 1 }
     ensures whole { OnOk result (Takes (K.taken sink.old) piece.now (K.taken sink.new)) }

@@ -5,8 +5,9 @@ ghost use Rattle.cif_device.specs.Device.{Ends, Goes};
 use crate::device::{Failed, Source};
 use std::marker::Model;
 
-/// A source that gives one text, and then another text over and over. It never ends and never
-/// fails. It can't name the bytes that are left, since they have no end.
+/// A source that returns the bytes of one text, and then the bytes of another text over and over.
+/// It never ends and never fails. Since the bytes that are left have no end, contracts see `None`
+/// in their place.
 #[derive(Clone, Debug, Drop)]
 pub struct Endless<'a> {
     rest: &'a [u8],
@@ -30,8 +31,8 @@ impl<'a> Model for Endless<'a> {
 }
 
 impl<'a> Endless<'a> {
-    /// A source that gives the text `first`, and then the text `again` over and over. One read
-    /// gives at most `step` bytes.
+    /// A source that returns the text `first`, and then the text `again` over and over. One read
+    /// returns at most `step` bytes.
     pub fn new(first: &'a [u8], again: &'a [u8], step: usize) -> Self
         requires again { 0 < length again.now }
         requires step { 0 < step }
@@ -72,7 +73,7 @@ impl Source for Endless<'_> {
         ensures within { IfOk result (λ n. n ≤ length into.new) }
         ensures ending { IfOk result (λ n. Ends n (length into.new) false false false false) }
 
-        // A source promises the clauses above. This one promises the following clauses too.
+        // A source promises the clauses above. This source promises the following clauses too.
         ensures count { result ≡ Ok (min self.old.step (length into.old)) }
         ensures goes { IfOk result (λ n. Goes self.old (take n into.new) self.new) }
     {

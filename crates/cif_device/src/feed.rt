@@ -21,12 +21,12 @@ pub enum FeedFault<F> {
     Refused(F),
 }
 
-/// A taker: it takes a text piece by piece, up to the first piece that it refuses.
+/// Takes a text piece by piece, up to the first piece that it refuses.
 pub trait Taker {
-    /// Why it refuses a piece.
+    /// Why the taker refuses a piece.
     type Fault: Drop;
 
-    // What stays the same while it takes, such as a limit on the text.
+    // The terms of a taker, such as a limit on the text. They stay the same while the taker takes.
     ghost Terms: { Type 0 };
 
     // This taker has taken this text under these terms, and refused no piece of it.
@@ -42,16 +42,16 @@ pub trait Taker {
         ensures refused { IfErr result (λ fault. AfterEach takes self.old (λ terms text.
             refuses self.new terms text piece.now fault)) };
 
-    // Each text that it can take has fewer than 2^64 bytes. So it refuses a piece of an endless
-    // source.
+    // Each text that the taker can take has fewer than 2^64 bytes. So the taker refuses a piece of
+    // an endless source.
     ghost bounded: { (taker : Self) (terms : Terms) (text : List ℕ) → takes taker terms text
         → length text < 2 ^ 64 };
 }
 
 /// Feeds a taker all that is left in a source, in pieces of at most 65,536 bytes, and returns the
-/// number of bytes. It reads nothing more after the source reports its end or the taker refuses a
-/// piece. It terminates for every source, because a taker can only take a bounded text, and so
-/// refuses a piece of an endless source.
+/// number of bytes. Reads nothing more after the source reports its end or the taker refuses a
+/// piece. Terminates for every source: a taker can only take a bounded text, so it refuses a piece
+/// of an endless source.
 pub fn feed_all<S: Source, T: Taker>(
     alloc: Global,
     source: &mut S,

@@ -42,14 +42,14 @@ impl<D> Fuse<D> {
         }
     }
 
-    /// The device within it.
+    /// The device within the fuse.
     pub fn device(&self) -> &D
         ensures { result.now ≡ self.now.device }
     {
         &self.device
     }
 
-    /// Counts a call, and returns whether it is the one that fails.
+    /// Counts a call, and returns whether this call is the one that fails.
     fn blows(&mut self) -> bool
         ensures blows { IsTrue result ↔ (self.old.calls ≡ 1) }
         ensures counted { self.new ≡ record self.old { calls = self.old.calls - 1 } }
@@ -84,7 +84,7 @@ impl Source for Fuse<Bytes<'_>> {
         ensures still { OnErr result ((self.new.device.ended ≡ self.old.device.ended)
             × (self.new.device.passed ≡ self.old.device.passed)) }
 
-        // A source promises the clauses above. This one promises the following clauses too.
+        // A source promises the clauses above. This source promises the following clauses too.
         ensures count { IfOk result (λ n.
             n ≡ min (min 1 (length into.old)) (length self.old.device.left)) }
         ensures blows { IsErr result ↔ (self.old.calls ≡ 1) }
@@ -119,7 +119,7 @@ impl Sink for Fuse<Kept> {
         ensures counted { OnErr result (self.new.failures ≡ self.old.failures + 1) }
         ensures unmoved { OnErr result (self.new.device.taken ≡ self.old.device.taken) }
 
-        // A sink promises the clauses above. This one promises the following clauses too.
+        // A sink promises the clauses above. This sink promises the following clauses too.
         ensures count { IfOk result (λ n. n ≡ 1) }
         ensures fails { IsErr result ↔ ((self.old.calls ≡ 1) ⊎ (room_left self.old.device ≡ 0)) }
         ensures calls { self.new.calls ≡ self.old.calls - 1 }

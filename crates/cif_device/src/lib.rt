@@ -1,6 +1,6 @@
-//! The devices that bytes come from and go to: the traits `Source` and `Sink`, and implementations
-//! in memory. `write_all` writes a whole piece to a sink, and `feed_all` feeds all bytes of a
-//! source to a taker.
+//! The devices from which bytes are read and to which bytes are written: the traits `Source` and
+//! `Sink`, and implementations in memory. `write_all` writes a whole piece to a sink, and
+//! `feed_all` feeds all bytes of a source to a taker.
 #![tactic(auto)]
 
 mod device;

@@ -33,7 +33,7 @@ impl<'a> Model for Bytes<'a> {
 }
 
 impl<'a> Bytes<'a> {
-    /// A source of these bytes. One read gives at most `step` of them.
+    /// A source of these bytes. One read returns at most `step` bytes.
     pub fn new(bytes: &'a [u8], step: usize) -> Self
         requires { 0 < step }
         ensures left { result.left ≡ bytes.now }
@@ -73,7 +73,7 @@ impl Source for Bytes<'_> {
         ensures ending { IfOk result (λ n. Ends n (length into.new)
             self.old.ended self.new.ended self.old.passed self.new.passed) }
 
-        // A source promises the clauses above. This one promises the following clauses too.
+        // A source promises the clauses above. This source promises the following clauses too.
         ensures count { result ≡ Ok (read_count self.old (length into.old)) }
         ensures step { self.new.step ≡ self.old.step }
     {
@@ -90,8 +90,8 @@ impl Source for Bytes<'_> {
     }
 }
 
-/// A sink that keeps the bytes it takes. Its room is reserved when it is made, and it fails only
-/// when it is full.
+/// A sink that keeps the bytes it takes. Its room is reserved when the sink is made. A write fails
+/// only if the sink is full.
 #[derive(Debug, Drop)]
 pub struct Kept {
     bytes: Vec<u8>,
@@ -132,7 +132,7 @@ impl Kept {
         })
     }
 
-    /// The bytes that it has taken.
+    /// The bytes that the sink has taken.
     pub fn bytes(&self) -> &[u8]
         ensures bytes { result.now ≡ self.now.taken }
         ensures within { length self.now.taken ≤ self.now.room }
@@ -140,14 +140,14 @@ impl Kept {
         self.bytes.as_slice()
     }
 
-    /// Whether it has no room left.
+    /// Whether the sink has no room left.
     pub(crate) fn is_full(&self) -> bool
         ensures { IsTrue result ↔ (room_left self.now ≡ 0) }
     {
         self.bytes.len() == self.room
     }
 
-    /// Takes one byte, for which it must have room.
+    /// Takes one byte. The sink must have room for it.
     pub(crate) fn push(&mut self, byte: u8)
         requires { 0 < room_left self.old }
         ensures { self.new ≡ record self.old { taken = self.old.taken ++ byte ∷ [] } }
@@ -171,7 +171,7 @@ impl Sink for Kept {
         ensures counted { OnErr result (self.new.failures ≡ self.old.failures + 1) }
         ensures unmoved { OnErr result (self.new.taken ≡ self.old.taken) }
 
-        // A sink promises the clauses above. This one promises the following clauses too.
+        // A sink promises the clauses above. This sink promises the following clauses too.
         ensures count { IfOk result (λ n. n ≡ min (length piece.now) (room_left self.old)) }
         ensures full { IsErr result ↔ (room_left self.old ≡ 0) }
         ensures room { self.new.room ≡ self.old.room }

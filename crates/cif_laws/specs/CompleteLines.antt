@@ -20,7 +20,7 @@ feeds text = count_by (λ b. b == 10) text
 abbrev pub pieces_of : List ℕ → Lines
 pieces_of text = slice_split (λ b. b == 10) text
 
--- these pieces without the last one
+-- these pieces without the last piece
 abbrev pub but_last : Lines → Lines
 but_last [] = []
 but_last (piece ∷ []) = []
@@ -30,10 +30,10 @@ but_last (piece ∷ next ∷ pieces) = piece ∷ but_last (next ∷ pieces)
 abbrev pub open_line : List ℕ → List ℕ
 open_line text = last_of (pieces_of text)
 
--- the complete lines: those ended by a line feed
+-- the complete lines: the lines that end with a line feed
 abbrev pub complete_lines : List ℕ → Lines
 complete_lines text = map strip_carriage_return (but_last (pieces_of text))
 
--- a list of the line in the last piece, or no line if that piece is empty
+-- a list of the line in the last piece, or the empty list if that piece is empty
 abbrev pub line_left : List ℕ → Lines
 line_left piece = map strip_carriage_return (last_piece piece)

@@ -1,12 +1,12 @@
--- The place of a reader in a file, after the records that it has read: which record may come next,
--- and whether the records are a file.
+-- The place of a reader in a file, after some records. The place determines which records may
+-- follow, and whether the records are a file.
 use Rattle.std.specs.Prelude.{ℕ, List, [], ◌∷◌, Some, None, Bool, true, false, ◌++◌, ◌≡◌, Option, is_some, ◌&&◌, option_and_then}
 use Rattle.std.proofs.Common.{cond}
 use Rattle.docker_model.specs.records.Record.{Lines, Kind, tiploc_insert, tiploc_amend, tiploc_delete, association, basic_schedule, trailer, header, kind_of}
 use Rattle.cif_laws.specs.RecordTest.{has_good_fields, is_record}
 use Rattle.cif_laws.specs.ScheduleStage.{Stage, after_basic, after_journey, stage_after, may_end, is_sound_next}
 
--- the place of a reader in a file: before the header; after it or after a complete unit; after
+-- the place of a reader in a file: before the header; after the header or a complete unit; after
 -- these records of a schedule; or after the trailer
 pub data Place : Type 0 where
   before_header : Place
@@ -41,8 +41,8 @@ abbrev pub is_header_kind : Option Kind → Bool
 is_header_kind (Some header) = true
 is_header_kind _ = false
 
--- the place after one more record, from its kind only, or `None` if no record of this kind may come
--- here
+-- the place after one more record, from its kind only, or `None` if no record of this kind may
+-- follow
 abbrev pub place_by_kind : Place → Option Kind → List ℕ → Option Place
 place_by_kind before_header kind line = cond (is_header_kind kind) (Some between_units) None
 place_by_kind between_units kind line = unit_by_kind kind line
@@ -50,25 +50,25 @@ place_by_kind (in_schedule stage lines) kind line =
     in_stage_or (lines ++ line ∷ []) (stage_after stage kind) (cond (may_end stage lines) (unit_by_kind kind line) None)
 place_by_kind after_end kind line = None
 
--- whether a record at this place is sound: it has good fields and, in a schedule, doesn't make it
--- pass midnight a third time. In a deletion neither counts
+-- whether a record at this place is sound: it has good fields and, in a schedule, the schedule
+-- doesn't pass midnight for the third time at the record. In a deletion neither is checked
 abbrev pub is_sound_at : Place → List ℕ → Bool
 is_sound_at (in_schedule stage lines) line = cond (is_some (stage_after stage (kind_of line))) (is_sound_next lines line) (has_good_fields line)
 is_sound_at _ line = has_good_fields line
 
--- the place after one more record, or `None` if no file continues with it
+-- the place after one more record, or `None` if no file continues with this record
 abbrev pub next_place : Place → List ℕ → Option Place
 next_place place line = cond (is_record line && is_sound_at place line) (place_by_kind place (kind_of line) line) None
 
--- the place after more records, or `None` if no file continues with them
+-- the place after more records, or `None` if no file continues with these records
 abbrev pub place_from : Place → Lines → Option Place
 place_from place [] = Some place
 place_from place (line ∷ rest) = option_and_then (λ next. place_from next rest) (next_place place line)
 
--- the place after these records, or `None` if they begin no file
+-- the place after these records, or `None` if no file begins with these records
 abbrev pub place_at : Lines → Option Place
 place_at records = place_from before_header records
 
--- the records lead a reader from the start of a file to this place
+-- this is the place of a reader after these records, the first records of a file
 abbrev pub IsPlaceOf : Lines → Place → Type 0
 IsPlaceOf records place = place_at records ≡ Some place

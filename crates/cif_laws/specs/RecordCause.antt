@@ -1,5 +1,5 @@
--- The cause of a record at fault, from the place of the reader before it. The causes are tested one
--- after the other, in the order of their ranks.
+-- The cause of a record at fault, from the place of the reader before the record. The causes are
+-- tested in the order of their ranks.
 use Rattle.std.specs.Prelude.{Bool, true, false, ℕ, Some, None, List, length, Option, is_none, ◌==◌, nat_le}
 use Rattle.std.proofs.Common.{cond}
 use Rattle.docker_model.specs.records.Record.{kind_of, leftmost_bad_byte}
@@ -22,7 +22,7 @@ with_column cause None other = other
 abbrev pub field_cause : List ℕ → FileCause
 field_cause line = with_column bad_field (leftmost_bad_field line) third_midnight
 
--- `bad_place` if no record of this kind may come here, and otherwise `field_cause`
+-- `bad_place` if no record of this kind may follow at this place, and otherwise `field_cause`
 abbrev pub place_cause : Place → List ℕ → FileCause
 place_cause place line = cond (is_none (place_by_kind place (kind_of line) line)) bad_place (field_cause line)
 
@@ -38,17 +38,17 @@ byte_cause place line = with_column bad_byte (leftmost_bad_byte line) (kind_caus
 abbrev pub length_cause : Place → List ℕ → FileCause
 length_cause place line = cond (length line == 80) (byte_cause place line) bad_length
 
--- `after_trailer` if the trailer came before the record, and otherwise `length_cause`
+-- `after_trailer` if the place is after the trailer, and otherwise `length_cause`
 abbrev pub end_cause : Place → List ℕ → FileCause
 end_cause place line = cond (is_after_end place) after_trailer (length_cause place line)
 
--- the cause of a record at fault after `count` records: `too_many` if these have reached the limit,
--- and otherwise `end_cause`
+-- the cause of a record at fault after `count` records: `too_many` if `count` has reached the
+-- limit, and otherwise `end_cause`
 abbrev pub cause_of : ℕ → ℕ → Place → List ℕ → FileCause
 cause_of limit count place line = cond (nat_le limit count) too_many (end_cause place line)
 
--- the cause of a line that doesn't have 80 bytes, after `count` records. It doesn't depend on the
--- bytes of the line
+-- the cause of a line that doesn't have 80 bytes, after `count` records. The cause doesn't depend
+-- on the bytes of the line
 abbrev pub cause_of_long : ℕ → ℕ → Place → FileCause
 cause_of_long limit count place = cond (nat_le limit count) too_many (cond (is_after_end place) after_trailer bad_length)
 
@@ -57,7 +57,7 @@ cause_of_long limit count place = cond (nat_le limit count) too_many (cond (is_a
 abbrev pub schedule_cause : Stage → List ℕ → FileCause
 schedule_cause stage line = cond (is_none (kind_of line)) bad_kind (cond (is_none (stage_after stage (kind_of line))) bad_place (field_cause line))
 
--- why a record can't be the first of a schedule, which has to be a basic schedule: the first of
--- `bad_kind`, `bad_place` and `bad_field` that holds
+-- why a record can't be the first record of a schedule, which must be a basic schedule: the first
+-- of `bad_kind`, `bad_place` and `bad_field` that holds
 abbrev pub first_line_cause : List ℕ → FileCause
 first_line_cause line = cond (is_none (kind_of line)) bad_kind (cond (is_basic_kind (kind_of line)) (field_cause line) bad_place)

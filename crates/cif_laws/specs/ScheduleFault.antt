@@ -1,5 +1,5 @@
 -- Why a record can't continue a schedule. The causes have the same ranks as in a file. The bytes
--- are known to be a record, so no cause is about a length or a byte.
+-- are known to be a record, so `bad_length` and `bad_byte` don't occur.
 use Rattle.std.specs.Prelude.{◌≡◌, ℕ, ◌<◌, ◌≤◌, List, [], ◌∷◌, ◌++◌, None, Some}
 use Rattle.docker_model.specs.records.Record.{kind_of}
 use Rattle.docker_model.specs.records.Field.{leftmost_bad_field}
@@ -19,8 +19,8 @@ HoldsInSchedule earlier line (bad_field at) = leftmost_bad_field line ≡ Some a
 HoldsInSchedule earlier line third_midnight = (midnights earlier ≤ 2) × (2 < midnights (earlier ++ line ∷ []))
 HoldsInSchedule earlier line _ = ⊥
 
--- this is the cause of a record with which the records no longer begin a schedule: the cause with
--- the lowest rank that holds
+-- this is the cause of the record after which the records no longer begin a schedule: of the causes
+-- that hold, it has the lowest rank
 pub record IsScheduleFault (earlier : List (List ℕ)) (line : List ℕ) (cause : FileCause) : Type 0 where
   pub earlier_begin : BeginsSchedule earlier
   pub here : ¬ BeginsSchedule (earlier ++ line ∷ [])

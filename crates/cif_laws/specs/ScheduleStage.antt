@@ -1,5 +1,5 @@
--- The stage of a reader in a schedule, after the records that it has read: which record may come
--- next, and whether the records are a schedule.
+-- The stage of a reader in a schedule, after some records. The stage determines which records may
+-- follow, and whether the records are a schedule.
 use Rattle.std.specs.Prelude.{Some, None, ℕ, List, Bool, true, false, [], ◌∷◌, ◌++◌, Option, ◌==◌, ◌||◌, ◌&&◌, nat_le, option_and_then}
 use Rattle.std.proofs.Common.{cond}
 use Rattle.docker_model.specs.records.Record.{Kind, extra_details, origin_location, intermediate_location}
@@ -38,31 +38,32 @@ may_end after_journey lines = true
 may_end in_journey lines = false
 may_end _ lines = may_lack (first_record lines)
 
--- whether the next record is sound: it has good fields and doesn't make the schedule pass midnight
--- a third time. In a deletion neither counts
+-- whether the next record is sound: it has good fields, and the schedule doesn't pass midnight for
+-- the third time at the record. In a deletion neither is checked
 abbrev pub is_sound_next : Lines → List ℕ → Bool
 is_sound_next lines line = is_deletion (first_record lines) || (has_good_fields line && nat_le (midnights (lines ++ line ∷ [])) 2)
 
--- the stage after one more record, or `None` if no schedule continues with it
+-- the stage after one more record, or `None` if no schedule continues with this record
 abbrev pub next_stage : Stage → Lines → List ℕ → Option Stage
 next_stage stage lines line = cond (is_record line && is_sound_next lines line) (stage_after stage (kind_of line)) None
 
--- whether a record of this kind is a basic schedule, with which a schedule begins
+-- whether a record of this kind is a basic schedule, the first record of a schedule
 abbrev pub is_basic_kind : Option Kind → Bool
 is_basic_kind (Some basic_schedule) = true
 is_basic_kind _ = false
 
--- whether the record can be the first of a schedule: a basic schedule with good fields
+-- whether the record can be the first record of a schedule: a basic schedule with good fields
 abbrev pub is_first_line : List ℕ → Bool
 is_first_line line = is_record line && is_basic_kind (kind_of line) && has_good_fields line
 
--- the stage after more records, or `None` if no schedule continues with them. The records before
--- them, `done`, are needed to count how often the schedule passes midnight
+-- the stage after more records, or `None` if no schedule continues with these records. The earlier
+-- records, `done`, are needed to count how often the schedule passes midnight
 abbrev pub stage_from : Stage → Lines → Lines → Option Stage
 stage_from stage done [] = Some stage
 stage_from stage done (line ∷ rest) = option_and_then (λ next. stage_from next (done ++ line ∷ []) rest) (next_stage stage done line)
 
--- the stage after these records, or `None` if they begin no schedule. The empty list has no stage
+-- the stage after these records, or `None` if no schedule begins with these records. The empty list
+-- has no stage
 abbrev pub stage_of : Lines → Option Stage
 stage_of [] = None
 stage_of (basic ∷ rest) = cond (is_first_line basic) (stage_from after_basic (basic ∷ []) rest) None

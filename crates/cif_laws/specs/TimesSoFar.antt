@@ -1,9 +1,9 @@
--- How often a list of times falls, counted time by time. A fall is a time that is earlier than the
--- time before it, so only the last time has to be remembered.
+-- The number of falls in a list of times, counted time by time. A fall is a time that is earlier
+-- than the time before it, so a reader has to remember only the last time.
 use Rattle.std.specs.Prelude.{ℕ, List, [], ◌∷◌, Some, None, Option}
 use Rattle.docker_model.specs.file.Journey.{fall_count}
 
--- the last of these times, or `None` without times
+-- the last of these times, or `None` if there are no times
 abbrev pub last_of : List ℕ → Option ℕ
 last_of [] = None
 last_of (time ∷ []) = Some time
@@ -15,8 +15,8 @@ abbrev pub falls_after : Option ℕ → List ℕ → ℕ
 falls_after None times = fall_count times
 falls_after (Some last) times = fall_count (last ∷ times)
 
--- the last time of two lists, one after the other, from the last time of each. It is the second
--- list's last time, or the first list's if the second has none
+-- the last time of a concatenation, from the last time of each list: the second list's last time,
+-- or the first list's last time if the second list is empty
 abbrev pub later_or : Option ℕ → Option ℕ → Option ℕ
 later_or (Some later) earlier = Some later
 later_or None earlier = earlier

@@ -4,7 +4,7 @@ use Rattle.std.specs.Prelude.{ℕ, ◌+◌, if◌then◌else◌, List, [], ◌�
 use Rattle.docker_model.specs.records.Field.{is_deletion, as_new}
 use Rattle.docker_model.specs.file.Change.{schedule_body, delete, put, Change, schedule_named, changes_of_record}
 
--- the changes of a unit, which its first record makes. That record has this number
+-- the changes of a unit, all of which belong to its first record. That record has this number
 abbrev pub changes_of_unit : ℕ → List (List ℕ) → List Change
 changes_of_unit number [] = []
 changes_of_unit number (line ∷ others) = changes_of_record number line others

@@ -13,14 +13,14 @@ ghost use Rattle.docker_model.specs.state.State.{IsBodyOf};
 ghost use Rattle.docker_model.specs.file.File.{IsFile, IsSchedule, BeginsFile, BeginsSchedule, most_records};
 ghost use Rattle.cif_laws.specs.LawTerms.{BeginsWithin};
 
-/// Records are the lines of a text exactly if the text consists of these records, each with its
+/// Records are the lines of a text if and only if the text consists of these records, each with its
 /// line end.
 pub fn text_of_records()
     ensures { (records : List (List ℕ)) (text : List ℕ) → All IsRecord records
         → IsTextOf records text ↔ (lines_of text ≡ records) }
 {}
 
-/// A text has at most one fault. The text of a file within the limit has none.
+/// A text has at most one fault. The text of a file within the limit has no fault.
 pub fn one_file_fault()
     ensures one { (limit : ℕ) (text : List ℕ) (first second : FileFault)
         → IsFileFault limit text first → IsFileFault limit text second → first ≡ second }
@@ -46,8 +46,8 @@ pub fn schedule_body_is_schedule()
 {}
 
 /// The changes of a file are the changes of its units, in order. A change has the number of the
-/// first record of its unit, which is 2 for the first unit. A schedule makes one change, with all
-/// its records.
+/// first record of its unit, which is 2 for the first unit. A schedule has exactly one change,
+/// which deletes its key or puts all its records.
 pub fn changes_by_units()
     ensures units { (file : List (List ℕ)) (is : IsFile file)
         → changes file ≡ changes_of_units 2 is.units }
@@ -56,8 +56,8 @@ pub fn changes_by_units()
         → changes_of_unit number (basic ∷ others) ≡ change_of_schedule number basic others ∷ [] }
 {}
 
-/// Two changes of one record have different keys. This holds for a record by itself, whatever
-/// follows it, and for each record of a file.
+/// Two changes of one record have different keys. This holds for a single record with any records
+/// after it, and for each record of a file.
 pub fn keys_of_record_differ()
     ensures record { (number : ℕ) (line : List ℕ) (following : List (List ℕ))
         → AllPairs (λ (first second : Change). ¬ (first.key ≡ second.key))
@@ -67,8 +67,8 @@ pub fn keys_of_record_differ()
         → ¬ (first.key ≡ second.key)) (changes file) }
 {}
 
-/// It can be decided whether records begin some file, and whether they are a file. The same holds
-/// for schedules.
+/// It is decided whether records begin some file, whether they are a file, whether they begin some
+/// schedule, and whether they are a schedule.
 pub fn begins_or_not()
     ensures file { (records : List (List ℕ)) → BeginsFile records ⊎ ¬ BeginsFile records }
     ensures schedule { (lines : List (List ℕ)) → BeginsSchedule lines ⊎ ¬ BeginsSchedule lines }
@@ -76,8 +76,8 @@ pub fn begins_or_not()
     ensures whole_schedule { (lines : List (List ℕ)) → IsSchedule lines ⊎ ¬ IsSchedule lines }
 {}
 
-/// After records that begin a schedule, one more record either continues a schedule or is at fault,
-/// never both. A record at fault has only one cause.
+/// After records that begin a schedule, one more record either continues the schedule or is at
+/// fault, never both. A record at fault has exactly one cause.
 pub fn schedule_goes_on_or_fault()
     ensures either { (earlier : List (List ℕ)) (line : List ℕ)
         → BeginsSchedule earlier → IsRecord line → BeginsSchedule (earlier ++ line ∷ [])
@@ -89,8 +89,8 @@ pub fn schedule_goes_on_or_fault()
         → BeginsSchedule (earlier ++ line ∷ []) → ¬ IsScheduleFault earlier line cause }
 {}
 
-/// A fault that the first bytes of a text show is the fault of the whole text. Bytes show at most
-/// one fault.
+/// A fault that the first bytes of a text determine is the fault of the whole text. Bytes determine
+/// at most one fault.
 pub fn reported_fault_stays()
     ensures so_far { (limit : ℕ) (text more : List ℕ) (fault : FileFault)
         → IsFaultSoFar limit text fault → IsFaultSoFar limit (text ++ more) fault }
@@ -100,8 +100,9 @@ pub fn reported_fault_stays()
         → IsFaultSoFar limit text first → IsFaultSoFar limit text second → first ≡ second }
 {}
 
-/// Bytes either show a fault or may still become a file, never both. They may if their complete
-/// lines begin some file and are within the limit, and at most 81 bytes follow the last line feed.
+/// Bytes either determine a fault or satisfy `BeginsWithin`, never both. `BeginsWithin` says that
+/// the complete lines begin some file and are within the limit, and that at most 81 bytes follow
+/// the last line feed.
 pub fn no_fault_in_complete_lines()
     ensures either { (limit : ℕ) (text : List ℕ)
         → ((fault : FileFault) × IsFaultSoFar limit text fault) ⊎ BeginsWithin limit text }
@@ -109,7 +110,8 @@ pub fn no_fault_in_complete_lines()
         → BeginsWithin limit text → ¬ IsFaultSoFar limit text fault }
 {}
 
-/// Bytes that show no fault are few: at most 82 for each record that the limit allows, and 81 more.
+/// Bytes that determine no fault are at most `82 * limit + 81` bytes, where `limit` is the greatest
+/// number of records.
 pub fn text_without_fault_is_bounded()
     ensures { (limit : ℕ) (text : List ℕ) → ((fault : FileFault) → ¬ IsFaultSoFar limit text fault)
         → length text ≤ 82 * limit + 81 }

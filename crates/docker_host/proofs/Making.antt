@@ -1,4 +1,4 @@
--- How to make a struct that has only ghost fields. Such a struct takes no memory. Assumes `Logic`.
+-- Making a struct that has only ghost fields. The struct takes no memory. Assumes `Logic`.
 use Rattle.std.proofs.Common.{List, [], ◌∷◌, refl}
 use seplogic.Ra.Ura.{Ura}
 use mir.Val.{Val, vstruct, vnil}
@@ -17,7 +17,7 @@ no_fields = record { name = []; args = []; types = []; fields = [] }
 abbrev pub empty_struct : Val
 empty_struct = vstruct vnil
 
--- such a struct can be made from nothing, since its ghost fields own nothing
+-- a struct without other fields can be made from nothing, since its ghost fields own nothing
 pub made_of_nothing : {M : Type 1} {𝓤 : Ura M} {𝓛 : Logic 𝓤} {K : Type 0} {Γ : List (Item 𝓤)} {G : Goal 𝓤 𝓛.H} → K
     → Step K 𝓛 (‵ (fsep ((Struct no_fields).own_val tt (empty_struct ∷ [])) ftrue) ∷ Γ) G Γ G
 made_of_nothing k = step (λ rest.

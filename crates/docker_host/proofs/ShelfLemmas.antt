@@ -1,23 +1,23 @@
--- The invariant of a shelf: its files hold what its history says.
+-- The invariant of a shelf: the shelf agrees with its history.
 use Rattle.std.proofs.Common.{◌≡◌, List, [], ◌∷◌, ◌++◌, Some, refl, sym, ap, ◌∙◌, string_bytes}
 use Rattle.docker_host.specs.History.{Text, Event, opened, placed}
 use Rattle.docker_host.specs.Shelf.{Texts, no_texts, with_text, after_event, after_events, IsMet, AreMet, text_under}
 use Rattle.docker_host.specs.Places.{texts_of, IsKept}
 use Rattle.docker_host.specs.declared.shelf.Place.{Place}
 
--- the files after some events and one more are the files after that event
+-- appending an event to a history changes the files as the event does
 pub after_events-append : (texts : Texts) (events : List Event) (event : Event)
     → after_events texts (events ++ event ∷ []) ≡ after_event (after_events texts events) event
 after_events-append texts [] event = refl
 after_events-append texts (first ∷ events) event = after_events-append (after_event texts first) events event
 
--- if each opening among the events found the right text, and so did one more, all of them did
+-- appending an event that satisfies `IsMet` to events that satisfy `AreMet` preserves `AreMet`
 pub AreMet-append : (texts : Texts) (events : List Event) (event : Event)
     → AreMet texts events → IsMet (after_events texts events) event → AreMet texts (events ++ event ∷ [])
 AreMet-append texts [] event met last = (last, tt)
 AreMet-append texts (first ∷ events) event met last = (met.0, AreMet-append (after_event texts first) events event met.1 last)
 
--- an event that changes no file keeps the invariant
+-- the invariant is preserved by an event that changes no file
 pub kept_still : (places : List Place) (events : List Event) (event : Event) → IsKept places events
     → ((texts : Texts) → after_event texts event ≡ texts) → IsMet (after_events no_texts events) event
     → IsKept places (events ++ event ∷ [])
@@ -27,7 +27,7 @@ kept_still places events event kept still met = record {
       ∙ sym (ap (λ (texts : Texts). texts name) (after_events-append no_texts events event ∙ still (after_events no_texts events)));
 }
 
--- a text that is put in a file, with its event, keeps the invariant
+-- the invariant is preserved if a text is put in a file and its event is appended
 pub kept_placed : (place : Place) (places : List Place) (events : List Event) (name text : Text) → IsKept places events
     → string_bytes place.name ≡ name → place.text.items ≡ text
     → IsKept (place ∷ places) (events ++ placed name (Some text) ∷ [])
@@ -44,7 +44,7 @@ kept_placed place places events name text kept named held = record {
         → with_text name text texts other ≡ with_text name text texts' other
     with_same name text other texts texts' same = rw same refl
 
--- the opening of a file, with its event, keeps the invariant
+-- the invariant is preserved if a file is opened and its event is appended
 pub kept_opened : (places : List Place) (events : List Event) (name text : Text) → IsKept places events
     → text_under events name ≡ Some text → IsKept places (events ++ opened name (Some text) ∷ [])
 kept_opened places events name text kept found =

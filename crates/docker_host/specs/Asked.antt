@@ -9,23 +9,22 @@ use Rattle.docker_host.specs.declared.folder.OpenFault.TheVariants as opening
 abbrev pub IsUndrafted : Text → ℕ → List Event → List Event → Type 0
 IsUndrafted name look old new = new ≡ old ++ undrafted name look ∷ []
 
--- a draft was made from the look with this number, and was then given up
+-- a draft was made from the look with this number, and was then discarded
 abbrev pub IsDropped : Text → ℕ → List Event → List Event → Type 0
 IsDropped name look old new = new ≡ old ++ drafted name look ∷ dropped name ∷ []
 
--- a draft of this text was made from the look with this number, and took the place of the file
+-- a draft of this text was made from the look with this number, and replaced the file
 abbrev pub IsStored : Bool → Text → ℕ → Text → List Event → List Event → Type 0
 IsStored names_bytes name look text old new =
     new ≡ old ++ drafted name look ∷ placed name (named_if names_bytes text) ∷ []
 
--- a draft of this text was made from the look with this number, and failed to take the place of the
--- file
+-- a draft of this text was made from the look with this number, and failed to replace the file
 abbrev pub IsUnplaced : Bool → Text → ℕ → Text → List Event → List Event → Type 0
 IsUnplaced names_bytes name look text old new =
     new ≡ old ++ drafted name look ∷ unplaced name (named_if names_bytes text) ∷ []
 
--- the text wasn't stored, because a device failed: no draft was made, the draft was given up, or it
--- failed to take the place of the file
+-- the text wasn't stored, because a device failed: no draft was made, the draft was discarded, or
+-- the draft failed to replace the file
 abbrev pub FailsToStore : Bool → Text → ℕ → Text → List Event → List Event → Type 0
 FailsToStore names_bytes name look text old new =
     IsUndrafted name look old new

@@ -1,4 +1,5 @@
--- What is written to a program's sink of faults, which is where it writes its messages of faults.
+-- The bytes that a program writes to its sink of faults. The sink of faults takes the program's
+-- messages of faults.
 use Rattle.std.specs.Prelude.{◌≡◌, ℕ, ◌+◌, List, ◌⊎◌}
 use Rattle.cif_device.specs.Device.{Takes, TakesPart}
 use Rattle.docker_host.specs.History.{Bytes}
@@ -17,8 +18,8 @@ faults_view taken failures = record { taken = taken; failures = failures }
 abbrev pub faults_of : HostView → FaultsView
 faults_of host = faults_view host.faults host.faults_failures
 
--- this text was written to the sink of faults. Either the sink took all of it, or it failed once
--- more and took a proper prefix of it
+-- this text was written to the sink of faults. Either the sink took the whole text, or the sink
+-- failed once more and took a proper prefix of the text
 abbrev pub TellsText : List ℕ → FaultsView → FaultsView → Type 0
 TellsText text old new = ((new.failures ≡ old.failures) × Takes old.taken text new.taken)
     ⊎ ((new.failures ≡ old.failures + 1) × TakesPart old.taken text new.taken)

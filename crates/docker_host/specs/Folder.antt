@@ -1,4 +1,4 @@
--- What contracts say of a folder.
+-- The state of a folder in contracts.
 use Rattle.std.specs.Prelude.{ℕ, List}
 use Rattle.docker_host.specs.History.{Event}
 

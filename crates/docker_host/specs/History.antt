@@ -1,11 +1,11 @@
--- The events of a folder, oldest first: what the folder was asked to do, and what it found.
+-- The events of a folder, oldest first: the calls to the folder, and their results.
 use Rattle.std.specs.Prelude.{◌≡◌, ℕ, Bool, true, false, ⊤, List, Option, None, Some}
 
 -- the bytes of a name or of a text
 abbrev pub Text : Type 0
 Text = List ℕ
 
--- the bytes of a text, or `None` if the device can't name its bytes, as a real file can't
+-- the bytes of a text, or `None` if contracts don't know which bytes they are, as for a real file
 abbrev pub Bytes : Type 0
 Bytes = Option Text
 
@@ -13,7 +13,7 @@ Bytes = Option Text
 pub data Event : Type 0 where
   -- the named file was looked at
   looked : (name : Text) → Event
-  -- the named file was opened, and held these bytes then
+  -- the named file was opened, and held these bytes at that moment
   opened : (name : Text) (bytes : Bytes) → Event
   -- the named file couldn't be opened
   unopened : (name : Text) → Event
@@ -24,20 +24,20 @@ pub data Event : Type 0 where
   drafted : (name : Text) (look : ℕ) → Event
   -- no draft could be made for the named file, from the look that is the event with this number
   undrafted : (name : Text) (look : ℕ) → Event
-  -- a draft took the place of the named file, which holds these bytes from then on
+  -- a draft replaced the named file, which holds these bytes from then on
   placed : (name : Text) (bytes : Bytes) → Event
-  -- a draft with these bytes failed to take the place of the named file. The file holds these
-  -- bytes, or what it held before
+  -- a draft with these bytes failed to replace the named file. The file holds these bytes, or the
+  -- bytes that it held before
   unplaced : (name : Text) (bytes : Bytes) → Event
-  -- a draft for the named file was given up
+  -- a draft for the named file was discarded
   dropped : (name : Text) → Event
 
--- the bytes of this text, if the device can name them, and otherwise `None`
+-- the bytes of this text if contracts know which bytes they are, and otherwise `None`
 abbrev pub named_if : Bool → Text → Bytes
 named_if true text = Some text
 named_if false text = None
 
--- the bytes are the bytes of this text, or they can't be named
+-- the bytes are this text, or contracts don't know which bytes they are
 abbrev pub IsText : Bytes → Text → Type 0
 IsText None text = ⊤
 IsText (Some bytes) text = bytes ≡ text

@@ -2,9 +2,11 @@
 use Rattle.std.specs.Prelude.{ℕ, ◌^◌, ◌-◌, ◌<◌, Bool, List}
 use Rattle.docker_host.specs.History.{Bytes, Event}
 
--- All devices of a program at one position. The bytes of a device that can't name them are `None`.
+-- All devices of a program at one moment. If contracts don't know the bytes of a device, `None` is
+-- used in their place.
 pub record HostView : Type 0 where
-  -- the bytes left in the input, whether its end was reported, and whether it was read after that
+  -- the bytes left in the input, whether its end was reported, and whether the input was read after
+  -- that
   pub input : Bytes
   pub ended : Bool
   pub passed : Bool
@@ -20,7 +22,7 @@ pub record HostView : Type 0 where
   pub output_failures : ℕ
   pub faults_failures : ℕ
 
--- each device has failed less than 2^64 - 1 times, so one more failure can be counted
+-- each device has failed fewer than 2^64 - 1 times, so one more failure can be counted
 pub record AreFew (host : HostView) : Type 0 where
   pub input : host.input_failures < 2 ^ 64 - 1
   pub folder : host.folder_failures < 2 ^ 64 - 1

@@ -1,10 +1,11 @@
--- What the history of a shelf says of the files on it.
+-- The files on a shelf, as its history determines them.
 use Rattle.std.specs.Prelude.{◌≡◌, ℕ, min, length, Bool, ⊤, if◌then◌else◌, List, [], ◌∷◌, Option, None, Some, IsSome}
 use Rattle.std.specs.Str.{bytes_eq}
 use Rattle.docker_host.specs.History.{Text, Event, looked, opened, unopened, closed, drafted, undrafted, placed, unplaced, dropped}
 
--- An opened file: the bytes left in it, the number of bytes that it gives before it fails, and the
--- number of its failures. Also whether it has reported its end, and whether it was read after that.
+-- An opened file: the bytes left in the file, the number of bytes that can be read before a read
+-- fails, and the number of failures. Also whether the file has reported its end, and whether it was
+-- read after that.
 pub record PageView : Type 0 where
   pub left : List ℕ
   pub sound : ℕ
@@ -12,11 +13,12 @@ pub record PageView : Type 0 where
   pub ended : Bool
   pub passed : Bool
 
--- the number of bytes that a read gives into a buffer of length `room`, if it doesn't fail
+-- the number of bytes that a read returns if the buffer has the length `room` and the read doesn't
+-- fail
 abbrev pub page_count : PageView → ℕ → ℕ
 page_count page room = min room (min (min page.sound 100) (length page.left))
 
--- the text of each file, or `None` if there is no file of that name
+-- the text of each file, or `None` if there is no file with that name
 abbrev pub Texts : Type 0
 Texts = Text → Option Text
 
@@ -24,11 +26,12 @@ Texts = Text → Option Text
 abbrev pub no_texts : Texts
 no_texts name = None
 
--- the files with this text in the named file
+-- the files after this text is put in the named file
 abbrev pub with_text : Text → Text → Texts → Texts
 with_text name text texts other = if bytes_eq name other then Some text else texts other
 
--- the files after an event. Only a placed text changes a file
+-- the files after an event. Only a placed text changes a file; all other events leave the files
+-- unchanged
 abbrev pub after_event : Texts → Event → Texts
 after_event texts (placed name (Some text)) = with_text name text texts
 after_event texts (placed name None) = texts
@@ -46,7 +49,7 @@ abbrev pub after_events : Texts → List Event → Texts
 after_events texts [] = texts
 after_events texts (event ∷ events) = after_events (after_event texts event) events
 
--- if the event opens a file, there is such a file, and its text is what the event says
+-- if the event opens a file, the file exists and has the text that the event records
 abbrev pub IsMet : Texts → Event → Type 0
 IsMet texts (opened name bytes) = (bytes ≡ texts name) × IsSome bytes
 IsMet texts (placed name bytes) = ⊤
@@ -58,7 +61,7 @@ IsMet texts (undrafted name look) = ⊤
 IsMet texts (unplaced name bytes) = ⊤
 IsMet texts (dropped name) = ⊤
 
--- each file that is opened among these events holds what was last placed under its name
+-- each file that these events open has the text that was last placed under its name
 abbrev pub AreMet : Texts → List Event → Type 0
 AreMet texts [] = ⊤
 AreMet texts (event ∷ events) = IsMet texts event × AreMet (after_event texts event) events

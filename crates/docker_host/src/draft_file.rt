@@ -1,6 +1,6 @@
-//! Drafts of real files. The new text of a regular file goes to a draft next to it, which is then
-//! renamed over it. So the file is complete at any time: it has the old text or the new one. A pipe
-//! or a device is written directly.
+//! Drafts of real files. The new text of a regular file is written to a draft in the same folder.
+//! The draft is then renamed over the file. So the file is complete at any time: it has the old
+//! text or the new one. A pipe or a device is written directly.
 ghost use Rattle.std.specs.Prelude.{◌≡◌, None, IfOk};
 
 use crate::draft_place::DraftPlace;
@@ -22,12 +22,12 @@ pub struct DraftFile {
     failures: u64,
 }
 
-/// A draft that has taken the place of a named file.
+/// A draft that has replaced a named file.
 #[derive(Drop)]
 pub(crate) struct Placed {
     /// The name of the file.
     pub(crate) name: String,
-    /// The draft, as a look would see it.
+    /// The version of the draft, as a look would see it.
     pub(crate) version: Version,
 }
 
@@ -40,9 +40,9 @@ impl Model for DraftFile {
 }
 
 impl DraftFile {
-    /// Makes an empty draft for the named file, if what is under the name is still what was seen. A
-    /// file that doesn't exist yet has its draft next to its future place. But if the name is a
-    /// link that leads nowhere, the file that the link names is made and written directly.
+    /// Makes an empty draft for the named file, if what is under the name is still what was seen.
+    /// The draft is in the folder of the file, even if the file doesn't exist yet. But if the name
+    /// is a link to a missing file, that file is made and written directly.
     pub(crate) fn make(
         rt: &HostRuntime,
         name: &str,
@@ -60,9 +60,9 @@ impl DraftFile {
         })
     }
 
-    /// Puts the draft in the place of its file. Returns the draft as the next look will see it.
-    /// Returns `None` if that can't be known, as for a file that was written directly. If the draft
-    /// can't be put there, removes it as far as possible and returns `Failed`.
+    /// Replaces the file with the draft. Returns the version that the next look will see, or `None`
+    /// if that can't be known, as for a file that was written directly. If the file can't be
+    /// replaced, removes the draft as far as possible and returns `Failed`.
     pub(crate) fn place(self, rt: &HostRuntime) -> Result<Option<Placed>, Failed> {
         let DraftFile {
             name,
@@ -73,8 +73,8 @@ impl DraftFile {
         let Some(place) = place else {
             return Ok(None);
         };
-        // The draft is looked at while it is open, and before it has the name of the file. So
-        // nothing but the draft can be seen.
+        // The version is read from the open draft, before the draft has the name of the file. So
+        // the version can't be the version of any other file.
         let version = Version::of_open(&file);
         if place.replace(rt, &file).is_err() {
             place.remove(rt);
@@ -125,7 +125,8 @@ fn open_draft(
     }
 }
 
-/// Opens a draft next to the file with this path, if what is under the name is still what was seen.
+/// Opens a draft in the folder of the file with this path, if what is under the name is still what
+/// was seen.
 fn open_in_folder_of(
     rt: &HostRuntime,
     name: &str,
@@ -141,7 +142,7 @@ fn open_in_folder_of(
     Ok((file, Some(place)))
 }
 
-/// Whether what was seen is a pipe or a device that is still there.
+/// Whether a pipe or a device was seen, and is still under the name.
 fn is_still_pipe(seen: Option<Version>, there: &Version) -> bool {
     match seen {
         Some(seen) => seen.is_same_pipe(there),

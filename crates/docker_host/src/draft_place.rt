@@ -1,12 +1,12 @@
-//! Drafts next to the files whose places they will take. A draft is locked while its command runs,
-//! and marked until it has taken the place of its file. So a marked draft without a lock was left
-//! over by a command that was stopped, and the next command removes it.
+//! Drafts, each in the folder of the file that it will replace. A draft is locked while its command
+//! runs, and marked until it has replaced its file. So a marked draft without a lock was left over
+//! by a command that was stopped. The next command removes this draft.
 use crate::folder::OpenFault;
 use std::fs::{File, Metadata, Permissions, TryLockError};
 use std::os::unix::fs::{MetadataExt, OpenOptionsExt, PermissionsExt};
 use std::{fs, io};
 
-/// What the name of a draft adds to the name of its file.
+/// The suffix of a draft's name. The rest of the name is the name of the file.
 const SUFFIX: &str = ".new";
 
 /// The permission bit that marks a draft: the sticky bit, which means nothing else on a regular
@@ -16,8 +16,8 @@ const MARK: u32 = 0o1000;
 /// The permissions of a new file, before the user's mask removes some.
 const NEW_FILE: u32 = 0o666;
 
-/// The path of a draft, the path of the file whose place it will take, and the permissions that it
-/// has then.
+/// The path of a draft, the path of the file that the draft will replace, and the permissions that
+/// the draft gets when it replaces the file.
 #[derive(Drop)]
 pub(crate) struct DraftPlace {
     draft: String,
@@ -26,9 +26,9 @@ pub(crate) struct DraftPlace {
 }
 
 impl DraftPlace {
-    /// Makes an empty draft next to the file with this path, and locks it. If there is an old file,
-    /// the draft gets its permissions. If that isn't possible, the draft is removed; if the removal
-    /// fails too, the fault is `Failed`.
+    /// Makes an empty draft in the folder of the file with this path, and locks the draft. If there
+    /// is an old file, the draft gets the permissions of the old file. If the permissions can't be
+    /// set, the draft is removed; if the removal fails too, the fault is `Failed`.
     pub(crate) fn make(
         rt: &HostRuntime,
         file: String,
@@ -62,7 +62,7 @@ impl DraftPlace {
         }
     }
 
-    /// Writes the draft to the disk, renames it over the file, and then removes its mark.
+    /// Writes the draft to the disk, renames the draft over the file, and then removes the mark.
     pub(crate) fn replace(&self, rt: &HostRuntime, made: &File) -> io::Result<()> {
         made.sync_all()?;
         fs::rename(rt, self.draft.as_str(), self.file.as_str())?;
@@ -76,9 +76,9 @@ impl DraftPlace {
     }
 }
 
-/// The mark of a draft next to the file with this path. A file whose name ends like the name of a
-/// draft gets an unmarked draft. Otherwise the file, once it is replaced, might look like a draft
-/// left over from another file.
+/// The mark of a draft for the file with this path. If the name of the file ends like the name of a
+/// draft, its draft has no mark. With a mark, the replaced file might look like a draft that was
+/// left over for another file.
 fn draft_bit_of(file: &str) -> u32 {
     if file.ends_with(SUFFIX) { 0 } else { MARK }
 }
@@ -88,7 +88,7 @@ fn has_draft_bit(file: &Metadata) -> bool {
     file.is_file() && file.permissions().mode() & MARK != 0
 }
 
-/// Whether the open file is the one under this name.
+/// Whether the open file is the file under this name.
 fn stands_under(rt: &HostRuntime, file: &File, name: &str) -> bool {
     let (Ok(held), Ok(there)) = (file.metadata(), fs::symlink_metadata(rt, name)) else {
         return false;
@@ -96,8 +96,8 @@ fn stands_under(rt: &HostRuntime, file: &File, name: &str) -> bool {
     held.dev() == there.dev() && held.ino() == there.ino()
 }
 
-/// Removes the file with the name of a draft, if a stopped command left it over. Any other file
-/// stays.
+/// Removes the file with the name of a draft, if a stopped command left it over. Leaves any other
+/// file.
 fn remove_left_over(rt: &HostRuntime, name: &str) {
     let Ok(there) = fs::symlink_metadata(rt, name) else {
         return;
@@ -113,8 +113,9 @@ fn remove_left_over(rt: &HostRuntime, name: &str) {
     }
 }
 
-/// Whether a file that this command has locked is still a marked draft under this name. It isn't if
-/// another command, whose draft it was, has ended meanwhile.
+/// Whether a file that this command has locked is still a marked draft under this name. The file is
+/// no longer a marked draft, or no longer under this name, if the command that made the draft has
+/// ended meanwhile.
 fn is_left_over(rt: &HostRuntime, left: &File, name: &str) -> bool {
     let Ok(held) = left.metadata() else {
         return false;
@@ -122,8 +123,8 @@ fn is_left_over(rt: &HostRuntime, left: &File, name: &str) -> bool {
     has_draft_bit(&held) && stands_under(rt, left, name)
 }
 
-/// Locks a draft that was just made. Fails if another command took it for a left-over draft, and
-/// has locked or removed it. On a file system without locks no draft counts as left over.
+/// Locks a draft that was just made. Fails if another command has locked or removed the draft,
+/// because it looked left over. On a file system without locks no draft counts as left over.
 fn hold(rt: &HostRuntime, made: &File, name: &str) -> Result<(), OpenFault> {
     if let Err(TryLockError::WouldBlock) = made.try_lock() {
         return Err(OpenFault::Failed);
@@ -134,8 +135,8 @@ fn hold(rt: &HostRuntime, made: &File, name: &str) -> Result<(), OpenFault> {
     Ok(())
 }
 
-/// Gives a draft the permissions of the old file, if there is one, and the mark of a draft. Returns
-/// the permissions that the file is to have in the end.
+/// Sets the permissions of a draft to the permissions of the old file, if there is an old file, and
+/// adds the mark of a draft. Returns the permissions that the file is to have in the end.
 fn give_permissions(made: &File, old: Option<Metadata>, draft_bit: u32) -> io::Result<u32> {
     let Some(file) = old else {
         return Ok(made.metadata()?.permissions().mode() & !MARK);

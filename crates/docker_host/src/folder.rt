@@ -11,8 +11,8 @@ use std::io::ErrorKind;
 /// Why a file couldn't be opened, or no draft could be made.
 #[derive(Clone, Copy, PartialEq, Eq, Debug)]
 pub enum OpenFault {
-    /// The file doesn't exist, may not be opened in this way, is no longer the one that was seen,
-    /// or its device failed.
+    /// The file doesn't exist, may not be opened in this way, or is no longer the file that was
+    /// seen, or the device failed.
     Failed,
     /// Out of memory: an allocation was refused.
     Memory,
@@ -85,14 +85,14 @@ pub trait Folder {
     // The events of the folder, oldest first.
     ghost history: { Self → List Event };
 
-    // The number of its failures, including failures of the files and drafts that were given back
-    // to it.
+    // The number of failures of the folder, including failures of the files and drafts that were
+    // closed, completed or discarded.
     ghost failures: { Self → ℕ };
 
-    // The look that saw this, as the number of its event, counted from 0.
+    // The number of the look's event in the history, counted from 0.
     ghost look_of: { Self.Seen → ℕ };
 
-    // Whether its drafts can name the bytes that they have taken.
+    // Whether contracts know which bytes the folder's drafts have taken. For real files they don't.
     ghost names_bytes: { Bool };
 
     /// Looks at the named file. A draft for the file can be made from what the look saw.
@@ -101,8 +101,8 @@ pub trait Folder {
         ensures look { look_of result ≡ length (history self.old) }
         ensures no_failure { failures self.new ≡ failures self.old };
 
-    /// Opens the named file, to be read from its first byte. The bytes left in it are the bytes
-    /// that the file holds at this position.
+    /// Opens the named file for reading from its first byte. The bytes left in the opened file are
+    /// the bytes that the file holds at this point in the history.
     fn open(&mut self, name: &str) -> Result<Self::File, OpenFault>
         requires { failures self.old < 2 ^ 64 - 1 }
         ensures asked { IfOk result (λ file.
@@ -115,7 +115,8 @@ pub trait Folder {
         ensures failures { CountsFailure (result ≡ Err OpenFault.Failed)
             (failures self.old) (failures self.new) };
 
-    /// Takes back an opened file, notes what is left in it, and adds its failures to the folder's.
+    /// Closes an opened file, records the bytes left in the file, and adds its failures to the
+    /// folder's.
     fn close(&mut self, file: Self::File)
         requires { failures self.old + Self.File.failures file < 2 ^ 64 }
         ensures asked { history self.new ≡ history self.old ++ closed (Self.File.left file) ∷ [] }
@@ -140,8 +141,8 @@ pub trait Folder {
         ensures failures { CountsFailure (result ≡ Err OpenFault.Failed)
             (failures self.old) (failures self.new) };
 
-    /// Puts a draft in the place of its file, which then holds the bytes that the draft took. If
-    /// that fails, the file holds these bytes or what it held before.
+    /// Replaces the file with its draft. The file then holds the bytes that the draft took. If the
+    /// call fails, the file holds these bytes or the bytes that it held before.
     fn complete(&mut self, made: Drafted<'_, Self::Draft>) -> Result<(), Failed>
         requires { failures self.old + Self.Draft.failures made.draft < 2 ^ 64 - 1 }
         ensures asked { OnOk result (history self.new ≡ history self.old
@@ -151,7 +152,7 @@ pub trait Folder {
         ensures failures { CountsFailure (IsErr result)
             (failures self.old + Self.Draft.failures made.entry.draft) (failures self.new) };
 
-    /// Gives up a draft, and adds its failures to the folder's.
+    /// Discards a draft, and adds its failures to the folder's.
     fn discard(&mut self, made: Drafted<'_, Self::Draft>)
         requires { failures self.old + Self.Draft.failures made.draft < 2 ^ 64 }
         ensures asked { history self.new ≡ history self.old ++ dropped made.entry.name.now ∷ [] }

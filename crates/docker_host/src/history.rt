@@ -1,5 +1,5 @@
-//! The history of a folder: its events, which only proofs see. It takes no memory, and its calls do
-//! nothing when they run.
+//! The history of a folder: its events, which only proofs see. A history takes no memory, and its
+//! functions do nothing at run time.
 ghost use Rattle.std.specs.Prelude.{◌≡◌, ℕ, List, [], ◌∷◌, ◌++◌, length};
 ghost use Rattle.std.specs.Borrow.{ftrue};
 ghost use Rattle.docker_host.specs.History.{Event};
@@ -33,27 +33,27 @@ pub enum Note<'a> {
     Looked(&'a str),
     /// A named file was opened, and held these bytes.
     Opened(&'a str, &'a [u8]),
-    /// A named file was opened, and can't name its bytes.
+    /// A named file was opened. Contracts don't know its bytes.
     OpenedUnnamed(&'a str),
     /// A named file couldn't be opened.
     Unopened(&'a str),
     /// An opened file was closed, with these bytes still to be read.
     Closed(&'a [u8]),
-    /// An opened file that can't name its bytes was closed.
+    /// An opened file was closed. Contracts don't know its bytes.
     ClosedUnnamed,
-    /// A draft was made for a named file, from the look at this position.
+    /// A draft was made for a named file, from the look at this position of the history.
     Drafted(&'a str, &'a Position),
-    /// No draft could be made for a named file, from the look at this position.
+    /// No draft could be made for a named file, from the look at this position of the history.
     Undrafted(&'a str, &'a Position),
-    /// A draft took the place of a named file, which holds these bytes from then on.
+    /// A draft replaced a named file, which holds these bytes from then on.
     Placed(&'a str, &'a [u8]),
-    /// A draft that can't name its bytes took the place of a named file.
+    /// A draft replaced a named file. Contracts don't know the bytes of the draft.
     PlacedUnnamed(&'a str),
-    /// A draft with these bytes failed to take the place of a named file.
+    /// A draft with these bytes failed to replace a named file.
     Unplaced(&'a str, &'a [u8]),
-    /// A draft that can't name its bytes failed to take the place of a named file.
+    /// A draft failed to replace a named file. Contracts don't know the bytes of the draft.
     UnplacedUnnamed(&'a str),
-    /// A draft for a named file was given up.
+    /// A draft for a named file was discarded.
     Dropped(&'a str),
 }
 

@@ -6,13 +6,13 @@ use std::marker::Model;
 /// All devices that a program uses.
 #[derive(Drop)]
 pub struct Host<S: Source, D: Folder, K: Sink, L: Sink> {
-    /// Its input.
+    /// The input of the program.
     pub input: S,
-    /// Where it looks at files, opens them and replaces them.
+    /// The folder in which the program looks at files, opens them and replaces them.
     pub folder: D,
-    /// Its output.
+    /// The output of the program.
     pub output: K,
-    /// Where it writes its messages of faults.
+    /// The sink to which the program writes its messages of faults.
     pub faults: L,
 }
 

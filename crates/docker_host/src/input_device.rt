@@ -1,4 +1,4 @@
-//! Standard input. Contracts can't name its bytes.
+//! Standard input. Contracts don't know its bytes.
 ghost use Rattle.std.specs.Prelude.{◌≡◌, None, false};
 
 use crate::transfers::read_some;

@@ -1,5 +1,5 @@
-//! A folder whose history says what it was asked to do, in order, and what it found. Also all
-//! devices of a program as one value.
+//! Folders, each with a history of the calls to it and their results, in order. Also all devices of
+//! a program as one value.
 #![tactic(auto)]
 
 mod draft_file;

@@ -1,4 +1,4 @@
-//! Standard output and standard error. Contracts can't name their bytes.
+//! Standard output and standard error. Contracts don't know their bytes.
 ghost use Rattle.std.specs.Prelude.{◌≡◌, None};
 
 use crate::transfers::write_some;

@@ -6,10 +6,10 @@ ghost use Rattle.docker_host.specs.Shelf.{page_count};
 use cif_device::{Failed, Source};
 use std::marker::Model;
 
-/// The most bytes that one read gives.
+/// The most bytes that one read returns.
 const STEP: usize = 100;
 
-/// A source that owns its bytes. One read gives at most 100 of them. After a given number of bytes
+/// A source that owns its bytes. One read returns at most 100 bytes. After a given number of bytes
 /// each read fails.
 #[derive(Debug, Drop)]
 pub struct Page {
@@ -39,7 +39,7 @@ impl Model for Page {
 }
 
 impl Page {
-    /// A source of these bytes. After `sound` of them each read fails.
+    /// A source of these bytes. After the first `sound` bytes each read fails.
     pub fn new(bytes: Vec<u8>, sound: usize) -> Page
         ensures left { result.left ≡ bytes.items }
         ensures sound { result.sound ≡ sound }
@@ -87,7 +87,7 @@ impl Source for Page {
         ensures still { OnErr result
             ((self.new.ended ≡ self.old.ended) × (self.new.passed ≡ self.old.passed)) }
 
-        // A source promises the clauses above. This one promises the following clauses too.
+        // A source promises the clauses above. This source promises the following clauses too.
         ensures count { IfOk result (λ n. n ≡ page_count self.old (length into.old)) }
         ensures sound { IfOk result (λ n. self.new.sound ≡ self.old.sound - n) }
         ensures fails { IsErr result ↔ (self.old.sound ≡ 0) }

@@ -1,5 +1,5 @@
-//! The real files. Contracts can't name their bytes, but say what was asked of the files and in
-//! which order.
+//! The real files. Contracts don't know their bytes, but know which calls were made for which
+//! files, and in which order.
 ghost use Rattle.std.specs.Prelude.{◌≡◌, ◌+◌, ◌-◌, ◌^◌, ◌<◌, [], ◌∷◌, ◌++◌, false, None, IsErr, OnOk, OnErr};
 ghost use Rattle.cif_device.specs.Device.{CountsFailure};
 ghost use Rattle.docker_host.specs.History.{placed, unplaced, dropped};
@@ -19,9 +19,9 @@ pub struct Seen {
     position: Position,
 }
 
-/// The real files. After a draft has taken the place of a file, the next look at that name sees the
-/// draft itself, even if another program has put another file there since. So the next draft never
-/// replaces that other file unseen.
+/// The real files. After a draft has replaced a file, the next look at the file's name sees that
+/// draft, even if another program has replaced the file since. So the next draft can't replace the
+/// other program's file unseen.
 #[derive(Drop)]
 pub struct RealFolder {
     rt: HostRuntime,
@@ -55,8 +55,8 @@ impl RealFolder {
         }
     }
 
-    /// The draft that took the place of the named file, as the next look will see it. `None` if
-    /// there was no such draft, or a look has seen it already.
+    /// The version of the draft that replaced the named file, for the next look at that name.
+    /// `None` if no draft has replaced the file, or a look has seen that draft already.
     fn take_placed(&mut self, name: &str) -> Option<Version>
         ensures { self.new ≡ self.old }
     {

@@ -28,19 +28,19 @@ pub enum Fails {
     AtOpen,
     /// Opening a file, because memory runs out.
     AtOpenForMemory,
-    /// Reading an opened file that has given this many bytes.
+    /// Reading an opened file after this many bytes.
     AfterReading(usize),
     /// Making a draft.
     AtCreate,
     /// Making a draft, because memory runs out.
     AtCreateForMemory,
-    /// Writing to a draft that has taken this many bytes.
+    /// Writing to a draft after this many bytes.
     AfterWriting(usize),
-    /// Putting a draft in the place of its file.
+    /// Replacing a file with its draft.
     AtComplete,
 }
 
-/// What a look at a file on a shelf saw: which of the placed texts it was, or `None` if there was
+/// What a look at a file on a shelf saw: the number of the text in the file, or `None` if there was
 /// no file.
 #[derive(Drop)]
 pub struct Sight {
@@ -48,7 +48,8 @@ pub struct Sight {
     position: Position,
 }
 
-/// A folder in memory. A newly placed text comes first, and hides older texts of the same name.
+/// A folder in memory. Its texts are listed from the newest to the oldest. A text hides older texts
+/// with the same name.
 #[derive(Drop)]
 pub struct Shelf {
     alloc: Global,
@@ -110,15 +111,15 @@ impl Shelf {
         }
     }
 
-    /// Makes the shelf fail at these calls from now on, and at no others.
+    /// Makes the shelf fail at these calls from now on, and at no other calls.
     pub fn fail(&mut self, fails: Fails)
         ensures { self.new ≡ self.old }
     {
         self.fails = fails;
     }
 
-    /// Puts a text in the named file, as if another program did. If memory runs out, nothing
-    /// changes.
+    /// Puts a text in the named file, as another program would. If memory runs out, the shelf is
+    /// unchanged.
     pub fn put(&mut self, name: &str, text: &[u8]) -> Result<(), Memory>
         ensures placed { OnOk result
             (self.new.events ≡ self.old.events ++ placed name.now (Some text.now) ∷ []) }
@@ -141,7 +142,7 @@ impl Shelf {
         text_among(self.places.as_slice(), name)
     }
 
-    /// Changes nothing. Its contract says that each file that was opened held what was last placed
+    /// Changes nothing. The contract says that each opened file held the text that was last placed
     /// under its name.
     pub fn tell(&self)
         ensures { IsShelfHistory self.now.events }
@@ -165,7 +166,7 @@ impl Shelf {
         }
     }
 
-    /// The number of bytes that an opened file gives before it fails.
+    /// The number of bytes that can be read from an opened file before a read fails.
     fn sound(&self) -> usize {
         match self.fails {
             Fails::AfterReading(sound) => sound,
@@ -173,7 +174,7 @@ impl Shelf {
         }
     }
 
-    /// The number of bytes that a draft takes before it fails.
+    /// The number of bytes that can be written to a draft before a write fails.
     fn draft_room(&self) -> usize {
         match self.fails {
             Fails::AfterWriting(room) => room,

@@ -5,7 +5,7 @@ use std::os::fd::AsRawFd;
 /// The highest file descriptor of a standard stream, which is standard error.
 const LAST_STANDARD: i32 = 2;
 
-/// What is open under the descriptors of closed standard streams. It can be neither read nor
+/// Files that hold the descriptors of closed standard streams. They can be neither read nor
 /// written.
 #[derive(Drop)]
 pub struct Standard {
@@ -13,7 +13,8 @@ pub struct Standard {
 }
 
 /// Occupies the file descriptors of closed standard streams until the returned value is dropped. So
-/// no file that is opened gets such a descriptor, and is then read or written as a standard stream.
+/// no opened file gets one of these descriptors, and no opened file is read or written as a
+/// standard stream.
 pub fn hold_standard(rt: &HostRuntime) -> Standard {
     Standard {
         _streams: [hold_one(rt), hold_one(rt), hold_one(rt)],

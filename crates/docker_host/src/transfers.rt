@@ -3,7 +3,7 @@ ghost use Rattle.std.specs.Prelude.{◌<◌, ◌≤◌, IfSome, length};
 
 use std::io::{ErrorKind, Read, Write};
 
-/// Reads once, and again if a signal interrupts the read. Returns `None` if the device fails.
+/// Reads once, and repeats the read if a signal interrupts it. Returns `None` if the device fails.
 pub(crate) fn read_some<R: Read>(from: &mut R, into: &mut [u8]) -> Option<usize>
     ensures { IfSome result (λ n. n ≤ length into.new) }
 {
@@ -17,8 +17,8 @@ pub(crate) fn read_some<R: Read>(from: &mut R, into: &mut [u8]) -> Option<usize>
     None
 }
 
-/// Writes once, and again if a signal interrupts the write. Returns `None` if the device fails or
-/// takes no bytes.
+/// Writes once, and repeats the write if a signal interrupts it. Returns `None` if the device fails
+/// or takes no bytes.
 pub(crate) fn write_some<W: Write>(to: &mut W, piece: &[u8]) -> Option<usize>
     ensures within { IfSome result (λ n. n ≤ length piece.now) }
     ensures progress { IfSome result (λ n. 0 < n) }

@@ -1,10 +1,10 @@
-//! Which file is under a name, and when it was last written.
+//! Versions of files, which distinguish a file from a file that has replaced it.
 use std::fs;
 use std::fs::{File, Metadata};
 use std::os::unix::fs::MetadataExt;
 
 /// The identity of a file, its size, and the time when it was last written. They distinguish the
-/// file from one that takes its place.
+/// file from a file that replaces it.
 #[derive(Clone, Copy, PartialEq, Eq)]
 pub(crate) struct Version {
     device: u64,
@@ -33,13 +33,12 @@ impl Version {
         file.metadata().ok().map(|file| Version::of(&file))
     }
 
-    /// The version of the file under a name, if there is one. Links are followed.
+    /// The version of the file under a name, or `None` if there is no file. Links are followed.
     pub(crate) fn under(rt: &HostRuntime, name: &str) -> Option<Version> {
         fs::metadata(rt, name).ok().map(|file| Version::of(&file))
     }
 
-    /// Whether both are the same pipe or device. The times when they were written make no
-    /// difference.
+    /// Whether both are the same pipe or device. The times of the last write are ignored.
     pub(crate) fn is_same_pipe(&self, other: &Version) -> bool {
         !self.regular && !other.regular && self.device == other.device && self.node == other.node
     }

@@ -1,5 +1,5 @@
--- A walk over rows that chooses a schedule for a UID, or an association for a group: what it has
--- chosen after each row.
+-- The choice of a schedule for a UID, and of an association for a group, by a walk over rows: the
+-- best schedule or association after each row.
 use Rattle.std.specs.Prelude.{ℕ, List, Option}
 use Rattle.std.specs.Ordering.{on}
 use Rattle.docker_model.specs.file.Change.{Key, association_key, schedule_key, Body, association_body, schedule_body}
@@ -8,8 +8,8 @@ use Rattle.docker_model.specs.docker.Choice.{schedule_choice_cmp, association_ch
 use Rattle.docker_laws.specs.LiveRows.{Link, schedules_in, associations_in, is_running, is_linked}
 use Rattle.docker_laws.specs.Best.{IsBest, with_one_more}
 
--- of the UID's schedules among these rows that run on the day, this one comes first in the order of
--- choice
+-- of the UID's schedules in these rows that run on the day, this schedule comes first in the order
+-- of choice
 abbrev pub IsChosenSoFar : List ℕ → ℕ → List Row → Option Train → Type 0
 IsChosenSoFar uid day rows found = IsBest (on (λ (train : Train). train.key) schedule_choice_cmp) (is_running uid day) (schedules_in rows) found
 
@@ -19,8 +19,8 @@ next_chosen uid day found (schedule_key key) (schedule_body lines) =
     with_one_more (on (λ (train : Train). train.key) schedule_choice_cmp) (is_running uid day) found (record { key = key; lines = lines })
 next_chosen uid day found _ _ = found
 
--- of the group's associations among these rows that run on the base train's start day, this one
--- comes first in the order of choice
+-- of the group's associations in these rows that run on the base train's start day, this
+-- association comes first in the order of choice
 abbrev pub IsLinkSoFar : Group → ℕ → List Row → Option Link → Type 0
 IsLinkSoFar group day rows found = IsBest (on (λ (link : Link). link.key) association_choice_cmp) (is_linked group day) (associations_in rows) found
 

@@ -1,5 +1,5 @@
 -- A table cut to the keys that pass a test, and the rows with these keys. For example, the test may
--- ask whether a key is permanent.
+-- be `is_permanent`.
 use Rattle.std.specs.Prelude.{Bool, if◌then◌else◌, None, List, filter}
 use Rattle.docker_model.specs.file.Change.{Key}
 use Rattle.docker_model.specs.state.State.{HasGoodBodies}

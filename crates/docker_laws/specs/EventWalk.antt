@@ -1,4 +1,4 @@
--- The events of a schedule, found by a walk over its records. The walk keeps the number of falls
+-- The events of a schedule, computed by a walk over its records. The walk keeps the number of falls
 -- and the last change en route. A fall is a time that is earlier than the time before it.
 use Rattle.std.specs.Prelude.{ℕ, ◌+◌, nat_lt, if◌then◌else◌, List, [], ◌∷◌, ◌++◌, map, length, filter, Option, Some, None, codes}
 use Rattle.std.specs.List.{enumerate_from, last_or}
@@ -17,15 +17,15 @@ abbrev pub events_from : ℕ → ℕ → List (List ℕ) → List Event
 events_from number place [] = []
 events_from number place (line ∷ lines) = events_here number place (times_of line) ++ events_from (number + length (times_of line)) (place + 1) lines
 
--- 1 if this time is earlier than the last one, and otherwise 0
+-- 1 if this time is earlier than the last time, and otherwise 0
 abbrev pub fall_at : Option ℕ → ℕ → ℕ
 fall_at None time = 0
 fall_at (Some last) time = if nat_lt time last then 1 else 0
 
--- the last of these times, or `None` without times
+-- the last of these times, or `None` if there are no times
 abbrev pub last_time : List ℕ → Option ℕ
 last_time times = last_or None times
 
--- the last change en route among these records, or `None` without one
+-- the last change en route among these records, or `None` if there is no change en route
 abbrev pub last_change : List (List ℕ) → Option (List ℕ)
 last_change lines = last_or None (filter (λ line. has_identity (codes "CR") line) lines)

@@ -1,5 +1,5 @@
--- Excerpts of a table and of a state for a place. An excerpt has everything that a docker of the
--- place can depend on, and may have more. A place is a TIPLOC.
+-- Excerpts of a table and of a state for a place. An excerpt has all entries on which a docker of
+-- the place can depend, and may have more entries. A place is a TIPLOC.
 use Rattle.std.specs.Prelude.{◌≡◌, ℕ, ◌⊎◌, List, [], ◌∷◌, ⊤, None}
 use Rattle.docker_model.specs.file.Change.{Key, tiploc_key, association_key, schedule_key, AssociationKey, ScheduleKey}
 use Rattle.docker_model.specs.state.Table.{Table}
@@ -20,21 +20,21 @@ pub record IsNamed (live : Table) (place uid : List ℕ) : Type 0 where
   pub associated_is : key.associated ≡ uid
   pub linked : IsLinked live place key line
 
--- the UID matters to the docker of the place: a schedule of the UID calls there, or an association
--- there names the UID. All schedules of such a UID are needed, since together they decide by which
--- one the train runs
+-- the UID matters to the docker of the place. A schedule of the UID calls at the place, or the UID
+-- is the associated train of an association at the place. All schedules of the UID are needed,
+-- since together they determine by which schedule the train runs
 abbrev pub IsConcerned : Table → List ℕ → List ℕ → Type 0
 IsConcerned live place uid = HasCall live place uid ⊎ IsNamed live place uid
 
--- the docker of the place may depend on this key: it is the place's TIPLOC, an association there,
--- or a schedule of a UID that matters there
+-- the docker of the place may depend on this key. The key is the place's TIPLOC, an association at
+-- the place, or a schedule of a UID that matters to the docker
 abbrev pub IsNeeded : Table → List ℕ → Key → Type 0
 IsNeeded live place (tiploc_key code) = code ≡ place
 IsNeeded live place (association_key key) = key.location ≡ place
 IsNeeded live place (schedule_key key) = IsConcerned live place key.uid
 
--- `part` is an excerpt of `live` for the place: it may lack keys that the place doesn't need, and
--- agrees with `live` at all other keys
+-- `part` is an excerpt of `live` for the place: it may have no body at a key that the place doesn't
+-- need, and equals `live` at all other keys
 abbrev pub IsExcerpt : List ℕ → Table → Table → Type 0
 IsExcerpt place live part = (key : Key) → (part key ≡ live key) ⊎ ((part key ≡ None) × ¬ IsNeeded live place key)
 
@@ -45,8 +45,9 @@ IsSublist [] ys = ⊤
 IsSublist (x ∷ xs) [] = ⊥
 IsSublist (x ∷ xs) (y ∷ ys) = ((x ≡ y) × IsSublist xs ys) ⊎ IsSublist (x ∷ xs) ys
 
--- `part` is an excerpt of the state for the place: it has the same horizon, the same ledger and
--- some of the entries, in the same order. Its live table is an excerpt of the state's live table
+-- `part` is an excerpt of the state for the place: it has the same horizon and the same ledger, and
+-- its entries are a sublist of the state's entries. Its live table is an excerpt of the state's
+-- live table
 pub record IsExcerptState (place : List ℕ) (state part : State) : Type 0 where
   pub horizon : part.horizon ≡ state.horizon
   pub ledger : part.ledger ≡ state.ledger

@@ -1,6 +1,6 @@
--- The excerpt of a state for a place, made by a walk over the state's entries in key order. The
--- schedules of one UID follow each other there: they are a run. A run is kept or dropped as a
--- whole, at its end.
+-- The excerpt of a state for a place, computed by a walk over the state's entries in key order. In
+-- this order the schedules of one UID are next to each other and form a run. A run is kept or
+-- dropped as a whole, at its end.
 use Rattle.std.specs.Prelude.{◌≡◌, ℕ, Bool, false, ◌||◌, if◌then◌else◌, List, [], ◌∷◌, ◌++◌, fold, Option, Some, None}
 use Rattle.std.specs.List.{filter_map, list_any}
 use Rattle.std.specs.Str.{bytes_eq}
@@ -9,13 +9,13 @@ use Rattle.docker_model.specs.file.Change.{Key, tiploc_key, association_key, sch
 use Rattle.docker_model.specs.state.Op.{Op, put_with, Entry}
 use Rattle.docker_model.specs.state.State.{State}
 
--- what a walk has kept after some entries, without the run that it is in. The run may still be
--- dropped
+-- the state of a walk after some entries: the kept entries, and the entries of the current run. The
+-- run may still be dropped
 pub record ExcerptSoFar : Type 0 where
   pub kept : List (Key × Entry)
   pub run : List (Key × Entry)
 
--- what a walk has kept before its first entry: nothing
+-- the state of a walk before the first entry: no kept entries, and no run
 abbrev pub nothing_kept : ExcerptSoFar
 nothing_kept = record { kept = []; run = [] }
 
@@ -44,7 +44,7 @@ abbrev pub is_call : List ℕ → Op → Bool
 is_call place (put_with (schedule_body lines)) = calls_at place lines
 is_call place _ = false
 
--- whether the run's UID is among these names. Without a run it isn't
+-- whether the run's UID is among these UIDs. It isn't if the run is empty
 abbrev pub is_run_named : List (List ℕ) → List (Key × Entry) → Bool
 is_run_named names [] = false
 is_run_named names (first ∷ run) = list_any (λ name. has_uid name first.0) names
@@ -53,21 +53,22 @@ is_run_named names (first ∷ run) = list_any (λ name. has_uid name first.0) na
 abbrev pub is_run_calling : List ℕ → List (Key × Entry) → Bool
 is_run_calling place run = list_any (λ entry. is_call place entry.1.op) run
 
--- whether the run is needed: a kept association names its UID, or one of its live schedules calls
--- at the place
+-- whether the run is needed: its UID is the associated train of a kept association, or one of its
+-- live schedules calls at the place
 abbrev pub is_run_needed : List ℕ → ExcerptSoFar → Bool
 is_run_needed place so_far = is_run_named (names_in so_far.kept) so_far.run || is_run_calling place so_far.run
 
--- what is kept at the end of the run: the run is added if it is needed, and dropped if not
+-- the kept entries at the end of the run: the run is appended if it is needed, and dropped
+-- otherwise
 abbrev pub kept_after_run : List ℕ → ExcerptSoFar → List (Key × Entry)
 kept_after_run place so_far = if is_run_needed place so_far then so_far.kept ++ so_far.run else so_far.kept
 
--- whether a schedule of this UID belongs to the run
+-- whether a schedule of this UID belongs to the current run
 abbrev pub goes_on : List (Key × Entry) → List ℕ → Bool
 goes_on [] uid = false
 goes_on (first ∷ run) uid = has_uid uid first.0
 
--- the walk after one more entry, given as key and entry
+-- the state of the walk after one more entry, given as key and entry
 abbrev pub with_entry_of : List ℕ → ExcerptSoFar → Key → Entry → ExcerptSoFar
 with_entry_of place so_far (schedule_key key) entry =
     if goes_on so_far.run key.uid then record { kept = so_far.kept; run = so_far.run ++ (schedule_key key, entry) ∷ [] }
@@ -76,24 +77,24 @@ with_entry_of place so_far key entry =
     if is_here place key then record { kept = kept_after_run place so_far ++ (key, entry) ∷ []; run = [] }
     else record { kept = kept_after_run place so_far; run = [] }
 
--- the walk after one more entry, given as a pair
+-- the state of the walk after one more entry, given as a pair
 abbrev pub next_kept : List ℕ → ExcerptSoFar → Key × Entry → ExcerptSoFar
 next_kept place so_far entry = with_entry_of place so_far entry.0 entry.1
 
--- what is kept at the end of a walk that has come this far and still has these entries before it
+-- the kept entries at the end of a walk that continues from this state over these entries
 abbrev pub kept_from : List ℕ → ExcerptSoFar → List (Key × Entry) → List (Key × Entry)
 kept_from place so_far rest = kept_after_run place (fold (next_kept place) so_far rest)
 
--- the walk from its start over these entries
+-- the state of the walk after these entries, from its start
 abbrev pub kept_so_far : List ℕ → List (Key × Entry) → ExcerptSoFar
 kept_so_far place entries = fold (next_kept place) nothing_kept entries
 
--- the excerpt of a state for the place, as the walk makes it
+-- the excerpt of a state for the place, computed by the walk
 abbrev pub excerpt_for : List ℕ → State → State
 excerpt_for place state = record { horizon = state.horizon; ledger = state.ledger; entries = kept_after_run place (kept_so_far place state.entries) }
 
--- after these entries the walk has kept `kept` and is in the run `run`. The flag `needed` says
--- whether the run is needed by what is known then
+-- after these entries the walk has kept `kept`, and its current run is `run`. The flag `needed`
+-- says whether this run is needed, given the kept entries
 pub record HasKept (place : List ℕ) (entries kept run : List (Key × Entry)) (needed : Bool) : Type 0 where
   pub so_far : kept_so_far place entries ≡ record { kept = kept; run = run }
   pub is_needed : is_run_needed place (record { kept = kept; run = run }) ≡ needed

@@ -1,6 +1,6 @@
--- The lines of a docker, gathered by a walk over the rows of a live table. Each schedule and each
--- association gives its lines. A train can have an event on the day only if it starts on that day
--- or on one of the two days before it.
+-- The lines of a docker, gathered by a walk over the rows of a live table: the lines of each
+-- schedule and of each association. A train can have an event on the day only if it starts on that
+-- day or on one of the two days before it.
 use Rattle.std.specs.Prelude.{ℕ, List, ◌⊎◌, ◌-◌, nat_le, [], ◌∷◌, map, filter, ◌&&◌, ◌==◌, Bool}
 use Rattle.std.specs.Prelude.{false, Option, Some, None, if◌then◌else◌, codes, not, ◌≡◌, Contains}
 use Rattle.std.specs.List.{flat_map}
@@ -25,7 +25,8 @@ abbrev pub IsDockerLine : Table → List ℕ → ℕ → DockerLine → Type 0
 IsDockerLine live place day line = IsEventLine live place day line ⊎ IsAssociationLine live place day line
 
 -- the days on which a train with an event on the day may start: the day and the two days before it,
--- but none before day 0. For example, for day 10 they are 10, 9 and 8, and for day 0 only 0
+-- without days before day 0. For example, the start days for day 10 are 10, 9 and 8, and the only
+-- start day for day 0 is 0
 abbrev pub start_days : ℕ → List ℕ
 start_days day = map (λ back. day - back) (filter (λ back. nat_le back day) (0 ∷ 1 ∷ 2 ∷ []))
 
@@ -47,23 +48,23 @@ abbrev pub schedule_lines : (List ℕ → ℕ → Option Train) → List ℕ →
 schedule_lines trains place day key lines =
     flat_map (λ start. if runs_by (trains key.uid start) key then event_lines place day start key lines else []) (start_days day)
 
--- whether the chosen association is the one with this key
+-- whether the chosen association has this key
 abbrev pub counts_as : Option Link → AssociationKey → Bool
 counts_as None key = false
 counts_as (Some link) key = is_eq (association_key_cmp link.key key)
 
--- the identity that is printed for a train, or `????` without a train
+-- the identity that is printed for a train, or `????` if there is no train
 abbrev pub identity_of : Option Train → List ℕ
 identity_of None = codes "????"
 identity_of (Some train) = columns 33 36 (first_record train.lines)
 
--- the identity that is printed for a UID's train on a day, or `????` without a day
+-- the identity that is printed for a UID's train on a day, or `????` if there is no day
 abbrev pub partner_identity : (List ℕ → ℕ → Option Train) → List ℕ → Option ℕ → List ℕ
 partner_identity trains uid None = codes "????"
 partner_identity trains uid (Some day) = identity_of (trains uid day)
 
--- the docker line of an association, which belongs to this event of the base train. There is none
--- if the event is on another day, or if there is no event
+-- the docker line of an association, for this event of the base train. The list is empty if the
+-- event is on another day, or if there is no event
 abbrev pub line_at : (List ℕ → ℕ → Option Train) → ℕ → ℕ → AssociationKey → List ℕ → Occasion → Train → Option Event → List DockerLine
 line_at trains day start key line occasion base None = []
 line_at trains day start key line occasion base (Some event) =
@@ -72,16 +73,17 @@ line_at trains day start key line occasion base (Some event) =
     (partner_identity trains key.associated (partner_start (column 37 line) start)) ∷ []
     else []
 
--- the docker line of an association with this occasion and this base train. There is none without
--- an occasion, or if no base train runs
+-- the docker line of an association with this occasion and this base train. The list is empty if
+-- there is no occasion, or if no base train runs
 abbrev pub line_with : (List ℕ → ℕ → Option Train) → ℕ → ℕ → AssociationKey → List ℕ → Option Occasion → Option Train → List DockerLine
 line_with trains day start key line None base = []
 line_with trains day start key line (Some occasion) None = []
 line_with trains day start key line (Some occasion) (Some base) =
     line_at trains day start key line occasion base (first_event_at base.lines key.location key.suffix)
 
--- whether the association may give a line for this start day of the base train. It does if it is
--- the chosen one of its group, isn't a cancellation, and has a date indicator that gives a line
+-- whether the association may have a docker line for this start day of the base train. It may if it
+-- is the chosen association of its group, isn't a cancellation, and its date indicator is S, a
+-- space, N or P
 abbrev pub is_in_force : (Group → ℕ → Option Link) → ℕ → AssociationKey → List ℕ → Bool
 is_in_force links start key line =
     counts_as (links (group_of key) start) key && not (key.indicator == 67) && is_date_indicator (column 37 line)
@@ -95,19 +97,19 @@ association_lines trains links place day key line =
     then line_with trains day start key line (category_occasion (columns 35 36 line)) (trains key.base start) else []) (start_days day)
     else []
 
--- the docker lines that a row gives for its schedule or its association. A TIPLOC gives none
+-- the docker lines of a row's schedule or association. The row of a TIPLOC has no docker lines
 abbrev pub row_lines : (List ℕ → ℕ → Option Train) → (Group → ℕ → Option Link) → List ℕ → ℕ → Key → Body → List DockerLine
 row_lines trains links place day (schedule_key key) (schedule_body lines) = schedule_lines trains place day key lines
 row_lines trains links place day (association_key key) (association_body line) = association_lines trains links place day key line
 row_lines trains links place day _ _ = []
 
--- the docker lines of all rows, row by row. The functions `trains` and `links` give the train of a
--- UID on a day, and the chosen association of a group on a start day
+-- the docker lines of all rows, row by row. The function `trains` returns the train of a UID on a
+-- day, and `links` returns the chosen association of a group on a start day
 abbrev pub gathered : (List ℕ → ℕ → Option Train) → (Group → ℕ → Option Link) → List ℕ → ℕ → List Row → List DockerLine
 gathered trains links place day rows = flat_map (λ row. row_lines trains links place day row.0 row.1) rows
 
--- a walk over these rows misses no line of the place. The rows are live and in key order. They
--- include each schedule that calls at the place and each association there
+-- a walk over these rows can find each docker line of the place. The rows are live and in key
+-- order, and include each schedule that calls at the place and each association at the place
 pub record IsWalk (live : Table) (place : List ℕ) (rows : List Row) : Type 0 where
   pub ascending : AreInKeyOrder rows
   pub each : (key : Key) (body : Body) → Contains rows (key, body) → live key ≡ Some body

@@ -9,7 +9,7 @@ use Rattle.docker_model.specs.run.Knowledge.{Holds}
 abbrev pub IsNear : ℕ → ℕ → Type 0
 IsNear start day = (start ≤ day) × (day ≤ start + 2)
 
--- every one of these index rows is for the place
+-- each of these index rows is for the place
 abbrev pub AreAt : {K : Type 0} → List ℕ → List (List ℕ × K) → Type 0
 AreAt {K} place rows = (row : List ℕ × K) → Contains rows row → row.0 ≡ place
 
@@ -17,8 +17,8 @@ AreAt {K} place rows = (row : List ℕ × K) → Contains rows row → row.0 ≡
 abbrev pub AreElsewhere : {K : Type 0} → List ℕ → List (List ℕ × K) → Type 0
 AreElsewhere {K} place rows = (row : List ℕ × K) → Contains rows row → ¬ (row.0 ≡ place)
 
--- the states and messages match what is known after an event that was done. The event gave its
--- office the state `now`
+-- the states and messages match what is known after an event that was done. After the event the
+-- office has the state `now`
 abbrev pub HoldsAfter : Format → KnownSets → RunEvent → List State → ℕ → State → List (List ℕ) → Type 0
 HoldsAfter format known event states office now messages =
     Holds format (after_reply known (event, done)) (slice_set states office now) messages

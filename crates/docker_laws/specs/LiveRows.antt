@@ -59,18 +59,19 @@ associations_in rows = filter_map (λ row. association_of row.0 row.1) rows
 abbrev pub is_running : List ℕ → ℕ → Train → Bool
 is_running uid day train = bytes_eq train.key.uid uid && schedule_runs (first_record train.lines) day
 
--- whether the schedule is the one to choose for the UID on the day. It is if it runs and no other
--- schedule of the UID that runs comes before it in the order of choice
+-- whether the schedule is the choice for the UID on the day. It runs on the day, and no other
+-- running schedule of the UID comes before it in the order of choice
 abbrev pub is_choice : List Train → List ℕ → ℕ → Train → Bool
 is_choice trains uid day train =
     is_running uid day train
     && list_all (λ other. not (is_running uid day other && is_gt (schedule_choice_cmp train.key other.key))) trains
 
--- the chosen schedule of the UID on the day, from these rows, or `None` if none runs
+-- the chosen schedule of the UID on the day, from these rows, or `None` if no schedule of the UID
+-- runs
 abbrev pub chosen_in : List Row → List ℕ → ℕ → Option Train
 chosen_in rows uid day = find (is_choice (schedules_in rows) uid day) (schedules_in rows)
 
--- the train that runs by the chosen schedule, or `None` if that is a cancellation
+-- the train that runs by the chosen schedule, or `None` if the chosen schedule is a cancellation
 abbrev pub unless_cancelled : Option Train → Option Train
 unless_cancelled None = None
 unless_cancelled (Some train) = if train.key.indicator == 67 then None else Some train
@@ -88,34 +89,35 @@ is_of_group group key =
 abbrev pub is_linked : Group → ℕ → Link → Bool
 is_linked group day link = is_of_group group link.key && association_runs link.line day
 
--- whether the association is the one to choose for the group. It is if it runs and no other
--- association of the group that runs comes before it in the order of choice
+-- whether the association is the choice for the group: it runs on the day, and no other running
+-- association of the group comes before it in the order of choice
 abbrev pub is_link_choice : List Link → Group → ℕ → Link → Bool
 is_link_choice links group day link =
     is_linked group day link
     && list_all (λ other. not (is_linked group day other && is_gt (association_choice_cmp link.key other.key))) links
 
 -- the chosen association of the group on the base train's start day, from these rows, or `None` if
--- none runs
+-- no association of the group runs
 abbrev pub link_in : List Row → Group → ℕ → Option Link
 link_in rows group day = find (is_link_choice (associations_in rows) group day) (associations_in rows)
 
--- this is the UID's train that starts on the day, or `None` if no train does
+-- this is the UID's train that starts on the day, or `None` if no train of the UID starts on that
+-- day
 abbrev pub IsTrainOn : Table → List ℕ → ℕ → Option Train → Type 0
 IsTrainOn live uid day None = RunsNot live uid day
 IsTrainOn live uid day (Some train) = TrainRuns live uid day train.key train.lines
 
--- the function gives the table's train for each UID and each day
+-- the function returns the table's train for each UID and each day
 abbrev pub TellsTrains : Table → (List ℕ → ℕ → Option Train) → Type 0
 TellsTrains live trains = (uid : List ℕ) (day : ℕ) → IsTrainOn live uid day (trains uid day)
 
 -- this is the chosen association of the group on the day, or `None` if no association of the group
--- runs then
+-- runs on that day
 abbrev pub IsLinkOn : Table → Group → ℕ → Option Link → Type 0
 IsLinkOn live group day None = (key : AssociationKey) (line : List ℕ) → ¬ IsChosenAssociation live group day key line
 IsLinkOn live group day (Some link) = IsChosenAssociation live group day link.key link.line
 
--- the function gives the table's chosen association for each group and each start day of the base
+-- the function returns the table's chosen association for each group and each start day of the base
 -- train
 abbrev pub TellsLinks : Table → (Group → ℕ → Option Link) → Type 0
 TellsLinks live links = (group : Group) (day : ℕ) → IsLinkOn live group day (links group day)

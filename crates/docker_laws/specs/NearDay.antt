@@ -1,6 +1,7 @@
--- The entries of a state that may count for the dockers of one day: all but the schedules that run
--- on no start day near it. A start day is near the day if a train that starts then can have an
--- event on the day, or be the associated train of one that has.
+-- The entries of a state that may count for the dockers of one day: all entries except schedules
+-- that run on no start day near the day. A start day is near the day if a train that starts on it
+-- matters to these dockers. Such a train can have an event on the day, or be the associated train
+-- of a train with an event on the day.
 use Rattle.std.specs.Prelude.{ℕ, ◌+◌, ◌-◌, Bool, true, List, [], ◌∷◌, filter}
 use Rattle.std.specs.List.{list_any}
 use Rattle.docker_model.specs.file.Change.{Key, schedule_body}

@@ -1,7 +1,7 @@
--- Thinning leaves out of a table what the docker of one place on one day doesn't need. It can judge
--- each change by itself. It leaves out TIPLOCs and associations of other places, and schedules that
--- run on no start day near the day. A schedule that doesn't call at the place keeps only its basic
--- schedule, its origin and its terminus.
+-- Thinning removes the parts of a table that the docker of one place on one day doesn't need. It
+-- removes TIPLOCs and associations of other places, and schedules that run on no start day near the
+-- day. Of a schedule that doesn't call at the place, it leaves only the basic schedule, the origin
+-- and the terminus. Each change can be thinned by itself.
 use Rattle.std.specs.Prelude.{◌≡◌, ℕ, Bool, true, false, if◌then◌else◌, List, [], ◌∷◌, map, filter}
 use Rattle.std.specs.Prelude.{fold, Option, Some, None, option_and_then, not, Contains, ◌↔◌}
 use Rattle.std.specs.Ordering.{is_eq}
@@ -30,19 +30,19 @@ abbrev pub thin_lines : List (List ℕ) → List (List ℕ)
 thin_lines [] = []
 thin_lines (basic ∷ others) = basic ∷ filter (λ line. is_end (kind_of line)) others
 
--- the records of a schedule that the place needs: all if it calls there, and otherwise the thin
--- ones
+-- the records of a schedule that the place needs: all records if the schedule calls at the place,
+-- and otherwise the thin records
 abbrev pub lines_for : List ℕ → List (List ℕ) → List (List ℕ)
 lines_for place lines = if calls_at place lines then lines else thin_lines lines
 
--- the body that the place needs: a schedule that doesn't call there keeps only its thin records,
--- and any other body stays
+-- the body that the place needs: only the thin records of a schedule that doesn't call at the
+-- place, and any other body unchanged
 abbrev pub body_for : List ℕ → Body → Body
 body_for place (schedule_body lines) = schedule_body (lines_for place lines)
 body_for place body = body
 
--- whether the docker of the place may depend on this key, as far as the key itself shows: it is the
--- place's TIPLOC, an association there, or any schedule
+-- whether the docker of the place may depend on this key, by the key itself: it is the place's
+-- TIPLOC, an association at the place, or any schedule
 abbrev pub may_matter : List ℕ → Key → Bool
 may_matter place (tiploc_key code) = bytes_eq code place
 may_matter place (association_key key) = bytes_eq key.location place
@@ -56,14 +56,13 @@ thin_body place day body = if may_count day (put_with body) then Some (body_for 
 abbrev pub thinned : List ℕ → ℕ → Table → Table
 thinned place day live key = if may_matter place key then option_and_then (thin_body place day) (live key) else None
 
--- the thin form of what a change does. A put of a schedule that can't count on the day becomes a
--- deletion, and any other put keeps the body that the place needs
+-- the thin form of an act. A put of a schedule that can't count on the day becomes a deletion, and
+-- any other put becomes a put of the body that the place needs
 abbrev pub thin_act : List ℕ → ℕ → Act → Act
 thin_act place day delete = delete
 thin_act place day (put body) = if may_count day (put_with body) then put (body_for place body) else delete
 
--- the thin form of a change: it has the same record number and key, and the thin form of what the
--- change does
+-- the thin form of a change: the same record number and key, and the thin form of the act
 abbrev pub thin_change : List ℕ → ℕ → Change → Change
 thin_change place day change = record { number = change.number; key = change.key; act = thin_act place day change.act }
 
@@ -75,13 +74,13 @@ thin_changes place day changes = map (thin_change place day) (filter (λ (change
 abbrev pub table_of : List Change → Table
 table_of changes = fold after_change empty_table changes
 
--- the kept changes are enough for the place and the day: applied to the empty table, they give the
--- table after all changes, thinned
+-- the kept changes are enough for the place and the day: the table after the kept changes equals
+-- the thinned table after all changes
 abbrev pub AreEnough : List ℕ → ℕ → List Change → List Change → Type 0
 AreEnough place day changes kept = (key : Key) → table_of kept key ≡ thinned place day (table_of changes) key
 
--- for the place and the day, the kept changes may replace all changes. They are thin forms of some
--- of the changes, in their order, and they are enough
+-- for the place and the day, the kept changes may replace all changes: they are a sublist of the
+-- thin forms of all changes, and they are enough
 pub record IsThinning (place : List ℕ) (day : ℕ) (changes kept : List Change) : Type 0 where
   pub some : IsSublist kept (map (thin_change place day) changes)
   pub enough : AreEnough place day changes kept
@@ -90,15 +89,15 @@ pub record IsThinning (place : List ℕ) (day : ℕ) (changes kept : List Change
 abbrev pub HasNoChangeOf : Key → List Change → Type 0
 HasNoChangeOf key changes = (change : Change) → Contains changes change → ¬ (change.key ≡ key)
 
--- no change in the list has a key above this one
+-- no change in the list has a key above this key
 abbrev pub AreAtMost : Key → List Change → Type 0
 AreAtMost highest changes = (change : Change) → Contains changes change → IsAtMost key_cmp change.key highest
 
--- the changes without those that have this key
+-- the changes whose key isn't this key
 abbrev pub without : Key → List Change → List Change
 without key changes = filter (λ (change : Change). not (is_eq (key_cmp change.key key))) changes
 
--- this is the state that some changes of a file make; they may be thin. It has the file's ledger
+-- this is the state of some changes of a file, which may be thin. The state has the file's ledger
 -- item and, at each key, the greatest of the entries that the changes leave
 pub record IsStateOfChanges (file : List (List ℕ)) (changes : List Change) (state : State) : Type 0 where
   pub horizon : state.horizon ≡ 0

@@ -17,7 +17,7 @@ ghost use Rattle.docker_laws.specs.Excerpt.{IsNeeded, IsExcerpt, IsSublist, IsEx
 ghost use Rattle.docker_laws.specs.ExcerptWalk.{ExcerptSoFar, nothing_kept, is_here, has_uid, names_in, is_call, is_run_calling, is_run_needed};
 ghost use Rattle.docker_laws.specs.ExcerptWalk.{kept_after_run, goes_on, next_kept, kept_from, kept_so_far, excerpt_for, HasKept};
 
-/// A table and an excerpt of it for a place have the same docker of that place on each day.
+/// A table and each of its excerpts for a place have the same docker of the place on each day.
 pub fn excerpt_has_one_docker()
     ensures list { (place : List ℕ) (live part : Table) (day : ℕ) (lines : List DockerLine)
         → IsExcerpt place live part
@@ -29,9 +29,8 @@ pub fn excerpt_has_one_docker()
         → IsExcerpt place live part → HasGoodBodies live → HasGoodBodies part }
 {}
 
-/// An excerpt of a valid state for a place is valid, refuses the same days, and gives the same
-/// dockers of the place. An excerpt of an excerpt is an excerpt of the state. A state is an excerpt
-/// of itself.
+/// An excerpt of a valid state for a place is valid, refuses the same days, and has the same
+/// dockers of the place. The relation "is an excerpt of" is reflexive and transitive.
 pub fn excerpt_of_state()
     ensures valid { (place : List ℕ) (state part : State)
         → IsValid state → IsExcerptState place state part → IsValid part }
@@ -52,9 +51,9 @@ pub fn excerpt_of_state()
         → IsExcerptState place state smaller }
 {}
 
-/// A walk over a state's entries in key order leaves an excerpt of the state. It has the entries
-/// whose keys the place needs, and no others. If the state is valid, so is the excerpt, and it
-/// gives the same dockers of the place.
+/// The result of a walk over a state's entries in key order is an excerpt of the state. An entry of
+/// the state is in the excerpt if and only if the place needs its key. The excerpt of a valid state
+/// is valid, and has the same dockers of the place.
 pub fn walk_leaves_excerpt()
     ensures is { (place : List ℕ) (state : State)
         → AreAscending state.entries → IsExcerptState place state (excerpt_for place state) }
@@ -71,8 +70,8 @@ pub fn walk_leaves_excerpt()
         ↔ IsDockerText (live_table (excerpt_for place state)) place day text }
 {}
 
-/// The walk that makes an excerpt, entry by entry, from its start or from any entry on. What it has
-/// kept and its run are some of the entries that it has passed, in the same order.
+/// The walk that computes an excerpt, entry by entry, from its start or from any entry on. The kept
+/// entries followed by the run are a sublist of the entries passed.
 pub fn excerpt_in_a_walk()
     ensures none { (place : List ℕ) → kept_so_far place [] ≡ nothing_kept }
     ensures more { (place : List ℕ) (entries : List (Key × Entry)) (entry : Key × Entry)
@@ -97,9 +96,10 @@ pub fn excerpt_in_a_walk()
         ++ (kept_so_far place entries).run) }
 {}
 
-/// One step of the walk that makes an excerpt. TIPLOCs and associations come before all schedules
-/// in key order, so there is no run when one of them comes. It is kept if it is at the place. A
-/// schedule joins the run if it has the run's UID, and otherwise ends the run and begins the next.
+/// One step of the walk that computes an excerpt. When the walk reaches a TIPLOC or an association,
+/// its run is empty, because TIPLOCs and associations are before all schedules in key order. A
+/// TIPLOC or an association is kept if it is at the place. A schedule with the run's UID is
+/// appended to the run. A schedule with another UID ends the run and begins the next run.
 pub fn excerpt_by_entry()
     ensures no_run { (place : List ℕ) (state : State) (key : Key)
         → IsAboveEntries state key → ((uid : List ℕ) → has_uid uid key ≡ false)
@@ -118,8 +118,9 @@ pub fn excerpt_by_entry()
         ≡ record { kept = kept_after_run place so_far; run = (schedule_key key, entry) ∷ [] } }
 {}
 
-/// The end of a run: the whole run is kept if it is needed, and dropped otherwise. It is needed if
-/// a live association at the place names its UID, or if one of its live schedules calls there.
+/// The end of a run: the whole run is kept if it is needed, and dropped otherwise. A run is needed
+/// if its UID is the associated train of a live association at the place, or if one of its live
+/// schedules calls at the place.
 pub fn run_of_one_uid()
     ensures keeps { (place : List ℕ) (so_far : ExcerptSoFar)
         → is_run_needed place so_far ≡ true
@@ -149,9 +150,9 @@ pub fn run_of_one_uid()
         → Contains (kept_so_far place entries).run one → has_uid uid one.0 ≡ true }
 {}
 
-/// The same walk as a loop makes it. The loop carries the kept entries, the run, and a flag that
-/// says whether the run is needed. It starts with nothing, and at the end it has the entries of the
-/// excerpt.
+/// The same walk as a loop. The loop keeps three values: the kept entries, the run, and a flag that
+/// says whether the run is needed. At the start both lists are empty, and at the end the loop has
+/// the entries of the excerpt.
 pub fn excerpt_in_a_loop()
     ensures first { (place : List ℕ) → HasKept place [] [] [] false }
     ensures alone { (place : List ℕ) (state : State) (kept run : List (Key × Entry))
@@ -189,9 +190,9 @@ pub fn excerpt_in_a_loop()
         → AreEntries ledger entries → AreEntries ledger (kept ++ run) }
 {}
 
-/// Some of a state's entries, in the same order. An entry that may follow all entries of the state
-/// may also follow these. Among good entries, each may follow the ones before it. A valid state
-/// with only some of its entries is valid.
+/// Sublists of a state's entries. An entry that may follow the entries of the state may also follow
+/// a sublist of these entries. Among good entries, each entry may follow the entries before it. A
+/// valid state with a sublist of its entries is valid.
 pub fn some_of_entries()
     ensures more { (state : State) (key : Key) (entry : Entry)
         → AreEntries state.ledger state.entries → IsStampHere state key entry.stamp
@@ -209,8 +210,8 @@ pub fn some_of_entries()
         → part.ledger ≡ state.ledger → IsSublist part.entries state.entries → IsValid part }
 {}
 
-/// A valid state without the schedules that run on no start day near a day. It is still valid,
-/// refuses the same days, and gives the same dockers on the day.
+/// A valid state without the schedules that run on no start day near a day is valid, refuses the
+/// same days, and has the same dockers on the day.
 pub fn near_state_has_one_docker()
     ensures valid { (day : ℕ) (state : State) → IsValid state → IsValid (near_state day state) }
     ensures refused { (day other : ℕ) (state : State)
@@ -223,8 +224,8 @@ pub fn near_state_has_one_docker()
         ↔ IsDockerText (live_table (near_state day state)) place day text }
 {}
 
-/// The excerpt of a valid state for a place and a day. It is valid, refuses the same days, and
-/// gives the same docker of the place on the day.
+/// The excerpt of a valid state for a place and a day is valid, refuses the same days, and has the
+/// same docker of the place on the day.
 pub fn excerpt_on_has_one_docker()
     ensures valid { (place : List ℕ) (day : ℕ) (state : State)
         → IsValid state → IsValid (excerpt_on place day state) }
@@ -239,7 +240,7 @@ pub fn excerpt_on_has_one_docker()
         ↔ IsDockerText (live_table (excerpt_on place day state)) place day text }
 {}
 
-/// The walk that leaves out the entries that can't count on a day, entry by entry.
+/// The entries that may count on a day, computed entry by entry.
 pub fn near_by_entry()
     ensures none { (day : ℕ) → near_entries day [] ≡ [] }
     ensures stays { (day : ℕ) (entries : List (Key × Entry)) (entry : Key × Entry)

@@ -14,23 +14,23 @@ ghost use Rattle.docker_model.specs.docker.Permanent.{is_permanent, permanent_ta
 ghost use Rattle.docker_model.specs.run.Knowledge.{AreFiles, HaveSameFiles};
 ghost use Rattle.docker_laws.specs.Gathering.{IsDockerLine};
 
-/// To leave out the short-term plan after some changes gives the same table as to apply only the
-/// changes of permanent keys.
+/// Leaving out the short-term plan after some changes equals leaving it out first and then applying
+/// only the changes of permanent keys.
 pub fn permanent_table_of_changes()
     ensures { (table : Table) (changes : List Change)
         → permanent_table (fold after_change table changes) ≡ fold after_change
         (permanent_table table) (filter (λ (it : Change). is_permanent it.key) changes) }
 {}
 
-/// Each line of a permanent docker has the STP indicator `P`, in an event's line as in an
-/// association's.
+/// Each line of a permanent docker has the STP indicator `P`, whether it is the line of an event or
+/// of an association.
 pub fn permanent_lines_are_permanent()
     ensures { (live : Table) (place : List ℕ) (day : ℕ) (line : DockerLine)
         → IsDockerLine (permanent_table live) place day line → line.indicator ≡ 80 }
 {}
 
 /// Two summaries of the same files have the same permanent docker for each place and each day that
-/// neither refuses. Their horizons may differ.
+/// neither summary refuses. Their horizons may differ.
 pub fn known_files_fix_permanent_dockers()
     ensures { (files others : List (List (List ℕ))) (horizon theirs : ℕ) (one two : State)
         → AreFiles files → AreFiles others → HaveSameFiles files others → IsDay horizon

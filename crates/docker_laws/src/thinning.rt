@@ -1,5 +1,5 @@
-//! Laws of thinning: which changes of a file may be dropped for the docker of one place on one day,
-//! judging each change by itself. A law is a function with an empty body whose contract states a
+//! Laws of thinning: which changes of a file may be dropped for the docker of one place on one day.
+//! Each change is judged by itself. A law is a function with an empty body whose contract states a
 //! fact. The fact holds for all values of its variables.
 ghost use Rattle.std.specs.Prelude.{◌≡◌, ℕ, ◌-◌, ◌^◌, ◌<◌, ◌≤◌, Contains, List, [], ◌∷◌, ◌++◌, ◌↔◌, ◌||◌, ◌&&◌, length, fold, true, false};
 ghost use Rattle.std.specs.Str.{bytes_eq};
@@ -36,7 +36,7 @@ pub fn thinned_table_has_one_docker()
         → HasGoodBodies live → HasGoodBodies (thinned place day live) }
 {}
 
-/// An excerpt of a thinned table for the same place has the same docker too.
+/// An excerpt of the thinned table for the same place has the same docker as the table.
 pub fn excerpt_of_thinned_has_one_docker()
     ensures list { (place : List ℕ) (day : ℕ) (live part : Table) (lines : List DockerLine)
         → HasGoodBodies live → IsExcerpt place (thinned place day live) part
@@ -46,8 +46,9 @@ pub fn excerpt_of_thinned_has_one_docker()
         → IsDockerText live place day text ↔ IsDockerText part place day text }
 {}
 
-/// A table that may replace another for a place and a day has the same docker of the place on the
-/// day. The bodies of both tables have to be well formed. The thinned table may replace the table.
+/// If one table may replace another for a place and a day, both have the same docker of the place
+/// on the day. The bodies of both tables must be well formed. The thinned table may replace the
+/// table.
 pub fn stand_in_has_one_docker()
     ensures list { (place : List ℕ) (day : ℕ) (live part : Table) (lines : List DockerLine)
         → HasGoodBodies live → HasGoodBodies part → StandsFor place day live part
@@ -59,9 +60,10 @@ pub fn stand_in_has_one_docker()
         → HasGoodBodies live → StandsFor place day live (thinned place day live) }
 {}
 
-/// Which records may replace a schedule for a place and a day. The records that the place needs
-/// may. If the schedule doesn't call there, any records with the same first record may, unless they
-/// call there. The first record with any two good ends is a schedule with the same key.
+/// Which records may replace a schedule for a place and a day. The records that the place needs may
+/// replace it. If a schedule doesn't call at the place, it may be replaced by any records that have
+/// the same first record and don't call at the place. The first record followed by any good origin
+/// and any good terminus is a schedule with the same key.
 pub fn stand_in_of_a_schedule()
     ensures needed { (place : List ℕ) (day : ℕ) (lines : List (List ℕ))
         → IsStandIn place day lines (lines_for place lines) }
@@ -76,8 +78,8 @@ pub fn stand_in_of_a_schedule()
 {}
 
 /// The body that a place needs belongs to the same key. The thin records of a schedule are a
-/// schedule with the same key and the same first record. They are at most three, and call nowhere
-/// that the schedule doesn't call.
+/// schedule with the same key and the same first record. The thin records are at most three, and
+/// call only at places where the schedule calls.
 pub fn thin_body_is_of_its_key()
     ensures schedule { (lines : List (List ℕ)) → IsSchedule lines → IsSchedule (thin_lines lines) }
     ensures of_key { (key : ScheduleKey) (lines : List (List ℕ))
@@ -90,7 +92,8 @@ pub fn thin_body_is_of_its_key()
         → calls_at place lines ≡ false → calls_at place (thin_lines lines) ≡ false }
 {}
 
-/// The thin records of a schedule, and whether it calls at a place, found record by record.
+/// The thin records of a schedule, and whether the schedule calls at a place, computed record by
+/// record.
 pub fn thin_lines_in_a_walk()
     ensures first { (basic : List ℕ) → thin_lines (basic ∷ []) ≡ basic ∷ [] }
     ensures end { (basic : List ℕ) (others : List (List ℕ)) (line : List ℕ)
@@ -104,10 +107,10 @@ pub fn thin_lines_in_a_walk()
         || (is_location (kind_of line) && bytes_eq (columns 3 9 line) place)) }
 {}
 
-/// The thin form of what a change does, case by case. A put of a schedule becomes a deletion if the
-/// schedule runs on no start day near the day. Otherwise, if the schedule doesn't call at the
-/// place, the put keeps only its thin records. Everything else stays. Whether a schedule runs near
-/// the day doesn't depend on its transaction.
+/// The thin form of an act, case by case. A put of a schedule becomes a deletion if the schedule
+/// runs on no start day near the day. Otherwise, if the schedule doesn't call at the place, the put
+/// becomes a put of its thin records. Any other act is unchanged. Whether a schedule runs near the
+/// day doesn't depend on its transaction.
 pub fn thin_act_by_case()
     ensures deletes { (place : List ℕ) (day : ℕ) → thin_act place day delete ≡ delete }
     ensures tiploc { (place : List ℕ) (day : ℕ) (bytes : List ℕ)
@@ -127,10 +130,10 @@ pub fn thin_act_by_case()
         → runs_near day (as_new line) ≡ runs_near day line }
 {}
 
-/// What may be kept after each change. A change of a key that can't matter at the place may be
-/// dropped, and any other may be kept in its thin form. A deletion may be dropped if no change of
-/// its key is kept. When a key is deleted or put again, the kept changes of that key may be
-/// removed.
+/// Which changes may be kept, change by change. A change of a key that can't matter at the place
+/// may be dropped, and any other change may be kept in its thin form. A deletion may be dropped if
+/// no change of its key is kept. When a key is deleted or put again, the kept changes of that key
+/// may be removed.
 pub fn thinning_change_by_change()
     ensures first { (place : List ℕ) (day : ℕ) → IsThinning place day [] [] }
     ensures elsewhere { (place : List ℕ) (day : ℕ) (all kept : List Change) (change : Change)
@@ -156,8 +159,8 @@ pub fn thinning_change_by_change()
         → IsThinning place day all (thin_changes place day all) }
 {}
 
-/// If a key is above the keys of all kept changes, no change of it is kept. So whoever knows the
-/// greatest kept key may drop a deletion of a higher key without a search.
+/// If a key is above the keys of all kept changes, no change of this key is kept. So a reader that
+/// knows the greatest kept key may drop a deletion of a higher key without a search.
 pub fn nothing_kept_of_a_key_above()
     ensures none { (highest key : Key) (kept : List Change)
         → AreAtMost highest kept → IsBelow key_cmp highest key → HasNoChangeOf key kept }
@@ -170,8 +173,8 @@ pub fn nothing_kept_of_a_key_above()
         → AreAtMost change.key (kept ++ change ∷ []) }
 {}
 
-/// The kept changes make the thinned table, from the empty table or from any thinned table. The
-/// kept changes of a file are well formed.
+/// The table after the kept changes equals the thinned table after all changes, from the empty
+/// table or from any thinned table. The kept changes of a file are well formed.
 pub fn kept_changes_make_the_thinned_table()
     ensures table { (place : List ℕ) (day : ℕ) (all kept : List Change) (key : Key)
         → IsThinning place day all kept
@@ -190,8 +193,8 @@ pub fn kept_changes_make_the_thinned_table()
         → (2 ≤ change.number) × (change.number < 2 ^ 32 - 1) }
 {}
 
-/// The state made of the kept changes of a file is valid. Its live table is the table of the file,
-/// thinned for the place and the day. It gives the same docker of the place on the day as the
+/// The state of the kept changes of a file is valid. Its live table is the table of the file,
+/// thinned for the place and the day. The state has the same docker of the place on the day as the
 /// summary of the file.
 pub fn state_of_thinning_has_one_docker()
     ensures valid { (place : List ℕ) (day : ℕ) (file : List (List ℕ)) (kept : List Change)
@@ -216,8 +219,8 @@ pub fn state_of_thinning_has_one_docker()
 {}
 
 /// The value `summary_of` is the summary of one file, and is valid. The join of an empty state with
-/// a valid state is that state. The live table of the summary of a file is the table that the
-/// file's changes make.
+/// a valid state is the valid state. The live table of the summary of a file equals the table after
+/// the file's changes.
 pub fn summary_of_one_file()
     ensures is { (file : List (List ℕ)) → IsSummary (file ∷ []) 0 (summary_of file) }
     ensures valid { (file : List (List ℕ)) → IsFile file → length file ≤ most_records

@@ -1,5 +1,5 @@
 -- Dockers: events, the choice of schedules and associations, lines, lists and printed texts. The
--- last module has the docker without the short-term plan.
+-- module `Permanent` is for dockers without the short-term plan.
 
 pub mod Event
 pub mod Choice

@@ -1,4 +1,4 @@
--- Files: journeys and schedules, texts, faults, and the changes that a file makes.
+-- Files: journeys and schedules, texts, faults, and the changes of a file.
 
 pub mod Journey
 pub mod File

@@ -1,5 +1,6 @@
--- The two indexes of a live table. The index of calls finds the schedules that call at a place, and
--- the index of associations finds the associations at a place. Also the list of a UID's schedules.
+-- The two indexes of a live table. The index of calls lists the schedules that call at each place,
+-- and the index of associations lists the associations at each place. Also the rows of a UID's
+-- schedules.
 use Rattle.std.specs.Prelude.{◌≡◌, ℕ, ◌↔◌, List, [], ◌∷◌, map, filter, Some, None, Contains, ◌⊎◌}
 use Rattle.std.specs.Str.{bytes_eq}
 use Rattle.std.specs.declared.cmp.Ordering.{Ordering}
@@ -12,11 +13,11 @@ use Rattle.docker_model.specs.state.Op.{schedule_key_cmp, association_key_cmp}
 use Rattle.docker_model.specs.state.Table.{Table}
 use Rattle.state_laws.specs.Row.{Row, AreInKeyOrder}
 
--- a row of the index of calls: a TIPLOC, and the key of a schedule that calls there
+-- a row of the index of calls: a TIPLOC, and the key of a schedule that calls at this TIPLOC
 abbrev pub CallingRow : Type 0
 CallingRow = List ℕ × ScheduleKey
 
--- a row of the index of associations: a TIPLOC, and the key of an association there
+-- a row of the index of associations: a TIPLOC, and the key of an association at this TIPLOC
 abbrev pub LinkedRow : Type 0
 LinkedRow = List ℕ × AssociationKey
 
@@ -28,13 +29,14 @@ calling_cmp a b = ordering_then (bytes_cmp a.0 b.0) (schedule_key_cmp a.1 b.1)
 abbrev pub linked_cmp : LinkedRow → LinkedRow → Ordering
 linked_cmp a b = ordering_then (bytes_cmp a.0 b.0) (association_key_cmp a.1 b.1)
 
--- the index rows of calls for one row of the table. A TIPLOC occurs as often as the schedule's
--- location records name it
+-- the index rows of calls for one row of the table. A TIPLOC occurs once for each location record
+-- of the schedule that has it
 abbrev pub calls_of : Key → Body → List CallingRow
 calls_of (schedule_key key) (schedule_body lines) = map (λ line. (columns 3 9 line, key)) (filter (λ line. is_location (kind_of line)) lines)
 calls_of _ _ = []
 
--- the index row of associations for one row of the table, if that is an association
+-- the index row of associations for one row of the table, or no index row if the row isn't an
+-- association
 abbrev pub links_of : Key → Body → List LinkedRow
 links_of (association_key key) (association_body line) = (key.location, key) ∷ []
 links_of _ _ = []
@@ -49,14 +51,14 @@ pub record IsLinked (live : Table) (place : List ℕ) (key : AssociationKey) (li
   pub is_live : live (association_key key) ≡ Some (association_body line)
   pub here : key.location ≡ place
 
--- this is the index of calls of a live table: it has each TIPLOC with each live schedule that calls
--- there, each row once, in ascending order
+-- this is the index of calls of a live table: the pairs of a TIPLOC and a live schedule that calls
+-- at the TIPLOC, each once, in ascending order
 pub record IsCallingIndex (live : Table) (index : List CallingRow) : Type 0 where
   pub ascending : IsStrictlyAscending calling_cmp index
   pub members : (place : List ℕ) (key : ScheduleKey) → Contains index (place, key) ↔ ((lines : List (List ℕ)) × IsCalling live place key lines)
 
--- this is the index of associations of a live table: it has each TIPLOC with each live association
--- there, each row once, in ascending order
+-- this is the index of associations of a live table: the pairs of a TIPLOC and a live association
+-- at the TIPLOC, each once, in ascending order
 pub record IsLinkedIndex (live : Table) (index : List LinkedRow) : Type 0 where
   pub ascending : IsStrictlyAscending linked_cmp index
   pub members : (place : List ℕ) (key : AssociationKey) → Contains index (place, key) ↔ ((line : List ℕ) × IsLinked live place key line)
@@ -82,20 +84,20 @@ pub record AreOfUid (live : Table) (uid : List ℕ) (rows : List Row) : Type 0 w
       ↔ ((schedule : ScheduleKey) × (lines : List (List ℕ)) × (key ≡ schedule_key schedule) × (body ≡ schedule_body lines) × (live key ≡ Some body)
       × (schedule.uid ≡ uid))
 
--- the keys that the index of calls finds for a place
+-- the keys in the rows of the index of calls for a place
 abbrev pub calling_keys : List CallingRow → List ℕ → List Key
 calling_keys index place = map (λ (r : CallingRow). schedule_key r.1) (filter (λ (r : CallingRow). bytes_eq r.0 place) index)
 
--- the keys that the index of associations finds for a place
+-- the keys in the rows of the index of associations for a place
 abbrev pub linked_keys : List LinkedRow → List ℕ → List Key
 linked_keys index place = map (λ (r : LinkedRow). association_key r.1) (filter (λ (r : LinkedRow). bytes_eq r.0 place) index)
 
--- at each key the table `live` has the body of `one`, the body of `two`, or none
+-- at each key the table `live` has the body of `one`, the body of `two`, or no body
 abbrev pub IsFromEither : Table → Table → Table → Type 0
 IsFromEither one two live = (key : Key) → (live key ≡ one key) ⊎ (live key ≡ two key) ⊎ (live key ≡ None)
 
--- the row is in the index of one of the two tables, and at its key `live` has the same body as that
--- table
+-- the row is in the index of one of the two tables, and at the row's key `live` has the same body
+-- as that table
 abbrev pub IsCallingFromEither : Table → Table → Table → List CallingRow → List CallingRow → CallingRow → Type 0
 IsCallingFromEither one two live first second row =
     (Contains first row × (live (schedule_key row.1) ≡ one (schedule_key row.1)))

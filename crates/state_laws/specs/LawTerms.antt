@@ -6,13 +6,13 @@ use Rattle.docker_model.specs.state.Op.{Entry}
 use Rattle.docker_model.specs.state.State.{State, IsValid}
 use Rattle.state_laws.specs.Staging.{IsStaged, IsCommit}
 
--- the file stamp of the first full extract in a ledger, or `None` if it has no full extract
+-- the file stamp of the first full extract in a ledger, or `None` if the ledger has no full extract
 abbrev pub first_full_stamp : List LedgerItem → Option FileStamp
 first_full_stamp ledger = option_map (λ (item : LedgerItem). item.stamp) (find (λ (item : LedgerItem). item.indicator == 70) ledger)
 
--- `Fact` holds when a valid state has received a valid state. All entries of the received one were
--- offered for staging, under the floor of both ledgers, and the staged ones were committed. Here
--- `after` is the state after the commit
+-- `Fact` holds after a valid state has received a valid state. All entries of the received state
+-- were offered for staging, under the floor of both ledgers, and the staged entries were committed.
+-- The state after the commit is `after`
 abbrev pub HoldsOnceCommitted : State → State → Option FileStamp → List (Key × Entry) → State → Type 0 → Type 0
 HoldsOnceCommitted own received floor staged after Fact =
     IsValid own → IsValid received → IsFloor (own.ledger ++ received.ledger) floor → IsStaged own floor received.entries staged

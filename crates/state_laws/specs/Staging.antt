@@ -1,5 +1,6 @@
--- Receiving a state from a stream. Its entries are offered one by one and are staged, which means
--- that they are set aside. At the end all staged entries are committed together.
+-- Receiving a state from a stream. The entries of the received state are offered one by one. An
+-- offered entry that the commit will put into the state is staged, which means that it is kept
+-- apart. At the end all staged entries are committed together.
 use Rattle.std.specs.Prelude.{◌≡◌, ◌↔◌, ◌⊎◌, List, ◌++◌, Option, Some, None, Contains, ⊤}
 use Rattle.docker_model.specs.file.Change.{Key}
 use Rattle.docker_model.specs.state.Order.{IsStrictlyAscending, IsBelow}
@@ -12,13 +13,13 @@ use Rattle.docker_model.specs.state.State.{State, AreAscending}
 abbrev pub HasNoEntryOf : List (Key × Entry) → Key → Type 0
 HasNoEntryOf entries key = (entry : Entry) → ¬ Contains entries (key, entry)
 
--- the offered entry is to be staged: it isn't below the floor of both ledgers, and it is greater
--- than the state's entry at its key, if there is one
+-- the offered entry is to be staged. It isn't below the floor of both ledgers, and it is greater
+-- than the state's entry at its key, if the state has such an entry
 pub record IsToStage (own : State) (floor : Option FileStamp) (key : Key) (entry : Entry) : Type 0 where
   pub kept : IsKept floor entry.stamp.file
   pub greater : (other : Entry) → Contains own.entries (key, other) → IsBelow entry_cmp other entry
 
--- the entry is greater than the other one, or there is no other one
+-- the entry is greater than the other entry, or there is no other entry
 abbrev pub IsGreaterThan : Option Entry → Entry → Type 0
 IsGreaterThan None entry = ⊤
 IsGreaterThan (Some mine) entry = IsBelow entry_cmp mine entry
@@ -28,15 +29,16 @@ pub record IsStaged (own : State) (floor : Option FileStamp) (offered staged : L
   pub ascending : AreAscending staged
   pub members : (key : Key) (entry : Entry) → Contains staged (key, entry) ↔ (Contains offered (key, entry) × IsToStage own floor key entry)
 
--- before the lapse, the commit leaves this entry. It was staged, or it is an entry of the state
--- that isn't below the floor, and nothing was staged at its key
+-- before the lapse, the committed state has this entry: a staged entry, or an entry of the state
+-- that isn't below the floor and whose key has no staged entry
 abbrev pub IsPutIn : State → List (Key × Entry) → Option FileStamp → Key → Entry → Type 0
 IsPutIn own staged floor key entry =
     Contains staged (key, entry) ⊎ (Contains own.entries (key, entry) × IsKept floor entry.stamp.file × HasNoEntryOf staged key)
 
--- this is the state after a commit. The horizon stays. The ledger is the union of both ledgers
--- without what is below their floor. Each staged entry is at its key, and at all other keys the
--- entries of the state stay if they aren't below the floor. All entries lapse under the horizon
+-- this is the state after a commit. The horizon is unchanged. The ledger is the union of both
+-- ledgers without the items below their floor. Each key with a staged entry has that entry. Each
+-- other key keeps its entry, unless that entry is below the floor. All entries have lapsed under
+-- the horizon
 pub record IsCommit (own : State) (items : List LedgerItem) (staged : List (Key × Entry)) (after : State) : Type 0 where
   pub horizon : after.horizon ≡ own.horizon
   pub floor : Option FileStamp

@@ -1,4 +1,4 @@
--- The point that a reader reaches after each part of a state's text.
+-- The point of a reader after each part of a state's text.
 use Rattle.std.specs.Prelude.{ℕ, List, length, nat_le, if◌then◌else◌, [], ◌∷◌, ◌++◌, slice_index}
 use Rattle.std.proofs.Common.{zero, suc}
 use Rattle.std.specs.Int.{w32, from_be_bytes, w16, w64}
@@ -10,29 +10,30 @@ use Rattle.docker_model.specs.state.StateText.{key_in, stamp_in, Format, dks_1, 
 use Rattle.docker_model.specs.state.StatePart.{Before, before_item, before_entry_count, before_tag, in_entry, at_end, before_line, before_body}
 use Rattle.docker_model.specs.state.StatePart.{EntryPart, before_key, before_stamp, before_op, before_horizon, before_ledger_count, before_mark}
 
--- the point after these ledger items, if there are `count` in all: before the next item, or before
--- the number of entries
+-- the point after these ledger items of a ledger with `count` items: before the next item, or
+-- before the number of entries
 abbrev pub after_items : (horizon : ℕ) → ℕ → List LedgerItem → Before
 after_items horizon count ledger = if nat_le count (length ledger) then before_entry_count horizon ledger else before_item horizon count ledger
 
--- the point after these entries, if there are `count` in all: before the next entry, or at the end
+-- the point after these entries of a state with `count` entries: before the next entry, or at the
+-- end
 abbrev pub after_entries : ℕ → State → Before
 after_entries count state = if nat_le count (length state.entries) then at_end state else in_entry count state before_tag
 
--- the state with one more entry, as the last
+-- the state with this entry appended to its entries
 abbrev pub with_entry : State → Key → Stamp → Op → State
 with_entry state key stamp op =
     record { horizon = state.horizon; ledger = state.ledger; entries = state.entries ++ (key, record { stamp = stamp; op = op }) ∷ [] }
 
--- the point after these lines of a schedule, if there are `n` in all: before the next line, or
--- after the entry
+-- the point after these lines of a schedule with `n` lines: before the next line, or after the
+-- entry
 abbrev pub after_lines : ℕ → State → ScheduleKey → Stamp → ℕ → List (List ℕ) → Before
 after_lines count state key stamp n lines =
     if nat_le n (length lines) then after_entries count (with_entry state (schedule_key key) stamp (put_with (schedule_body lines)))
     else in_entry count state (before_line key stamp n lines)
 
--- the point after the first byte of an op: a body follows 1, and the entry ends after 0, for
--- deleted, and after 2, for lapsed
+-- the point after the first byte of an op. After 1 a body follows. After 0, for deleted, and after
+-- 2, for lapsed, the entry ends
 abbrev pub after_op : ℕ → State → Key → Stamp → ℕ → Before
 after_op count state key stamp zero = after_entries count (with_entry state key stamp deleted)
 after_op count state key stamp (suc zero) = in_entry count state (before_body key stamp)

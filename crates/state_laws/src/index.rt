@@ -10,8 +10,8 @@ ghost use Rattle.state_laws.specs.Row.{Row, AreRowsOf};
 ghost use Rattle.state_laws.specs.Index.{CallingRow, LinkedRow, calling_cmp, linked_cmp, calls_of, links_of, IsCallingIndex, IsLinkedIndex};
 ghost use Rattle.state_laws.specs.Index.{IsFromEither, IsCallingFromEither, IsLinkedFromEither, AreCalling, AreLinked, AreOfUid};
 
-/// A live table has only one index of each kind, and only one list of rows for each walk. The index
-/// rows that all rows of the table give, sorted and without duplicates, are the index.
+/// A live table has at most one index of each kind, and at most one list of rows for each walk. The
+/// index rows of all rows of the table, sorted and without duplicates, are the index.
 pub fn one_index()
     ensures calling { (live : Table) (first second : List CallingRow)
         → IsCallingIndex live first → IsCallingIndex live second → first ≡ second }
@@ -34,9 +34,9 @@ pub fn one_index()
         ↔ Contains (flat_map (λ (r : Row). links_of r.0 r.1) rows) row) → IsLinkedIndex live index }
 {}
 
-/// The indexes of a join can be made from the indexes of the two states. An index row stays if the
-/// join has the same body at its key as the state that it comes from. When a horizon is set, an
-/// index row stays if its key keeps its body.
+/// The indexes of a join can be computed from the indexes of the two states. An index row of a
+/// state is kept if the join has the same body at the row's key as that state. When a horizon is
+/// set, an index row is kept if the body at its key hasn't lapsed.
 pub fn index_of_join()
     ensures either { (own other joined : State) → AreAscending own.entries
         → AreAscending other.entries → IsJoin own other joined → IsFromEither (live_table own)

@@ -1,6 +1,6 @@
-//! Laws of receiving a state from a stream: which entries are staged, and what a commit leaves. A
-//! law is a function with an empty body whose contract states a fact. The fact holds for all values
-//! of its variables.
+//! Laws of receiving a state from a stream: which entries are staged, and the state after a commit.
+//! A law is a function with an empty body whose contract states a fact. The fact holds for all
+//! values of its variables.
 ghost use Rattle.std.specs.Prelude.{◌≡◌, ◌+◌, List, [], ◌∷◌, ◌++◌, ◌↔◌, Contains, Option, Some};
 ghost use Rattle.docker_model.specs.file.Change.{Key};
 ghost use Rattle.docker_model.specs.state.Stamp.{LedgerItem, FileStamp, IsFloor, IsKept};
@@ -10,10 +10,10 @@ ghost use Rattle.std.specs.declared.cmp.Ordering.TheVariants.{Less};
 ghost use Rattle.state_laws.specs.Staging.{IsGreaterThan, IsToStage, IsStaged, IsCommit, staged_state};
 ghost use Rattle.state_laws.specs.LawTerms.{HoldsOnceCommitted};
 
-/// A state is received in three steps: all its entries are offered for staging, the staged ones are
-/// committed, and then its horizon is set. The result is the join with the received state. The
-/// commit by itself leaves the join with the received state without its horizon. It is also the
-/// join with the received items and the staged entries.
+/// A state is received in three steps: all its entries are offered for staging, the staged entries
+/// are committed, and then its horizon is set. The result is the join with the received state. The
+/// state after the commit is the join with the received state without its horizon. It equals the
+/// join with the state of the received items and the staged entries.
 pub fn staging_and_commit_is_join()
     ensures join { (own received : State) (floor : Option FileStamp) (staged : List (Key × Entry))
         (after : State)
@@ -42,8 +42,9 @@ pub fn staging_and_commit_is_join()
         → first ≡ second }
 {}
 
-/// The horizon of a state that is being read may be set at the end. It may be set on the state
-/// itself, read without its horizon, or on the join with that state.
+/// The horizon of a received state may be set last. Setting it on the state without its horizon
+/// gives the state. Setting it on the join with the state without its horizon gives the join with
+/// the state.
 pub fn horizon_is_set_last()
     ensures state { (state : State) → IsValid state
         → raise_horizon state.horizon (without_horizon state) ≡ state }
@@ -51,8 +52,8 @@ pub fn horizon_is_set_last()
         → IsJoin own received (raise_horizon received.horizon joined) }
 {}
 
-/// Entries are staged as they are offered. Before the first offer nothing is staged. An entry is
-/// staged if it isn't below the floor and is greater than the state's entry at its key.
+/// Entries are staged one by one, as they are offered. Before the first offer no entry is staged.
+/// An entry is staged if it isn't below the floor and is greater than the state's entry at its key.
 pub fn offers_are_staged()
     ensures none { (own : State) (floor : Option FileStamp) → IsStaged own floor [] [] }
     ensures test { (own : State) → AreAscending own.entries → (floor : Option FileStamp) (key : Key)

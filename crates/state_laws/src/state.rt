@@ -13,16 +13,16 @@ ghost use Rattle.docker_model.specs.state.Table.{Table, IsPlainTable};
 ghost use Rattle.docker_model.specs.file.File.{IsFile, most_records};
 ghost use Rattle.state_laws.specs.LawTerms.{first_full_stamp};
 
-/// A set of files has at most one summary under each horizon. The order in which a list has the
-/// files makes no difference.
+/// A set of files has at most one summary under each horizon. The order of the list of files makes
+/// no difference.
 pub fn one_summary()
     ensures { (files others : List (List (List ℕ)))
         → ((file : List (List ℕ)) → Contains files file ↔ Contains others file) → (horizon : ℕ)
         (one two : State) → IsSummary files horizon one → IsSummary others horizon two → one ≡ two }
 {}
 
-/// The join of two summaries is the summary of all files of both, under the greater of the two
-/// horizons.
+/// The join of two summaries is the summary of both sets of files together, under the greater of
+/// the two horizons.
 pub fn join_of_summaries()
     ensures { (files others : List (List (List ℕ))) (g h : ℕ) (one two joined : State)
         → IsSummary files g one → IsSummary others h two → IsJoin one two joined
@@ -48,8 +48,8 @@ pub fn one_plain_table()
         → IsPlainTable files one → IsPlainTable files two → one ≡ two }
 {}
 
-/// The join of states is commutative and associative, and a valid state joined with itself stays
-/// the same. Two states have at most one join.
+/// The join of states is commutative, associative and, for valid states, idempotent. Two states
+/// have at most one join.
 pub fn laws_of_join()
     ensures commutative { (a b c : State) → IsJoin a b c → IsJoin b a c }
     ensures associative { (a b c ab bc left right : State) → IsJoin a b ab → IsJoin ab c left
@@ -64,8 +64,8 @@ pub fn join_is_valid()
         → IsJoin first second joined → IsValid joined }
 {}
 
-/// The ledger of a valid state has one floor: the file stamp of its first full extract, or `None`
-/// if it has no full extract.
+/// The ledger of a valid state has exactly one floor: the file stamp of its first full extract, or
+/// `None` if the ledger has no full extract.
 pub fn floor_of_ledger()
     ensures one { (state : State) (first second : Option FileStamp)
         → IsValid state → IsFloor state.ledger first → IsFloor state.ledger second
@@ -82,9 +82,9 @@ pub fn summary_is_valid()
         → IsSummary files horizon state → IsValid state }
 {}
 
-/// The lapse keeps the order of ops, so the greatest of some ops is also the greatest after the
-/// lapse. A second lapse under the same horizon changes nothing. A lapse under two horizons, one
-/// after the other, is a lapse under the greater one. Under the horizon 0 nothing lapses.
+/// The lapse of ops is monotone, so the lapse of the greatest op is the greatest op after the
+/// lapse. It is idempotent. The lapse under one horizon and then under another equals the lapse
+/// under the greater horizon. The lapse under the horizon 0 leaves each op unchanged.
 pub fn laws_of_lapse()
     ensures order { (horizon : ℕ) (first second : Op) → IsAtMost op_cmp first second
         → IsAtMost op_cmp (lapse horizon first) (lapse horizon second) }
@@ -102,8 +102,9 @@ pub fn laws_of_lapse()
         → IsGreatestAmong (lapse_entries horizon entries) key (lapse_entry horizon entry) }
 {}
 
-/// A valid state stays valid when a greater horizon is set. Setting a horizon that isn't greater
-/// changes nothing, since no entry of a valid state lapses under the state's horizon.
+/// A valid state is still valid after a horizon is set, if the horizon is a day number. Setting a
+/// horizon that isn't greater than the state's leaves a valid state unchanged, since no entry of a
+/// valid state lapses under the state's horizon.
 pub fn laws_of_setting()
     ensures valid { (horizon : ℕ) (state : State) → IsDay horizon → IsValid state
         → IsValid (raise_horizon horizon state) }
@@ -114,7 +115,7 @@ pub fn laws_of_setting()
         → lapse_entry state.horizon entry ≡ entry }
 {}
 
-/// A summary on which a horizon is set is the summary under the greater of the two horizons.
+/// Setting a horizon on a summary gives the summary under the greater of the two horizons.
 pub fn setting_on_summary()
     ensures { (files : List (List (List ℕ))) (g h : ℕ) (state : State)
         → IsSummary files g state → IsSummary files (max g h) (raise_horizon h state) }

@@ -39,7 +39,7 @@ f2_text_is = record { lines = refl; is = f2_is_file; within = lit≤ tt }
 pub empty_begins : BeginsFile []
 empty_begins = (f2, f2_is_file)
 
--- a list without records isn't a file
+-- the empty list of records isn't a file
 pub empty_is_no_file : ¬ IsFile []
 empty_is_no_file file = let whole = file.whole in cc
 

@@ -98,8 +98,8 @@ night_times = refl
 one_midnight : midnights night_schedule ≡ 1
 one_midnight = refl
 
--- a line may end in a line feed, or in a carriage return and a line feed, and the last line may
--- have no end
+-- a line may end with a line feed, or with a carriage return and a line feed, and the last line
+-- needs no line end
 line_ends : map lines_of ((codes "ab" ++ 10 ∷ codes "c" ++ 10 ∷ []) ∷ (codes "ab" ++ 13 ∷ 10 ∷ codes "c" ++ 13 ∷ 10 ∷ []) ∷ (codes "ab" ++ 10 ∷ codes "c") ∷
     (codes "ab" ++ 10 ∷ codes "c" ++ 13 ∷ []) ∷ [])
     ≡ (codes "ab" ∷ codes "c" ∷ []) ∷ (codes "ab" ∷ codes "c" ∷ []) ∷ (codes "ab" ∷ codes "c" ∷ []) ∷ (codes "ab" ∷ codes "c" ∷ []) ∷ []
@@ -134,7 +134,7 @@ numbers_of_units = refl
 units_of_f2 : changes_of_units 2 (f2_schedule ∷ []) ≡ changes f2
 units_of_f2 = refl
 
--- a deletion with a journey also makes only one change
+-- a deletion with a journey has only one change
 change_of_deletion : changes_of_unit 2 (bs (codes "D") (codes "C10001") (codes "240610") no_text no_text no_text (codes "P") ∷ f2_origin ∷ f2_terminus ∷ [])
     ≡ record { number = 2; key = schedule_named f2_basic; act = delete } ∷ []
 change_of_deletion = refl

@@ -22,7 +22,7 @@ no_header = refl
 whole_schedule : stage_of f2_schedule ≡ Some after_journey
 whole_schedule = refl
 
--- if several causes hold for a record, the first in their order is reported
+-- if several causes hold for a record, the cause with the lowest rank is reported
 over_limit : cause_of 5 5 after_end zz ≡ too_many
 over_limit = refl
 
@@ -58,7 +58,7 @@ deleted_time = refl
 deleted_alone : place_at (f2_header ∷ deleted_basic ∷ zz ∷ []) ≡ Some after_end
 deleted_alone = refl
 
--- records with which a schedule passes midnight for the third time
+-- records at which a schedule passes midnight for the third time
 abbrev call_at : List ℕ → List ℕ
 call_at time = li (codes "COLWELL") no_text no_text no_text time no_text no_text no_text no_text no_text
 

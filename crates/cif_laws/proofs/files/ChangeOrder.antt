@@ -67,7 +67,7 @@ acts_apart n kind line following =
     later_weaker_always KeysDiffer Apart (λ first second differ. inr differ)
     (changes_of_acts n (acts_by_kind kind line following)) (acts_differ n kind line following)
 
--- of two changes of these records, the later one has another key or belongs to a later record
+-- of two changes of these records, the later change has another key or belongs to a later record
 pub changes_apart : (n : ℕ) (lines : List (List ℕ)) → AllLater Apart (changes_from n lines)
 changes_apart n [] = tt
 changes_apart n (line ∷ lines) =

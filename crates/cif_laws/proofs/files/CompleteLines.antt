@@ -44,7 +44,7 @@ without_last_append [] piece pieces = refl
 without_last_append (first ∷ []) piece pieces = refl
 without_last_append (first ∷ second ∷ front) piece pieces = ap (λ rest. first ∷ rest) (without_last_append (second ∷ front) piece pieces)
 
--- the pieces, with these bytes put before the first one
+-- these pieces, with these bytes put before the first piece
 abbrev pub going_on : List ℕ → Lines → Lines
 going_on bytes [] = bytes ∷ []
 going_on bytes (piece ∷ pieces) = (bytes ++ piece) ∷ pieces
@@ -65,8 +65,8 @@ go_on_empty : (pieces : Lines) → 0 < length pieces → pieces ≡ going_on [] 
 go_on_empty [] some = absurd (omega arith)
 go_on_empty (piece ∷ pieces) some = refl
 
--- the pieces of a longer text: the new bytes first continue the last piece, and may bring more
--- pieces
+-- the pieces of a text with appended bytes: the first of the new bytes extend the last piece, and
+-- each separator in them begins a new piece
 pub split_append : (p : ℕ → Bool) (text more : List ℕ) → slice_split p (text ++ more) ≡ but_last (slice_split p text) ++ going_on (last_of (slice_split p text))
     (slice_split p more)
 split_append p [] more = go_on_empty (slice_split p more) (some_pieces p more)
@@ -83,12 +83,12 @@ split_append p (b ∷ text) more = by (p b) refl (split_append p text more)
 
 -- ---- lines
 
--- the lines of a text are its complete lines, and the incomplete line if that has bytes
+-- the lines of a text are its complete lines, followed by the incomplete line if it isn't empty
 pub lines_of_told : (text : List ℕ) → lines_of text ≡ complete_lines text ++ line_left (open_line text)
 lines_of_told text =
     ap (map strip_carriage_return) (without_last (pieces_of text)) ∙ map-append strip_carriage_return (but_last (pieces_of text)) (last_piece (open_line text))
 
--- if the incomplete line has no bytes, the complete lines are all lines
+-- if the incomplete line is empty, the lines of a text are its complete lines
 pub lines_of_ended : (text : List ℕ) → open_line text ≡ [] → lines_of text ≡ complete_lines text
 lines_of_ended text none = lines_of_told text ∙ (λ i. complete_lines text ++ line_left (none i)) ∙ append-nil (complete_lines text)
 
@@ -96,11 +96,11 @@ line_left_some : (piece : List ℕ) → 0 < length piece → line_left piece ≡
 line_left_some [] some = absurd (omega arith)
 line_left_some (b ∷ bytes) some = refl
 
--- an incomplete line with bytes is the last line of the text
+-- an incomplete line that isn't empty is the last line of the text
 pub lines_of_open : (text : List ℕ) → 0 < length (open_line text) → lines_of text ≡ complete_lines text ++ strip_carriage_return (open_line text) ∷ []
 lines_of_open text some = lines_of_told text ∙ ap (λ lines. complete_lines text ++ lines) (line_left_some (open_line text) some)
 
--- there are as many complete lines as line feeds
+-- the number of complete lines equals the number of line feeds
 pub length_complete_lines : (text : List ℕ) → length (complete_lines text) ≡ feeds text
 length_complete_lines text =
     let size = length-slice_split (λ b. b == 10) text in
@@ -108,20 +108,21 @@ length_complete_lines text =
     let mapped = length-map (but_last (pieces_of text)) strip_carriage_return in
     omega arith
 
--- the certain lines are the complete ones, and the incomplete one if it has more than 81 bytes
+-- the number of certain lines is the number of complete lines, plus one if the incomplete line has
+-- more than 81 bytes
 pub sure_lines_is : (text : List ℕ) → sure_lines text ≡ length (complete_lines text) + (if nat_le 82 (length (open_line text)) then 1 else 0)
 sure_lines_is text = ap (λ n. n + (if nat_le 82 (length (open_line text)) then 1 else 0)) (sym (length_complete_lines text))
 
 -- ---- a text that grows
 
--- bytes without a line feed complete no line
+-- appending bytes without a line feed leaves the complete lines unchanged
 pub complete_lines_plain : (text piece : List ℕ) → HasNoFeed piece → complete_lines (text ++ piece) ≡ complete_lines text
 complete_lines_plain text piece plain =
     ap (λ pieces. map strip_carriage_return (but_last pieces))
     (split_append (λ b. b == 10) text piece ∙ (λ i. but_last (pieces_of text) ++ going_on (open_line text) (slice_split_none (λ b. b == 10) piece plain i)))
     ∙ ap (map strip_carriage_return) (but_last_append (but_last (pieces_of text)) (open_line text ++ piece) [] ∙ append-nil (but_last (pieces_of text)))
 
--- bytes without a line feed continue the incomplete line
+-- bytes without a line feed are appended to the incomplete line
 pub open_line_plain : (text piece : List ℕ) → HasNoFeed piece → open_line (text ++ piece) ≡ open_line text ++ piece
 open_line_plain text piece plain =
     ap last_of (split_append (λ b. b == 10) text piece
@@ -142,7 +143,8 @@ last_rest : (piece : List ℕ) (pieces : Lines) → 0 < length pieces → last_o
 last_rest piece [] some = absurd (omega arith)
 last_rest piece (next ∷ pieces) some = refl
 
--- a line feed completes the incomplete line, and the bytes after it give the lines that follow
+-- a line feed completes the incomplete line. The complete lines of the bytes after the line feed
+-- follow
 pub complete_lines_cut : (text front rest : List ℕ) → HasNoFeed front
     → complete_lines (text ++ (front ++ 10 ∷ rest)) ≡ complete_lines text ++ strip_carriage_return (open_line text ++ front) ∷ complete_lines rest
 complete_lines_cut text front rest plain =
@@ -152,7 +154,7 @@ complete_lines_cut text front rest plain =
     ∙ ap (λ pieces. but_last (pieces_of text) ++ pieces) (but_first (open_line text ++ front) (pieces_of rest) (some_pieces (λ b. b == 10) rest)))
     ∙ map-append strip_carriage_return (but_last (pieces_of text)) ((open_line text ++ front) ∷ but_last (pieces_of rest))
 
--- after a line feed, only the bytes after it are in the incomplete line
+-- after a line feed, the incomplete line is the incomplete line of the bytes after this line feed
 pub open_line_cut : (text front rest : List ℕ) → HasNoFeed front → open_line (text ++ (front ++ 10 ∷ rest)) ≡ open_line rest
 open_line_cut text front rest plain =
     ap last_of (pieces_cut text front rest plain)
@@ -164,14 +166,14 @@ pub complete_lines_ended : (text front : List ℕ) → HasNoFeed front → compl
     (open_line text ++ front) ∷ []
 complete_lines_ended text front plain = complete_lines_cut text front [] plain
 
--- after a line feed the incomplete line has no bytes
+-- if a text ends with a line feed, its incomplete line is empty
 pub open_line_ended : (text front : List ℕ) → HasNoFeed front → open_line (text ++ (front ++ 10 ∷ [])) ≡ []
 open_line_ended text front plain = open_line_cut text front [] plain
 
 -- ---- the lines of a longer text
 
--- how a text grows by more bytes: the first of them continue its incomplete line, and they may
--- bring line feeds
+-- how appending bytes changes a text: the bytes before their first line feed extend the incomplete
+-- line, and each line feed completes a line
 pub record GoesOn (text more : List ℕ) : Type 0 where
   pub first : List ℕ
   pub pieces : Lines
@@ -179,7 +181,7 @@ pub record GoesOn (text more : List ℕ) : Type 0 where
   pub told : complete_lines (text ++ more) ≡ complete_lines text ++ map strip_carriage_return (but_last ((open_line text ++ first) ∷ pieces))
   pub open_is : open_line (text ++ more) ≡ last_of ((open_line text ++ first) ∷ pieces)
 
--- each text grows as `GoesOn` says, by whatever bytes
+-- `GoesOn` holds for each text and any appended bytes
 pub goes_on : (text more : List ℕ) → GoesOn text more
 goes_on text more = by (slice_split (λ b. b == 10) more) refl
   where
@@ -200,11 +202,11 @@ goes_on text more = by (slice_split (λ b. b == 10) more) refl
         whole : pieces_of (text ++ more) ≡ but_last (pieces_of text) ++ (open_line text ++ first) ∷ pieces
         whole = split_append (λ b. b == 10) text more ∙ (λ i. but_last (pieces_of text) ++ going_on (open_line text) (h i))
 
--- the complete lines of a text are the first complete lines of a longer one
+-- the complete lines of a text are a prefix of the complete lines after bytes are appended
 pub complete_lines_stay : (text more : List ℕ) → (others : Lines) × (complete_lines (text ++ more) ≡ complete_lines text ++ others)
 complete_lines_stay text more = let on = goes_on text more in (map strip_carriage_return (but_last ((open_line text ++ on.first) ∷ on.pieces)), on.told)
 
--- a longer text has at least as many certain lines
+-- appending bytes never lowers the number of certain lines
 pub sure_lines_grow : (text more : List ℕ) → sure_lines text ≤ sure_lines (text ++ more)
 sure_lines_grow text more = by on.pieces on.told on.open_is
   where

@@ -93,7 +93,7 @@ same_association line = λ i. association_key (record {
   indicator = new_column line 80 (omega arith) i;
 })
 
--- a basic schedule keeps its key when its transaction is set to N
+-- setting the transaction to N preserves the key of a basic schedule
 pub same_schedule : (line : List ℕ) → schedule_named (as_new line) ≡ schedule_named line
 same_schedule line = λ i. schedule_key (record {
   uid = new_columns line 4 9 (omega arith) i;
@@ -111,7 +111,7 @@ still_good line first last test behind good = ap test (new_columns line first la
 transaction_good : (line : List ℕ) → IsRecord line → IsGoodIn (as_new line) (checked 3 3 is_transaction)
 transaction_good line is = ap (λ b. (b == 78) || (b == 68) || (b == 82)) (one_column (as_new line) 3 (omega arith) ∙ is_new line is)
 
--- an association keeps its good fields when its transaction is set to N, unless it was a deletion
+-- setting the transaction to N preserves the good fields of an association that isn't a deletion
 pub new_association_fields : (line : List ℕ) → IsRecord line → HasKind association line → HasGoodFields line → is_deletion line ≡ false
     → HasGoodFields (as_new line)
 new_association_fields line is kind good kept = fields_good association (as_new line) (new_kind line ∙ kind) (by (good_fields association line kind good))
@@ -136,7 +136,7 @@ new_association_fields line is kind good kept = fields_good association (as_new 
           ),
         )
 
--- a basic schedule keeps its good fields when its transaction is set to N, unless it was a deletion
+-- setting the transaction to N preserves the good fields of a basic schedule that isn't a deletion
 pub new_basic_fields : (line : List ℕ) → IsRecord line → HasKind basic_schedule line → HasGoodFields line → is_deletion line ≡ false
     → HasGoodFields (as_new line)
 new_basic_fields line is kind good kept = fields_good basic_schedule (as_new line) (new_kind line ∙ kind) (by (good_fields basic_schedule line kind good))
@@ -211,7 +211,7 @@ single_acts line following is (inr (inr (inr kind))) good =
 
 -- ---- schedules
 
--- a schedule that isn't a deletion is still a schedule when its transaction is set to N
+-- a schedule that isn't a deletion is still a schedule after its transaction is set to N
 pub new_is_schedule : (lines : List (List ℕ)) (schedule : IsSchedule lines) → is_deletion schedule.basic ≡ false
     → IsSchedule (as_new schedule.basic ∷ schedule.extra ++ schedule.journey)
 new_is_schedule lines schedule kept =
@@ -243,8 +243,8 @@ new_is_schedule lines schedule kept =
     sound (inl deletion) = let bad : false ≡ true = sym kept ∙ deletion in cc
     sound (inr good) = inr good
 
--- a schedule that comes before these records ends where they begin: there are no records, or the
--- first can't follow a basic schedule
+-- a schedule before these records ends before the first of these records: there are no records, or
+-- the first record can't follow a basic schedule
 abbrev pub StopsHere : List (List ℕ) → Type 0
 StopsHere [] = ⊤
 StopsHere (line ∷ lines) = follows_basic (kind_of line) ≡ false
@@ -260,12 +260,12 @@ prefix_is [] (line ∷ rest) all stops = λ i. cond (stops i) (1 + prefix_len (�
 prefix_is (line ∷ lines) rest all stops =
     (λ i. cond (all.0 i) (1 + prefix_len (λ line. follows_basic (kind_of line)) (lines ++ rest)) 0) ∙ (let e = prefix_is lines rest all.1 stops in omega arith)
 
--- the records of a schedule after its basic schedule are those before the first that can't follow
--- it
+-- `schedule_rest` of a concatenation is its first list, if all records of the first list can follow
+-- a basic schedule and the first record of the second list can't
 pub rest_is : (lines rest : List (List ℕ)) → AllByRecursion Follows lines → StopsHere rest → schedule_rest (lines ++ rest) ≡ lines
 rest_is lines rest all stops = ap (λ n. take n (lines ++ rest)) (prefix_is lines rest all stops) ∙ take-append_seam lines rest
 
--- a record can follow a basic schedule if its kind can
+-- if the kind of a record can follow a basic schedule, so can the record
 pub follows_by : (kind : Kind) (line : List ℕ) → HasKind kind line → follows_basic (Some kind) ≡ true → Follows line
 follows_by kind line is follows = ap follows_basic is ∙ follows
 
@@ -326,7 +326,7 @@ schedule_acts lines schedule rest stops few =
 
 -- ---- files
 
--- the key of the change is well formed, and so is the body that it puts
+-- the key of the change and the body that the change puts are well formed
 abbrev pub IsGoodChange : Change → Type 0
 IsGoodChange change = IsGoodAct (change.key, change.act)
 
@@ -380,7 +380,7 @@ unit_stops unit rest (inl single) = subst (λ u. StopsHere (u ++ rest)) (sym sin
     by (inr (inr (inr kind))) = stops_by association single.0 kind refl
 unit_stops unit rest (inr schedule) = subst (λ u. StopsHere (u ++ rest)) (sym schedule.whole) (stops_by basic_schedule schedule.basic schedule.kind refl)
 
--- the first of units and a trailer can't follow a basic schedule
+-- in a list of units followed by a trailer, the first record can't follow a basic schedule
 pub units_stop : (units : List (List (List ℕ))) (last : List ℕ) → AllByRecursion IsUnit units → HasKind trailer last
     → StopsHere (flat_map (λ unit. unit) units ++ last ∷ [])
 units_stop [] last all end = stops_by trailer last end refl

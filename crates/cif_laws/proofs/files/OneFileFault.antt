@@ -10,8 +10,8 @@ use Rattle.docker_model.specs.file.Text.{lines_of}
 use Rattle.docker_model.specs.file.FileFault.{FileFault, IsRecordFault, FileCause, bad_byte, bad_field, too_many, after_trailer, bad_length, bad_kind}
 use Rattle.docker_model.specs.file.FileFault.{bad_place, third_midnight, no_end, cause_rank, HoldsOf, IsCause, IsUnended, IsFileFault, IsFileText}
 
--- for two records of one list, each given with the records before it, either both are the same or
--- one is earlier
+-- the first of these lines, or `line` if there are no lines. It is used in a proof that two records
+-- of one list have the same index, or the index of one is lower
 head_or : List ℕ → Lines → List ℕ
 head_or line [] = line
 head_or line (first ∷ rest) = first
@@ -39,11 +39,11 @@ same_place (first ∷ firsts) (second ∷ seconds) line other rest more e =
     by heads (inr (inl told)) = inr (inl (told.0, λ i. sym heads i ∷ told.1 i))
     by heads (inr (inr told)) = inr (inr (told.0, λ i. heads i ∷ told.1 i))
 
--- if records begin a file, so do the first of them
+-- each prefix of records that begin a file begins a file
 pub begins_front : (front rest : Lines) → BeginsFile (front ++ rest) → BeginsFile front
 begins_front front rest begins = (rest ++ begins.0, subst IsFile (append_assoc front rest begins.0) begins.1)
 
--- if records begin a file within the limit, no record of them is at fault
+-- if records begin a file within the limit, none of these records is at fault
 not_within : (limit : ℕ) (records : Lines) (fault : FileFault) (is : IsRecordFault limit records fault) (more : Lines)
     → BeginsFile (is.earlier ++ is.line ∷ more) → length (is.earlier ++ is.line ∷ more) ≤ limit → ⊥
 not_within limit records fault is more begins within = by is.here
@@ -52,7 +52,8 @@ not_within limit records fault is more begins within = by is.here
     by (inl over) = let size = length-append is.earlier (is.line ∷ more) in omega arith
     by (inr none) = none (begins_front (is.earlier ++ is.line ∷ []) more (subst BeginsFile (sym (append_assoc is.earlier (is.line ∷ []) more)) begins))
 
--- the column of a cause, or 0 if it has none. The rank and the column determine the cause
+-- the column of a cause, or 0 for a cause without a column. The rank and the column determine the
+-- cause
 unfoldable pub column_of : FileCause → ℕ
 column_of (bad_byte at) = at
 column_of (bad_field at) = at
@@ -80,7 +81,7 @@ cause_again no_end = refl
 pub same_cause : (first second : FileCause) → cause_rank first ≡ cause_rank second → column_of first ≡ column_of second → first ≡ second
 same_cause first second same columns = sym (cause_again first) ∙ (λ i. cause_at (same i) (columns i)) ∙ cause_again second
 
--- the column that a cause with this rank has for a line
+-- the column of the cause with this rank for a line
 unfoldable pub column_told : ℕ → List ℕ → ℕ
 column_told rank line = if rank == 3 then unwrap_or (leftmost_bad_byte line) 0 else (if rank == 6 then unwrap_or (leftmost_bad_field line) 0 else 0)
 

@@ -1,5 +1,5 @@
--- A fault that the first bytes of a text show is the fault of the whole text. If they show none,
--- their complete lines begin some file.
+-- A fault that the first bytes of a text determine is the fault of the whole text. If the first
+-- bytes determine no fault, their complete lines begin some file.
 use Rattle.std.proofs.Common.{ℕ, ◌+◌, ◌-◌, ◌≤◌, List, take, length, Bool, true, false, cond, arith, ◌≡◌, refl, Some, None}
 use Rattle.std.proofs.Common.{[], ◌∷◌, ◌++◌, ◌<◌, sym, ◌∙◌, append_assoc, ◌⊎◌, inl, inr, map, subst, length-append, ap}
 use Rattle.std.specs.Prelude.{◌==◌, slice_index, ◌≢◌, Option, nat_le}
@@ -23,7 +23,7 @@ use Rattle.cif_laws.proofs.files.CompleteLines.{GoesOn, goes_on, lines_of_told, 
 
 -- ---- a piece of more than 81 bytes is no record
 
--- a line is at most one byte shorter than its piece
+-- the line of a piece is at most one byte shorter than the piece
 pub strip_long : (piece : List ℕ) → length piece ≤ length (strip_carriage_return piece) + 1
 strip_long piece = by (slice_index piece (length piece - 1) == 13)
   where
@@ -31,11 +31,11 @@ strip_long piece = by (slice_index piece (length piece - 1) == 13)
     by true = let size = length-take-le (length piece - 1) piece (omega arith) in omega arith
     by false = omega arith
 
--- a piece of more than 81 bytes is no line of 80 bytes
+-- the line of a piece of more than 81 bytes doesn't have 80 bytes
 pub not_80 : (piece : List ℕ) → 82 ≤ length piece → length (strip_carriage_return piece) ≢ 80
 not_80 piece long is = let most = strip_long piece in absurd (omega arith)
 
--- a line that doesn't have 80 bytes leads to no place
+-- a line that doesn't have 80 bytes has no next place
 pub no_next_place : (place : Place) (line : List ℕ) → length line ≢ 80 → next_place place line ≡ None
 no_next_place place line apart = by (next_place place line) refl
   where
@@ -64,7 +64,8 @@ within_front (first ∷ front) more (second ∷ earlier) line later e below =
     let rest = within_front front more earlier line later tails (omega arith) in
     (rest.0, λ i. heads i ∷ rest.1 i)
 
--- the element at the end of a prefix is the one that follows it
+-- if the index of an element is the length of a prefix, the element is the element that follows
+-- this prefix
 behind_front : (front : Lines) (last : List ℕ) (earlier : Lines) (line : List ℕ) (later : Lines) → front ++ last ∷ [] ≡ earlier ++ line ∷ later
     → length earlier ≡ length front
     → (earlier ≡ front) × (line ≡ last)
@@ -78,7 +79,7 @@ behind_front (first ∷ front) last (second ∷ earlier) line later e same =
     let rest = behind_front front last earlier line later tails (omega arith) in
     (λ i. sym heads i ∷ rest.0 i, rest.1)
 
--- ---- a fault that has been shown stays
+-- ---- a determined fault is preserved
 
 -- two lines that don't have 80 bytes have the same cause at the same place
 cause_stays : (limit : ℕ) (earlier : Lines) (line other : List ℕ) (cause : FileCause) → length line ≢ 80 → length other ≢ 80 → IsCause limit earlier line cause
@@ -110,7 +111,7 @@ cause_stays limit earlier line other cause one two is = by cause is
     by third_midnight told = absurd (above third_midnight told (omega arith))
     by no_end told = absurd told.holds
 
--- the fault of the first records is the fault of all records
+-- the record fault of a prefix of records is the record fault of all records
 fault_in_front : (limit : ℕ) (front records more : Lines) (fault : FileFault) → records ≡ front ++ more → IsRecordFault limit front fault
     → IsRecordFault limit records fault
 fault_in_front limit front records more fault whole is = record {
@@ -125,13 +126,13 @@ fault_in_front limit front records more fault whole is = record {
   cause = is.cause;
 }
 
--- if the first piece has bytes, its line is the first line
+-- if the first piece isn't empty, it is kept as the first piece
 first_left : (piece : List ℕ) (pieces : Lines) → 0 < length piece → (others : Lines) × (without_empty_last (piece ∷ pieces) ≡ piece ∷ others)
 first_left [] [] some = absurd (omega arith)
 first_left (b ∷ bytes) [] some = ([], refl)
 first_left piece (next ∷ pieces) some = (without_empty_last (next ∷ pieces), refl)
 
--- a fault that bytes show is also shown by longer bytes that begin with them
+-- a fault that bytes determine is also determined after more bytes are appended
 pub fault_stays : (limit : ℕ) (text more : List ℕ) (fault : FileFault) → IsFaultSoFar limit text fault → IsFaultSoFar limit (text ++ more) fault
 fault_stays limit text more fault told =
     record {
@@ -192,33 +193,35 @@ fault_stays limit text more fault told =
           cause = cause_stays limit told.is.earlier told.is.line (strip_carriage_return (open_line text ++ on.first)) fault.cause short longer told.is.cause;
         }
 
--- a fault that bytes show is the fault of each text that begins with them
+-- a fault that bytes determine is the fault of each text that begins with these bytes
 pub fault_in_the_end : (limit : ℕ) (text more : List ℕ) (fault : FileFault) → IsFaultSoFar limit text fault → IsFileFault limit (text ++ more) fault
 fault_in_the_end limit text more fault told = inl (fault_stays limit text more fault told).is
 
--- bytes show at most one fault
+-- bytes determine at most one fault
 pub one_fault_so_far : (limit : ℕ) (text : List ℕ) (first second : FileFault) → IsFaultSoFar limit text first → IsFaultSoFar limit text second → first ≡ second
 one_fault_so_far limit text first second one two = one_fault limit text first second (inl one.is) (inl two.is)
 
--- ---- bytes show a fault, or their complete lines begin a file
+-- ---- bytes determine a fault, or their complete lines begin a file
 
--- if the incomplete line has at most 81 bytes, only the complete lines are certain
+-- if the incomplete line has at most 81 bytes, the number of certain lines is the number of
+-- complete lines
 pub sure_lines_short : (text : List ℕ) → length (open_line text) ≤ 81 → sure_lines text ≡ length (complete_lines text)
 sure_lines_short text short =
     sure_lines_is text ∙ ap (λ b. length (complete_lines text) + cond b 1 0) (lt-leb 82 (length (open_line text)) (omega arith)) ∙ omega arith
 
--- an incomplete line of more than 81 bytes counts as certain too
+-- if the incomplete line has more than 81 bytes, the number of certain lines is the number of
+-- complete lines plus one
 pub sure_lines_long : (text : List ℕ) → 82 ≤ length (open_line text) → sure_lines text ≡ length (complete_lines text) + 1
 sure_lines_long text long = sure_lines_is text ∙ ap (λ b. length (complete_lines text) + cond b 1 0) (le-leb 82 (length (open_line text)) long)
 
--- if the incomplete line has at most 81 bytes, the certain lines are the complete ones
+-- if the incomplete line has at most 81 bytes, the certain lines are the complete lines
 pub take_told : (text : List ℕ) → length (open_line text) ≤ 81 → take (sure_lines text) (lines_of text) ≡ complete_lines text
 take_told text short =
     ap (λ lines. take (sure_lines text) lines) (lines_of_told text) ∙ take_at (complete_lines text) (line_left (open_line text)) (sure_lines text)
     (sym (sure_lines_short text short))
 
--- the bytes show no fault: their complete lines begin some file and are within the limit, and the
--- incomplete line has at most 81 bytes
+-- the bytes determine no fault: their complete lines begin some file and are within the limit, and
+-- the incomplete line has at most 81 bytes
 pub record TellsNoFault (limit : ℕ) (text : List ℕ) : Type 0 where
   pub begin : BeginsFile (complete_lines text)
   pub within : length (complete_lines text) ≤ limit
@@ -227,7 +230,7 @@ pub record TellsNoFault (limit : ℕ) (text : List ℕ) : Type 0 where
 number_within : (limit : ℕ) (records : Lines) (fault : FileFault) → IsRecordFault limit records fault → fault.number ≤ length records
 number_within limit records fault is = let size = ap length is.whole ∙ length-append is.earlier (is.line ∷ is.later) in let number = is.number in omega arith
 
--- bytes show a fault, or they show none
+-- bytes determine a fault, or satisfy `TellsNoFault`
 pub fault_so_far_or_none : (limit : ℕ) (text : List ℕ) → ((fault : FileFault) × IsFaultSoFar limit text fault) ⊎ TellsNoFault limit text
 fault_so_far_or_none limit text = by (cases_lt (length (open_line text)) 82)
   where
@@ -265,14 +268,14 @@ abbrev pub PassesSoFar : ℕ → List ℕ → Type 0
 PassesSoFar limit text =
     BeginsFile (take (sure_lines text) (lines_of text)) × (sure_lines text ≤ limit) × (length (last_of (slice_split (λ b. b == 10) text)) ≤ 81)
 
--- bytes that show no fault satisfy `PassesSoFar`
+-- bytes that satisfy `TellsNoFault` satisfy `PassesSoFar`
 pub passes_so_far : (limit : ℕ) (text : List ℕ) → TellsNoFault limit text → PassesSoFar limit text
 passes_so_far limit text none =
     let same = sure_lines_short text none.short in
     let within = none.within in
     (subst BeginsFile (sym (take_told text none.short)) none.begin, omega arith, none.short)
 
--- bytes show a fault or satisfy `PassesSoFar`
+-- bytes determine a fault, or satisfy `PassesSoFar`
 pub fault_so_far_or_passes : (limit : ℕ) (text : List ℕ) → ((fault : FileFault) × IsFaultSoFar limit text fault) ⊎ PassesSoFar limit text
 fault_so_far_or_passes limit text = by (fault_so_far_or_none limit text)
   where
@@ -281,7 +284,7 @@ fault_so_far_or_passes limit text = by (fault_so_far_or_none limit text)
     by (inl fault) = inl fault
     by (inr none) = inr (passes_so_far limit text none)
 
--- bytes that satisfy `PassesSoFar` show no fault
+-- bytes that satisfy `PassesSoFar` determine no fault
 pub passes_no_fault : (limit : ℕ) (text : List ℕ) (fault : FileFault) → PassesSoFar limit text → ¬ IsFaultSoFar limit text fault
 passes_no_fault limit text fault passes told = by told.is.here
   where
@@ -303,14 +306,14 @@ passes_no_fault limit text fault passes told = by told.is.here
 
 -- ---- for a reader that gets a text in pieces
 
--- the cause of a line that doesn't have 80 bytes doesn't depend on its bytes
+-- if a line doesn't have 80 bytes, its cause doesn't depend on its bytes
 pub cause_of_length : (limit count : ℕ) (place : Place) (line : List ℕ) → length line ≢ 80 → cause_of limit count place line ≡ cause_of_long limit count place
 cause_of_length limit count place line apart =
     λ i. cond (nat_le limit count) too_many
     (cond (is_after_end place) after_trailer (cond (ne_eqb (length line) 80 apart i) (byte_cause place line) bad_length))
 
--- if the complete lines lead to a place within the limit, and the incomplete line has at most 81
--- bytes, the bytes show no fault
+-- if the complete lines are within the limit and have a place, and the incomplete line has at most
+-- 81 bytes, the bytes determine no fault
 pub no_fault_told : (limit : ℕ) (text : List ℕ) (place : Place) → IsPlaceOf (complete_lines text) place → length (complete_lines text) ≤ limit
     → length (open_line text) ≤ 81
     → (fault : FileFault) → ¬ IsFaultSoFar limit text fault
@@ -321,7 +324,7 @@ no_fault_told limit text place found within short fault =
       short = short;
     }))
 
--- a complete line that leads to no place is at fault, whatever follows
+-- a complete line that has no next place is at fault, whatever follows
 pub fault_at_feed : (limit : ℕ) (text front rest : List ℕ) (place : Place) → HasNoFeed front → IsPlaceOf (complete_lines text) place
     → length (complete_lines text) ≤ limit
     → (limit ≤ length (complete_lines text)) ⊎ (next_place place (strip_carriage_return (open_line text ++ front)) ≡ None)
@@ -361,7 +364,8 @@ fault_at_long limit text place found within long =
       told = omega arith;
     })
 
--- at the end of a text an incomplete line with bytes is the last line, and may be at fault
+-- at the end of a text, an incomplete line that isn't empty is the last line. If that line has no
+-- next place or is beyond the limit, it is at fault
 pub fault_at_end : (limit : ℕ) (text : List ℕ) (place : Place) → IsPlaceOf (complete_lines text) place → length (complete_lines text) ≤ limit
     → 0 < length (open_line text)
     → (limit ≤ length (complete_lines text)) ⊎ (next_place place (strip_carriage_return (open_line text)) ≡ None)
@@ -373,6 +377,6 @@ pub fault_at_end : (limit : ℕ) (text : List ℕ) (place : Place) → IsPlaceOf
 fault_at_end limit text place found within some here =
     inl (record_fault limit (complete_lines text) place (strip_carriage_return (open_line text)) found (lines_of text) [] (lines_of_open text some) within here)
 
--- an incomplete line with bytes is one more line
+-- if the incomplete line isn't empty, the text has one line more than its complete lines
 pub length_at_end : (text : List ℕ) → 0 < length (open_line text) → length (lines_of text) ≡ length (complete_lines text) + 1
 length_at_end text some = ap length (lines_of_open text some) ∙ length-append (complete_lines text) (strip_carriage_return (open_line text) ∷ [])

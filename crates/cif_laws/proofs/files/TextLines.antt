@@ -1,5 +1,5 @@
--- Records are the lines of a text exactly if the text consists of these records, each with its line
--- end.
+-- Records are the lines of a text if and only if the text consists of these records, each with its
+-- line end.
 use Rattle.std.proofs.Common.{◌≡◌, ℕ, suc, ◌-◌, ◌<◌, ◌≤◌, ◌⊎◌, List, [], ◌∷◌, ◌++◌, length, map, take, refl, ap, sym, ◌∙◌, subst}
 use Rattle.std.proofs.Common.{inl, inr, Bool, true, false, cond, arith, All, eqb-true, append_assoc, append-nil, length-append}
 use Rattle.std.specs.Prelude.{◌↔◌, ◌==◌, slice_index, ◌≢◌, nat_le, ◌&&◌}
@@ -13,7 +13,7 @@ use Rattle.std.proofs.Math.Seq.{take-append_seam, get_or-append_seam}
 use Rattle.docker_model.specs.records.Record.{is_printable, IsRecord}
 use Rattle.docker_model.specs.file.Text.{IsLineEnd, IsLastLineEnd, IsTextOf, without_empty_last, lines_of}
 
--- if the last byte is 13, the list is the bytes before it and then 13
+-- if the last byte is 13, the list is the bytes before its last byte, followed by 13
 last_is : (bytes : List ℕ) → slice_index bytes (length bytes - 1) ≡ 13 → bytes ≡ take (length bytes - 1) bytes ++ 13 ∷ []
 last_is [] h = absurd (omega arith)
 last_is (x ∷ []) h = λ i. h i ∷ []
@@ -35,7 +35,8 @@ piece_is piece = by (slice_index piece (length piece - 1) == 13) refl
     by true h = inr (last_is piece (eqb-true _ _ h) ∙ (λ i. cond (sym h i) (take (length piece - 1) piece) piece ++ 13 ∷ []))
     by false h = inl (λ i. cond (sym h i) (take (length piece - 1) piece) piece)
 
--- a piece and a line feed, put before a text, make a text with one more line
+-- if a text consists of some lines, then a piece followed by a line feed and this text consists of
+-- the line in the piece and these lines
 one_more : (piece : List ℕ) (lines : List (List ℕ)) (rest : List ℕ) → IsTextOf lines rest → IsTextOf (strip_carriage_return piece ∷ lines) (piece ++ 10 ∷ rest)
 one_more piece [] rest told = by (piece_is piece)
   where
@@ -57,7 +58,7 @@ one_more piece (line ∷ lines) rest told = by (piece_is piece)
       told,
     )
 
--- pieces with line feeds between them are a text of the lines in these pieces
+-- if pieces are joined with line feeds, the text consists of the lines in these pieces
 pieces_text : (pieces : List (List ℕ)) → IsTextOf (map strip_carriage_return (without_empty_last pieces)) (join_with_byte 10 pieces)
 pieces_text [] = refl
 pieces_text ([] ∷ []) = refl
@@ -74,8 +75,8 @@ pieces_text (piece ∷ next ∷ pieces) =
 pub text_of_lines : (text : List ℕ) → IsTextOf (lines_of text) text
 text_of_lines text = subst (IsTextOf (lines_of text)) (join_with_byte-slice_split 10 text) (pieces_text (slice_split (λ b. b == 10) text))
 
--- the line stays the same when a text is split into lines: it isn't empty, has no line feed, and
--- doesn't end in a carriage return
+-- splitting a text into lines leaves this line unchanged: it isn't empty, has no line feed, and
+-- doesn't end with a carriage return
 pub record IsPlain (line : List ℕ) : Type 0 where
   pub some : 0 < length line
   pub no_feed : All (λ b. (b == 10) ≡ false) line
@@ -91,7 +92,7 @@ keeps_first : (piece : List ℕ) (pieces : List (List ℕ)) → 0 < length piece
 keeps_first piece [] some = absurd (omega arith)
 keeps_first piece (next ∷ pieces) some = refl
 
--- if a text begins with a piece and a line feed, the line in this piece is its first
+-- if a text begins with a piece and a line feed, its first line is the line in this piece
 lines_after : (piece rest : List ℕ) → All (λ b. (b == 10) ≡ false) piece → lines_of (piece ++ 10 ∷ rest) ≡ strip_carriage_return piece ∷ lines_of rest
 lines_after piece rest plain =
     let split = slice_split_at (λ b. b == 10) piece 10 rest plain refl in
@@ -104,7 +105,7 @@ lines_last piece plain some =
     (λ i. map strip_carriage_return (without_empty_last (slice_split_none (λ b. b == 10) piece plain i)))
     ∙ ap (map strip_carriage_return) (keeps_last piece some)
 
--- if a text begins with a plain line and a line end, this line is its first
+-- if a text begins with a plain line and a line end, its first line is this plain line
 lines_one : (line rest end : List ℕ) → IsPlain line → IsLineEnd end → lines_of ((line ++ end) ++ rest) ≡ line ∷ lines_of rest
 lines_one line rest end plain (inl e) =
     (λ i. lines_of ((line ++ e i) ++ rest)) ∙ ap lines_of (append_assoc line (10 ∷ []) rest)
@@ -121,7 +122,7 @@ lines_end line end plain (inr (inl e)) =
 lines_end line end plain (inr (inr e)) =
     (λ i. lines_of (line ++ e i)) ∙ ap lines_of (append-nil line) ∙ lines_last line plain.no_feed plain.some ∙ (λ i. plain.stays i ∷ [])
 
--- a text that consists of plain lines has these lines
+-- the lines of a text that consists of plain lines are these plain lines
 pub lines_of_text : (lines : List (List ℕ)) (text : List ℕ) → AllByRecursion IsPlain lines → IsTextOf lines text → lines_of text ≡ lines
 lines_of_text [] text plain told = ap lines_of told
 lines_of_text (line ∷ []) text plain told = ap lines_of told.2 ∙ lines_end line told.0 plain.0 told.1
@@ -184,7 +185,7 @@ records_plain : (lines : List (List ℕ)) → AllByRecursion IsRecord lines → 
 records_plain [] all = tt
 records_plain (line ∷ lines) all = (IsRecord-IsPlain line all.0, records_plain lines all.1)
 
--- records are the lines of a text exactly if the text consists of them
+-- records are the lines of a text if and only if the text consists of these records
 pub text_iff_lines : (records : List (List ℕ)) (text : List ℕ) → All IsRecord records → IsTextOf records text ↔ (lines_of text ≡ records)
 text_iff_lines records text all = (
   lines_of_text records text (records_plain records (recursion_from_All IsRecord records all)),

@@ -11,13 +11,13 @@ use Rattle.docker_model.specs.file.Change.{Key, Act, Change, schedule_rest, acts
 use Rattle.cif_laws.specs.UnitChange.{changes_of_unit, changes_of_units, change_of_schedule}
 use Rattle.cif_laws.proofs.files.GoodChanges.{StopsHere, Follows, rest_is, schedule_follows, units_stop}
 
--- what a record with this number does to a key, as a change
+-- the change of this key and act, with this record number
 abbrev change_of_act : ℕ → Key × Act → Change
 change_of_act n act = record { number = n; key = act.0; act = act.1 }
 
 -- ---- the first record of a unit
 
--- two records that do the same make the same changes
+-- if the acts of a record don't depend on the records after it, neither do its changes
 alike_by : (n : ℕ) (kind : Kind) (line : List ℕ) (following others : List (List ℕ)) → HasKind kind line
     → acts_by_kind (Some kind) line following ≡ acts_by_kind (Some kind) line others → changes_of_record n line following ≡ changes_of_record n line others
 alike_by n kind line following others is same =
@@ -31,7 +31,7 @@ single_alike n line following others (inr (inl is)) = alike_by n tiploc_amend li
 single_alike n line following others (inr (inr (inl is))) = alike_by n tiploc_delete line following others is refl
 single_alike n line following others (inr (inr (inr is))) = alike_by n association line following others is refl
 
--- the change of a basic schedule depends only on the records before the first that can't follow it
+-- the change of a basic schedule depends only on its `schedule_rest`
 basic_alike : (n : ℕ) (basic : List ℕ) (following others : List (List ℕ)) → HasKind basic_schedule basic → schedule_rest following ≡ others
     → changes_of_record n basic following ≡ change_of_schedule n basic others ∷ []
 basic_alike n basic following others is run =
@@ -39,7 +39,7 @@ basic_alike n basic following others is run =
 
 -- ---- the records after a basic schedule
 
--- a record that can follow a basic schedule makes no change
+-- a record that can follow a basic schedule has no changes
 follower_changes_nothing : (kind : Option Kind) (line : List ℕ) (following : List (List ℕ)) → follows_basic kind ≡ true → acts_by_kind kind line following ≡ []
 follower_changes_nothing (Some extra_details) line following h = refl
 follower_changes_nothing (Some origin_location) line following h = refl
@@ -48,8 +48,8 @@ follower_changes_nothing (Some terminating_location) line following h = refl
 follower_changes_nothing (Some change_en_route) line following h = refl
 follower_changes_nothing _ line following h = cc
 
--- records that can follow a basic schedule make no changes, so all changes come from the records
--- after them
+-- if all records of a prefix can follow a basic schedule, the changes of all records are the
+-- changes of the records after the prefix
 behind_followers : (n : ℕ) (lines rest : List (List ℕ)) → AllByRecursion Follows lines → changes_from n (lines ++ rest) ≡ changes_from (n + length lines) rest
 behind_followers n [] rest all = ap (λ k. changes_from k rest) (omega arith)
 behind_followers n (line ∷ lines) rest all =
@@ -76,7 +76,7 @@ is_basic basic others is = subst (HasKind basic_schedule) (sym (ap head is.whole
     head [] = []
     head (line ∷ lines) = line
 
--- a schedule makes one change, with all its records
+-- a schedule has exactly one change, `change_of_schedule`
 pub schedule_change : (n : ℕ) (basic : List ℕ) (others : List (List ℕ)) → IsSchedule (basic ∷ others)
     → changes_of_unit n (basic ∷ others) ≡ change_of_schedule n basic others ∷ []
 schedule_change n basic others is =
@@ -93,7 +93,8 @@ schedule_then n basic others rest is stops =
     follow : AllByRecursion Follows others
     follow = others_follow basic others is
 
--- the changes of a unit come first, then the changes of the records after it
+-- the changes of a unit and the records after it are the changes of the unit followed by the
+-- changes of those records
 pub unit_then : (n : ℕ) (unit rest : List (List ℕ)) → IsUnit unit → StopsHere rest → changes_from n (unit ++ rest) ≡ changes_of_unit n unit ++ changes_from
     (n + length unit) rest
 unit_then n unit rest (inl single) stops =
@@ -106,7 +107,7 @@ unit_then n unit rest (inr schedule) stops = by unit schedule schedule.whole
     by [] is whole = absurd (let size = ap length whole in omega arith)
     by (basic ∷ others) is whole = schedule_then n basic others rest is stops
 
--- units and a trailer make only the changes of the units
+-- the changes of units followed by a trailer are the changes of the units
 units_then : (n : ℕ) (units : List (List (List ℕ))) (last : List ℕ) → AllByRecursion IsUnit units → HasKind trailer last
     → changes_from n (flat_map (λ unit. unit) units ++ last ∷ []) ≡ changes_of_units n units
 units_then n [] last all end = λ i. map (change_of_act n) (acts_by_kind (end i) last []) ++ []

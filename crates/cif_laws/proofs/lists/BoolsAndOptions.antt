@@ -7,7 +7,7 @@ pub both : (a b : Bool) → (a && b) ≡ true → (a ≡ true) × (b ≡ true)
 both true b h = (refl, h)
 both false b h = (cc, cc)
 
--- if `a || b` is true, so is `a` or `b`
+-- if `a || b` is true, `a` or `b` is true
 pub either : (a b : Bool) → (a || b) ≡ true → (a ≡ true) ⊎ (b ≡ true)
 either true b h = inl refl
 either false b h = inr h
@@ -31,12 +31,12 @@ pub and_true : (a b : Bool) → a ≡ true → b ≡ true → (a && b) ≡ true
 and_true true b h g = g
 and_true false b h g = h
 
--- if `option_and_then` gives a value, the option had a value that `f` took to it
+-- if `option_and_then f o` is `Some y`, then `o` is `Some x` and `f x` is `Some y`, for some `x`
 pub then_some : {A B : Type 0} (f : A → Option B) (o : Option A) (y : B) → option_and_then f o ≡ Some y → (x : A) × (o ≡ Some x) × (f x ≡ Some y)
 then_some f None y found = cc
 then_some f (Some x) y found = (x, refl, found)
 
--- `option_and_then` with `Some` changes nothing
+-- `option_and_then` with `Some` is the identity
 pub some_then : {A : Type 0} (o : Option A) → option_and_then (λ x. Some x) o ≡ o
 some_then None = refl
 some_then (Some x) = refl
@@ -50,6 +50,6 @@ some_by_test (Some x) h = (x, refl)
 pub true_is_not : true ≡ false → ⊥
 true_is_not same = cc
 
--- anything follows if `None` is a value
+-- anything follows if `None` equals `Some x`
 pub none_some : {A B : Type 0} (x : A) → None ≡ Some x → B
 none_some x same = absurd cc

@@ -1,4 +1,4 @@
--- Facts that are decided: for each there is a proof that it holds, or that it doesn't.
+-- Decided facts. A fact is decided if there is a proof of the fact or of its negation.
 use Rattle.std.proofs.Common.{◌≡◌, ℕ, suc, ◌<◌, ◌≤◌, List, [], ◌∷◌, length, refl, ap, sym, ◌∙◌, subst, inl, inr}
 use Rattle.std.proofs.Common.{◌⊎◌, arith, Bool, true, false, nat_le, ◌==◌, ◌≢◌, if◌then◌else◌, All, Some, None}
 use Rattle.std.specs.Prelude.{Option}
@@ -12,17 +12,17 @@ use Rattle.std.proofs.lemmas.Map.Lookups.{CmpEqualImpliesEq}
 use Rattle.docker_model.specs.records.Record.{Kind, header, tiploc_insert, tiploc_amend, tiploc_delete, association, basic_schedule, extra_details}
 use Rattle.docker_model.specs.records.Record.{origin_location, intermediate_location, terminating_location, change_en_route, trailer}
 
--- the fact holds, or it doesn't
+-- the fact is decided: there is a proof of the fact or of its negation
 abbrev pub Decided : Type 0 → Type 0
 Decided P = P ⊎ ¬ P
 
--- if each of two facts is decided, so is whether both hold
+-- the conjunction of two decided facts is decided
 pub both_decided : {P Q : Type 0} → Decided P → Decided Q → Decided (P × Q)
 both_decided (inl p) (inl q) = inl (p, q)
 both_decided (inl p) (inr none) = inr (λ h. none h.1)
 both_decided (inr none) q = inr (λ h. none h.0)
 
--- if each of two facts is decided, so is whether one of them holds
+-- the disjunction of two decided facts is decided
 pub either_decided : {P Q : Type 0} → Decided P → Decided Q → Decided (P ⊎ Q)
 either_decided (inl p) q = inl (inl p)
 either_decided (inr never) (inl q) = inl (inr q)
@@ -37,7 +37,7 @@ pub not_decided : {P : Type 0} → Decided P → Decided (¬ P)
 not_decided (inl p) = inr (λ none. none p)
 not_decided (inr none) = inl none
 
--- a fact that is equivalent to a decided one is decided
+-- a fact that is equivalent to a decided fact is decided
 pub decided_along : {P Q : Type 0} → (P → Q) → (Q → P) → Decided P → Decided Q
 decided_along to back (inl p) = inl (to p)
 decided_along to back (inr none) = inr (λ q. none (back q))
@@ -67,7 +67,8 @@ le_decided a b = by (leb_tells a b)
 pub lt_decided : (a b : ℕ) → Decided (a < b)
 lt_decided a b = le_decided (suc a) b
 
--- if a property is decided for each element, so is whether all elements have it
+-- if a property is decided for each value, it is decided whether all elements of a list have the
+-- property
 pub all_decided : {A : Type 0} (P : A → Type 0) → ((x : A) → Decided (P x)) → (xs : List A) → Decided (AllByRecursion P xs)
 all_decided P test [] = inl tt
 all_decided P test (x ∷ xs) = both_decided (test x) (all_decided P test xs)
@@ -76,13 +77,13 @@ all_decided P test (x ∷ xs) = both_decided (test x) (all_decided P test xs)
 pub All_decided : {A : Type 0} (P : A → Type 0) → ((x : A) → Decided (P x)) → (xs : List A) → Decided (All P xs)
 All_decided P test xs = decided_along (All-from_recursion P xs) (recursion_from_All P xs) (all_decided P test xs)
 
--- it is decided whether a comparison gives `Less`
+-- it is decided whether a comparison is `Less`
 pub less_decided : (o : Ordering) → Decided (o ≡ Less)
 less_decided Less = inl refl
 less_decided Equal = inr (λ e. cc)
 less_decided Greater = inr (λ e. cc)
 
--- it is decided whether a comparison gives `Equal`
+-- it is decided whether a comparison is `Equal`
 pub equal_decided : (o : Ordering) → Decided (o ≡ Equal)
 equal_decided Less = inr (λ e. cc)
 equal_decided Equal = inl refl
@@ -103,7 +104,7 @@ pub empty_decided : {A : Type 0} (xs : List A) → Decided (xs ≡ [])
 empty_decided [] = inl refl
 empty_decided (x ∷ xs) = inr (λ e. (let size = ap length e in omega arith))
 
--- a number for each kind of record, by which kinds are compared
+-- a different number for each kind of record. Two kinds are compared by their numbers
 kind_rank : Option Kind → ℕ
 kind_rank None = 0
 kind_rank (Some header) = 1

@@ -1,4 +1,4 @@
--- Membership in a list made by `filter` or `filter_map`, and the results of a search.
+-- Membership in the lists that `filter` and `filter_map` return, and the results of a search.
 use Rattle.std.proofs.Common.{◌≡◌, List, [], ◌∷◌, refl, ap, sym, ◌∙◌, subst, inl, inr, ◌⊎◌, Some, None, Bool, true, false, cond, Contains}
 use Rattle.std.specs.Prelude.{Option, filter, find, ◌&&◌}
 use Rattle.std.specs.List.{list_all, filter_map, cons_option}
@@ -37,7 +37,7 @@ module _ {A : Type 0} (test : A → Bool) where
       by false h rest (inl same) = absurd (let bad : false ≡ true = sym h ∙ ap test same ∙ passes in cc)
       by false h rest (inr inside) = rest inside passes
 
-  -- an element that the search finds is a member that passes the test
+  -- the result of a search is a member that passes the test
   pub find_some : (xs : List A) (z : A) → find test xs ≡ Some z → Contains xs z × (test z ≡ true)
   find_some [] z found = none_some z found
   find_some (x ∷ xs) z found = by (test x) refl (find_some xs z) found
@@ -47,7 +47,7 @@ module _ {A : Type 0} (test : A → Bool) where
       by true h rest same = let e : x ≡ z = cc in (subst (Contains (x ∷ xs)) e (cons-Contains-first x xs), subst (λ v. test v ≡ true) e h)
       by false h rest same = let told = rest same in (cons-Contains x xs z told.0, told.1)
 
-  -- if the search finds nothing, no member passes the test
+  -- if the result of a search is `None`, no member passes the test
   pub find_none : (xs : List A) (z : A) → find test xs ≡ None → Contains xs z → test z ≡ false
   find_none [] z found among = absurd (nil-Contains z among)
   find_none (x ∷ xs) z found among = by (test x) refl (find_none xs z) found (Contains-cons x xs z among)
@@ -58,7 +58,7 @@ module _ {A : Type 0} (test : A → Bool) where
       by false h rest same (inl e) = subst (λ v. test v ≡ false) e h
       by false h rest same (inr inside) = rest same inside
 
-  -- if `list_all` finds that the test passes, each member passes
+  -- if `list_all` is true for a test, each member passes the test
   pub all_of : (xs : List A) (z : A) → list_all test xs ≡ true → Contains xs z → test z ≡ true
   all_of [] z all among = absurd (nil-Contains z among)
   all_of (x ∷ xs) z all among = by (all_of xs z) (both (test x) (list_all test xs) all) (Contains-cons x xs z among)
@@ -67,14 +67,14 @@ module _ {A : Type 0} (test : A → Bool) where
       by rest parts (inl e) = subst (λ v. test v ≡ true) e parts.0
       by rest parts (inr inside) = rest parts.1 inside
 
-  -- if each member passes the test, `list_all` finds that it passes
+  -- if each member passes a test, `list_all` is true for the test
   pub all_by : (xs : List A) → ((z : A) → Contains xs z → test z ≡ true) → list_all test xs ≡ true
   all_by [] each = refl
   all_by (x ∷ xs) each = λ i. each x (cons-Contains-first x xs) i && all_by xs (λ z among. each z (cons-Contains x xs z among)) i
 
--- the members of a list that `filter_map` makes
+-- the members of `filter_map h xs`
 module _ {A B : Type 0} (h : A → Option B) where
-  -- a member of the list that `filter_map` makes comes from a member of the list
+  -- each member of `filter_map h xs` is the value of `h` at a member of `xs`
   pub part_back : (xs : List A) (y : B) → Contains (filter_map h xs) y → (x : A) × Contains xs x × (h x ≡ Some y)
   part_back [] y among = absurd (nil-Contains y among)
   part_back (x ∷ xs) y among = by (h x) refl (part_back xs y) among
@@ -92,7 +92,7 @@ module _ {A B : Type 0} (h : A → Option B) where
       by None is rest inside = behind (rest inside)
       by (Some b) is rest inside = here b is rest (Contains-cons b (filter_map h xs) y inside)
 
-  -- if `h` gives a member a value, this value is in the list that `filter_map` makes
+  -- if `h` has a value at a member of `xs`, this value is a member of `filter_map h xs`
   pub part_forth : (xs : List A) (x : A) (y : B) → Contains xs x → h x ≡ Some y → Contains (filter_map h xs) y
   part_forth [] x y among is = absurd (nil-Contains x among)
   part_forth (z ∷ xs) x y among is = by (h z) refl (λ inside. part_forth xs x y inside is) (Contains-cons z xs x among)

@@ -1,4 +1,5 @@
--- Membership in lists: of one element, with a first element, mapped, or one after the other.
+-- Membership in lists: in lists of one element, in `x ∷ xs`, in mapped lists, and in
+-- concatenations.
 use Rattle.std.proofs.Common.{◌≡◌, ℕ, zero, suc, ◌<◌, List, ◌∷◌, length, inl, inr, arith, Contains, get_or, ◌⊎◌, refl, [], subst, lit<, map, ap, ◌++◌, sym, All}
 use Rattle.std.proofs.lemmas.List.Elements.{Contains-append_cases, Contains-append_left, Contains-append_right, All-from_recursion}
 use Rattle.std.specs.List.{AllByRecursion, flat_map}
@@ -24,7 +25,7 @@ cons-Contains x xs z among = (suc among.0, (let below = among.1 in omega arith),
 pub nil-Contains : {A : Type 0} (z : A) → Contains [] z → ⊥
 nil-Contains z among = let below : among.0 < length {A = ℕ} [] = among.1 in omega arith
 
--- a property of all elements, given by recursion, is a property of each member
+-- a property of all elements, stated by recursion, is a property of each member
 pub below_by_recursion : {A : Type 0} (P : A → Type 0) (xs : List A) (z : A) → AllByRecursion P xs → Contains xs z → P z
 below_by_recursion P [] z all among = absurd (nil-Contains z among)
 below_by_recursion P (x ∷ xs) z all among = by (below_by_recursion P xs z all.1) (Contains-cons x xs z among)
@@ -33,7 +34,7 @@ below_by_recursion P (x ∷ xs) z all among = by (below_by_recursion P xs z all.
     by rest (inl same) = subst P same all.0
     by rest (inr inside) = rest inside
 
--- the element at an index of a list of one element is that element
+-- in a list of one element, the element at any index of the list is that element
 pub only : {A : Type 0} (x y : A) (k : ℕ) → k < length (x ∷ []) → get_or (x ∷ []) k y ≡ y → x ≡ y
 only x y zero below is = is
 only x y (suc k) below is = absurd (omega arith)
@@ -64,7 +65,7 @@ map-Contains f (z ∷ xs) x among = by (map-Contains f xs x) (Contains-cons z xs
     by rest (inl same) = subst (λ v. Contains (f z ∷ map f xs) v) (ap f same) (cons-Contains-first (f z) (map f xs))
     by rest (inr inside) = cons-Contains (f z) (map f xs) (f x) (rest inside)
 
--- a member of the list that `flat_map` makes is in the list for some element
+-- each member of `flat_map f xs` is a member of `f x`, for some member `x` of `xs`
 pub Contains-flat_map : {A B : Type 0} (f : A → List B) (xs : List A) (y : B) → Contains (flat_map f xs) y → (x : A) × Contains xs x × Contains (f x) y
 Contains-flat_map f [] y among = absurd (nil-Contains y among)
 Contains-flat_map f (x ∷ xs) y among = by (Contains-flat_map f xs y) (Contains-append_cases (f x) (flat_map f xs) y among)
@@ -74,7 +75,7 @@ Contains-flat_map f (x ∷ xs) y among = by (Contains-flat_map f xs y) (Contains
     by rest (inl here) = (x, cons-Contains-first x xs, here)
     by rest (inr inside) = let found = rest inside in (found.0, cons-Contains x xs found.0 found.1, found.2)
 
--- a member of the list for an element is in the list that `flat_map` makes
+-- each member of `f x`, for a member `x` of `xs`, is a member of `flat_map f xs`
 pub flat_map-Contains : {A B : Type 0} (f : A → List B) (xs : List A) (x : A) (y : B) → Contains xs x → Contains (f x) y → Contains (flat_map f xs) y
 flat_map-Contains f [] x y among there = absurd (nil-Contains x among)
 flat_map-Contains f (z ∷ xs) x y among there = by (λ inside. flat_map-Contains f xs x y inside there) (Contains-cons z xs x among)
@@ -83,11 +84,11 @@ flat_map-Contains f (z ∷ xs) x y among there = by (λ inside. flat_map-Contain
     by rest (inl same) = Contains-append_left (f z) (flat_map f xs) y (subst (λ v. Contains (f v) y) (sym same) there)
     by rest (inr inside) = Contains-append_right (f z) (flat_map f xs) y (rest inside)
 
--- a property of all elements, given by `All`, is a property of each member
+-- a property of all elements, stated by `All`, is a property of each member
 pub member_of : {A : Type 0} (P : A → Type 0) (xs : List A) (x : A) → All P xs → Contains xs x → P x
 member_of P xs x all among = subst P among.2 (all among.0 x among.1)
 
--- a property of each member is a property of all elements, as `All` states it
+-- a property of each member is a property of all elements, stated by `All`
 pub all_members : {A : Type 0} (P : A → Type 0) (xs : List A) → ((x : A) → Contains xs x → P x) → All P xs
 all_members P xs each = All-from_recursion P xs (by xs each)
   where
@@ -95,7 +96,7 @@ all_members P xs each = All-from_recursion P xs (by xs each)
     by [] all = tt
     by (y ∷ ys) all = (all y (cons-Contains-first y ys), by ys (λ z among. all z (cons-Contains y ys z among)))
 
--- a property of each member is a property of all elements, as recursion states it
+-- a property of each member is a property of all elements, stated by recursion
 pub each_member : {A : Type 0} (P : A → Type 0) (xs : List A) → ((z : A) → Contains xs z → P z) → AllByRecursion P xs
 each_member P [] each = tt
 each_member P (x ∷ xs) each = (each x (cons-Contains-first x xs), each_member P xs (λ z among. each z (cons-Contains x xs z among)))
@@ -104,7 +105,7 @@ each_member P (x ∷ xs) each = (each x (cons-Contains-first x xs), each_member 
 abbrev pub SameMembers : {A : Type 0} → List A → List A → Type 0
 SameMembers xs ys = (x : _) → Contains xs x ↔ Contains ys x
 
--- if two lists have the same members, so they have in the other order
+-- the relation "two lists have the same members" is symmetric
 pub same_members_back : {A : Type 0} (xs ys : List A) → SameMembers xs ys → SameMembers ys xs
 same_members_back xs ys same x = ((same x).1, (same x).0)
 
@@ -130,6 +131,6 @@ member_rotated a b c x among = outer (Contains-append_cases (a ++ b) c x among)
     outer (inl here) = inner (Contains-append_cases a b x here)
     outer (inr here) = Contains-append_left (b ++ c) a x (Contains-append_right b c x here)
 
--- three lists, one after the other, have the same members in another order
+-- the concatenation of three lists has the same members if the first list is moved to the end
 pub same_members_rotated : {A : Type 0} (a b c : List A) → SameMembers ((a ++ b) ++ c) ((b ++ c) ++ a)
 same_members_rotated a b c x = (member_rotated a b c x, λ among. member_rotated c a b x (member_rotated b c a x among))

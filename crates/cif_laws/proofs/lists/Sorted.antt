@@ -1,4 +1,5 @@
--- A sorted list is strictly ascending if no two of its elements tie, that is, compare as equal.
+-- A sorted list is strictly ascending if no two of its elements tie. Two elements tie if they
+-- compare as equal.
 use Rattle.std.proofs.Common.{◌≡◌, ℕ, suc, ◌+◌, ◌≤◌, List, [], ◌∷◌, get_or, refl, ap, sym, ◌∙◌, subst, true, false, cond, arith}
 use Rattle.std.specs.List.{AllByRecursion, sum_by}
 use Rattle.std.specs.List.Sorted.{IsSorted, IsPermutation}

@@ -15,7 +15,7 @@ module _ {A : Type 0} {cmp : A → A → Ordering} (total : IsTotalOrder cmp) wh
   pub irreflexive : (x : A) → ¬ IsBelow cmp x x
   irreflexive x below = let tied = tied_itself total x in cc
 
-  -- two values aren't each below the other
+  -- no two values are each below the other
   pub not_both : (x y : A) → IsBelow cmp x y → ¬ IsBelow cmp y x
   not_both x y below above = irreflexive x (total.trans x y x below above)
 
@@ -53,23 +53,23 @@ module _ {A : Type 0} {cmp : A → A → Ordering} (total : IsTotalOrder cmp) wh
       swapped (inl e) = inl (sym e)
       swapped (inr p) = inr p
 
--- in a strictly ascending list each element is below each later one
+-- in a strictly ascending list each element is below each later element
 pub later_of : {A : Type 0} (cmp : A → A → Ordering) (xs : List A) → IsStrictlyAscending cmp xs → AllLater (IsBelow cmp) xs
 later_of cmp [] up = tt
 later_of cmp (x ∷ xs) up = (up.0, later_of cmp xs up.1)
 
--- a list in which each element is below each later one is strictly ascending
+-- a list in which each element is below each later element is strictly ascending
 pub ascending_of : {A : Type 0} (cmp : A → A → Ordering) (xs : List A) → AllLater (IsBelow cmp) xs → IsStrictlyAscending cmp xs
 ascending_of cmp [] up = tt
 ascending_of cmp (x ∷ xs) up = (up.0, ascending_of cmp xs up.1)
 
--- an ascending list with one more element at its end, above all others, is ascending
+-- appending an element above all others to an ascending list preserves its order
 pub ascending_last : {A : Type 0} (cmp : A → A → Ordering) (xs : List A) (y : A) → IsStrictlyAscending cmp xs → AllByRecursion (λ x. IsBelow cmp x y) xs
     → IsStrictlyAscending cmp (xs ++ y ∷ [])
 ascending_last cmp [] y up below = (tt, tt)
 ascending_last cmp (x ∷ xs) y up below = (all_append (IsBelow cmp x) xs (y ∷ []) up.0 (below.0, tt), ascending_last cmp xs y up.1 below.1)
 
--- in an ascending list each element is below an element that comes later
+-- in an ascending list `xs ++ y ∷ ys`, each element of `xs` is below `y`
 pub below_next : {A : Type 0} (cmp : A → A → Ordering) (xs : List A) (y : A) (ys : List A) → IsStrictlyAscending cmp (xs ++ y ∷ ys)
     → AllByRecursion (λ x. IsBelow cmp x y) xs
 below_next cmp [] y ys up = tt

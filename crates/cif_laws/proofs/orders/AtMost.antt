@@ -16,7 +16,7 @@ eq_is Greater h = cc
 pub less_not_greater : (o : Ordering) → o ≡ Less → ¬ (o ≡ Greater)
 less_not_greater o less greater = cc
 
--- two values that are each at most the other compare as `Equal`
+-- if `a` is at most `b` and `b` is at most `a`, they compare as `Equal`
 pub level : {A : Type 0} {cmp : A → A → Ordering} → IsTotalOrder cmp → (a b : A) → IsAtMost cmp a b → IsAtMost cmp b a → cmp a b ≡ Equal
 level {A} {cmp} total a b up down = by (cmp a b) (cmp b a) (total.antisymm a b) up down
   where
@@ -31,11 +31,11 @@ level {A} {cmp} total a b up down = by (cmp a b) (cmp b a) (total.antisymm a b) 
 pub at_most_itself : {A : Type 0} {cmp : A → A → Ordering} → IsTotalOrder cmp → (a : A) → IsAtMost cmp a a
 at_most_itself total a greater = let tied = tied_itself total a in cc
 
--- a value below another is at most the other
+-- a value below another is also at most the other
 pub at_most_below : {A : Type 0} (cmp : A → A → Ordering) (a b : A) → IsBelow cmp a b → IsAtMost cmp a b
 at_most_below cmp a b below greater = cc
 
--- of two values, the first is at most the second or the second is below the first
+-- for any two values, the first is at most the second or the second is below the first
 pub at_most_or : {A : Type 0} {cmp : A → A → Ordering} → IsTotalOrder cmp → (a b : A) → IsAtMost cmp a b ⊎ IsBelow cmp b a
 at_most_or {A} {cmp} total a b = by (cmp a b) refl
   where

@@ -14,13 +14,14 @@ use Rattle.docker_model.specs.state.State.{IsGoodItem, IsGoodKey, IsGoodAssociat
 use Rattle.docker_model.specs.state.StateText.{item_bytes, key_bytes}
 use Rattle.cif_laws.proofs.orders.Orders.{then_equal_right}
 
--- three orders, one after the other, may be grouped in either way
+-- `ordering_then` is associative
 then_assoc : (a b c : Ordering) → ordering_then (ordering_then a b) c ≡ ordering_then a (ordering_then b c)
 then_assoc Less b c = refl
 then_assoc Equal b c = refl
 then_assoc Greater b c = refl
 
--- two lists compare by their first bytes, and if these are equal, by what follows
+-- two lists whose prefixes have the same length compare by these prefixes, and if the prefixes are
+-- equal, by the rests
 pub fronts_first : (xs ys more others : List ℕ) (behind : Ordering) → length xs ≡ length ys → bytes_cmp more others ≡ behind
     → bytes_cmp (xs ++ more) (ys ++ others) ≡ ordering_then (bytes_cmp xs ys) behind
 fronts_first [] [] more others behind same is = is
@@ -82,7 +83,7 @@ item_order first second good other =
     sym (fronts_first (front_a ++ a.reference) (front_b ++ b.reference) rest_a rest_b _ (omega arith) refl
     ∙ ap (λ o. ordering_then o (bytes_cmp rest_a rest_b)) stamps)
 
--- three lists, one after the other, may be grouped in either way
+-- the concatenation of lists is associative
 of_three : (a b c : List ℕ) → a ++ b ++ c ≡ a ++ (b ++ c)
 of_three a b c = append_assoc a b c
 

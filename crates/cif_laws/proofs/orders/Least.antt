@@ -1,4 +1,4 @@
--- The least member of a list among those that pass a test. There is one if any member passes.
+-- The least member of a list among those that pass a test. It exists if any member passes the test.
 use Rattle.std.proofs.Common.{◌≡◌, List, [], ◌∷◌, refl, ap, sym, ◌∙◌, subst, inl, inr, ◌⊎◌, Some, None, Bool, true, false, Contains}
 use Rattle.std.specs.Prelude.{find, ◌&&◌, not}
 use Rattle.std.specs.List.{list_all}
@@ -41,7 +41,7 @@ module _ {A : Type 0} {cmp : A → A → Ordering} (total : IsTotalOrder cmp) (t
       by true h = inner (cmp x z) refl (first h)
       by false h = refl
 
-  -- no member passes the test, or one of those that pass is the least
+  -- no member passes the test, or there is a least member among those that pass
   least_in : (xs : List A) → ((z : A) → Contains xs z → test z ≡ false) ⊎ ((x : A) × IsLeast xs x)
   least_in [] = inl (λ z among. absurd (nil-Contains z among))
   least_in (x ∷ xs) = by (test x) refl (least_in xs)
@@ -91,7 +91,7 @@ module _ {A : Type 0} {cmp : A → A → Ordering} (total : IsTotalOrder cmp) (t
           pick z passes (inl e) = absurd (let bad : false ≡ true = sym h ∙ ap test e ∙ passes in cc)
           pick z passes (inr inside) = best.first z inside passes
 
-  -- a member that the search finds is the least of those that pass
+  -- the result of the search is the least of the members that pass the test
   pub found_least : (xs : List A) (x : A) → find (is_least xs) xs ≡ Some x → IsLeast xs x
   found_least xs x found =
       let told = find_some (is_least xs) xs x found in
@@ -103,7 +103,7 @@ module _ {A : Type 0} {cmp : A → A → Ordering} (total : IsTotalOrder cmp) (t
             not_behind x z (all_of (λ other. not (test other && is_gt (cmp x other))) xs z parts.1 among) passes;
       }
 
-  -- if the search finds nothing, no member passes the test
+  -- if the result of the search is `None`, no member passes the test
   pub none_passes : (xs : List A) → find (is_least xs) xs ≡ None → (z : A) → Contains xs z → test z ≡ false
   none_passes xs none = by (least_in xs)
     where

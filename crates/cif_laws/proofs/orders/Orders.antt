@@ -38,7 +38,7 @@ ledger_item_total =
     then_total (on_total (λ i. i.stamp) file_stamp_total)
     (then_total (on_total (λ i. i.indicator) nat_cmp_total) (on_total (λ i. i.last_reference) nat_list_cmp_total))
 
--- if two orders, one after the other, give `Equal`, each of them gives `Equal`
+-- if `ordering_then a b` is `Equal`, then both `a` and `b` are `Equal`
 pub then_equal : (a b : Ordering) → ordering_then a b ≡ Equal → (a ≡ Equal) × (b ≡ Equal)
 then_equal Less b e = (e, absurd (less_is_not_equal e))
   where
@@ -120,7 +120,7 @@ exact_schedule_key a b e =
       indicator = exact_unsigned a.indicator b.indicator q.1 i;
     }
 
--- the parts of a key. A part that keys with its tag don't have is empty or 0
+-- the fields of a key. A field that keys of this kind don't have is empty or 0
 abbrev code_in : Key → List ℕ
 code_in (tiploc_key code) = code
 code_in _ = []
@@ -172,8 +172,8 @@ exact_key (schedule_key a) (tiploc_key b) e = cc
 exact_key (schedule_key a) (association_key b) e = cc
 exact_key (schedule_key a) (schedule_key b) e = ap schedule_key (exact_schedule_key a b e)
 
--- the order of bodies is total. It can't distinguish two schedules with different lines that join
--- to the same bytes
+-- the order of bodies is total. It can't distinguish two schedules whose different lines have the
+-- same concatenation
 pub body_total : IsTotalOrder body_cmp
 body_total = then_total (on_total body_end nat_cmp_total) (then_total (on_total body_bytes nat_list_cmp_total) (on_total body_tag nat_cmp_total))
 
@@ -233,7 +233,7 @@ same_key a b h = exact_key a b (eq_is (key_cmp a b) h)
 pub other_key : (a b : Key) → is_eq (key_cmp a b) ≡ false → ¬ (a ≡ b)
 other_key a b h same = let tied : is_eq (key_cmp a b) ≡ true = subst (λ k. is_eq (key_cmp a k) ≡ true) same (key_tied a) in cc
 
--- the order of docker lines is total, so the lines of a docker determine its list
+-- the order of docker lines is total
 pub docker_line_total : IsTotalOrder docker_line_cmp
 docker_line_total =
     then_total (on_total (λ l. l.time) nat_cmp_total) (then_total (on_total (λ l. occasion_rank l.occasion) nat_cmp_total)

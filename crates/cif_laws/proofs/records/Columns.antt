@@ -13,7 +13,7 @@ use Rattle.docker_model.specs.records.Field.{CheckedField, HasGoodFields, checke
 abbrev pub IsGoodIn : List ℕ → CheckedField → Type 0
 IsGoodIn line field = field.is_good (columns field.first field.last line) ≡ true
 
--- the search for a bad field finds none exactly if each field is good
+-- if the search for a bad field returns `None`, each field is good
 none_found : (line : List ℕ) (fields : List CheckedField)
     → option_map (λ (field : CheckedField). field.first) (find (λ field. not (field.is_good (columns field.first field.last line))) fields) ≡ None
     → AllByRecursion (IsGoodIn line) fields
@@ -39,7 +39,7 @@ all_found line (field ∷ fields) all =
 pub good_fields : (kind : Kind) (line : List ℕ) → HasKind kind line → HasGoodFields line → AllByRecursion (IsGoodIn line) (checked_fields kind line)
 good_fields kind line is good = subst (λ k. AllByRecursion (IsGoodIn line) (fields_of k line)) is (none_found line (fields_of (kind_of line) line) good)
 
--- a record in which each checked field is good has good fields
+-- if each checked field of a record is good, the record has good fields
 pub fields_good : (kind : Kind) (line : List ℕ) → HasKind kind line → AllByRecursion (IsGoodIn line) (checked_fields kind line) → HasGoodFields line
 fields_good kind line is all = all_found line (fields_of (kind_of line) line) (subst (λ k. AllByRecursion (IsGoodIn line) (fields_of k line)) (sym is) all)
 
@@ -70,15 +70,15 @@ drop_set i zero (x ∷ xs) y below = absurd (omega arith)
 drop_set zero (suc k) (x ∷ xs) y below = refl
 drop_set (suc i) (suc k) (x ∷ xs) y below = drop_set i k xs y (omega arith)
 
--- the columns after the transaction stay the same when it is set to N
+-- setting the transaction to N leaves the columns after it unchanged
 pub new_columns : (line : List ℕ) (first last : ℕ) → 3 < first → columns first last (as_new line) ≡ columns first last line
 new_columns line first last behind = ap (λ rest. take (last - (first - 1)) rest) (drop_set 2 (first - 1) line 78 (omega arith))
 
--- each column after the transaction stays the same when it is set to N
+-- setting the transaction to N leaves each column after it unchanged
 pub new_column : (line : List ℕ) (n : ℕ) → 3 < n → column n (as_new line) ≡ column n line
 new_column line n behind = get_or-set_other line 2 (n - 1) 78 0 (omega arith)
 
--- a record keeps its kind when its transaction is set to N
+-- setting the transaction to N preserves the kind of a record
 pub new_kind : (line : List ℕ) → kind_of (as_new line) ≡ kind_of line
 new_kind line =
     ap (λ field. option_map (λ (pair : List ℕ × Kind). pair.1) (find (λ (pair : List ℕ × Kind). bytes_eq pair.0 field) identities)) (take-set line 2 78)

@@ -12,8 +12,8 @@ use Rattle.docker_model.specs.records.Date.{is_calendar_day, day_number, year_of
 use Rattle.docker_model.specs.records.PrintedTime.{day_text, date_text}
 use Rattle.cif_laws.proofs.lists.BoolsAndOptions.{and_true as and_both, both}
 
--- a year, month and day pass the test `is_calendar_day` exactly if they are a date of the crate's
--- calendar
+-- a year, month and day pass the test `is_calendar_day` if and only if they are a date of the
+-- crate's calendar
 pub is_calendar_day-IsDate : (year month day : ℕ) → year ≤ 9999 → (is_calendar_day year month day ≡ true) ↔ IsDate (pos year) (pos month) (pos day)
 is_calendar_day-IsDate year month day low = (
   λ h.
@@ -33,7 +33,8 @@ is_calendar_day-IsDate year month day low = (
       and_both _ _ (and_both _ _ (le-leb 1 month m1) (le-leb month 12 m2)) (and_both _ _ (le-leb 1 day d1) (le-leb day _ d2)),
 )
 
--- if the first `k` numbers of a range pass a test and no others do, `k` numbers pass
+-- if the first `k` numbers of a range pass a test and the other numbers of the range don't,
+-- `count_by` is `k`
 count_prefix : (p : ℕ → Bool) (a n k : ℕ) → k ≤ n → ((i : ℕ) → i < k → p (a + i) ≡ true) → ((i : ℕ) → k ≤ i → i < n → p (a + i) ≡ false)
     → count_by p (range_with_len a n) ≡ k
 count_prefix p a zero k within passes fails = omega arith
@@ -75,7 +76,7 @@ civil_start y low = (omega (arith, signed_arith), (omega arith, omega arith), (o
 later_year : (y y₂ m d m₂ d₂ : ℕ) → IsCivilDate (pos y) m d → 1 ≤ d₂ → y < y₂ → day_count (pos y) m d < day_count (pos y₂) m₂ d₂
 later_year y y₂ m d m₂ d₂ civil day lt = day_count-lt_year (pos y) m d (pos y₂) m₂ d₂ civil day (omega (arith, signed_arith))
 
--- 1 January isn't later than any other day of its year
+-- no day of a year is earlier than 1 January of that year
 first_of_year : (y m d : ℕ) → y ≤ 9999 → 1 ≤ m → 1 ≤ d → day_count (pos y) 1 1 ≤ day_count (pos y) m d
 first_of_year y m d low month day = by (cases_order 1 m)
   where
@@ -113,7 +114,7 @@ day_number-day_count y m d year low month day =
     let number = abs_is (days_from_civil (pos y) m d +ℤ pos 3653) (day_count (pos y) m d - 4_368_300) signed in
     omega arith
 
--- year, month and day can be found again from the number of a date
+-- `year_of`, `month_of` and `day_of_month` are inverse to `day_number`
 module _ (y m d : ℕ) (year : 1960 ≤ y) (last : y ≤ 2059) (civil : IsCivilDate (pos y) m d) where
   number_here : day_number y m d + 4_368_300 ≡ day_count (pos y) m d
   number_here = day_number-day_count y m d year (omega arith) civil.1.0 civil.2.0

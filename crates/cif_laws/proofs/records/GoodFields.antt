@@ -1,4 +1,4 @@
--- What good fields mean: they give day numbers, minutes, TIPLOCs and letters.
+-- The values of good fields: day numbers, minutes, TIPLOCs and letters are within their bounds.
 use Rattle.std.proofs.Common.{◌≡◌, ℕ, zero, suc, ◌≤◌, List, [], ◌∷◌, true, arith, ◌+◌, refl, Bool}
 use Rattle.std.proofs.Common.{false, cond, pos, ◌<◌, take, sym, ◌∙◌, ◌⊎◌, inl, inr, eqb-true}
 use Rattle.std.specs.Prelude.{slice_index, nat_le, ◌&&◌, nat_lt, not, ◌==◌, ◌||◌}
@@ -65,7 +65,7 @@ date_day_first_is_day field is =
 
 -- ---- times and TIPLOCs
 
--- a good clock time gives a minute below 1440
+-- the minute of a good clock time is below 1440
 pub clock_minute : (field : List ℕ) → is_clock field ≡ true → minute_of field < 1440
 clock_minute field is =
     let parts = both (list_all is_ascii_digit (take 4 field) && nat_lt (two_digits field 0) 24) _ is in

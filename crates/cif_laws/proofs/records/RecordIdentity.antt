@@ -24,7 +24,7 @@ identity_of terminating_location = codes "LT"
 identity_of change_en_route = codes "CR"
 identity_of trailer = codes "ZZ"
 
--- the identity in the pair belongs to the kind in it
+-- the identity in the pair is the record identity of the pair's kind
 abbrev IsBeside : List ℕ × Kind → Type 0
 IsBeside pair = pair.0 ≡ identity_of pair.1
 
@@ -47,6 +47,6 @@ by_identity field (pair ∷ pairs) kind all found = by (bytes_eq pair.0 field) r
 pub begins_with : (kind : Kind) (line : List ℕ) → HasKind kind line → columns 1 2 line ≡ identity_of kind
 begins_with kind line is = by_identity (columns 1 2 line) identities kind each_beside is
 
--- a record of a kind has the identity of that kind, and no other
+-- a record has a record identity if and only if this is the identity of the record's kind
 pub has_identity_is : (kind : Kind) (identity line : List ℕ) → HasKind kind line → has_identity identity line ≡ bytes_eq (identity_of kind) identity
 has_identity_is kind identity line is = ap (λ field. bytes_eq field identity) (begins_with kind line is)

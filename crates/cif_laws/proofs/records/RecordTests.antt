@@ -60,7 +60,7 @@ printable_by_none bytes none = by (nat_lt (printable_front bytes) (length bytes)
     by false h =
         let most = ltb-false (printable_front bytes) (length bytes) h in All-from_recursion (λ b. is_printable b ≡ true) bytes (whole_front bytes (omega arith))
 
--- bytes are a record exactly if they pass the test `is_record`
+-- bytes are a record if and only if they pass the test `is_record`
 pub record_iff_test : (line : List ℕ) → IsRecord line ↔ (is_record line ≡ true)
 record_iff_test line = (
   λ is. and_true (length line == 80) _ (ap (λ n. n == 80) is.0) (test_by_none (leftmost_bad_byte line) (no_bad_byte line is.1)),
@@ -71,25 +71,26 @@ record_iff_test line = (
 
 -- ---- how often a schedule passes midnight
 
--- the falls in two lists of times, one after the other, are those in the first, then those in the
--- second after the last time of the first. A fall is a time that is earlier than the time before it
+-- the number of falls in a concatenation is the number in the first list, plus the number in the
+-- second list after the last time of the first. A fall is a time that is earlier than the time
+-- before it
 pub fall_count-append : (times later : List ℕ) → fall_count (times ++ later) ≡ fall_count times + falls_after (last_of times) later
 fall_count-append [] later = omega arith
 fall_count-append (time ∷ []) later = omega arith
 fall_count-append (time ∷ next ∷ times) later = let rest = fall_count-append (next ∷ times) later in omega arith
 
--- more times never make fewer falls, if there is a first time
+-- appending times to a list with at least one time never lowers the number of falls
 pub fall_count_behind : (time : ℕ) (times later : List ℕ) → fall_count (time ∷ times) ≤ fall_count ((time ∷ times) ++ later)
 fall_count_behind time [] later = omega arith
 fall_count_behind time (next ∷ times) later = let rest = fall_count_behind next times later in omega arith
 
--- more times never make fewer falls
+-- appending times never lowers the number of falls
 pub fewer_falls : (times later : List ℕ) → fall_count times ≤ fall_count (times ++ later)
 fewer_falls [] later = omega arith
 fewer_falls (time ∷ times) later = fall_count_behind time times later
 
--- the last time of two lists, one after the other, is the last of the second, or of the first if
--- the second is empty
+-- the last time of the concatenation of two lists is the last time of the second list, or of the
+-- first list if the second is empty
 pub last_of-append : (times later : List ℕ) → last_of (times ++ later) ≡ later_or (last_of later) (last_of times)
 last_of-append [] later = by (last_of later)
   where
@@ -117,29 +118,30 @@ no_fall_behind time [] all = by (nat_lt last_time time) refl
     by false h = λ i. cond (h i) 1 0 + 0
 no_fall_behind time (next ∷ times) all = ap (λ n. cond (nat_lt next time) 1 0 + n) (no_fall_behind next times all.1)
 
--- a last time of 23:59½ adds no fall
+-- appending the time 23:59½ leaves the number of falls unchanged
 pub no_fall_last : (times : List ℕ) → AllByRecursion (λ t. t ≤ last_time) times → fall_count (times ++ last_time ∷ []) ≡ fall_count times
 no_fall_last [] all = refl
 no_fall_last (time ∷ times) all = no_fall_behind time times all
 
--- the times of records and more records are the times of the first, then the times of the others
+-- the times of a concatenation of records are the concatenation of the times of both lists
 pub times_append : (lines more : List (List ℕ)) → times_along (lines ++ more) ≡ times_along lines ++ times_along more
 times_append lines more =
     ap (map (λ (time : Occasion × ℕ). time.1)) (flat_map-append times_of lines more) ∙ map-append (λ (time : Occasion × ℕ). time.1) (flat_map times_of lines)
     (flat_map times_of more)
 
--- more records never make a schedule pass midnight less often
+-- appending records never lowers how often a schedule passes midnight
 pub fewer_midnights : (lines more : List (List ℕ)) → midnights lines ≤ midnights (lines ++ more)
 fewer_midnights lines more =
     subst (λ times. midnights lines ≤ fall_count times) (sym (times_append lines more)) (fewer_falls (times_along lines) (times_along more))
 
--- one more record adds the falls in its times, starting from the last time before it
+-- appending a record adds the number of falls in the record's times, counted from the last time
+-- before the record
 pub midnights_step : (lines : List (List ℕ)) (line : List ℕ) → midnights (lines ++ line ∷ []) ≡ midnights lines + falls_after (last_of (times_along lines))
     (times_along (line ∷ []))
 midnights_step lines line = ap fall_count (times_append lines (line ∷ [])) ∙ fall_count-append (times_along lines) (times_along (line ∷ []))
 
--- the last time after one more record is the record's last time, or the time before it if the
--- record has no time
+-- after a record is appended, the last time is the record's last time, or the previous last time if
+-- the record has no time
 pub last_time_step : (lines : List (List ℕ)) (line : List ℕ) → last_of (times_along (lines ++ line ∷ [])) ≡ later_or (last_of (times_along (line ∷ [])))
     (last_of (times_along lines))
 last_time_step lines line = ap last_of (times_append lines (line ∷ [])) ∙ last_of-append (times_along lines) (times_along (line ∷ []))
@@ -148,7 +150,7 @@ last_time_step lines line = ap last_of (times_append lines (line ∷ [])) ∙ la
 pub no_times : (kind : Kind) (line : List ℕ) → HasKind kind line → times_by_kind (Some kind) line ≡ [] → times_of line ≡ []
 no_times kind line is none = ap (λ k. times_by_kind k line) is ∙ none
 
--- a line without times adds no times
+-- putting a line without times before other lines leaves the times unchanged
 pub no_times_before : (line : List ℕ) (lines : List (List ℕ)) → times_of line ≡ [] → times_along (line ∷ lines) ≡ times_along lines
 no_times_before line lines none = ap (λ times. map (λ (time : Occasion × ℕ). time.1) (times ++ flat_map times_of lines)) none
 

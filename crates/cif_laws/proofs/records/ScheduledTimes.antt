@@ -1,4 +1,4 @@
--- A scheduled time that is present isn't blank, so its field gives a time.
+-- A scheduled time that is present isn't blank, so `scheduled_time` isn't `None`.
 use Rattle.std.proofs.Common.{◌≡◌, ℕ, List, [], ◌∷◌, take, refl, subst, Some, None, Bool, true, false, cond}
 use Rattle.std.specs.Prelude.{◌==◌, ◌&&◌, nat_lt}
 use Rattle.std.specs.List.{list_all}
@@ -23,6 +23,6 @@ present_not_blank (b ∷ rest) is = by (b == 32) refl
     by true h = let bad : is_ascii_digit 32 ≡ true = subst (λ x. is_ascii_digit x ≡ true) (eqb-true b 32 h) digit in cc
     by false h = rw h refl
 
--- the field of a scheduled time that is present gives that time
+-- if a scheduled time is present, `scheduled_time` is its number of half minutes
 pub time_there : (field : List ℕ) → is_present_time field ≡ true → scheduled_time field ≡ Some (half_minutes field)
 time_there field is = (λ i. cond (present_not_blank field is i) None (Some (half_minutes field)))

@@ -1,5 +1,5 @@
--- The cause of a record that can't continue a schedule, from the stage before it. In a file such a
--- record has the same cause.
+-- The cause of a record that can't continue a schedule, from the stage before the record. The
+-- record has the same cause in a file.
 use Rattle.std.proofs.Common.{◌≡◌, ℕ, List, refl, ap, ◌<◌, ◌⊎◌, inl, inr, sym, ◌∙◌, ◌≤◌, None}
 use Rattle.std.proofs.Common.{arith, [], ◌∷◌, Bool, true, false, cond, Some, ◌++◌, subst, length}
 use Rattle.std.specs.Prelude.{unwrap_or, Option, is_none, is_some, option_map, ◌&&◌, ◌==◌}
@@ -53,7 +53,7 @@ one_schedule_cause earlier line first second is_first is_second = by (cases_orde
 
 -- ---- the first line
 
--- if each cause of a lower rank is excluded, none of them holds
+-- if the condition of each cause of a lower rank is false, no cause of a lower rank holds
 none_below : (earlier : Lines) (line : List ℕ) (rank : ℕ) → rank ≤ 7 → (4 < rank → ¬ (kind_of line ≡ None)) → (5 < rank → ¬ IsOutOfSchedule earlier line)
     → (6 < rank → leftmost_bad_field line ≡ None)
     → (other : FileCause) → cause_rank other < rank → ¬ HoldsInSchedule earlier line other
@@ -90,7 +90,7 @@ witness_begins = front_begins after_basic (witness basic_schedule ∷ []) (front
 kind_is_known : (line : List ℕ) (kind : Kind) → kind_of line ≡ Some kind → ¬ (kind_of line ≡ None)
 kind_is_known line kind is none = let bad : None ≡ Some kind = sym none ∙ is in cc
 
--- if a record can't be the first of a schedule, its cause is `first_line_cause`
+-- if a record can't be the first record of a schedule, its cause is `first_line_cause`
 pub first_line_fault : (line : List ℕ) → IsRecord line → is_first_line line ≡ false → IsScheduleFault [] line (first_line_cause line)
 first_line_fault line is test = by (kind_of line) refl
   where
@@ -139,14 +139,14 @@ first_line_fault line is test = by (kind_of line) refl
 
 -- ---- a later record
 
--- if a record leads to a next stage, the records up to and including it begin a schedule
+-- if a record has a next stage, the records up to and including this record begin a schedule
 pub begins_next_stage : (lines : Lines) (stage : Stage) (line : List ℕ) (next : Stage) → stage_of lines ≡ Some stage → next_stage stage lines line ≡ Some next
     → BeginsSchedule (lines ++ line ∷ [])
 begins_next_stage [] stage line next at found = cc
 begins_next_stage (basic ∷ rest) stage line next at found =
     (begins_more_iff basic rest stage line at).1 (next, next_line_by_test stage (basic ∷ rest) line next found)
 
--- if records and one more begin no schedule, the last one leads to no next stage
+-- if records with one more record begin no schedule, the last record has no next stage
 pub no_next_stage : (lines : Lines) (stage : Stage) (line : List ℕ) → stage_of lines ≡ Some stage → ¬ BeginsSchedule (lines ++ line ∷ [])
     → next_stage stage lines line ≡ None
 no_next_stage lines stage line at here = by (next_stage stage lines line) refl
@@ -155,7 +155,7 @@ no_next_stage lines stage line at here = by (next_stage stage lines line) refl
     by None h = h
     by (Some next) h = absurd (here (begins_next_stage lines stage line next at h))
 
--- if a record leads to no next stage, its cause is `schedule_cause`
+-- if a record has no next stage, its cause is `schedule_cause`
 pub schedule_fault : (earlier : Lines) (stage : Stage) (line : List ℕ) → stage_of earlier ≡ Some stage → IsRecord line → next_stage stage earlier line ≡ None
     → IsScheduleFault earlier line (schedule_cause stage line)
 schedule_fault [] stage line at is nowhere = cc
@@ -220,7 +220,7 @@ schedule_fault (basic ∷ rest) stage line at is nowhere = by (kind_of line) ref
     }
     by (Some kind) h = placed kind h (stage_after stage (Some kind)) refl
 
--- a record continues the schedule, or it is at fault
+-- a record continues the schedule, or is at fault
 pub goes_on_or_fault : (earlier : Lines) (line : List ℕ) → BeginsSchedule earlier → IsRecord line → BeginsSchedule (earlier ++ line ∷ [])
     ⊎ ((cause : FileCause) × IsScheduleFault earlier line cause)
 goes_on_or_fault [] line begins is = by (is_first_line line) refl
@@ -264,7 +264,8 @@ no_other stage lines line (inr none) = by (may_end stage lines)
     by true = none
     by false = refl
 
--- a record that can only belong to the schedule leads to the place with the schedule's next stage
+-- if a record can only belong to the schedule, its next place is the place with the schedule's next
+-- stage
 pub next_place_of_stage : (stage : Stage) (lines : Lines) (line : List ℕ) → IsOfSchedule stage lines line
     → next_place (in_schedule stage lines) line ≡ option_map (λ next. place_in next (lines ++ line ∷ [])) (next_stage stage lines line)
 next_place_of_stage stage lines line of =
@@ -289,8 +290,7 @@ next_place_of_stage stage lines line of =
     by None = none (is_record line && has_good_fields line) (is_record line && is_sound_next lines line)
     by (Some next) = tested (is_record line && is_sound_next lines line) next
 
--- the cause of a record within the limit and before the trailer comes from its kind, its place and
--- its fields
+-- for a record within the limit and before the trailer, the cause is `kind_cause`
 pub cause_of_record : (limit count : ℕ) (place : Place) (line : List ℕ) → count < limit → is_after_end place ≡ false → IsRecord line
     → cause_of limit count place line ≡ kind_cause place line
 cause_of_record limit count place line under open_end is =
@@ -325,8 +325,7 @@ cause_behind_schedule limit count stage lines line under is may anew =
     (field_cause line)))
     ∙ sym (cause_of_record limit count between_units line under refl is)
 
--- a record that is at fault for a reader of the schedule is at fault in the file, for the same
--- cause
+-- a record that is at fault in the schedule is at fault in the file, for the same cause
 pub fault_of_schedule : (limit : ℕ) (earlier : Lines) (stage : Stage) (lines : Lines) (line : List ℕ) (cause : FileCause)
     → IsPlaceOf earlier (in_schedule stage lines) → length earlier < limit → IsRecord line
     → IsOfSchedule stage lines line → IsScheduleFault lines line cause

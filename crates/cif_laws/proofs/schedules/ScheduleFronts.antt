@@ -1,4 +1,4 @@
--- It is decided whether records are a schedule, and whether they begin one.
+-- It is decided whether records are a schedule, and whether they begin some schedule.
 use Rattle.std.proofs.Common.{◌≡◌, ℕ, List, length, true, Some, [], ◌∷◌, ◌⊎◌, inr, inl, ◌+◌, ◌++◌, ap, refl, sym, subst, ◌≤◌, IsTrue, All}
 use Rattle.std.proofs.Common.{Bool, false, arith, if◌then◌else◌, nat_lt, map, ◌||◌, None, cond, not, find, ◌∙◌, codes, append-nil, lit≤}
 use Rattle.std.specs.Prelude.{⊤, slice_index, ◌==◌, option_map, Option}
@@ -134,7 +134,8 @@ extra_and_journey_decided : (basic : List ℕ) (lines : Lines) → Decided (Extr
 extra_and_journey_decided basic [] = inr (λ h. h)
 extra_and_journey_decided basic (extra ∷ lines) = both_decided (has_kind_decided extra_details extra) (journey_part_decided basic lines)
 
--- the parts of a schedule, each by recursion. Here: a basic schedule with good fields
+-- the record is a basic schedule with good fields. This file states each part of a schedule by
+-- recursion
 abbrev BasicHere : List ℕ → Type 0
 BasicHere basic = HasKind basic_schedule basic × HasGoodFields basic
 
@@ -259,7 +260,7 @@ scheduled_from_present field present = by (is_blank field)
 some_is_not_none : (n : ℕ) → Some n ≡ None → ⊥
 some_is_not_none n h = cc
 
--- if the search for a bad field finds none, all fields are good
+-- if the search for a bad field returns `None`, all fields are good
 all_good : (line : List ℕ) (fields : List CheckedField)
     → option_map (λ (field : CheckedField). field.first) (find (λ field. not (field.is_good (columns field.first field.last line))) fields) ≡ None
     → AllByRecursion (λ (field : CheckedField). field.is_good (columns field.first field.last line) ≡ true) fields
@@ -327,8 +328,8 @@ small_along (line ∷ lines) good =
     times_of-times : List ℕ → List ℕ
     times_of-times l = times_in (times_of l)
 
--- the first of some times have no more falls than all of them, and a last time of 23:59½ adds no
--- fall
+-- a prefix of a list of times has at most as many falls as the whole list, and appending the time
+-- 23:59½ leaves the number of falls unchanged
 falls_front : (times more : List ℕ) → fall_count times ≤ fall_count (times ++ more)
 falls_front [] more = omega arith
 falls_front (time ∷ []) more = omega arith
@@ -411,7 +412,7 @@ front_of_schedule (basic ∷ lines) rest here = ((all_front IsRecord (basic ∷ 
     by [] (inr part) = inl tt
     by (extra ∷ others) (inr part) = inr (part.0, front_of_part basic others rest part.1)
 
--- the records `rest` complete a beginning to a schedule
+-- the records `rest` complete a prefix to a whole schedule
 record Ending (basic : List ℕ) (lines : Lines) : Type 0 where
   rest : Lines
   records : AreRecords rest

@@ -1,5 +1,5 @@
--- The stage of a reader in a schedule: which record may come next, and whether the records read are
--- a schedule.
+-- The stage of a reader in a schedule determines which records may follow, and whether the records
+-- read are a schedule.
 use Rattle.std.proofs.Common.{◌≡◌, ℕ, List, ◌∷◌, [], ◌⊎◌, true, ◌+◌, ◌++◌, inl, refl, Some, ap, inr, arith, ◌∙◌, ◌≤◌}
 use Rattle.std.proofs.Common.{Bool, false, subst, append_assoc, cond, None, sym, eqb-true, append-nil, All, ◌<◌}
 use Rattle.std.specs.Prelude.{Option, ◌&&◌, ◌↔◌, nat_le, ◌||◌, ◌==◌, codes, option_and_then, is_none}
@@ -30,7 +30,7 @@ abbrev pub IsOpenJourney : Lines → Type 0
 IsOpenJourney journey =
     (first : List ℕ) × (between : Lines) × (journey ≡ first ∷ between) × HasKind origin_location first × AllByRecursion IsWithinJourney between
 
--- the extra details and the journey that have been read have the form that belongs to this stage
+-- the extra details and the journey read have the form for this stage
 abbrev pub HasShape : Stage → Lines → Lines → Type 0
 HasShape after_basic extra journey = (extra ≡ []) × (journey ≡ [])
 HasShape after_details extra journey = AreExtraDetails extra × (journey ≡ [])
@@ -66,13 +66,13 @@ basic_by_test : (kind : Option Kind) → is_basic_kind kind ≡ true → kind �
 basic_by_test (Some basic_schedule) h = refl
 basic_by_test _ h = cc
 
--- the record can be the first of a schedule: a basic schedule with good fields
+-- the record can be the first record of a schedule: it is a basic schedule with good fields
 pub record IsFirstLine (line : List ℕ) : Type 0 where
   pub is : IsRecord line
   pub kind : HasKind basic_schedule line
   pub fields : HasGoodFields line
 
--- a record can be the first of a schedule exactly if it passes the test `is_first_line`
+-- a record can be the first record of a schedule if and only if it passes the test `is_first_line`
 pub first_line_iff_test : (line : List ℕ) → IsFirstLine line ↔ (is_first_line line ≡ true)
 first_line_iff_test line = (
   λ told.
@@ -148,15 +148,15 @@ test_by_sound_next lines line (inr good) = by (is_deletion (first_record lines))
     by true = refl
     by false = and_true (has_good_fields line) _ (test_by_none (leftmost_bad_field line) good.fields) (le-leb (midnights (lines ++ line ∷ [])) 2 good.falls)
 
--- the test `is_sound_next` can be computed from three things that a reader keeps: whether the
--- schedule is a deletion, how often it has passed midnight, and the last time
+-- the test `is_sound_next` can be computed from three values that a reader keeps: whether the
+-- schedule is a deletion, how often the schedule has passed midnight, and the last time
 pub sound_next_by_count : (lines : Lines) (line : List ℕ)
     → is_sound_next lines line
     ≡ (is_deletion (first_record lines) || (has_good_fields line && nat_le (midnights lines + falls_after (last_of (times_along lines))
     (times_along (line ∷ []))) 2))
 sound_next_by_count lines line = λ i. is_deletion (first_record lines) || (has_good_fields line && nat_le (midnights_step lines line i) 2)
 
--- a journey stays sound with one more record that passes the test
+-- a sound journey is still sound after a record that passes the test is appended
 sound_more : (stage : Stage) (lines : Lines) (line : List ℕ) (front : IsFront stage lines) → is_sound_next lines line ≡ true
     → IsSound front.basic (front.journey ++ line ∷ [])
 sound_more stage lines line front test = by (sound_next_by_test lines line test) front.sound
@@ -179,14 +179,14 @@ sound_more stage lines line front test = by (sound_next_by_test lines line test)
           falls = omega arith;
         })
 
--- the parts of the test of the next record: it is a record, it is sound, and its kind leads to the
--- next stage
+-- the parts of the test of the next record: it is a record, it is sound, and `next` is the next
+-- stage by its kind
 pub record IsNextLine (stage : Stage) (lines : Lines) (line : List ℕ) (next : Stage) : Type 0 where
   pub is : IsRecord line
   pub sound : is_sound_next lines line ≡ true
   pub stage_is : stage_after stage (kind_of line) ≡ Some next
 
--- a record that leads to a next stage passes each part of the test
+-- a record that has a next stage passes each part of the test
 pub next_line_by_test : (stage : Stage) (lines : Lines) (line : List ℕ) (next : Stage) → next_stage stage lines line ≡ Some next
     → IsNextLine stage lines line next
 next_line_by_test stage lines line next is = by (is_record line && is_sound_next lines line) refl is
@@ -196,13 +196,14 @@ next_line_by_test stage lines line next is = by (is_record line && is_sound_next
     by true h found = let parts = both (is_record line) _ h in record { is = (record_iff_test line).1 parts.0; sound = parts.1; stage_is = found }
     by false h found = cc
 
--- a record that passes each part of the test leads to the next stage
+-- a record that passes each part of the test has this next stage
 pub test_by_next_line : (stage : Stage) (lines : Lines) (line : List ℕ) (next : Stage) → IsNextLine stage lines line next
     → next_stage stage lines line ≡ Some next
 test_by_next_line stage lines line next told =
     (λ i. cond (and_true (is_record line) _ ((record_iff_test line).0 told.is) told.sound i) (stage_after stage (kind_of line)) None) ∙ told.stage_is
 
--- an incomplete journey is still one after an intermediate location or a change en route
+-- an incomplete journey is still incomplete after an intermediate location or a change en route is
+-- appended
 journey_more : (journey : Lines) (line : List ℕ) → IsOpenJourney journey → IsWithinJourney line → IsOpenJourney (journey ++ line ∷ [])
 journey_more journey line so_far is = (
   so_far.0,
@@ -212,7 +213,7 @@ journey_more journey line so_far is = (
   all_append IsWithinJourney so_far.1 (line ∷ []) so_far.4 (is, tt),
 )
 
--- after one more record the schedule has the shape of the stage that the record's kind leads to
+-- after one more record the schedule has the form for the next stage by the record's kind
 shape_more : (stage : Stage) (kind : Kind) (next : Stage) (extra journey : Lines) (line : List ℕ) → HasShape stage extra journey → HasKind kind line
     → stage_after stage (Some kind) ≡ Some next
     → (HasShape next extra (journey ++ line ∷ [])) ⊎ (HasShape next (line ∷ []) journey × (extra ≡ []) × (journey ≡ []))
@@ -247,14 +248,15 @@ shape_more in_journey terminating_location next extra journey line shape is afte
     ))
 shape_more _ _ next extra journey line shape is after = cc
 
--- a record of an unknown kind leads to no stage
+-- a record of an unknown kind has no next stage
 pub no_stage_of_none : (stage : Stage) → stage_after stage None ≡ None
 no_stage_of_none after_basic = refl
 no_stage_of_none after_details = refl
 no_stage_of_none in_journey = refl
 no_stage_of_none after_journey = refl
 
--- if records are at a stage and one more leads to a next stage, all of them are at the next stage
+-- if records are at a stage and one more record has a next stage, the records with that record are
+-- at the next stage
 pub next_front : (stage : Stage) (lines : Lines) (line : List ℕ) (next : Stage) → IsFront stage lines → next_stage stage lines line ≡ Some next
     → IsFront next (lines ++ line ∷ [])
 next_front stage lines line next front test = by (kind_of line) refl (next_line_by_test stage lines line next test)
@@ -298,7 +300,7 @@ lack_by_test basic test = by (either (is_deletion basic) _ test)
     by (inl deletion) = inl deletion
     by (inr letter) = inr (eqb-true (column 80 basic) 67 letter)
 
--- if the journey of a basic schedule may be missing, it passes the test `may_lack`
+-- if the journey of a basic schedule may be missing, the basic schedule passes the test `may_lack`
 pub test_by_lack : (basic : List ℕ) → MayLackJourney basic → may_lack basic ≡ true
 test_by_lack basic (inl deletion) = ap (λ b. b || (column 80 basic == 67)) deletion
 test_by_lack basic (inr letter) = or_right (is_deletion basic) (ap (λ n. n == 67) letter)
@@ -329,7 +331,7 @@ schedule_of_front stage lines front test = record {
     by in_journey shape h = cc
     by after_journey shape h = inl shape.1
 
--- ---- a record of each kind that may come next
+-- ---- a record of each kind that may follow
 
 -- a record of each kind, with good fields
 pub witness : Kind → List ℕ
@@ -348,7 +350,7 @@ witness terminating_location = lt (codes "BRAYTON") no_text (codes "2359H") no_t
 witness change_en_route = cr (codes "CLAYDON") no_text (codes "1A11")
 witness trailer = zz
 
--- the record that `witness` gives has the right kind
+-- the record `witness kind` has the kind `kind`
 pub witness_kind : (kind : Kind) → HasKind kind (witness kind)
 unfolding witness
 witness_kind header = refl
@@ -364,7 +366,7 @@ witness_kind terminating_location = refl
 witness_kind change_en_route = refl
 witness_kind trailer = refl
 
--- the record that `witness` gives passes the test of a record
+-- the record `witness kind` passes the test of a record
 pub witness_record : (kind : Kind) → is_record (witness kind) ≡ true
 unfolding witness
 witness_record header = refl
@@ -380,7 +382,7 @@ witness_record terminating_location = refl
 witness_record change_en_route = refl
 witness_record trailer = refl
 
--- the record that `witness` gives has good fields
+-- the record `witness kind` has good fields
 pub witness_fields : (kind : Kind) → HasGoodFields (witness kind)
 unfolding witness
 witness_fields header = refl
@@ -411,7 +413,7 @@ witness_times intermediate_location = inl refl
 witness_times change_en_route = inl refl
 witness_times trailer = inl refl
 
--- the record that `witness` gives is sound after the records at any stage
+-- the record `witness kind` is sound after the records at any stage
 pub witness_sound : (stage : Stage) (lines : Lines) (kind : Kind) → IsFront stage lines → is_sound_next lines (witness kind) ≡ true
 witness_sound stage lines kind front = test_by_sound_next lines (witness kind) (by front.sound)
   where
@@ -437,7 +439,8 @@ witness_sound stage lines kind front = test_by_sound_next lines (witness kind) (
             (along_within front.journey (recursion_from_All HasGoodFields front.journey good.fields)) in
             let falls = good.falls in omega arith
 
--- the record that `witness` gives leads to the stage that its kind leads to
+-- appending the record `witness kind` to records at a stage gives records at the next stage by this
+-- kind
 pub witness_front : (stage : Stage) (lines : Lines) (kind : Kind) (next : Stage) → IsFront stage lines → stage_after stage (Some kind) ≡ Some next
     → IsFront next (lines ++ witness kind ∷ [])
 witness_front stage lines kind next front after =
@@ -447,7 +450,7 @@ witness_front stage lines kind next front after =
       stage_is = ap (stage_after stage) (witness_kind kind) ∙ after;
     }))
 
--- if records begin a schedule, so do the first of them
+-- each prefix of records that begin a schedule begins a schedule
 pub begins_shorter : (front rest : Lines) → BeginsSchedule (front ++ rest) → BeginsSchedule front
 begins_shorter front rest begins = (rest ++ begins.0, subst IsSchedule (append_assoc front rest begins.0) begins.1)
 
@@ -473,7 +476,7 @@ front_begins stage lines front = by stage lines front
     by in_journey l f = inside l f
     by after_journey l f = ended l f
 
--- ---- the stage that records lead to
+-- ---- the stage after records
 
 front_from : (rest : Lines) (stage : Stage) (done : Lines) (final : Stage) → IsFront stage done → stage_from stage done rest ≡ Some final
     → IsFront final (done ++ rest)
@@ -484,7 +487,7 @@ front_from (line ∷ rest) stage done final front found =
     subst (IsFront final) (append_assoc done (line ∷ []) rest)
     (front_from rest step.0 (done ++ line ∷ []) final (next_front stage done line step.0 front step.1) step.2)
 
--- records that lead to a stage are at that stage
+-- if the stage after records is `stage`, the records have the form for `stage`
 pub front_of_stage : (lines : Lines) (stage : Stage) → stage_of lines ≡ Some stage → IsFront stage lines
 front_of_stage [] stage found = cc
 front_of_stage (basic ∷ rest) stage found = by (is_first_line basic) refl found
@@ -502,7 +505,7 @@ stage_from_append (line ∷ front) stage done middle more found =
     ∙ stage_from_append front step.0 (done ++ line ∷ []) middle more step.2
     ∙ (λ i. stage_from middle (append_assoc done (line ∷ []) front i) more)
 
--- the stage after records and more records follows from the stage after the first
+-- the stage after a concatenation of records can be computed from the stage after the first list
 pub stage_of_append : (front : Lines) (stage : Stage) (more : Lines) → stage_of front ≡ Some stage → stage_of (front ++ more) ≡ stage_from stage front more
 stage_of_append [] stage more found = cc
 stage_of_append (basic ∷ rest) stage more found = by (is_first_line basic) refl found
@@ -513,12 +516,12 @@ stage_of_append (basic ∷ rest) stage more found = by (is_first_line basic) ref
         (λ i. cond (h i) (stage_from after_basic (basic ∷ []) (rest ++ more)) None) ∙ stage_from_append rest after_basic (basic ∷ []) stage more told
     by false h told = cc
 
--- the stage after one more record is the one that this record leads to
+-- the stage after records and one more record is the next stage of that record
 pub stage_of_more : (lines : Lines) (stage : Stage) (line : List ℕ) → stage_of lines ≡ Some stage → stage_of (lines ++ line ∷ []) ≡ next_stage stage lines line
 stage_of_more lines stage line found = stage_of_append lines stage (line ∷ []) found ∙ some_then (next_stage stage lines line)
 
--- a single record leads to the stage after the basic schedule if it can be the first of a schedule,
--- and otherwise to none
+-- the stage after a single record is the stage after the basic schedule if the record can be the
+-- first record of a schedule, and otherwise `None`
 pub stage_of_first : (line : List ℕ) → stage_of (line ∷ []) ≡ cond (is_first_line line) (Some after_basic) None
 stage_of_first line = refl
 
@@ -530,7 +533,7 @@ stage_from_front (line ∷ front) rest stage done final found =
     let more = stage_from_front front rest step.0 (done ++ line ∷ []) final step.2 in
     (more.0, (λ i. option_and_then (λ next. stage_from next (done ++ line ∷ []) front) (step.1 i)) ∙ more.1)
 
--- if records lead to a stage, so do the first of them, however many
+-- if records have a stage, each prefix that isn't empty has a stage
 pub stage_of_front : (basic : List ℕ) (front rest : Lines) (final : Stage) → stage_of (basic ∷ front ++ rest) ≡ Some final
     → (stage : Stage) × (stage_of (basic ∷ front) ≡ Some stage)
 stage_of_front basic front rest final found = by (is_first_line basic) refl found
@@ -542,7 +545,7 @@ stage_of_front basic front rest final found = by (is_first_line basic) refl foun
         (more.0, (λ i. cond (h i) (stage_from after_basic (basic ∷ []) front) None) ∙ more.1)
     by false h told = cc
 
--- ---- the records of a schedule lead to a stage
+-- ---- the records of a schedule have a stage
 
 -- the stage after records, from their kinds only
 abbrev pub stage_along : Stage → Lines → Option Stage
@@ -595,12 +598,13 @@ journey_along stage journey starts is =
     ∙ (λ i. option_and_then (λ next. stage_along next (is.between ++ is.last ∷ [])) (starts i))
     ∙ calls_along is.between is.last (recursion_from_All IsWithinJourney is.between is.calls) is.terminus
 
--- the records lead to this stage, and may be a complete schedule there
+-- this is the stage after the records, and the records may be a complete schedule at this stage
 pub record IsWholeBy (lines : Lines) (stage : Stage) : Type 0 where
   pub found : stage_of lines ≡ Some stage
   pub may : may_end stage lines ≡ true
 
--- the kinds of the records after the first lead to a stage at which the schedule may end
+-- the stage after the records, by the kinds of the records after the first, is a stage at which the
+-- schedule may end
 record LeadsToEnd (basic : List ℕ) (rest : Lines) : Type 0 where
   pub final : Stage
   pub along : stage_along after_basic rest ≡ Some final
@@ -630,7 +634,7 @@ extra_fields : (extra : Lines) → AreExtraDetails extra → AllByRecursion HasG
 extra_fields extra (inl none) = subst (AllByRecursion HasGoodFields) (sym none) tt
 extra_fields extra (inr one) = subst (AllByRecursion HasGoodFields) (sym one.1) (no_extra_fields one.0 one.2, tt)
 
--- the records of a schedule lead to a stage at which it may end
+-- the records of a schedule have a stage at which the schedule may end
 pub stage_of_schedule : (lines : Lines) → IsSchedule lines → (stage : Stage) × IsWholeBy lines stage
 stage_of_schedule lines is = subst (λ l. (stage : Stage) × IsWholeBy l stage) (sym is.whole) (lead.final, record { found = found; may = lead.may })
   where
@@ -655,11 +659,11 @@ stage_of_schedule lines is = subst (λ l. (stage : Stage) × IsWholeBy l stage) 
 
 -- ---- the laws
 
--- records are a schedule exactly if they lead to a stage and may end there
+-- records are a schedule if and only if they have a stage at which the schedule may end
 pub schedule_iff_stage : (lines : Lines) → IsSchedule lines ↔ ((stage : Stage) × IsWholeBy lines stage)
 schedule_iff_stage lines = (stage_of_schedule lines, λ whole. schedule_of_front whole.0 lines (front_of_stage lines whole.0 whole.1.found) whole.1.may)
 
--- records begin a schedule exactly if they lead to a stage
+-- records begin a schedule if and only if they have a stage
 pub begins_iff_stage : (basic : List ℕ) (rest : Lines) → BeginsSchedule (basic ∷ rest) ↔ ((stage : Stage) × (stage_of (basic ∷ rest) ≡ Some stage))
 begins_iff_stage basic rest = (
   λ begins. let whole = stage_of_schedule ((basic ∷ rest) ++ begins.0) begins.1 in stage_of_front basic rest begins.0 whole.0 whole.1.found,
@@ -675,7 +679,8 @@ no_lines_begin =
       fields = witness_fields basic_schedule;
     })))
 
--- records and one more begin a schedule exactly if the last one leads to a next stage
+-- if records have a stage, then they and one more record begin a schedule if and only if that
+-- record has a next stage
 pub begins_more_iff : (basic : List ℕ) (rest : Lines) (stage : Stage) (line : List ℕ) → stage_of (basic ∷ rest) ≡ Some stage
     → BeginsSchedule (basic ∷ rest ++ line ∷ []) ↔ ((next : Stage) × IsNextLine stage (basic ∷ rest) line next)
 begins_more_iff basic rest stage line at = (
@@ -690,7 +695,7 @@ begins_more_iff basic rest stage line at = (
       ),
 )
 
--- records begin some schedule, or they don't
+-- it is decided whether records begin a schedule
 pub begins_schedule_or_not : (lines : Lines) → BeginsSchedule lines ⊎ ¬ BeginsSchedule lines
 begins_schedule_or_not [] = inl no_lines_begin
 begins_schedule_or_not (basic ∷ rest) = by (stage_of (basic ∷ rest)) refl
@@ -699,7 +704,7 @@ begins_schedule_or_not (basic ∷ rest) = by (stage_of (basic ∷ rest)) refl
     by None h = inr (λ begins. let at = (begins_iff_stage basic rest).0 begins in let bad : None ≡ Some at.0 = sym h ∙ at.1 in cc)
     by (Some stage) h = inl ((begins_iff_stage basic rest).1 (stage, h))
 
--- records are a schedule, or they aren't
+-- it is decided whether records are a schedule
 pub schedule_or_not : (lines : Lines) → IsSchedule lines ⊎ ¬ IsSchedule lines
 schedule_or_not lines = by (stage_of lines) refl
   where
@@ -717,8 +722,8 @@ schedule_or_not lines = by (stage_of lines) refl
 
 -- ---- which kinds are in place
 
--- a record whose kind leads to no stage is out of place: no schedule has a record of this kind
--- after the others
+-- a record that has no next stage by its kind is out of place: no schedule has a record of this
+-- kind after the earlier records
 pub schedule_out_of_place : (basic : List ℕ) (rest : Lines) (stage : Stage) (line : List ℕ) → stage_of (basic ∷ rest) ≡ Some stage
     → stage_after stage (kind_of line) ≡ None
     → (next : List ℕ) → kind_of next ≡ kind_of line → ¬ BeginsSchedule (basic ∷ rest ++ next ∷ [])
@@ -726,24 +731,24 @@ schedule_out_of_place basic rest stage line at none next same begins =
     let told = (begins_more_iff basic rest stage next at).0 begins in
     let bad : None ≡ Some told.0 = sym none ∙ ap (stage_after stage) (sym same) ∙ told.1.stage_is in cc
 
--- if a kind leads to a stage, some record of this kind may come next
+-- if a kind has a next stage, the earlier records followed by `witness kind` begin a schedule
 pub schedule_in_place : (basic : List ℕ) (rest : Lines) (stage : Stage) (kind : Kind) (next : Stage) → stage_of (basic ∷ rest) ≡ Some stage
     → stage_after stage (Some kind) ≡ Some next
     → BeginsSchedule (basic ∷ rest ++ witness kind ∷ [])
 schedule_in_place basic rest stage kind next at found =
     front_begins next (basic ∷ rest ++ witness kind ∷ []) (witness_front stage (basic ∷ rest) kind next (front_of_stage (basic ∷ rest) stage at) found)
 
--- ---- why a record leads to no next stage
+-- ---- why a record has no next stage
 
 -- the record's kind is out of place, a field is bad, or the schedule passes midnight for the third
--- time. In a deletion only the kind counts
+-- time. In a deletion only the kind is checked
 abbrev pub IsNoNextLine : Stage → Lines → List ℕ → Type 0
 IsNoNextLine stage lines line =
     (stage_after stage (kind_of line) ≡ None)
     ⊎ (((at : ℕ) × (leftmost_bad_field line ≡ Some at) × (is_deletion (first_record lines) ≡ false))
     ⊎ (HasGoodFields line × (2 < midnights (lines ++ line ∷ [])) × (is_deletion (first_record lines) ≡ false)))
 
--- if a record leads to no next stage, `IsNoNextLine` says why
+-- a record that has no next stage satisfies `IsNoNextLine`
 pub no_next_line : (stage : Stage) (lines : Lines) (line : List ℕ) → IsRecord line → next_stage stage lines line ≡ None → IsNoNextLine stage lines line
 no_next_line stage lines line is nowhere = by (stage_after stage (kind_of line)) refl
   where

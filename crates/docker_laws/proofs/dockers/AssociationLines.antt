@@ -1,5 +1,5 @@
--- The docker line that an association gives for one start day of the base train. All lines of this
--- kind are in the docker, and the docker has no other lines of associations.
+-- The docker line of an association for one start day of the base train. The docker has each of
+-- these lines, and no other lines of associations.
 use Rattle.std.proofs.Common.{◌≡◌, ℕ, List, [], ◌∷◌, refl, ap, sym, ◌∙◌, subst, inl, inr, Some, None, Bool, true, false, cond, Contains, eqb-true, arith}
 use Rattle.std.specs.Prelude.{Option, not, ◌&&◌, ◌==◌}
 use Rattle.std.specs.Ordering.{is_eq}
@@ -38,8 +38,8 @@ pub record IsOfAssociation (live : Table) (place : List ℕ) (day : ℕ) (key : 
   pub of_key : made.key ≡ key
   pub of_start : made.start ≡ start
 
--- the association may give a line for this start day: it is the chosen one, isn't a cancellation,
--- and has a date indicator that gives a line
+-- the association may have a docker line for this start day. It is the chosen association of its
+-- group, isn't a cancellation, and its date indicator is S, a space, N or P
 pub record IsInForce (live : Table) (start : ℕ) (key : AssociationKey) (line : List ℕ) : Type 0 where
   pub chosen : IsChosenAssociation live (group_of key) start key line
   pub no_cancellation : ¬ (key.indicator ≡ 67)
@@ -47,8 +47,7 @@ pub record IsInForce (live : Table) (start : ℕ) (key : AssociationKey) (line :
 
 module _ (live : Table) (trains : List ℕ → ℕ → Option Train) (links : Group → ℕ → Option Link) (tell : TellsTrains live trains)
     (tell_links : TellsLinks live links) (place : List ℕ) (day : ℕ) where
-  -- the function `partner_identity` gives the identity that the line must have for the associated
-  -- train
+  -- `partner_identity` is the identity that the line prints for the associated train
   partner_is : (uid : List ℕ) (start : Option ℕ) → IsPartnerIdentity live uid start (partner_identity trains uid start)
   partner_is uid None = refl
   partner_is uid (Some start) = by (trains uid start) (tell uid start)
@@ -151,7 +150,7 @@ module _ (live : Table) (trains : List ℕ → ℕ → Option Train) (links : Gr
         of_start = refl;
       }
 
-  -- a line that `link_piece` gives for a start day is in the docker
+  -- each line in `link_piece` for a start day is in the docker
   pub link_piece_back : (key : AssociationKey) (line : List ℕ) (start : ℕ) → live (association_key key) ≡ Some (association_body line) → key.location ≡ place
       → (docker_line : DockerLine) → Contains (link_piece trains links day key line start) docker_line → IsOfAssociation live place day key start docker_line
   link_piece_back key line start is_live here docker_line among = by (is_in_force links start key line) refl among
@@ -174,7 +173,7 @@ module _ (live : Table) (trains : List ℕ → ℕ → Option Train) (links : Gr
       by false h inside = absurd (nil-Contains docker_line inside)
       by true h inside = with_category (in_force_back key line start is_live h) (category_occasion (columns 35 36 line)) refl inside
 
-  -- each docker line of an association is the one that `link_piece` gives for its start day
+  -- each docker line of an association is in `link_piece` for its start day
   pub link_piece_forth : (docker_line : DockerLine) (made : IsAssociationLine live place day docker_line)
       → Contains (link_piece trains links day made.key made.association made.start) docker_line
   link_piece_forth docker_line made =

@@ -18,13 +18,13 @@ module _ (counts : Key → Bool) where
   abbrev row_counts : Row → Bool
   row_counts row = counts row.0
 
-  -- if all rows are in key order, the rows that pass are in key order
+  -- if rows are in key order, the rows that pass the test are in key order
   counted_ascend : (rows : List Row) → AreInKeyOrder rows → AreInKeyOrder (counted_rows counts rows)
   counted_ascend rows up =
       ascending_of (on (λ (row : Row). row.0) key_cmp) (counted_rows counts rows)
       (later_filter (IsBelow (on (λ (row : Row). row.0) key_cmp)) row_counts rows (later_of (on (λ (row : Row). row.0) key_cmp) rows up))
 
-  -- a body in the cut table is in the whole table at the same key, and the key passes
+  -- a body in the cut table is in the whole table at the same key, and the key passes the test
   pub was_counted : (live : Table) (key : Key) (body : Body) → counted_table counts live key ≡ Some body → (counts key ≡ true) × (live key ≡ Some body)
   was_counted live key body is = by (counts key) refl is
     where
@@ -32,7 +32,7 @@ module _ (counts : Key → Bool) where
       by true h told = (h, told)
       by false h none = absurd (let bad : None ≡ Some body = none in cc)
 
-  -- a body of the whole table is in the cut table if its key passes
+  -- a body of the whole table is in the cut table if its key passes the test
   stays_counted : (live : Table) (key : Key) (body : Body) → counts key ≡ true → live key ≡ Some body → counted_table counts live key ≡ Some body
   stays_counted live key body passes is = (λ i. cond (passes i) (live key) None) ∙ is
 
@@ -112,7 +112,7 @@ module _ (counts : Key → Bool) where
   pub counted_bodies : (live : Table) → HasGoodBodies live → HasGoodBodies (counted_table counts live)
   counted_bodies live good key body is = good key body (was_counted live key body is).1
 
-  -- if the whole table has a list of good rows, so has the cut table
+  -- if the whole table has a list of good rows, the cut table has one too
   pub counted_good : (live : Table) → IsOfGoodRows live → IsOfGoodRows (counted_table counts live)
   counted_good live good = record {
     rows = counted_rows counts good.rows;

@@ -1,4 +1,4 @@
--- The events of a schedule, found by a walk over its records. The walk keeps the number of falls
+-- The events of a schedule, computed by a walk over its records. The walk keeps the number of falls
 -- and the last change en route. A fall is a time that is earlier than the time before it.
 use Rattle.std.proofs.Common.{◌≡◌, ℕ, zero, suc, ◌+◌, ◌<◌, ◌≤◌, Bool, true, false, cond, List, [], ◌∷◌, ◌++◌, map, length, get_or}
 use Rattle.std.proofs.Common.{take, refl, ap, sym, ◌∙◌, subst, arith, Contains, Some, None, append_assoc, append-nil, length-append}
@@ -46,19 +46,20 @@ from_is n place (line ∷ lines) =
     ∙ (λ i. here_is n place (times_of line) i ++ (ap (λ k. map as_event (enumerate_from (n + k) (flat_map times_at (enumerate_from (place + 1) lines)))) long
     ∙ from_is (n + length (times_of line)) (place + 1) lines) i)
 
--- the events of a schedule are the events that the walk finds
+-- the events of a schedule equal the events that the walk computes
 pub events_walked : (lines : List (List ℕ)) → events_of lines ≡ events_from 1 0 lines
 events_walked lines = from_is 1 0 lines
 
 -- ---- falls
 
--- one more time adds one fall if it is earlier than the last time, and otherwise none
+-- appending a time adds one fall if the time is earlier than the last time, and otherwise leaves
+-- the number of falls unchanged
 pub falls_more : (times : List ℕ) (time : ℕ) → fall_count (times ++ time ∷ []) ≡ fall_count times + fall_at (last_time times) time
 falls_more [] time = refl
 falls_more (first ∷ []) time = (let e : cond (nat_lt time first) 1 0 + 0 ≡ 0 + cond (nat_lt time first) 1 0 = omega arith in e)
 falls_more (first ∷ second ∷ times) time = let rest = falls_more (second ∷ times) time in omega arith
 
--- the number of falls up to an event depends only on the times before it and its time
+-- the number of falls up to an event depends only on the event's time and the times before it
 pub falls_here : (lines : List (List ℕ)) (before later : List ℕ) (time : ℕ) (number : ℕ) → times_along lines ≡ (before ++ time ∷ []) ++ later
     → number ≡ length before + 1
     → falls_to lines number ≡ fall_count before + fall_at (last_time before) time
@@ -70,8 +71,8 @@ falls_here lines before later time number whole is =
     front : (xs : List ℕ) (x : ℕ) (ys : List ℕ) → take (length xs + 1) ((xs ++ x ∷ []) ++ ys) ≡ xs ++ x ∷ []
     front xs x ys = ap (take (length xs + 1)) (append_assoc xs (x ∷ []) ys) ∙ take-append-add xs (x ∷ ys) 1
 
--- the times of a schedule, split at a record: the times before it, the times in it, and the times
--- after it
+-- the times of a schedule, split at a record: the times before the record, the times in the record,
+-- and the times after the record
 pub times_split : (front : List (List ℕ)) (line : List ℕ) (rest : List (List ℕ))
     → times_along (front ++ line ∷ rest) ≡ times_along front ++ (map (λ (time : Occasion × ℕ). time.1) (times_of line) ++ times_along rest)
 times_split front line rest =
@@ -81,24 +82,25 @@ times_split front line rest =
 
 -- ---- the record and the train identity at an event
 
--- the record of an event is the one that the walk has reached
+-- the record of an event is the record that the walk has reached
 pub line_here : (front : List (List ℕ)) (line : List ℕ) (rest : List (List ℕ)) (event : Event) → event.place ≡ length front
     → event_line (front ++ line ∷ rest) event ≡ line
 line_here front line rest event is = ap (λ n. get_or (front ++ line ∷ rest) n []) is ∙ get_or-append_seam front line rest []
 
--- the train identity at an event comes from the last change en route before its record
+-- the train identity at an event is computed from the last change en route before the event's
+-- record
 pub identity_here : (front rest : List (List ℕ)) (event : Event) → event.place ≡ length front → event_identity (front ++ rest) event ≡ changed_identity
     (last_change front) (first_record (front ++ rest))
 identity_here front rest event is =
     ap (λ before. changed_identity (last_change before) (first_record (front ++ rest))) (ap (λ n. take n (front ++ rest)) is ∙ take-append_seam front rest)
 
--- the last element of a list with one more element is that element
+-- the last element of a list after an element is appended is that element
 last_behind : {A : Type 0} (o : Option A) (xs : List A) (x : A) → last_or o (xs ++ x ∷ []) ≡ Some x
 last_behind o [] x = refl
 last_behind o (y ∷ xs) x = last_behind (Some y) xs x
 
--- the last change en route after one more record is that record if it is a CR record, and otherwise
--- stays
+-- after one more record, the last change en route is that record if it is a CR record, and
+-- otherwise is unchanged
 pub change_more : (front : List (List ℕ)) (line : List ℕ) → last_change (front ++ line ∷ []) ≡ cond (has_identity (codes "CR") line) (Some line)
     (last_change front)
 change_more front line =
@@ -114,7 +116,7 @@ change_more front line =
 
 -- ---- the number of events
 
--- a schedule has as many events as times
+-- the number of a schedule's events equals the number of its times
 pub as_many : (lines : List (List ℕ)) → length (events_of lines) ≡ length (times_along lines)
 as_many lines =
     length-map (enumerate_from 1 (placed_times lines)) as_event ∙ length-enumerate_from 1 (placed_times lines)
@@ -128,7 +130,7 @@ as_many lines =
         ∙ (λ i. length-map {B = Placed} (times_of l) (λ (time : Occasion × ℕ). (n, time)) i + placed_long (n + 1) ls i)
         ∙ sym (length-append (times_of l) (flat_map times_of ls))
 
--- there is an event with a number exactly if the number is from 1 to the number of times
+-- a schedule has an event with a number if and only if the number is from 1 to the number of times
 pub number_there : (lines : List (List ℕ)) (number : ℕ) → ((event : Event) × Contains (events_of lines) event × (event.number ≡ number))
     ↔ ((1 ≤ number) × (number ≤ length (times_along lines)))
 number_there lines number = (forth, back)

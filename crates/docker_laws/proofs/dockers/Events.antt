@@ -36,7 +36,7 @@ counts_up n (x ∷ xs) = (
   counts_up (n + 1) xs,
 )
 
--- the events are in the order of their numbers
+-- the numbers of the events are strictly increasing
 pub numbers_ascend : (lines : List (List ℕ)) → AllLater (λ (a b : Event). a.number < b.number) (events_of lines)
 numbers_ascend lines = later_map (λ (a b : Event). a.number < b.number) as_event (enumerate_from 1 (placed_times lines)) (counts_up 1 (placed_times lines))
 
@@ -51,7 +51,8 @@ one_event lines a b in_a in_b same = by (one_before (λ (x y : Event). x.number 
 
 -- ---- the record of an event
 
--- a member of a numbered list is the element at the place that its number gives
+-- a member of `enumerate_from n xs` has the number `n + k` and the element of `xs` at index `k`,
+-- for some `k`
 stands_at : {A : Type 0} (n : ℕ) (xs : List A) (z : ℕ × A) (d : A) → Contains (enumerate_from n xs) z → (k : ℕ) × (z.0 ≡ n + k) × (k < length xs)
     × (get_or xs k d ≡ z.1)
 stands_at n [] z d among = absurd (nil-Contains z among)
@@ -63,7 +64,8 @@ stands_at n (x ∷ xs) z d among = by (stands_at (n + 1) xs z d) (Contains-cons 
     by rest (inl e) = (0, (let same : n ≡ z.0 = ap (λ (v : ℕ × _). v.0) e in omega arith), omega arith, ap (λ (v : ℕ × _). v.1) e)
     by rest (inr inside) = let found = rest inside in (suc found.0, (let at = found.1 in omega arith), (let low = found.2 in omega arith), found.3)
 
--- the record of the event is one of the schedule's, and the event is one of the times in it
+-- the record of the event is a record of the schedule, and the event's occasion and time are in
+-- that record
 pub record IsTimeOf (lines : List (List ℕ)) (event : Event) : Type 0 where
   pub among : Contains lines (event_line lines event)
   pub is_time : Contains (times_of (event_line lines event)) (event.occasion, event.time)
@@ -73,7 +75,7 @@ same_at [] k x low is = absurd (omega arith)
 same_at (y ∷ ys) zero x low is = is
 same_at (y ∷ ys) (suc k) x low is = same_at ys k x (omega arith) is
 
--- an event is one of a record's times if it is placed at that record and has one of its times
+-- if an event is placed at a record and has an occasion and time of that record, `IsTimeOf` holds
 time_of_line : (lines : List (List ℕ)) (event : Event) (k : ℕ) (line : List ℕ) → k < length lines → get_or lines k [] ≡ line → event.place ≡ k
     → Contains (times_of line) (event.occasion, event.time) → IsTimeOf lines event
 time_of_line lines event k line low is place among =
@@ -83,7 +85,7 @@ time_of_line lines event k line low is place among =
       is_time = subst (λ l. Contains (times_of l) (event.occasion, event.time)) (sym line_is) among;
     }
 
--- a time in `placed_times` is one of the times in the record at its place
+-- each time in `placed_times` is a time of the record at its place
 time_of_placed : (lines : List (List ℕ)) (placed : Placed) → Contains (placed_times lines) placed
     → (line : List ℕ) × (placed.0 < length lines) × (get_or lines placed.0 [] ≡ line) × Contains (times_of line) placed.1
 time_of_placed lines placed among =
@@ -109,7 +111,7 @@ time_of_placed lines placed among =
         let time = Contains-map (λ (t : Occasion × ℕ). (piece.0, t)) (times_of piece.1) placed inside in
         at piece.0 piece.1 stands.0 stands.1 stands.2 stands.3 time.0 time.1 time.2
 
--- each event is one of the times in its record
+-- each event's occasion and time are in the event's record
 pub at_a_line : (lines : List (List ℕ)) (event : Event) → Contains (events_of lines) event → IsTimeOf lines event
 at_a_line lines event among = by (Contains-map as_event (enumerate_from 1 (placed_times lines)) event among)
   where
@@ -137,7 +139,7 @@ timed_is occasion (Some n) pair among = by (Contains-cons (occasion, n) [] pair 
     by (inl e) = sym (ap (λ (v : Occasion × ℕ). v.0) e)
     by (inr none) = absurd (nil-Contains pair none)
 
--- a record with a time is a location record, and what happens at the time is an arrival, a pass or
+-- a record with a time is a location record, and the occasion of the time is an arrival, a pass or
 -- a departure
 pub timed_there : (line : List ℕ) (pair : Occasion × ℕ) → Contains (times_of line) pair → IsLocation line × IsOfTrain pair.0
 timed_there line pair among = by (kind_of line) refl among
@@ -178,7 +180,7 @@ timed_there line pair among = by (kind_of line) refl among
 pub event_occasion : (lines : List (List ℕ)) (event : Event) → Contains (events_of lines) event → IsOfTrain event.occasion
 event_occasion lines event among = (timed_there (event_line lines event) (event.occasion, event.time) (at_a_line lines event among).is_time).1
 
--- a schedule calls at a place where it has an event
+-- if a schedule has an event at a place, it calls at that place
 pub event_calls : (lines : List (List ℕ)) (event : Event) (place : List ℕ) → Contains (events_of lines) event → columns 3 9 (event_line lines event) ≡ place
     → CallsAt place lines
 event_calls lines event place among here =

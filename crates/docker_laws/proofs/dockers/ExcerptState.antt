@@ -1,5 +1,5 @@
--- An excerpt of a valid state for a place is valid, refuses the same days, and gives the same
--- dockers of the place. The entries whose keys the place needs are an excerpt.
+-- An excerpt of a valid state for a place is valid, refuses the same days, and has the same dockers
+-- of the place. The entries whose keys the place needs are an excerpt.
 use Rattle.std.proofs.Common.{◌++◌, ◌≡◌, ℕ, List, [], ◌∷◌, subst, inl, inr, ◌⊎◌, refl, ap, sym, ◌∙◌, Bool, true, false, cond, Some, None}
 use Rattle.std.specs.Prelude.{Option, ◌↔◌, ◌&&◌, ◌||◌, filter, find, option_and_then}
 use Rattle.std.specs.List.{list_any}
@@ -32,7 +32,7 @@ use Rattle.state_laws.proofs.indexes.CallsTest.{any_forth, calls_test}
 
 -- ---- an excerpt of a state
 
--- if all entries of a ledger are good, so are some of them, in the same order
+-- a sublist of good entries of a ledger is good
 pub some_entries : (ledger : List LedgerItem) (some all : List Keyed) → AreEntries ledger all → IsSublist some all → AreEntries ledger some
 some_entries ledger some all are is = (
   sublist_all (IsGoodEntry ledger) some all is are.0,
@@ -42,7 +42,7 @@ some_entries ledger some all are is = (
     by_key : Keyed → Keyed → Ordering
     by_key = on (λ (entry : Keyed). entry.0) key_cmp
 
--- an entry that may follow all entries of a state may also follow some of them
+-- an entry that may follow the entries of a state may also follow a sublist of these entries
 pub still_here : (state part : State) (key : Key) (stamp : Stamp) → IsSublist part.entries state.entries → part.ledger ≡ state.ledger
     → IsStampHere state key stamp → IsStampHere part key stamp
 still_here state part key stamp is same here = (
@@ -50,7 +50,7 @@ still_here state part key stamp is same here = (
   subst (λ ledger. IsStampIn ledger stamp) (sym same) here.1,
 )
 
--- good entries and one more that may follow them are good entries
+-- good entries with an appended entry that may follow them are good
 pub entries_more : (state : State) (key : Key) (entry : Entry) → AreEntries state.ledger state.entries → IsStampHere state key entry.stamp
     → IsOpOf key entry.op
     → AreEntries state.ledger (state.entries ++ (key, entry) ∷ [])
@@ -62,7 +62,7 @@ entries_more state key entry are here of = (
       (recursion_from_All (λ (e : Keyed). IsBelow key_cmp e.0 key) state.entries here.0.1),
 )
 
--- among good entries each one may follow those before it
+-- among good entries each entry may follow the entries before it
 pub entry_behind : (state : State) (key : Key) (entry : Entry) (rest : List Keyed) → AreEntries state.ledger (state.entries ++ (key, entry) ∷ rest)
     → IsStampHere state key entry.stamp × IsOpOf key entry.op
 entry_behind state key entry rest are =
@@ -80,7 +80,7 @@ entry_behind state key entry rest are =
       good.op,
     )
 
--- a valid state with only some of its entries is valid
+-- a valid state with a sublist of its entries is valid
 pub some_valid : (state part : State) → IsValid state → part.horizon ≡ state.horizon → part.ledger ≡ state.ledger → IsSublist part.entries state.entries
     → IsValid part
 some_valid state part valid same_horizon same_ledger is = record {
@@ -99,7 +99,7 @@ excerpt_valid place state part valid is = some_valid state part valid is.horizon
 pub excerpt_itself : (place : List ℕ) (state : State) → IsExcerptState place state state
 excerpt_itself place state = record { horizon = refl; ledger = refl; entries = sublist_itself state.entries; live = λ key. inl refl }
 
--- an excerpt of an excerpt is an excerpt of the first state
+-- the relation "is an excerpt of" is transitive
 pub excerpt_again : (place : List ℕ) (state part smaller : State) → IsExcerptState place state part → IsExcerptState place part smaller
     → IsExcerptState place state smaller
 excerpt_again place state part smaller is further = record {
@@ -168,7 +168,7 @@ module _ (test : Key → Bool) where
       by false true h g rest = absurd (let bad : false ≡ true = sym h ∙ ap test (same_key x.0 key g) ∙ passes in cc)
       by false false h g rest = rest
 
-  -- a search for a key that fails the test finds nothing among the entries that pass
+  -- a search for a key that fails the test finds no entry among the entries that pass
   find_dropped : (key : Key) → test key ≡ false → (xs : List Keyed)
       → find (λ entry. is_eq (key_cmp entry.0 key)) (filter (λ entry. test entry.0) xs) ≡ None
   find_dropped key fails xs = by (find (λ entry. is_eq (key_cmp entry.0 key)) (filter (λ entry. test entry.0) xs)) refl
@@ -202,7 +202,7 @@ module _ (test : Key → Bool) where
 abbrev pub calls_as : List ℕ → List ℕ → Keyed → Bool
 calls_as place uid entry = has_uid uid entry.0 && is_call place entry.1.op
 
--- whether there is a name and it is the UID
+-- whether the optional UID is present and is this UID
 abbrev pub is_name : List ℕ → Option (List ℕ) → Bool
 is_name uid None = false
 is_name uid (Some name) = bytes_eq name uid
@@ -221,12 +221,12 @@ is_needed place entries (tiploc_key code) = bytes_eq code place
 is_needed place entries (association_key key) = bytes_eq key.location place
 is_needed place entries (schedule_key key) = is_concerned place entries key.uid
 
--- one of two tests passes if the second passes
+-- `a || b` is true if `b` is true
 pub or_right : (a b : Bool) → b ≡ true → (a || b) ≡ true
 or_right true b h = refl
 or_right false b h = h
 
--- one of two tests passes if the first passes
+-- `a || b` is true if `a` is true
 pub or_left : (a b : Bool) → a ≡ true → (a || b) ≡ true
 or_left true b h = refl
 or_left false b h = absurd (let bad : false ≡ true = h in cc)

@@ -1,4 +1,4 @@
--- The walk that makes an excerpt: what it has kept after each entry and at the end.
+-- The walk that computes an excerpt: the kept entries after each entry and at the end.
 use Rattle.std.proofs.Common.{All, ◌≡◌, ℕ, List, [], ◌∷◌, ◌++◌, subst, inl, inr, ◌⊎◌, refl, ap, sym}
 use Rattle.std.proofs.Common.{◌∙◌, Bool, true, false, cond, Some, Contains, append-nil, append_assoc}
 use Rattle.std.specs.Prelude.{Option, ◌||◌, ◌↔◌, filter, fold, option_and_then}
@@ -35,12 +35,12 @@ fold_more : {A B : Type 0} (f : B → A → B) (first : B) (xs ys : List A) → 
 fold_more f first [] ys = refl
 fold_more f first (x ∷ xs) ys = fold_more f (f first x) xs ys
 
--- the walk after one more entry is the step `next_kept` from the walk before it
+-- the state of the walk after one more entry is `next_kept` of the state before it
 pub so_far_more : (place : List ℕ) (entries : List Keyed) (entry : Keyed)
     → kept_so_far place (entries ++ entry ∷ []) ≡ next_kept place (kept_so_far place entries) entry
 so_far_more place entries entry = fold_more (next_kept place) nothing_kept entries (entry ∷ [])
 
--- a walk that is continued from any entry keeps the same in the end as the whole walk
+-- the kept entries of a walk that continues from any entry equal the kept entries of the whole walk
 pub kept_from_there : (place : List ℕ) (front rest : List Keyed)
     → kept_from place (kept_so_far place front) rest ≡ kept_after_run place (kept_so_far place (front ++ rest))
 kept_from_there place front rest = ap (kept_after_run place) (sym (fold_more (next_kept place) nothing_kept front rest))
@@ -60,7 +60,8 @@ module _ (place : List ℕ) (P : List Keyed → ExcerptSoFar → Type 0)
 
 -- ---- the kept entries and the run are some of the entries passed
 
--- at the end of a run, the kept entries are some of the entries kept before and the run's
+-- at the end of a run, the kept entries are a sublist of the entries kept before, followed by the
+-- run
 pub after_run_within : (place : List ℕ) (so_far : ExcerptSoFar) → IsSublist (kept_after_run place so_far) (so_far.kept ++ so_far.run)
 after_run_within place so_far = by (is_run_needed place so_far)
   where
@@ -115,11 +116,11 @@ module _ (place : List ℕ) where
   within_more done so_far (tiploc_key code) entry here = within_other done so_far (tiploc_key code, entry) (is_here place (tiploc_key code)) here
   within_more done so_far (association_key key) entry here = within_other done so_far (association_key key, entry) (is_here place (association_key key)) here
 
-  -- the kept entries and the run are some of the entries passed, in the same order
+  -- the kept entries followed by the run are a sublist of the entries passed
   pub so_far_within : (entries : List Keyed) → IsSublist ((kept_so_far place entries).kept ++ (kept_so_far place entries).run) entries
   so_far_within = all_along place Within (λ done so_far x here. within_more done so_far x.0 x.1 here) tt
 
-  -- if all entries passed are good, so are the kept ones with the run
+  -- if all entries passed are good, the kept entries followed by the run are good
   pub so_far_good : (ledger : List LedgerItem) (entries : List Keyed) → AreEntries ledger entries
       → AreEntries ledger ((kept_so_far place entries).kept ++ (kept_so_far place entries).run)
   so_far_good ledger entries are =
@@ -169,7 +170,7 @@ module _ (place : List ℕ) where
   run_of_one_uid : (entries : List Keyed) → OfOneUid entries (kept_so_far place entries)
   run_of_one_uid = all_along place OfOneUid (λ done so_far x here. one_uid_more done so_far x.0 x.1 here) ([], λ r among. absurd (nil-Contains r among))
 
-  -- if a schedule of this UID may join the run, all entries of the run have the UID
+  -- if `goes_on` holds for the run and a UID, all entries of the run have this UID
   pub run_uid : (entries : List Keyed) (uid : List ℕ) (r : Keyed) → goes_on (kept_so_far place entries).run uid ≡ true
       → Contains (kept_so_far place entries).run r → has_uid uid r.0 ≡ true
   run_uid entries uid r goes among =
@@ -177,8 +178,8 @@ module _ (place : List ℕ) where
       let first = goes_first (kept_so_far place entries).run uid goes in
       subst (λ other. has_uid other r.0 ≡ true) (uid_once of.0 uid first.0.0 (of.1 first.0 first.1) first.2) (of.1 r among)
 
-  -- in key order there is no run when a TIPLOC or an association comes, because these come before
-  -- all schedules
+  -- in key order, when the walk reaches a TIPLOC or an association, its run is empty, because
+  -- TIPLOCs and associations are before all schedules
   pub no_run_before : (entries : List Keyed) (key : Key) → All (λ (e : Keyed). IsBelow key_cmp e.0 key) entries
       → ((uid : List ℕ) → has_uid uid key ≡ false) → (kept_so_far place entries).run ≡ []
   no_run_before entries key above never =
@@ -253,13 +254,13 @@ module _ (place : List ℕ) where
   named_more done so_far (tiploc_key code) entry here = named_other done so_far (tiploc_key code, entry) (is_here place (tiploc_key code)) refl here
   named_more done so_far (association_key key) entry here = named_other done so_far (association_key key, entry) (is_here place (association_key key)) refl here
 
-  -- the kept associations name the same UIDs as all live associations at the place that the walk
-  -- has passed
+  -- the UIDs of associated trains are the same in the kept associations as in all live associations
+  -- at the place that the walk has passed
   pub names_so_far : (entries : List Keyed)
       → names_in (kept_so_far place entries).kept ≡ names_in (filter (λ (entry : Keyed). is_here place entry.0) entries)
   names_so_far entries = (all_along place AreNamed (λ done so_far x here. named_more done so_far x.0 x.1 here) (refl, refl) entries).0
 
-  -- one more schedule names no UID
+  -- a schedule leaves the UIDs of associated trains in the kept entries unchanged
   pub names_stay : (entries : List Keyed) (key : ScheduleKey) (entry : Entry)
       → names_in (kept_so_far place (entries ++ (schedule_key key, entry) ∷ [])).kept ≡ names_in (kept_so_far place entries).kept
   names_stay entries key entry =
@@ -270,7 +271,7 @@ module _ (place : List ℕ) where
 -- ---- one step
 
 module _ (place : List ℕ) (so_far : ExcerptSoFar) where
-  -- a schedule of the run's UID joins the run
+  -- a schedule of the run's UID is appended to the run
   pub joins_run : (key : ScheduleKey) (entry : Entry) → goes_on so_far.run key.uid ≡ true
       → next_kept place so_far (schedule_key key, entry) ≡ record { kept = so_far.kept; run = so_far.run ++ (schedule_key key, entry) ∷ [] }
   joins_run key entry goes = λ i.
@@ -288,11 +289,11 @@ module _ (place : List ℕ) (so_far : ExcerptSoFar) where
   pub keeps_run : is_run_needed place so_far ≡ true → kept_after_run place so_far ≡ so_far.kept ++ so_far.run
   keeps_run needed = λ i. cond (needed i) (so_far.kept ++ so_far.run) so_far.kept
 
-  -- a run that is not needed is dropped
+  -- a run that isn't needed is dropped
   pub drops_run : is_run_needed place so_far ≡ false → kept_after_run place so_far ≡ so_far.kept
   drops_run unneeded = λ i. cond (unneeded i) (so_far.kept ++ so_far.run) so_far.kept
 
-  -- without a run the kept entries stay as they are
+  -- if the run is empty, the end of the run leaves the kept entries unchanged
   pub ends_none : so_far.run ≡ [] → kept_after_run place so_far ≡ so_far.kept
   ends_none none = subst (λ (run : List Keyed). kept_after_run place (record { kept = so_far.kept; run = run }) ≡ so_far.kept) (sym none) refl
 
@@ -315,7 +316,7 @@ module _ (place : List ℕ) (so_far : ExcerptSoFar) where
   elsewhere_then x true h none = absurd (let bad : true ≡ false = h in cc)
   elsewhere_then x false h none = let back : [] ≡ so_far.run = sym none in λ i. record { kept = ends_none none i; run = back i }
 
-  -- a TIPLOC or an association of another place changes nothing
+  -- a TIPLOC or an association of another place leaves the state of the walk unchanged
   pub drops_elsewhere : (key : Key) (entry : Entry) → ((uid : List ℕ) → has_uid uid key ≡ false) → is_here place key ≡ false → so_far.run ≡ []
       → next_kept place so_far (key, entry) ≡ so_far
   drops_elsewhere (schedule_key key) entry never elsewhere none = false_true (sym (never key.uid) ∙ (bytes_eq-Decides key.uid key.uid).1 refl)
@@ -323,7 +324,7 @@ module _ (place : List ℕ) (so_far : ExcerptSoFar) where
   drops_elsewhere (association_key key) entry never elsewhere none =
       elsewhere_then (association_key key, entry) (is_here place (association_key key)) elsewhere none
 
--- a run's UID is among the names exactly if the UID of its first schedule is
+-- `is_run_named` holds for a run if and only if the UID of its first schedule is among the names
 pub named_iff : (names : List (List ℕ)) (key : ScheduleKey) (entry : Entry) (others : List Keyed)
     → (is_run_named names ((schedule_key key, entry) ∷ others) ≡ true) ↔ Contains names key.uid
 named_iff names key entry others = (
@@ -333,8 +334,8 @@ named_iff names key entry others = (
   λ among. any_forth (λ name. bytes_eq key.uid name) names key.uid among ((bytes_eq-Decides key.uid key.uid).1 refl),
 )
 
--- a run is needed exactly if a kept association names its UID or one of its live schedules calls at
--- the place
+-- a run is needed if and only if its UID is the associated train of a kept association or one of
+-- its live schedules calls at the place
 pub run_needed_iff : (place : List ℕ) (so_far : ExcerptSoFar) (key : ScheduleKey) (entry : Entry) (others : List Keyed)
     → so_far.run ≡ (schedule_key key, entry) ∷ others
     → (is_run_needed place so_far ≡ true)
@@ -364,15 +365,16 @@ pub or_false : (b : Bool) → (b || false) ≡ b
 or_false true = refl
 or_false false = refl
 
--- a run with one more schedule calls at the place if it did before or if that schedule does
+-- a run with a schedule appended calls at the place if and only if the run or that schedule calls
+-- at the place
 pub calls_more : (place : List ℕ) (run : List Keyed) (entry : Keyed)
     → is_run_calling place (run ++ entry ∷ []) ≡ (is_run_calling place run || is_call place entry.1.op)
 calls_more place run entry =
     list_any-append (λ (e : Keyed). is_call place e.1.op) run (entry ∷ [])
     ∙ ap (λ b. is_run_calling place run || b) (or_false (is_call place entry.1.op))
 
--- the names in entries and one more entry are the names in the entries, then the name in the last
--- one
+-- the names in entries with one entry appended are the names in the entries, followed by the name
+-- in that entry
 pub names_with : (xs : List Keyed) (entry : Keyed) → names_in (xs ++ entry ∷ []) ≡ names_in xs ++ names_in (entry ∷ [])
 names_with xs entry = filter_map-append (λ (e : Keyed). name_in e.0 e.1.op) xs (entry ∷ [])
 
@@ -391,7 +393,7 @@ call_back place (put_with (tiploc_body bytes)) h = false_true h
 call_back place (put_with (association_body line)) h = false_true h
 call_back place (put_with (schedule_body lines)) h = (lines, refl, (calls_test place lines).0 h)
 
--- the entry is a live association that names this UID
+-- the entry is a live association whose associated train has this UID
 record NamesIt (key : Key) (op : Op) (name : List ℕ) : Type 0 where
   association : AssociationKey
   line : List ℕ
@@ -457,7 +459,7 @@ module _ (place : List ℕ) (state : State) (up : AreAscending state.entries) wh
   passes_needed (schedule_key key) h =
       concerned_back key.uid (either (list_any (names_as place key.uid) state.entries) (list_any (calls_as place key.uid) state.entries) h)
 
-  -- the excerpt has exactly those entries of the state whose keys the place needs
+  -- an entry is in the excerpt if and only if it is in the state and the place needs its key
   pub excerpt_members : (key : Key) (entry : Entry)
       → Contains (excerpt_for place state).entries (key, entry) ↔ (Contains state.entries (key, entry) × IsNeeded (live_table state) place key)
   excerpt_members key entry =

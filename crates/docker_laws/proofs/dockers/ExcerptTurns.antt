@@ -1,4 +1,4 @@
--- The walk that makes an excerpt, as a loop. At each entry the loop carries the kept entries, the
+-- The walk that computes an excerpt, as a loop. The loop keeps three values: the kept entries, the
 -- run, and a flag that says whether the run is needed.
 use Rattle.std.proofs.Common.{◌≡◌, ℕ, List, [], ◌∷◌, ◌++◌, subst, refl, ap, sym, ◌∙◌, Bool, true, false, cond, Contains}
 use Rattle.std.specs.Prelude.{◌||◌, ◌↔◌}
@@ -22,12 +22,12 @@ or_assoc : (a b c : Bool) → (a || (b || c)) ≡ ((a || b) || c)
 or_assoc true b c = refl
 or_assoc false b c = refl
 
--- before the first entry nothing is kept
+-- before the first entry, the kept entries and the run are empty
 pub kept_first : (place : List ℕ) → HasKept place [] [] [] false
 kept_first place = record { so_far = refl; is_needed = refl }
 
 module _ (place : List ℕ) (entries kept run : List Keyed) (needed : Bool) (has : HasKept place entries kept run needed) where
-  -- the walk after one more entry is the step `next_kept` from the walk before it
+  -- the state of the walk after one more entry is `next_kept` of the state before it
   next_is : (x : Keyed) → kept_so_far place (entries ++ x ∷ []) ≡ next_kept place (at kept run) x
   next_is x = so_far_more place entries x ∙ ap (λ (so_far : ExcerptSoFar). next_kept place so_far x) has.so_far
 
@@ -36,8 +36,8 @@ module _ (place : List ℕ) (entries kept run : List Keyed) (needed : Bool) (has
   same_name names [] uid x goes = false_true goes
   same_name names (first ∷ rest) uid x goes = refl
 
-  -- after a schedule with the run's UID, the run is longer by it, and is needed if it was needed or
-  -- the schedule calls at the place
+  -- a schedule with the run's UID is appended to the run. The run is then needed if it was needed
+  -- or the schedule calls at the place
   pub kept_joins : (key : ScheduleKey) (entry : Entry) → goes_on run key.uid ≡ true
       → HasKept place (entries ++ (schedule_key key, entry) ∷ []) kept (run ++ (schedule_key key, entry) ∷ []) (needed || is_call place entry.op)
   kept_joins key entry goes = record {
@@ -65,8 +65,8 @@ module _ (place : List ℕ) (entries kept run : List Keyed) (needed : Bool) (has
       ∙ names_stay place entries key entry
       ∙ ap (λ (so_far : ExcerptSoFar). names_in so_far.kept) has.so_far
 
-  -- a schedule of another UID ends the run and begins the next, which is needed if its UID is named
-  -- or the schedule calls at the place
+  -- a schedule of another UID ends the run and begins the next run. The next run is needed if its
+  -- UID is an associated train of a kept association or the schedule calls at the place
   pub kept_begins : (key : ScheduleKey) (entry : Entry) (named : Bool) → goes_on run key.uid ≡ false
       → (named ≡ true) ↔ Contains (names_in kept) key.uid
       → HasKept place (entries ++ (schedule_key key, entry) ∷ []) (cond needed (kept ++ run) kept) ((schedule_key key, entry) ∷ [])
@@ -87,16 +87,16 @@ module _ (place : List ℕ) (entries kept run : List Keyed) (needed : Bool) (has
           same_tests (is_run_named (names_in (cond needed (kept ++ run) kept)) ((schedule_key key, entry) ∷ [])) named (λ h. tells.1 (told.0 h))
           (λ h. told.1 (tells.0 h))
 
-  -- the kept entries and the run are some of the entries passed, in the same order
+  -- the kept entries followed by the run are a sublist of the entries passed
   pub kept_within : IsSublist (kept ++ run) entries
   kept_within = subst (λ (so_far : ExcerptSoFar). IsSublist (so_far.kept ++ so_far.run) entries) has.so_far (so_far_within place entries)
 
-  -- if all entries passed are good, so are the kept ones with the run
+  -- if all entries passed are good, the kept entries followed by the run are good
   pub kept_good : (ledger : List LedgerItem) → AreEntries ledger entries → AreEntries ledger (kept ++ run)
   kept_good ledger are = subst (λ (so_far : ExcerptSoFar). AreEntries ledger (so_far.kept ++ so_far.run)) has.so_far (so_far_good place ledger entries are)
 
 module _ (place : List ℕ) (state : State) (kept run : List Keyed) (needed : Bool) (has : HasKept place state.entries kept run needed) where
-  -- there is no run when a TIPLOC or an association comes
+  -- when the walk reaches a TIPLOC or an association, its run is empty
   pub kept_alone : (key : Key) → IsAboveEntries state key → ((uid : List ℕ) → has_uid uid key ≡ false) → run ≡ []
   kept_alone key above never = sym (ap (λ (so_far : ExcerptSoFar). so_far.run) has.so_far) ∙ no_run_before place state.entries key above never
 
@@ -119,6 +119,6 @@ module _ (place : List ℕ) (state : State) (kept run : List Keyed) (needed : Bo
     is_needed = refl;
   }
 
-  -- at the end the excerpt has the kept entries, with the run if it is needed
+  -- the entries of the excerpt are the kept entries at the end, followed by the run if it is needed
   pub kept_last : (excerpt_for place state).entries ≡ cond needed (kept ++ run) kept
   kept_last = ap (kept_after_run place) has.so_far ∙ ended place state.entries kept run needed has

@@ -1,5 +1,5 @@
--- A walk over entries in key order keeps exactly the entries whose keys the place needs. A test of
--- the entries shows which keys these are.
+-- A walk over entries in key order keeps an entry if and only if the place needs its key. The test
+-- `is_needed` decides this from the entries.
 use Rattle.std.proofs.Common.{◌≡◌, ℕ, List, [], ◌∷◌, ◌++◌, subst, inl, inr, ◌⊎◌, refl, ap, sym, ◌∙◌}
 use Rattle.std.proofs.Common.{Bool, true, false, cond, Some, None, Contains, append-nil, append_assoc}
 use Rattle.std.specs.Prelude.{◌↔◌, Option, ◌||◌, filter}
@@ -38,7 +38,7 @@ use Rattle.state_laws.proofs.indexes.CallsTest.{any_back, any_forth}
 pub false_true : {A : Type 0} → false ≡ true → A
 false_true h = absurd (let bad : false ≡ true = h in cc)
 
--- a schedule's key has only one UID
+-- a key has at most one UID
 pub uid_once : (one other : List ℕ) (key : Key) → has_uid one key ≡ true → has_uid other key ≡ true → one ≡ other
 uid_once one other (schedule_key key) h g = sym ((bytes_eq-Decides key.uid one).0 h) ∙ (bytes_eq-Decides key.uid other).0 g
 uid_once one other (tiploc_key code) h g = false_true h
@@ -52,7 +52,7 @@ above_uid (schedule_key a) (association_key b) uid below h = absurd (let bad : G
 above_uid (tiploc_key a) b uid below h = false_true h
 above_uid (association_key a) b uid below h = false_true h
 
--- the key of a TIPLOC or an association is no schedule's key
+-- the key of a TIPLOC or an association isn't the key of a schedule
 here_no_uid : (place uid : List ℕ) (key : Key) → is_here place key ≡ true → has_uid uid key ≡ true → ⊥
 here_no_uid place uid (schedule_key key) h g = false_true h
 here_no_uid place uid (tiploc_key code) h g = false_true g
@@ -88,8 +88,8 @@ between_uid (association_key a) b c uid up further h g = false_true h
 abbrev pub Below : Keyed → Keyed → Type 0
 Below a b = IsBelow (on (λ (entry : Keyed). entry.0) key_cmp) a b
 
--- if two lists, one after the other, are in key order, each entry of the first is below each entry
--- of the second
+-- if the concatenation of two lists is in key order, each entry of the first list is below each
+-- entry of the second
 pub later_across : (xs ys : List Keyed) (x y : Keyed) → AllLater Below (xs ++ ys) → Contains xs x → Contains ys y → Below x y
 later_across [] ys x y later in_x in_y = absurd (nil-Contains x in_x)
 later_across (z ∷ xs) ys x y later in_x in_y = by (λ inside. later_across xs ys x y later.1 inside in_y) (Contains-cons z xs x in_x)
@@ -116,7 +116,7 @@ with_alike : (b : Bool) (xs ys : List Keyed) → cond b (xs ++ ys) xs ≡ xs ++ 
 with_alike true xs ys = refl
 with_alike false xs ys = sym (append-nil xs)
 
--- two tests are equal if each passes whenever the other does
+-- two Booleans are equal if each implies the other
 pub same_tests : (a b : Bool) → (a ≡ true → b ≡ true) → (b ≡ true → a ≡ true) → a ≡ b
 same_tests true b to back = sym (to refl)
 same_tests false true to back = back refl
@@ -124,8 +124,8 @@ same_tests false false to back = refl
 
 -- ---- the position of a walk
 
--- The walk has passed the entries `done`, is in the run of `so_far`, and has the entries `rest`
--- before it. Of the entries in `done` it has kept the needed ones. All entries of the run have one
+-- The invariant of the walk. The list of all entries is `done`, followed by the run of `so_far` and
+-- by `rest`. The kept entries are the needed entries of `done`. All entries of the run have one
 -- UID. No entry in `done` has a UID of the run or of `rest`.
 record IsAt (place : List ℕ) (all done : List Keyed) (so_far : ExcerptSoFar) (rest : List Keyed) : Type 0 where
   whole : all ≡ (done ++ so_far.run) ++ rest
@@ -138,7 +138,7 @@ record IsAt (place : List ℕ) (all done : List Keyed) (so_far : ExcerptSoFar) (
 abbrev IsEnded : List Keyed → List Keyed → Type 0
 IsEnded run rest = (r y : Keyed) (other : List ℕ) → Contains run r → Contains rest y → has_uid other r.0 ≡ true → has_uid other y.0 ≡ true → ⊥
 
--- if the name that was found passes the test, it is the UID
+-- if an optional UID passes the test `is_name`, it is this UID
 pub name_of : (uid : List ℕ) (found : Option (List ℕ)) → is_name uid found ≡ true → (name : List ℕ) × (found ≡ Some name) × (name ≡ uid)
 name_of uid None h = false_true h
 name_of uid (Some name) h = (name, refl, (bytes_eq-Decides name uid).0 h)
@@ -272,7 +272,7 @@ module _ (place : List ℕ) (all : List Keyed) (order : AllLater Below all) wher
         ∙ ap (λ (ys : List Keyed). filter (λ (entry : Keyed). is_needed place all entry.0) done ++ ys) (sym of_run)
         ∙ sym (filter-append test done (first ∷ others))
 
-  -- at the end of the run, the walk has kept exactly the needed entries of those that it has passed
+  -- at the end of the run, the kept entries are the needed entries of all entries passed
   run_end : (done kept run rest : List Keyed) → IsAt place all done (record { kept = kept; run = run }) rest → IsEnded run rest
       → kept_after_run place (record { kept = kept; run = run }) ≡ filter (λ (entry : Keyed). is_needed place all entry.0) (done ++ run)
   run_end done kept [] rest at ended = at.kept ∙ ap (filter (λ (entry : Keyed). is_needed place all entry.0)) (sym (append-nil done))
@@ -306,7 +306,7 @@ module _ (place : List ℕ) (all : List Keyed) (order : AllLater Below all) wher
   regrouped done run rest x =
       sym (append_assoc (done ++ run) (x ∷ []) rest) ∙ ap (λ (xs : List Keyed). xs ++ rest) (append_assoc done run (x ∷ []))
 
-  -- after a schedule with the run's UID, the walk is one entry further in the same run
+  -- a schedule with the run's UID, appended to the run, preserves the invariant
   joins : (done : List Keyed) (so_far : ExcerptSoFar) (key : ScheduleKey) (entry : Entry) (rest : List Keyed)
       → IsAt place all done so_far ((schedule_key key, entry) ∷ rest) → goes_on so_far.run key.uid ≡ true
       → IsAt place all done (record { kept = so_far.kept; run = so_far.run ++ (schedule_key key, entry) ∷ [] }) rest
@@ -330,7 +330,7 @@ module _ (place : List ℕ) (all : List Keyed) (order : AllLater Below all) wher
           subst (λ (e : Keyed). has_uid at.uid e.0 ≡ true) (Contains-single {A = Keyed} (schedule_key key, entry) r last)
           ((bytes_eq-Decides key.uid at.uid).1 uid_is)
 
-  -- at a schedule with another UID, no entry of `rest` has the run's UID
+  -- if the next entry is a schedule with another UID, no later entry has the run's UID
   ends : (done : List Keyed) (so_far : ExcerptSoFar) (key : ScheduleKey) (entry : Entry) (rest : List Keyed)
       → IsAt place all done so_far ((schedule_key key, entry) ∷ rest) → goes_on so_far.run key.uid ≡ false
       → IsEnded so_far.run ((schedule_key key, entry) ∷ rest)
@@ -349,7 +349,7 @@ module _ (place : List ℕ) (all : List Keyed) (order : AllLater Below all) wher
           hit (between_uid r.0 (schedule_key key) y.0 other (run_below done so_far (schedule_key key, entry) rest at r in_run)
           (next_below done so_far (schedule_key key, entry) rest at y there) of_r of_y)
 
-  -- after a schedule with another UID, the walk is at the first entry of the next run
+  -- a schedule with another UID, as the first entry of the next run, preserves the invariant
   begins : (done : List Keyed) (so_far : ExcerptSoFar) (key : ScheduleKey) (entry : Entry) (rest : List Keyed)
       → IsAt place all done so_far ((schedule_key key, entry) ∷ rest) → goes_on so_far.run key.uid ≡ false
       → IsAt place all (done ++ so_far.run) (record { kept = kept_after_run place so_far; run = (schedule_key key, entry) ∷ [] }) rest
@@ -372,7 +372,7 @@ module _ (place : List ℕ) (all : List Keyed) (order : AllLater Below all) wher
           at.apart z y other here (Contains-append_right so_far.run ((schedule_key key, entry) ∷ rest) y behind) of_z of_y
       by z y other (inr here) behind of_z of_y = ended z y other here behind of_z of_y
 
-  -- the walk has a position before this rest
+  -- the invariant holds for some list of passed entries
   abbrev Goes : ExcerptSoFar → List Keyed → Type 0
   Goes so_far rest = (now : List Keyed) × IsAt place all now so_far rest
 
@@ -386,7 +386,7 @@ module _ (place : List ℕ) (all : List Keyed) (order : AllLater Below all) wher
       by true goes = (done, joins done so_far key entry rest at goes)
       by false stops = (done ++ so_far.run, begins done so_far key entry rest at stops)
 
-  -- when a TIPLOC or an association comes, there is no run
+  -- when the walk reaches a TIPLOC or an association, its run is empty
   no_run : (done : List Keyed) (so_far : ExcerptSoFar) (key : Key) (entry : Entry) (rest : List Keyed) → ((uid : List ℕ) → ¬ (has_uid uid key ≡ true))
       → IsAt place all done so_far ((key, entry) ∷ rest) → (r : Keyed) → ¬ Contains so_far.run r
   no_run done so_far key entry rest never at r among =
@@ -478,11 +478,11 @@ module _ (place : List ℕ) (all : List Keyed) (order : AllLater Below all) wher
     apart = λ z y other in_done behind of_z of_y. nil-Contains z in_done;
   }
 
-  -- a walk over all entries keeps exactly those that the place needs
+  -- the kept entries of a walk over all entries are the entries that the place needs
   pub walk_keeps : kept_after_run place (kept_so_far place all) ≡ filter (λ (entry : Keyed). is_needed place all entry.0) all
   walk_keeps = from_here all [] nothing_kept at_first
 
--- a walk over a state's entries in key order leaves an excerpt of the state
+-- the result of a walk over a state's entries in key order is an excerpt of the state
 pub walk_is_excerpt : (place : List ℕ) (state : State) → AreAscending state.entries → IsExcerptState place state (excerpt_for place state)
 walk_is_excerpt place state up =
     subst (λ (entries : List Keyed). IsExcerptState place state (record { horizon = state.horizon; ledger = state.ledger; entries = entries }))

@@ -44,7 +44,7 @@ bodies_few live good key lines is = few_midnights key lines (good (schedule_key 
 
 -- ---- events
 
--- a schedule passes midnight at most as often before an event as in all
+-- a schedule passes midnight up to an event at most as often as in its whole journey
 pub falls_below : (lines : List (List ℕ)) (number : ℕ) → falls_to lines number ≤ midnights lines
 falls_below lines number =
     subst (λ times. falls_to lines number ≤ fall_count times) (take-append-drop number (times_along lines))

@@ -45,8 +45,8 @@ not_itself a less = let tied = tied_itself key_total a in cc
 
 -- ---- one more entry
 
--- after an older entry is added, each entry in the list was there before, or is the added one,
--- whose key no other has
+-- after an older entry is inserted, each entry of the list was in the list before, or is the
+-- inserted entry, and then no entry before had its key
 member_forth : (entry : Keyed) (entries : List Keyed) → AreAscending entries → (z : Keyed) → Contains (with_earlier entry entries) z
     → Contains entries z ⊎ ((entry ≡ z) × NoEntry entries entry.0)
 member_forth entry [] up z among = inr (Contains-single entry z among, λ other inside. nil-Contains (entry.0, other) inside)
@@ -88,7 +88,7 @@ member_forth entry (first ∷ entries) up z among = by (key_cmp entry.0 first.0)
     by Equal h rest inside = inl inside
     by Greater h rest inside = after h rest (Contains-cons first (with_earlier entry entries) z inside)
 
--- each entry that was there before is still there
+-- inserting an older entry preserves each entry of the list
 member_still : (entry : Keyed) (entries : List Keyed) (z : Keyed) → Contains entries z → Contains (with_earlier entry entries) z
 member_still entry [] z among = absurd (nil-Contains z among)
 member_still entry (first ∷ entries) z among =
@@ -101,7 +101,7 @@ member_still entry (first ∷ entries) z among =
     by Greater rest (inl same) = subst (Contains (first ∷ with_earlier entry entries)) same (cons-Contains-first first (with_earlier entry entries))
     by Greater rest (inr inside) = cons-Contains first (with_earlier entry entries) z (rest inside)
 
--- the older entry is added if no entry in the list has its key
+-- an older entry is inserted if no entry in the list has its key
 member_new : (entry : Keyed) (entries : List Keyed) → NoEntry entries entry.0 → Contains (with_earlier entry entries) entry
 member_new entry [] none = cons-Contains-first entry []
 member_new entry (first ∷ entries) none =
@@ -115,18 +115,18 @@ member_new entry (first ∷ entries) none =
         absurd (none first.1 (subst (Contains (first ∷ entries)) (λ i. (sym same i, first.1)) (cons-Contains-first first entries)))
     by Greater h rest = cons-Contains first (with_earlier entry entries) entry rest
 
--- the list is in key order after an older entry is added
+-- inserting an older entry preserves the key order
 still_ascends : (entry : Keyed) (entries : List Keyed) → AreAscending entries → AreAscending (with_earlier entry entries)
 still_ascends entry [] up = (tt, tt)
 still_ascends entry (first ∷ entries) up = by (key_cmp entry.0 first.0) refl (still_ascends entry entries up.1)
   where
-    -- an added entry with a key below the first is below all entries of the list
+    -- an inserted entry with a key below the first is below all entries of the list
     below_all : key_cmp entry.0 first.0 ≡ Less → (z : Keyed) → (first ≡ z) ⊎ Contains entries z → key_cmp entry.0 z.0 ≡ Less
     below_all less z (inl same) = subst (λ (later : Keyed). key_cmp entry.0 later.0 ≡ Less) same less
     below_all less z (inr inside) =
         key_total.trans entry.0 first.0 z.0 less (below_by_recursion (λ (later : Keyed). key_cmp first.0 later.0 ≡ Less) entries z up.0 inside)
 
-    -- if the added entry is above the first, the first entry is below all that follow it
+    -- if the inserted entry is above the first entry, the first entry is below all entries after it
     above_first : key_cmp entry.0 first.0 ≡ Greater → (z : Keyed) → Contains entries z ⊎ ((entry ≡ z) × NoEntry entries entry.0) → key_cmp first.0 z.0 ≡ Less
     above_first greater z (inl inside) = below_by_recursion (λ (later : Keyed). key_cmp first.0 later.0 ≡ Less) entries z up.0 inside
     above_first greater z (inr new) =
@@ -152,7 +152,7 @@ latest_ascend : (entries : List Keyed) → AreAscending (latest_entries entries)
 latest_ascend [] = tt
 latest_ascend (entry ∷ entries) = still_ascends entry (latest_entries entries) (latest_ascend entries)
 
--- an earlier entry of a key isn't greater than a later one
+-- an earlier entry of a key is less than a later entry of the same key
 not_above : (entry : Keyed) (entries : List Keyed) (key : Key) (last : Entry) → AllByRecursion (Ascends entry) entries → Contains entries (key, last)
     → (other : Entry) → entry ≡ (key, other) → entry_cmp other last ≡ Less
 not_above entry entries key last up inside other same =
@@ -170,7 +170,7 @@ latest_is (first ∷ entries) up key entry = (forth (latest_is entries up.1 key)
     Latest : Type 0
     Latest = (other : Entry) → Contains (latest_entries entries) (key, other) ↔ IsGreatestAmong entries key other
 
-    -- a key that has no last entry has no entry
+    -- a key without a last entry has no entry
     none_of : Latest → NoEntry (latest_entries entries) key → NoEntry entries key ⊎ GreatestEntry entries key → NoEntry entries key
     none_of later none (inl never) = never
     none_of later none (inr best) = absurd (none best.0 ((later best.0).1 (record { among = best.1; greatest = best.2 })))
@@ -232,7 +232,7 @@ latest_is (first ∷ entries) up key entry = (forth (latest_is entries up.1 key)
 -- ---- the summary
 
 module _ (file : List (List ℕ)) where
-  -- the stamp of a file isn't below the floor of that file by itself
+  -- the stamp of a file isn't below the floor of the ledger with only this file
   floor_of : (b : Bool) → ((ledger_item_of file).indicator == 70) ≡ b
       → (floor : Option FileStamp) × IsFloor (ledger_item_of file ∷ []) floor × IsKept floor (file_stamp_of file)
   floor_of true h = (
@@ -306,7 +306,7 @@ module _ (file : List (List ℕ)) where
       all_of_one : (P : List (List ℕ) → Type 0) → P file → All P (file ∷ [])
       all_of_one P here = all_members P (file ∷ []) (λ other among. subst P (Contains-single file other among) here)
 
--- the join of an empty state with a valid state is that state
+-- the join of an empty state with a valid state is the valid state
 pub join_of_nothing : (state : State) → IsValid state → IsJoin (record { horizon = 0; ledger = []; entries = [] }) state state
 join_of_nothing state valid = record {
   horizon = sym (max-eq_right {n = 0} {m = state.horizon} (omega arith));

@@ -1,5 +1,6 @@
--- The first value, in an order, that has a property in a table. A search finds it in a list, by a
--- test, if the list has every value with the property and only these pass.
+-- The first value, in an order, that has a property. A search in a list finds it under two
+-- conditions. The list has each value with the property, and a value passes the test if and only if
+-- it has the property.
 use Rattle.std.proofs.Common.{◌≡◌, List, refl, sym, ◌∙◌, Some, None, Bool, true, Contains}
 use Rattle.std.specs.Prelude.{Option, find}
 use Rattle.std.specs.declared.cmp.Ordering.{Ordering}
@@ -9,8 +10,8 @@ use Rattle.docker_laws.specs.Best.{IsBest}
 use Rattle.cif_laws.proofs.lists.BoolsAndOptions.{true_is_not}
 use Rattle.cif_laws.proofs.orders.Least.{is_least, found_least, none_passes}
 
--- this is the first value that has the property: it has it, and no value that has it comes before.
--- It is `None` if no value has the property
+-- this is the first value with the property: the value has the property, and no other value with
+-- the property comes before it. The first value is `None` if no value has the property
 abbrev pub IsFirst : {A : Type 0} → (A → A → Ordering) → (A → Type 0) → Option A → Type 0
 IsFirst {A} cmp Is None = (x : A) → ¬ Is x
 IsFirst {A} cmp Is (Some x) = Is x × ((other : A) → Is other → IsAtMost cmp x other)
@@ -22,7 +23,7 @@ module _ {A : Type 0} {cmp : A → A → Ordering} (total : IsTotalOrder cmp) (t
   best_is_first None none = λ x is. true_is_not (sym (passes x is) ∙ none x (among x is))
   best_is_first (Some x) best = (holds x best.0 best.1, λ other is. best.2 other (among other is) (passes other is))
 
-  -- the value that a search finds in the list is the first value with the property
+  -- the result of the search in the list is the first value with the property
   pub found_is_first : IsFirst cmp Is (find (is_least total test xs) xs)
   found_is_first = by (find (is_least total test xs) xs) refl
     where

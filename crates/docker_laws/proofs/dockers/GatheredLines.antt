@@ -1,5 +1,5 @@
--- The lines that a walk over rows gathers are the lines of the docker, and no two of them tie.
--- Sorted, they are the docker list.
+-- The lines that a walk over rows gathers are the lines of the docker, and no two of these lines
+-- tie. After sorting, they are the docker list.
 use Rattle.std.proofs.Common.{◌≡◌, ℕ, ◌-◌, ◌<◌, ◌≤◌, lit<, List, [], ◌∷◌, refl, ap, sym, ◌∙◌, subst, inl}
 use Rattle.std.proofs.Common.{inr, ◌⊎◌, Some, Bool, true, false, cond, Contains, arith, ◌++◌, append-nil}
 use Rattle.std.specs.Prelude.{Option, filter, nat_le}
@@ -67,7 +67,7 @@ same_source live place day first second start other a b (inl (x, x_is, one)) (in
 same_source live place day first second start other a b (inr (x, x_is, one)) (inl (y, y_is, two)) e =
     absurd (event_apart live place day b a two.made one.made (sym (tied_lines_agree a b e).occasions))
 
--- the list 0, 1, 2 ascends
+-- the list 0, 1, 2 is strictly increasing
 counted_up : AllLater (λ (a b : ℕ). a < b) (0 ∷ 1 ∷ 2 ∷ [])
 counted_up = ((lit< tt, (lit< tt, tt)), ((lit< tt, tt), (tt, tt)))
 
@@ -114,7 +114,7 @@ module _ (live : Table) (trains : List ℕ → ℕ → Option Train) (links : Gr
   of_row (association_key key) (tiploc_body bytes) is line among = absurd (nil-Contains line among)
   of_row (association_key key) (schedule_body lines) is line among = absurd (nil-Contains line among)
 
-  -- the lines of one row, start day by start day, are in the docker, and no two of them tie
+  -- the lines of one row, start day by start day, are in the docker, and no two of these lines tie
   module _ (key : Key) (piece : ℕ → List DockerLine) (back : (start : ℕ) (line : DockerLine) → Contains (piece start) line
       → IsLineFrom live place day key start line)
       (apart : (start : ℕ) → AreApart docker_line_cmp (piece start)) where
@@ -197,7 +197,7 @@ module _ (live : Table) (trains : List ℕ → ℕ → Option Train) (links : Gr
         (association_key made.key, association_body made.association) line there
         (subst (λ b. Contains (cond b (flat_map (link_piece trains links day made.key made.association) (start_days day)) []) line) (sym here) pieces)
 
-    -- sorted, the gathered lines are the docker list
+    -- the gathered lines, after sorting, are the docker list
     pub sorted_gathering : HasGoodBodies live → (lines : List DockerLine) → IsPermutation (gathered trains links place day rows) lines
         → IsSorted docker_line_cmp lines → IsDockerList live place day lines
     sorted_gathering good lines same sorted = record {
@@ -209,8 +209,8 @@ module _ (live : Table) (trains : List ℕ → ℕ → Option Train) (links : Gr
       );
     }
 
--- the lines gathered from rows and one more row are the lines of the rows, then the lines of the
--- last row
+-- the lines gathered from rows with one row appended are the lines of the rows, followed by the
+-- lines of that row
 pub gathered_more : (trains : List ℕ → ℕ → Option Train) (links : Group → ℕ → Option Link) (place : List ℕ) (day : ℕ) (rows : List Row) (key : Key)
     (body : Body)
     → gathered trains links place day (rows ++ (key, body) ∷ []) ≡ gathered trains links place day rows ++ row_lines trains links place day key body

@@ -1,4 +1,4 @@
--- A walk over the rows that the indexes find for a place misses no line of the place.
+-- A walk over the rows in the indexes for a place finds each docker line of the place.
 use Rattle.std.proofs.Common.{◌≡◌, ℕ, List, ◌++◌, refl, ap, sym, ◌∙◌, inl, inr, ◌⊎◌, Some, Contains}
 use Rattle.std.specs.Ordering.{on}
 use Rattle.std.proofs.lemmas.List.Elements.{Contains-append_left, Contains-append_right, Contains-append_cases}
@@ -33,7 +33,7 @@ module _ (live : Table) (place : List ℕ) (linked calling : List Row) (are_link
   live_row key body (inl here) = let one = (are_linked.members key body).0 here in ap live one.2 ∙ one.4.is_live ∙ ap Some (sym one.3)
   live_row key body (inr here) = let one = (are_calling.members key body).0 here in ap live one.2 ∙ one.4.is_live ∙ ap Some (sym one.3)
 
-  -- the rows that both indexes find for a place are a walk that misses no line of the place
+  -- the rows in both indexes for a place satisfy `IsWalk`
   pub indexed_walk : IsWalk live place (linked ++ calling)
   indexed_walk = record {
     ascending = ascending_of (on (λ (row : Row). row.0) key_cmp) (linked ++ calling)
@@ -48,7 +48,7 @@ module _ (live : Table) (place : List ℕ) (linked calling : List Row) (are_link
         ((are_linked.members (association_key key) (association_body line)).1 (key, line, refl, refl, record { is_live = is; here = here }));
   }
 
--- the lines of the rows that both indexes find, sorted, are the docker list
+-- the lines of the rows in both indexes, after sorting, are the docker list
 pub indexed_docker : (live : Table) (place : List ℕ) (day : ℕ) (rows linked calling : List Row) (lines : List DockerLine) → HasGoodBodies live
     → AreRowsOf live rows
     → AreLinked live place linked → AreCalling live place calling
@@ -58,14 +58,14 @@ indexed_docker live place day rows linked calling lines good are are_linked are_
     sorted_gathering live (train_in rows) (link_in rows) (trains_tell live rows are) (links_tell live rows are) place day (linked ++ calling)
     (indexed_walk live place linked calling are_linked are_calling) good lines same sorted
 
--- the rows found for a UID include each of its schedules
+-- the rows of a UID include each of the UID's schedules
 pub of_uid_has : (live : Table) (uid : List ℕ) (rows : List Row) → AreOfUid live uid rows → HasSchedulesOf live uid rows
 of_uid_has live uid rows are = record {
   each = λ key body among. ((are.members key body).0 among).4;
   all = λ key lines same is. (are.members (schedule_key key) (schedule_body lines)).1 (key, lines, refl, refl, is, same);
 }
 
--- the rows found for a place include each association of each group there
+-- the rows of a place's associations include each association of each group at the place
 pub linked_has : (live : Table) (place : List ℕ) (rows : List Row) (group : Group) → AreLinked live place rows → group.location ≡ place
     → HasAssociationsOf live group rows
 linked_has live place rows group are here = record {

@@ -1,5 +1,6 @@
 -- On each day from a horizon on, a table and the table lapsed under the horizon choose the same
--- schedules and associations. What runs on such a day hasn't lapsed.
+-- schedules and associations. A schedule or association that runs on one of these days hasn't
+-- lapsed.
 use Rattle.std.proofs.Common.{ℕ, ◌≤◌, List, Bool, true, false, cond, arith}
 use Rattle.std.specs.Prelude.{◌↔◌, ◌&&◌, IsTrue, nat_le}
 use Rattle.std.proofs.lemmas.Bool.{leb-true}
@@ -20,7 +21,7 @@ within_end first last days day runs =
     let dates = (both (nat_le (date_number first) day && nat_le day (end_number last)) (runs_on_weekday days (weekday_of day)) runs).0 in
     leb-true day (end_number last) (both (nat_le (date_number first) day) (nat_le day (end_number last)) dates).1
 
--- an end date that isn't before a day isn't before the horizon, if the day isn't
+-- if a day is at least the horizon, an end date that is at least the day is at least the horizon
 end_reached : (horizon day : ℕ) (last : List ℕ) → horizon ≤ no_end_number → horizon ≤ day → day ≤ end_number last → horizon ≤ readable_end last
 end_reached horizon day last bound from to = by (is_end_date last)
   where

@@ -46,8 +46,8 @@ partner_after indicator start day is = by (indicator == 78) (indicator == 80) is
 
 -- ---- from the docker of one table to the docker of another
 
--- the table `other` has each train of `one` with an event on the day, the associations with such a
--- train as base train, and the identities of their associated trains
+-- the table `other` has each train of `one` with an event on the day. It also has each association
+-- whose base train is one of these trains, and the identities of the associated trains
 pub record CarriesOver (one other : Table) (day : ℕ) : Type 0 where
   pub trains : (uid : List ℕ) (start : ℕ) (key : ScheduleKey) (lines : List (List ℕ)) → TrainRuns one uid start key lines → (event : Event)
       → event_day start lines event ≡ day → TrainRuns other uid start key lines
@@ -57,7 +57,7 @@ pub record CarriesOver (one other : Table) (day : ℕ) : Type 0 where
       × (IsPartnerIdentity one key.associated (partner_start indicator start) identity
       → IsPartnerIdentity other key.associated (partner_start indicator start) identity)
 
--- an event's line in the docker of `one` is in the docker of `other`
+-- each line of an event in the docker of `one` is in the docker of `other`
 pub event_line_over : (one other : Table) (place : List ℕ) (day : ℕ) → CarriesOver one other day → (line : DockerLine) → IsEventLine one place day line
     → IsEventLine other place day line
 event_line_over one other place day carries line is = record {
@@ -72,7 +72,7 @@ event_line_over one other place day carries line is = record {
   is = is.is;
 }
 
--- an association's line in the docker of `one` is in the docker of `other`
+-- each line of an association in the docker of `one` is in the docker of `other`
 pub association_line_over : (one other : Table) (place : List ℕ) (day : ℕ) → CarriesOver one other day → (line : DockerLine)
     → IsAssociationLine one place day line → IsAssociationLine other place day line
 association_line_over one other place day carries line is =
@@ -211,7 +211,7 @@ module _ (horizon : ℕ) (bound : horizon ≤ no_end_number) (live : Table) wher
           (λ line. IsEventLine live place day line ⊎ IsAssociationLine live place day line) (λ line. ((line_iff line).1, (line_iff line).0)) lines,
     )
 
-    -- the lapse leaves the description of a place, since a TIPLOC has no end
+    -- the lapse leaves the description of a place unchanged, since a TIPLOC has no end
     description_stays : description_in (lapse_table horizon live (tiploc_key place)) ≡ description_in (live (tiploc_key place))
     description_stays = by (live (tiploc_key place))
       where

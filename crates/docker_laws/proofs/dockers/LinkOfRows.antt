@@ -87,7 +87,7 @@ module _ (live : Table) (rows : List Row) (group : Group) (has : HasAssociations
       first = λ other others is. first.1 (record { key = other; line = others }) is;
     }
 
-    -- the best association of the rows is the chosen one
+    -- the best association of the rows is the chosen association
     pub best_is_link : (found : Option Link) → IsLinkSoFar group day rows found → IsLinkOn live group day found
     best_is_link found best =
         first_is_link found (best_is_first by_key (is_linked group day) (associations_in rows) Runs associated among_linked passes_linked found best)
@@ -109,7 +109,7 @@ rows_have live rows are group = record {
 pub links_tell : (live : Table) (rows : List Row) → AreRowsOf live rows → TellsLinks live (link_in rows)
 links_tell live rows are group day = link_tells live rows group (rows_have live rows are group) day
 
--- for a group and a day there is only one possible result
+-- for a group and a day, the chosen association is unique
 pub one_link_answer : (live : Table) (group : Group) (day : ℕ) (a b : Option Link) → IsLinkOn live group day a → IsLinkOn live group day b → a ≡ b
 one_link_answer live group day None None one two = refl
 one_link_answer live group day None (Some b) one two = absurd (one b.key b.line two)

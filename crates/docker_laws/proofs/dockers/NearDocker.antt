@@ -1,5 +1,5 @@
--- A table has the same dockers on a day if it loses the schedules that run on no start day near the
--- day.
+-- Removing schedules that run on no start day near a day from a table leaves the dockers of the day
+-- unchanged.
 use Rattle.std.proofs.Common.{◌≡◌, ℕ, zero, suc, ◌+◌, ◌-◌, ◌≤◌, List, [], ◌∷◌, subst, inl, inr, ◌⊎◌, refl}
 use Rattle.std.proofs.Common.{ap, sym, ◌∙◌, Bool, true, false, cond, Some, None, Contains, arith}
 use Rattle.std.specs.Prelude.{Option, ◌↔◌, ◌==◌, nat_lt, IsTrue}
@@ -25,7 +25,7 @@ use Rattle.docker_laws.proofs.dockers.LapsedDocker.{text_with, partner_after, Ca
 
 -- ---- the start days near a day
 
--- the start day is near the day: it is at most three days before it and at most one day after it
+-- the start day is near the day: at most three days before the day and at most one day after it
 abbrev pub IsStartNear : ℕ → ℕ → Type 0
 IsStartNear day start = (start ≤ day + 1) × (day ≤ start + 3)
 
@@ -71,7 +71,7 @@ partner_before indicator start day is = by (indicator == 78) (indicator == 80) i
     by false true told = earlier (nat_lt 0 start) told
     by false false some = let same : start ≡ day = cc in omega arith
 
--- a train with an event on the day starts on that day or on one of the two days before
+-- a train with an event on the day starts on that day or on one of the two days before it
 pub started : (day start : ℕ) (lines : List (List ℕ)) (event : Event) → midnights lines ≤ 2 → event_day start lines event ≡ day
     → (start ≤ day) × (day ≤ start + 2)
 started day start lines event few today =
@@ -173,12 +173,12 @@ list_over one other place day forth back lines is = record {
 
 -- ---- a table without the schedules that don't run near a day
 
--- this key may be left out: it has a schedule that runs on no start day near the day
+-- this key may be left out: its body is a schedule that runs on no start day near the day
 abbrev pub IsLeftOut : ℕ → Table → Key → Type 0
 IsLeftOut day live key = (lines : List (List ℕ)) × (live key ≡ Some (schedule_body lines)) × (runs_near day (first_record lines) ≡ false)
 
--- `part` is the table without some schedules that don't run near the day: at each key it agrees
--- with `live`, or has nothing if the key may be left out
+-- `part` is the table without some schedules that don't run near the day. At each key it equals
+-- `live`, or it has no body and the key may be left out
 abbrev pub IsNearPart : ℕ → Table → Table → Type 0
 IsNearPart day live part = (key : Key) → (part key ≡ live key) ⊎ ((part key ≡ None) × IsLeftOut day live key)
 

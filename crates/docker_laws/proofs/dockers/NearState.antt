@@ -1,5 +1,5 @@
--- A valid state with only the entries that may count on a day is valid, and gives the same dockers
--- on that day. So does its excerpt for a place.
+-- A valid state with only the entries that may count on a day is valid, and has the same dockers on
+-- that day. Its excerpt for a place is valid, and has the same docker of the place on that day.
 use Rattle.std.proofs.Common.{◌≡◌, ℕ, List, [], ◌∷◌, ◌++◌, inl, inr, ◌⊎◌, refl, ap, sym, ◌∙◌, Bool, true, false, cond, None, Contains, append-nil}
 use Rattle.std.specs.Prelude.{◌↔◌, filter}
 use Rattle.std.proofs.lemmas.List.Elements.{filter-append}
@@ -20,7 +20,7 @@ use Rattle.docker_laws.proofs.dockers.ExcerptState.{some_valid}
 use Rattle.docker_laws.proofs.dockers.ExcerptWalk.{walk_valid, walk_list_iff, walk_text_iff}
 use Rattle.docker_laws.proofs.dockers.NearDocker.{IsLeftOut, IsNearPart, near_list_iff, near_text_iff}
 
--- an op that can't count on the day puts a schedule that runs on no start day near it
+-- an op that can't count on the day puts a schedule that runs on no start day near the day
 may_not : (day : ℕ) (op : Op) → may_count day op ≡ false
     → (lines : List (List ℕ)) × (op ≡ put_with (schedule_body lines)) × (runs_near day (first_record lines) ≡ false)
 may_not day (put_with (schedule_body lines)) h = (lines, refl, h)
@@ -29,8 +29,8 @@ may_not day (put_with (association_body line)) h = absurd (let bad : true ≡ fa
 may_not day deleted h = absurd (let bad : true ≡ false = h in cc)
 may_not day lapsed h = absurd (let bad : true ≡ false = h in cc)
 
--- the live table of the state with only these entries is the live table without schedules that
--- don't run near the day
+-- the live table of the state with only the entries that may count is the live table without the
+-- schedules that don't run near the day
 pub near_part : (day : ℕ) (state : State) → AreAscending state.entries → IsNearPart day (live_table state) (live_table (near_state day state))
 near_part day state up key = by (find_in (near_entries day state.entries) key) (find_in state.entries key)
   where
@@ -107,14 +107,14 @@ excerpt_on_text place day state text valid =
 one_kept : (test : Keyed → Bool) (entry : Keyed) (b : Bool) → test entry ≡ b → filter test (entry ∷ []) ≡ cond b (entry ∷ []) []
 one_kept test entry b h = λ i. cond (h i) (entry ∷ []) []
 
--- an entry that may count stays
+-- filtering keeps an appended entry that may count
 pub near_with : (day : ℕ) (entries : List Keyed) (entry : Keyed) → may_count day entry.1.op ≡ true
     → near_entries day (entries ++ entry ∷ []) ≡ near_entries day entries ++ entry ∷ []
 near_with day entries entry h =
     filter-append (λ (e : Keyed). may_count day e.1.op) entries (entry ∷ [])
     ∙ ap (λ (more : List Keyed). near_entries day entries ++ more) (one_kept (λ (e : Keyed). may_count day e.1.op) entry true h)
 
--- an entry that can't count is left out
+-- filtering leaves out an appended entry that can't count
 pub near_without : (day : ℕ) (entries : List Keyed) (entry : Keyed) → may_count day entry.1.op ≡ false
     → near_entries day (entries ++ entry ∷ []) ≡ near_entries day entries
 near_without day entries entry h =

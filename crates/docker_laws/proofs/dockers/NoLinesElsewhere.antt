@@ -1,4 +1,4 @@
--- A schedule that doesn't call at a place has no docker line there.
+-- A schedule that doesn't call at a place has no docker line at the place.
 use Rattle.std.proofs.Common.{◌≡◌, ℕ, List, [], sym, ◌∙◌, Bool, true, false, cond, Contains}
 use Rattle.std.specs.Prelude.{Option}
 use Rattle.docker_model.specs.file.Journey.{calls_at}
@@ -11,7 +11,7 @@ use Rattle.docker_laws.proofs.dockers.Events.{event_calls}
 use Rattle.docker_laws.proofs.dockers.ScheduleLines.{event_lines_back}
 use Rattle.state_laws.proofs.indexes.CallsTest.{calls_test, no_member}
 
--- a schedule that doesn't call at the place has no docker line there
+-- a schedule that doesn't call at the place has no docker line at the place
 pub no_lines_elsewhere : (trains : List ℕ → ℕ → Option Train) (place : List ℕ) (day : ℕ) (key : ScheduleKey) (lines : List (List ℕ))
     → calls_at place lines ≡ false → schedule_lines trains place day key lines ≡ []
 no_lines_elsewhere trains place day key lines elsewhere = no_member (schedule_lines trains place day key lines) (λ line among.

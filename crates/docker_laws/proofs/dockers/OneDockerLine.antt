@@ -1,5 +1,5 @@
--- Docker lines that tie in the order are equal: they belong to one schedule or one association, and
--- to one start day.
+-- Docker lines that tie in the order of docker lines are equal. They belong to the same schedule or
+-- association, and to the same start day.
 use Rattle.std.proofs.Common.{◌≡◌, ℕ, List, ap, sym, ◌∙◌, subst, inl, inr, ◌⊎◌, Some, None, Bool, true, false, cond, Contains, arith}
 use Rattle.std.specs.Prelude.{Option, codes, ◌==◌}
 use Rattle.std.specs.Str.{bytes_eq}
@@ -26,7 +26,7 @@ use Rattle.cif_laws.proofs.lists.FilteredMembers.{find_some}
 use Rattle.docker_laws.proofs.dockers.OneChoice.{one_train, one_link}
 use Rattle.docker_laws.proofs.dockers.Events.{one_event, IsOfTrain, event_occasion}
 
--- the two lines agree in all that the order of lines compares
+-- the two lines are equal in each field that the order of docker lines compares
 pub record AreTied (a b : DockerLine) : Type 0 where
   pub occasions : occasion_rank a.occasion ≡ occasion_rank b.occasion
   pub uids : a.uid ≡ b.uid
@@ -34,7 +34,7 @@ pub record AreTied (a b : DockerLine) : Type 0 where
   pub numbers : a.number ≡ b.number
   pub associated : associated_uid a.detail ≡ associated_uid b.detail
 
--- two lines that tie agree in all that the order of lines compares
+-- two lines that tie are equal in each field that the order of docker lines compares
 pub tied_lines_agree : (a b : DockerLine) → docker_line_cmp a b ≡ Equal → AreTied a b
 tied_lines_agree a b e =
     let p = then_equal (nat_cmp a.time b.time) _ e in
@@ -89,7 +89,7 @@ same_event_line live place day a b one two e =
 abbrev pub IsOfLink : Occasion → Type 0
 IsOfLink occasion = (occasion ≡ joining) ⊎ (occasion ≡ dividing) ⊎ (occasion ≡ next_working)
 
--- an association's category calls for a join, a division or a next working
+-- the occasion of an association's category is a join, a division or a next working
 pub category_is_of_link : (category : List ℕ) (occasion : Occasion) → category_occasion category ≡ Some occasion → IsOfLink occasion
 category_is_of_link category occasion is = first (bytes_eq category (codes "JJ")) is
   where
@@ -127,7 +127,7 @@ event_apart live place day a b one two same =
 
 -- ---- the lines of two associations
 
--- a UID has only one train identity on a day
+-- a UID has at most one train identity on a day
 one_identity_on : (live : Table) (uid : List ℕ) (day : ℕ) (x y : List ℕ) → IsIdentityOn live uid x day → IsIdentityOn live uid y day → x ≡ y
 one_identity_on live uid day x y (inl one) (inl two) =
     let same = one_train live uid day one.0 two.0 one.1 two.1 one.2 two.2 in
@@ -136,7 +136,7 @@ one_identity_on live uid day x y (inl one) (inr two) = absurd (two.0 one.0 one.1
 one_identity_on live uid day x y (inr one) (inl two) = absurd (one.0 two.0 two.1 two.2)
 one_identity_on live uid day x y (inr one) (inr two) = one.1 ∙ sym two.1
 
--- an associated train has only one train identity
+-- an associated train has at most one train identity
 pub one_identity : (live : Table) (uid : List ℕ) (day : Option ℕ) (x y : List ℕ) → IsPartnerIdentity live uid day x → IsPartnerIdentity live uid day y → x ≡ y
 one_identity live uid None x y one two = one ∙ sym two
 one_identity live uid (Some day) x y one two = one_identity_on live uid day x y one two
@@ -148,7 +148,8 @@ pub record AreOneAssociation (live : Table) (place : List ℕ) (day : ℕ) (a b 
   pub starts : one.start ≡ two.start
   pub lines : a ≡ b
 
--- the first event with a TIPLOC and a suffix is an event there, with that suffix
+-- the first event with a TIPLOC and a suffix is an event of the schedule, and its record has this
+-- TIPLOC and suffix
 pub first_event_is : (base : List (List ℕ)) (location : List ℕ) (suffix : ℕ) (event : Event) → first_event_at base location suffix ≡ Some event
     → Contains (events_of base) event × (column 10 (event_line base event) ≡ suffix) × (columns 3 9 (event_line base event) ≡ location)
 first_event_is base location suffix event is =

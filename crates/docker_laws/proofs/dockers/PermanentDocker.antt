@@ -31,8 +31,8 @@ use Rattle.docker_laws.proofs.runs.RunEnd.{greater_prints, one_text}
 
 -- ---- changes
 
--- a change of a key in the short-term plan leaves the permanent table as it is, and any other
--- change does to it what it does to the table
+-- taking the permanent table commutes with a change of a permanent key. A change of a key in the
+-- short-term plan leaves the permanent table unchanged
 after_one : (table : Table) (change : Change)
     → permanent_table (after_change table change)
     ≡ cond (is_permanent change.key) (after_change (permanent_table table) change) (permanent_table table)
@@ -69,7 +69,8 @@ after_one table change = by (is_permanent change.key) refl
     by false h = λ i key.
         (outside key (is_permanent key) refl ∙ passed h key (is_eq (key_cmp change.key key)) refl) i
 
--- the permanent table after some changes is what only the changes of permanent keys make of it
+-- leaving out the short-term plan after some changes equals leaving it out first and then applying
+-- only the changes of permanent keys
 pub permanent_along : (table : Table) (changes : List Change)
     → permanent_table (fold after_change table changes)
     ≡ fold after_change (permanent_table table) (filter (λ (it : Change). is_permanent it.key) changes)
@@ -97,7 +98,7 @@ permanent_line live place day line (inr association) =
 
 -- ---- the lapse
 
--- it makes no difference whether the lapse comes before or after the short-term plan is left out
+-- the lapse commutes with leaving out the short-term plan
 lapses_alike : (horizon : ℕ) (live : Table) → permanent_table (lapse_table horizon live) ≡ lapse_table horizon (permanent_table live)
 lapses_alike horizon live = λ i key. by (is_permanent key) (live key) i
   where
@@ -105,7 +106,7 @@ lapses_alike horizon live = λ i key. by (is_permanent key) (live key) i
     by true found = refl
     by false found = refl
 
--- a horizon that doesn't refuse the day leaves the permanent docker of a table as it is
+-- a horizon that doesn't refuse the day leaves the permanent docker of a table unchanged
 lapsed_iff : (horizon : ℕ) (live : Table) (place : List ℕ) (day : ℕ) (text : List ℕ) → IsDay horizon → HasGoodBodies live → ¬ IsDayRefused horizon day
     → IsDockerText (permanent_table live) place day text ↔ IsDockerText (permanent_table (lapse_table horizon live)) place day text
 lapsed_iff horizon live place day text is_day good printed =
@@ -136,7 +137,7 @@ permanent_is_plain files horizon state table place day text are is_day summary p
     subst (λ (t : Table). IsDockerText (permanent_table t) place day text ↔ IsDockerText (permanent_table table) place day text)
     (sym (live_is_lapsed_plain files horizon state table summary plain)) (told.1, told.0)
 
--- a horizon that doesn't refuse the day leaves the permanent docker of a state as it is
+-- a horizon that doesn't refuse the day leaves the permanent docker of a state unchanged
 permanent_stays : (horizon : ℕ) (state : State) (place : List ℕ) (day : ℕ) (text : List ℕ) → IsDay horizon → IsValid state → ¬ IsDayRefused horizon day
     → IsDockerText (permanent_table (live_table state)) place day text → IsDockerText (permanent_table (live_table (lapse_state horizon state))) place day text
 permanent_stays horizon state place day text is_day valid printed is =

@@ -1,5 +1,6 @@
 -- A segment of a table's rows has each schedule of a UID, if no row outside the segment is a
--- schedule of that UID. The same holds for the associations of a group.
+-- schedule of that UID. It has each association of a group, if no row outside the segment is an
+-- association of that group.
 use Rattle.std.proofs.Common.{ℕ, List, ◌++◌, inl, inr, ◌⊎◌, Contains}
 use Rattle.std.proofs.lemmas.List.Elements.{Contains-append_left, Contains-append_right, Contains-append_cases}
 use Rattle.docker_model.specs.file.Change.{schedule_key, association_key, schedule_body, association_body}
@@ -8,7 +9,7 @@ use Rattle.state_laws.specs.Row.{Row, AreRowsOf}
 use Rattle.docker_model.specs.docker.Choice.{Group}
 use Rattle.docker_laws.specs.LiveRows.{HasSchedulesOf, HasAssociationsOf, HasNoScheduleOf, HasNoAssociationOf}
 
--- a row that isn't in `front` or `back` is between them
+-- a row of `front ++ rows ++ back` that isn't in `front` or `back` is in `rows`
 between : (front rows back : List Row) (row : Row) → ¬ Contains front row → ¬ Contains back row → Contains ((front ++ rows) ++ back) row → Contains rows row
 between front rows back row not_front not_back among = outer (Contains-append_cases (front ++ rows) back row among)
   where

@@ -1,5 +1,5 @@
--- The docker lines that a schedule gives for one start day. All of them are in the docker, and the
--- docker has no other lines of events.
+-- The docker lines of a schedule for one start day. The docker has each of these lines, and no
+-- other lines of events.
 use Rattle.std.proofs.Common.{◌≡◌, ℕ, true, rules, List, Contains, ◌<◌, ap, sym, ◌∙◌, subst, Bool, eqb-true, arith, [], cond, refl, Some, None, false}
 use Rattle.std.specs.Prelude.{◌==◌, filter, ◌&&◌, Option}
 use Rattle.std.specs.Str.{bytes_eq}
@@ -95,7 +95,7 @@ pub record IsOfSchedule (live : Table) (place : List ℕ) (day : ℕ) (key : Sch
   pub of_start : made.start ≡ start
 
 module _ (live : Table) (trains : List ℕ → ℕ → Option Train) (tell : TellsTrains live trains) (place : List ℕ) (day : ℕ) where
-  -- each line that a schedule gives for a start day is in the docker
+  -- each line in `schedule_piece` for a start day is in the docker
   pub schedule_piece_back : (key : ScheduleKey) (lines : List (List ℕ)) (start : ℕ) → live (schedule_key key) ≡ Some (schedule_body lines)
       → (line : DockerLine) → Contains (schedule_piece trains place day key lines start) line → IsOfSchedule live place day key start line
   schedule_piece_back key lines start is_live line among = by (trains key.uid start) (tell key.uid start) among
@@ -135,7 +135,7 @@ module _ (live : Table) (trains : List ℕ → ℕ → Option Train) (tell : Tel
           inner true h here = made (runs_as train (exact_schedule_key train.key key (eq_is (schedule_key_cmp train.key key) h)) runs) here
           inner false h here = absurd (nil-Contains line here)
 
-  -- the docker line of an event is one that its schedule gives for its start day
+  -- the docker line of an event is in `schedule_piece` for its schedule and its start day
   pub schedule_piece_forth : (line : DockerLine) (made : IsEventLine live place day line)
       → Contains (schedule_piece trains place day made.key made.schedule made.start) line
   schedule_piece_forth line made = by (trains made.key.uid made.start) (tell made.key.uid made.start)

@@ -25,7 +25,7 @@ event_within start lines event few = let front = falls_below lines event.number 
 
 -- ---- the start days
 
--- the start days for a day are that day and the two days before it, but none before day 0
+-- the start days for a day are that day and the two days before it, without days before day 0
 pub start_days_iff : (day start : ℕ) → (Contains (start_days day) start → (start ≤ day) × (day ≤ start + 2)) × ((start ≤ day) × (day ≤ start + 2)
     → Contains (start_days day) start)
 start_days_iff day start = (forth, back)

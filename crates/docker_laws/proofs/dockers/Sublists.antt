@@ -6,7 +6,7 @@ use Rattle.cif_laws.proofs.lists.Membership.{Contains-cons, cons-Contains, cons-
 use Rattle.cif_laws.proofs.lists.Membership.{below_by_recursion, each_member, member_of, all_members}
 use Rattle.cif_laws.proofs.lists.Later.{AllLater}
 
--- a sublist of a list is also a sublist of the list with one more element at its front
+-- a sublist of a list is also a sublist of the list with an element put at its front
 pub sublist_behind : {A : Type 0} (xs ys : List A) (y : A) → IsSublist xs ys → IsSublist xs (y ∷ ys)
 sublist_behind [] ys y is = tt
 sublist_behind (x ∷ xs) ys y is = inr is
@@ -42,7 +42,7 @@ sublist_member (x ∷ xs) (y ∷ ys) z is among =
 pub sublist_all : {A : Type 0} (P : A → Type 0) (xs ys : List A) → IsSublist xs ys → All P ys → All P xs
 sublist_all P xs ys is all = all_members P xs (λ z among. member_of P ys z all (sublist_member xs ys z is among))
 
--- if in a list each element is related to each later one, so it is in a sublist
+-- if each element of a list is related to each later element, the same is true of each sublist
 pub sublist_later : {A : Type 0} (R : A → A → Type 0) (xs ys : List A) → IsSublist xs ys → AllLater R ys → AllLater R xs
 sublist_later R [] ys is later = tt
 sublist_later R (x ∷ xs) [] is later = absurd is
@@ -58,7 +58,7 @@ sublist_later {A} R (x ∷ xs) (y ∷ ys) is later =
     )
     by inner outer (inr rest) = outer rest
 
--- a sublist of a sublist is a sublist
+-- the relation "is a sublist of" is transitive
 pub sublist_onward : {A : Type 0} (xs ys zs : List A) → IsSublist xs ys → IsSublist ys zs → IsSublist xs zs
 sublist_onward [] ys zs first second = tt
 sublist_onward (x ∷ xs) [] zs first second = absurd first
@@ -74,7 +74,7 @@ sublist_onward {A} (x ∷ xs) (y ∷ ys) (z ∷ zs) first second =
     by both_step first_step skip (inr later) (inl there) = inr (first_step later there.1)
     by both_step first_step skip here (inr behind) = inr (skip behind)
 
--- two sublists, one after the other, are a sublist of the two lists, one after the other
+-- the concatenation of two sublists is a sublist of the concatenation of the two lists
 pub sublist_append : {A : Type 0} (us xs vs ys : List A) → IsSublist us xs → IsSublist vs ys → IsSublist (us ++ vs) (xs ++ ys)
 sublist_append [] [] vs ys first second = second
 sublist_append [] (x ∷ xs) vs ys first second = sublist_behind vs (xs ++ ys) x (sublist_append [] xs vs ys tt second)
@@ -87,7 +87,7 @@ sublist_append {A} (u ∷ us) (x ∷ xs) vs ys first second =
     by both_step skip (inl here) = inl (here.0, both_step here.1)
     by both_step skip (inr later) = inr (skip later)
 
--- a prefix of a list is a sublist of it
+-- each prefix of a list is a sublist of the list
 pub sublist_front : {A : Type 0} (xs ys : List A) → IsSublist xs (xs ++ ys)
 sublist_front [] ys = tt
 sublist_front (x ∷ xs) ys = inl (refl, sublist_front xs ys)

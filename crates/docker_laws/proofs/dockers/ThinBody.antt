@@ -40,12 +40,12 @@ thin_member (basic ∷ others) line among = by (Contains-cons basic (ends_in oth
     by (inl same) = subst (Contains (basic ∷ others)) same (cons-Contains-first basic others)
     by (inr inside) = cons-Contains basic others line (filter_back (λ l. is_end (kind_of l)) others line inside).0
 
--- where the thin records call, the schedule calls
+-- if the thin records call at a place, the schedule calls at that place
 pub thin_calls : (place : List ℕ) (lines : List (List ℕ)) → CallsAt place (thin_lines lines) → CallsAt place lines
 thin_calls place lines calls =
     record { line = calls.line; among = thin_member lines calls.line calls.among; kind = calls.kind; here = calls.here }
 
--- there are at most as many ends as records
+-- the number of origins and termini is at most the number of records
 ends_shorter : (lines : List (List ℕ)) → length (ends_in lines) ≤ length lines
 ends_shorter [] = omega arith
 ends_shorter (line ∷ lines) = by (is_end (kind_of line)) (ends_shorter lines)
@@ -96,7 +96,7 @@ thin_is lines is =
 
 -- ---- two ends pass midnight at most once
 
--- the times in a list that also says what happens then
+-- the times in a list of occasions with times
 abbrev times_in : List (Occasion × ℕ) → List ℕ
 times_in timings = map (λ (time : Occasion × ℕ). time.1) timings
 
@@ -153,7 +153,7 @@ module _ (lines : List (List ℕ)) (is : IsSchedule lines) where
         subst (λ ls. Contains ls journey.last) (sym journey.whole)
         (Contains-append_right (journey.first ∷ journey.between) (journey.last ∷ []) journey.last (cons-Contains-first journey.last []))
 
-    -- a property of each record of the journey is a property of its two ends
+    -- a property of each record of the journey is a property of its origin and its terminus
     of_ends : (P : List ℕ → Type 0) → ((line : List ℕ) → Contains is.journey line → P line) → All P (journey.first ∷ journey.last ∷ [])
     of_ends P each = all_members P (journey.first ∷ journey.last ∷ [])
         (λ line among. by line (Contains-cons journey.first (journey.last ∷ []) line among))
@@ -209,7 +209,7 @@ module _ (lines : List (List ℕ)) (is : IsSchedule lines) where
 
 -- ---- other ends
 
--- the basic schedule with any two good ends is a schedule
+-- the basic schedule with any good origin and any good terminus is a schedule
 with_any_ends : (lines : List (List ℕ)) → IsSchedule lines → (first last : List ℕ) → IsRecord first → IsRecord last → HasKind origin_location first
     → HasKind terminating_location last → HasGoodFields first → HasGoodFields last → IsSchedule (first_record lines ∷ first ∷ last ∷ [])
 with_any_ends lines is first last first_is last_is origin terminus first_good last_good =
@@ -237,7 +237,7 @@ with_any_ends lines is first last first_is last_is origin terminus first_good la
       });
     })
 
--- the basic schedule with any two good ends is a schedule of the same key
+-- the basic schedule with any good origin and any good terminus is a schedule of the same key
 pub any_ends_of_key : (key : ScheduleKey) (lines : List (List ℕ)) → IsScheduleOf key lines → (first last : List ℕ) → IsRecord first → IsRecord last
     → HasKind origin_location first → HasKind terminating_location last → HasGoodFields first → HasGoodFields last
     → IsScheduleOf key (first_record lines ∷ first ∷ last ∷ [])
@@ -289,7 +289,7 @@ thin_few lines is = subst (λ thin. length thin ≤ 3) (sym (thin_is lines is)) 
     by (inl journey) = subst (λ ends. length (is.basic ∷ ends) ≤ 3) (sym (ends_of_journey is.journey journey)) (omega arith)
     by (inr none) = subst (λ ends. length (is.basic ∷ ends) ≤ 3) (sym (ap ends_in none.0)) (omega arith)
 
--- if a schedule doesn't call at a place, its thin records don't either
+-- if a schedule doesn't call at a place, its thin records don't call at it
 pub thin_elsewhere : (place : List ℕ) (lines : List (List ℕ)) → calls_at place lines ≡ false → calls_at place (thin_lines lines) ≡ false
 thin_elsewhere place lines none = by (calls_at place (thin_lines lines)) refl
   where
@@ -300,7 +300,8 @@ thin_elsewhere place lines none = by (calls_at place (thin_lines lines)) refl
         absurd (let worse : false ≡ true = bad in cc)
     by false h = refl
 
--- one more record of a schedule is one more thin record exactly if it is an end
+-- appending a record to a schedule appends it to the thin records if and only if it is an origin or
+-- a terminus
 thin_more : (basic : List ℕ) (others : List (List ℕ)) (line : List ℕ) (b : Bool) → is_end (kind_of line) ≡ b
     → thin_lines (basic ∷ others ++ line ∷ []) ≡ thin_lines (basic ∷ others) ++ cond b (line ∷ []) []
 thin_more basic others line b h =
@@ -308,17 +309,18 @@ thin_more basic others line b h =
     filter-append (λ l. is_end (kind_of l)) others (line ∷ []) ∙ (λ i. ends_in others ++ end_by line [] b h i)
     )
 
--- one more record that is an end is one more thin record
+-- appending an origin or a terminus to a schedule appends it to the thin records
 pub thin_with_end : (basic : List ℕ) (others : List (List ℕ)) (line : List ℕ) → is_end (kind_of line) ≡ true
     → thin_lines (basic ∷ others ++ line ∷ []) ≡ thin_lines (basic ∷ others) ++ line ∷ []
 thin_with_end basic others line h = thin_more basic others line true h
 
--- one more record that isn't an end leaves the thin records as they are
+-- appending any other record to a schedule leaves the thin records unchanged
 pub thin_without : (basic : List ℕ) (others : List (List ℕ)) (line : List ℕ) → is_end (kind_of line) ≡ false
     → thin_lines (basic ∷ others ++ line ∷ []) ≡ thin_lines (basic ∷ others)
 thin_without basic others line h = thin_more basic others line false h ∙ append-nil (thin_lines (basic ∷ others))
 
--- a schedule with one more record calls at the place if it did before or if that record does
+-- a schedule with a record appended calls at a place if and only if the schedule calls at the place
+-- or the record is a location record of the place
 pub calls_more : (place : List ℕ) (lines : List (List ℕ)) (line : List ℕ) → calls_at place (lines ++ line ∷ [])
     ≡ (calls_at place lines || (is_location (kind_of line) && bytes_eq (columns 3 9 line) place))
 calls_more place lines line =

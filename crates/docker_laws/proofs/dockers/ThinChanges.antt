@@ -1,5 +1,5 @@
--- The changes kept for a place and a day, applied to the empty table, give the table after all
--- changes, thinned.
+-- The table after the changes kept for a place and a day equals the thinned table after all
+-- changes.
 use Rattle.std.proofs.Common.{arith, append-nil, append_assoc, ◌≡◌, ℕ, List, [], ◌∷◌, ◌++◌, subst, inl, inr}
 use Rattle.std.proofs.Common.{◌⊎◌, refl, ap, sym, ◌∙◌, Bool, true, false, cond, Some, None, Contains, map}
 use Rattle.std.specs.Prelude.{Option, option_and_then, filter, fold, not}
@@ -37,7 +37,7 @@ left_by act = body_of (op_of act)
 
 -- ---- one change
 
--- the thin form of an act leaves the body that the act leaves, thinned
+-- the body after the thin form of an act is the thinned body after the act
 thin_left : (place : List ℕ) (day : ℕ) (act : Act) → left_by (thin_act place day act) ≡ option_and_then (thin_body place day) (left_by act)
 thin_left place day delete = refl
 thin_left place day (put body) = by (may_count day (put_with body))
@@ -53,7 +53,7 @@ after_here table change key h = λ i. cond (h i) (left_by change.act) (table key
 after_there : (table : Table) (change : Change) (key : Key) → is_of key change ≡ false → after_change table change key ≡ table key
 after_there table change key h = λ i. cond (h i) (left_by change.act) (table key)
 
--- two tables with the same body at a key have the same body there after thinning
+-- two tables with the same body at a key have the same body at this key after thinning
 left_at : (place : List ℕ) (day : ℕ) (one other : Table) (key : Key) → one key ≡ other key → thinned place day one key ≡ thinned place day other key
 left_at place day one other key same = λ i. cond (may_matter place key) (option_and_then (thin_body place day) (same i)) None
 
@@ -62,7 +62,7 @@ none_or true = refl
 none_or false = refl
 
 module _ (place : List ℕ) (day : ℕ) where
-  -- a change of a key that can't matter leaves the thinned table as it is
+  -- a change of a key that can't matter leaves the thinned table unchanged
   step_elsewhere : (table : Table) (change : Change) (key : Key) → may_matter place change.key ≡ false
       → thinned place day (after_change table change) key ≡ thinned place day table key
   step_elsewhere table change key no_matter = by (is_of key change) refl
@@ -76,8 +76,8 @@ module _ (place : List ℕ) (day : ℕ) where
           nothing (after_change table change) none ∙ sym (nothing table none)
       by false h = left_at place day (after_change table change) table key (after_there table change key h)
 
-  -- the thin form of a change does to the thinned table what the change does to the table, if its
-  -- key may matter
+  -- thinning commutes with a change whose key may matter: the thinned table after the thin form of
+  -- the change equals the thinning of the table after the change
   step_kept : (table left : Table) (change : Change) (key : Key) → may_matter place change.key ≡ true → left key ≡ thinned place day table key
       → after_change left (thin_change place day change) key ≡ thinned place day (after_change table change) key
   step_kept table left change key matters same = by (is_of key change) refl
@@ -116,24 +116,27 @@ module _ (place : List ℕ) (day : ℕ) where
           (λ i. fold after_change left (map (thin_change place day) (cond (h i) (change ∷ matter changes) (matter changes))) key)
           ∙ rest (after_change table change) left (λ k. same k ∙ sym (step_elsewhere table change k h)) key
 
-  -- the kept changes, applied to a thinned table, give the table after all changes, thinned
+  -- from a thinned table, the table after the kept changes equals the thinning of the table after
+  -- all changes
   pub thin_over : (table : Table) (changes : List Change) (key : Key)
       → fold after_change (thinned place day table) (thin_changes place day changes) key ≡ thinned place day (fold after_change table changes) key
   thin_over table changes key = kept_from changes table (thinned place day table) (λ k. refl) key
 
-  -- applied to the empty table, the kept changes give the table after all changes, thinned
+  -- from the empty table, the table after the kept changes equals the thinning of the table after
+  -- all changes
   thin_enough : (changes : List Change) → AreEnough place day changes (thin_changes place day changes)
   thin_enough changes = kept_from changes empty_table empty_table (λ key. sym (none_or (may_matter place key)))
 
 -- ---- change by change
 
--- the table after changes and one more is the table after the changes, with the last one applied
+-- the table after changes with one change appended is the table after these changes and then that
+-- change
 table_more : (table : Table) (changes : List Change) (change : Change)
     → fold after_change table (changes ++ change ∷ []) ≡ after_change (fold after_change table changes) change
 table_more table [] change = refl
 table_more table (first ∷ changes) change = table_more (after_change table first) changes change
 
--- changes of other keys leave the body at a key as it is
+-- changes of other keys leave the body at a key unchanged
 untouched : (changes : List Change) (table : Table) (key : Key) → HasNoChangeOf key changes → fold after_change table changes key ≡ table key
 untouched [] table key none = refl
 untouched (change ∷ changes) table key none =
@@ -145,7 +148,7 @@ untouched (change ∷ changes) table key none =
     by true h rest = absurd (none change (cons-Contains-first change changes) (same_key change.key key h))
     by false h rest = rest ∙ after_there table change key h
 
--- without its changes, a key has the body that it had at first
+-- if all changes of a key are left out, the body at this key is unchanged
 without_here : (key : Key) (changes : List Change) (table : Table) → fold after_change table (without key changes) key ≡ table key
 without_here key [] table = refl
 without_here key (change ∷ changes) table = by (is_of key change) refl (without_here key changes)
@@ -158,7 +161,7 @@ without_here key (change ∷ changes) table = by (is_of key change) refl (withou
         ∙ rest (after_change table change)
         ∙ after_there table change key h
 
--- to leave out the changes of one key makes no difference at any other key
+-- leaving out the changes of one key leaves the bodies at all other keys unchanged
 without_there : (key other : Key) → is_eq (key_cmp key other) ≡ false → (changes : List Change) (one two : Table) → one other ≡ two other
     → fold after_change one (without key changes) other ≡ fold after_change two changes other
 without_there key other apart [] one two same = same
@@ -196,7 +199,7 @@ module _ (place : List ℕ) (day : ℕ) where
         ∙ step_kept place day (table_of changes) (table_of kept) change key matters (so_far key)
         ∙ sym (all_more key)
 
-    -- after a deletion the thinned table has nothing at the key
+    -- after a deletion the thinned table has no body at the key
     none_left : thin_act place day change.act ≡ delete → (key : Key) → is_of key change ≡ true
         → thinned place day (after_change (table_of changes) change) key ≡ None
     none_left deletes key h =
@@ -211,7 +214,7 @@ module _ (place : List ℕ) (day : ℕ) where
         → thinned place day (after_change (table_of changes) change) key ≡ thinned place day (table_of changes) key
     same_elsewhere key h = left_at place day (after_change (table_of changes) change) (table_of changes) key (after_there (table_of changes) change key h)
 
-    -- a deletion may be dropped, if no change of its key is kept
+    -- if the thin form of a change is a deletion, it may be dropped if no change of its key is kept
     enough_dropped : thin_act place day change.act ≡ delete → HasNoChangeOf change.key kept → AreEnough place day (changes ++ change ∷ []) kept
     enough_dropped deletes none key = by (is_of key change) refl
       where
@@ -221,7 +224,7 @@ module _ (place : List ℕ) (day : ℕ) where
             untouched kept empty_table key of_key ∙ sym (none_left deletes key h) ∙ sym (all_more key)
         by false h = so_far key ∙ sym (same_elsewhere key h) ∙ sym (all_more key)
 
-    -- at a deletion, the kept changes of the same key may be removed
+    -- if the thin form of a change is a deletion, the kept changes of its key may be removed
     enough_removed : thin_act place day change.act ≡ delete → AreEnough place day (changes ++ change ∷ []) (without change.key kept)
     enough_removed deletes key = by (is_of key change) refl
       where
@@ -259,7 +262,8 @@ module _ (place : List ℕ) (day : ℕ) where
 
 -- ---- what may be kept
 
--- a sublist stays a sublist when a function is applied to each element of both lists
+-- if one list is a sublist of another, mapping both with the same function gives a sublist of the
+-- mapped list
 sublist_map : {A B : Type 0} (f : A → B) (xs ys : List A) → IsSublist xs ys → IsSublist (map f xs) (map f ys)
 sublist_map f [] ys is = tt
 sublist_map f (x ∷ xs) [] is = absurd is
@@ -279,7 +283,7 @@ module _ (place : List ℕ) (day : ℕ) where
     enough = thin_enough place day changes;
   }
 
-  -- without changes nothing is kept
+  -- the empty list is a thinning of the empty list of changes
   pub thinning_at_first : IsThinning place day [] []
   thinning_at_first = record { some = tt; enough = enough_at_first place day }
 
@@ -287,15 +291,16 @@ module _ (place : List ℕ) (day : ℕ) where
     abbrev before : List Change
     before = map (thin_change place day) changes
 
-    -- some of the thin changes are also some of the thin changes with one more
+    -- a sublist of the thin changes is also a sublist of the thin changes with one more change
+    -- appended
     still_some : (others : List Change) → IsSublist others kept → IsSublist others (map (thin_change place day) (changes ++ change ∷ []))
     still_some others inside =
         subst (IsSublist others) (sym (map-append (thin_change place day) changes (change ∷ [])))
         (sublist_onward others kept (before ++ thin_change place day change ∷ []) inside
         (sublist_onward kept before (before ++ thin_change place day change ∷ []) is.some (sublist_front before (thin_change place day change ∷ []))))
 
-    -- some of the thin changes, followed by one more thin change, are some of the thin changes with
-    -- that one
+    -- a sublist of the thin changes, with a thin change appended, is a sublist of the thin changes
+    -- with that change appended
     some_more : (others : List Change) → IsSublist others kept
         → IsSublist (others ++ thin_change place day change ∷ []) (map (thin_change place day) (changes ++ change ∷ []))
     some_more others inside =
@@ -317,14 +322,14 @@ module _ (place : List ℕ) (day : ℕ) where
       enough = enough_kept place day changes kept change is.enough matters;
     }
 
-    -- a deletion may be dropped, if no change of its key is kept
+    -- if the thin form of a change is a deletion, it may be dropped if no change of its key is kept
     pub thinning_dropped : thin_act place day change.act ≡ delete → HasNoChangeOf change.key kept → IsThinning place day (changes ++ change ∷ []) kept
     thinning_dropped deletes none = record {
       some = still_some kept (sublist_itself kept);
       enough = enough_dropped place day changes kept change is.enough deletes none;
     }
 
-    -- at a deletion, the kept changes of the same key may be removed
+    -- if the thin form of a change is a deletion, the kept changes of its key may be removed
     pub thinning_removed : thin_act place day change.act ≡ delete → IsThinning place day (changes ++ change ∷ []) (without change.key kept)
     thinning_removed deletes = record {
       some = still_some (without change.key kept) (sublist_filter (λ (other : Change). not (is_of change.key other)) kept);
@@ -339,7 +344,8 @@ module _ (place : List ℕ) (day : ℕ) where
       enough = enough_replaced place day changes kept change is.enough matters;
     }
 
--- of the changes that follow, all whose keys may matter may be kept in their thin forms
+-- a thinning can be continued: of any later changes, it is enough to keep the thin forms of those
+-- whose keys may matter
 pub thinning_more : (place : List ℕ) (day : ℕ) (all kept more : List Change) → IsThinning place day all kept
     → IsThinning place day (all ++ more) (kept ++ thin_changes place day more)
 thinning_more place day all kept [] is =
@@ -369,19 +375,20 @@ thinning_more place day all kept (change ∷ more) is =
 -- ---- the thin form of an act, case by case
 
 module _ (place : List ℕ) (day : ℕ) (lines : List (List ℕ)) where
-  -- a put of a schedule that can't count becomes a deletion
+  -- the thin form of a put of a schedule that can't count is a deletion
   pub act_far : runs_near day (first_record lines) ≡ false → thin_act place day (put (schedule_body lines)) ≡ delete
   act_far far = λ i. cond (far i) (put (schedule_body (lines_for place lines))) delete
 
   act_near : runs_near day (first_record lines) ≡ true → thin_act place day (put (schedule_body lines)) ≡ put (schedule_body (lines_for place lines))
   act_near near = λ i. cond (near i) (put (schedule_body (lines_for place lines))) delete
 
-  -- a put of a schedule that calls at the place stays as it is
+  -- the thin form of a put of a schedule that calls at the place is the same put
   pub act_calls : runs_near day (first_record lines) ≡ true → calls_at place lines ≡ true
       → thin_act place day (put (schedule_body lines)) ≡ put (schedule_body lines)
   act_calls near calls = act_near near ∙ (λ i. put (schedule_body (cond (calls i) lines (thin_lines lines))))
 
-  -- a put of a schedule that doesn't call at the place keeps only the thin records
+  -- the thin form of a put of a schedule that doesn't call at the place is a put of the thin
+  -- records
   pub act_thin : runs_near day (first_record lines) ≡ true → calls_at place lines ≡ false
       → thin_act place day (put (schedule_body lines)) ≡ put (schedule_body (thin_lines lines))
   act_thin near none = act_near near ∙ (λ i. put (schedule_body (cond (none i) lines (thin_lines lines))))
@@ -399,11 +406,12 @@ pub none_above : (highest key : Key) (kept : List Change) → AreAtMost highest 
 none_above highest key kept low below change among same =
     low change among (subst (λ (k : Key). key_cmp k highest ≡ Greater) (sym same) (key_total.antisymm key highest ∙ ap ordering_reverse below))
 
--- if no change is kept, every key is at least as high as all kept keys
+-- for the empty list of kept changes, any key is an upper bound
 pub none_at_first : (highest : Key) → AreAtMost highest []
 none_at_first highest change among = absurd (nil-Contains change among)
 
--- after a kept change with a key not above the highest, that key is still the highest
+-- after a change with a key that isn't above the highest key is kept, the highest key is still an
+-- upper bound
 pub still_at_most : (highest : Key) (kept : List Change) (change : Change) → AreAtMost highest kept → IsAtMost key_cmp change.key highest
     → AreAtMost highest (kept ++ change ∷ [])
 still_at_most highest kept change low more other among = by (Contains-append_cases kept (change ∷ []) other among)
@@ -412,7 +420,7 @@ still_at_most highest kept change low more other among = by (Contains-append_cas
     by (inl before) = low other before
     by (inr last) = subst (λ (c : Change). IsAtMost key_cmp c.key highest) (Contains-single change other last) more
 
--- after a kept change with a key above the highest, its key is the highest
+-- after a change with a key above the highest key is kept, its key is an upper bound
 pub raised_at_most : (highest : Key) (kept : List Change) (change : Change) → AreAtMost highest kept → IsBelow key_cmp highest change.key
     → AreAtMost change.key (kept ++ change ∷ [])
 raised_at_most highest kept change low below =

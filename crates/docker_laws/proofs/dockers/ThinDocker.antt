@@ -32,7 +32,7 @@ use Rattle.docker_laws.proofs.dockers.ThinBody.{first_of_thin, thin_elsewhere, n
 
 -- ---- records that may replace a schedule
 
--- if some records may replace a schedule, the schedule may replace them
+-- the relation `IsStandIn` is symmetric
 turned : (place : List ℕ) (day : ℕ) (one other : List (List ℕ)) → IsStandIn place day one other → IsStandIn place day other one
 turned place day one other is = record {
   runs = λ start near. sym (is.runs start near);
@@ -70,8 +70,8 @@ needed_stand_in place day lines = by (calls_at place lines) refl
 
 -- ---- two tables with the same docker for a place and a day
 
--- the table `other` has what the docker of `one` needs: each schedule that runs near the day, and
--- each association at the place
+-- the table `other` has all parts of `one` that the docker needs: each schedule that runs near the
+-- day, and each association at the place
 record Covers (one other : Table) (place : List ℕ) (day : ℕ) : Type 0 where
   runs : (start : ℕ) → IsStartNear day start → (uid : List ℕ) (key : ScheduleKey) (lines : List (List ℕ)) → IsRunning one uid start key lines
       → (others : List (List ℕ)) × IsRunning other uid start key others × IsStandIn place day lines others
@@ -112,7 +112,7 @@ module _ (one other : Table) (place : List ℕ) (day : ℕ) (forth : Covers one 
   }
 
   -- a train with an event at the place on the day starts on that day or on one of the two days
-  -- before
+  -- before it
   started_near : (start : ℕ) (uid : List ℕ) (key : ScheduleKey) (lines : List (List ℕ)) (event : Event) → CallsAt place lines
       → TrainRuns one uid start key lines → event_day start lines event ≡ day → (start ≤ day) × (day ≤ start + 2)
   started_near start uid key lines event calls runs today = started day start lines event (forth.few key lines runs.chosen.running.is_live calls) today
@@ -188,7 +188,7 @@ module _ (one other : Table) (place : List ℕ) (day : ℕ) (forth : Covers one 
   line_over line (inl event) = inl (event_line_over one other place day forth back line event)
   line_over line (inr association) = inr (association_line_over line association)
 
--- two tables have the same docker list, if each has what the docker of the other needs
+-- two tables have the same docker list, if each has all parts that the docker of the other needs
 list_over : (one other : Table) (place : List ℕ) (day : ℕ) → Covers one other place day → Covers other one place day → (lines : List DockerLine)
     → IsDockerList one place day lines → IsDockerList other place day lines
 list_over one other place day forth back lines is = record {
@@ -234,7 +234,7 @@ module _ (place : List ℕ) (day : ℕ) (live part : Table) (stands : StandsFor 
     few = λ key lines is_live calls. few key lines is_live;
   }
 
-  -- a table and one that may replace it have the same docker list for the place and the day
+  -- if one table may replace another, both have the same docker list for the place and the day
   pub stand_in_list_iff : HasFewMidnights live → HasFewMidnights part → (lines : List DockerLine)
       → IsDockerList live place day lines ↔ IsDockerList part place day lines
   stand_in_list_iff few few_part lines = (
@@ -245,7 +245,7 @@ module _ (place : List ℕ) (day : ℕ) (live part : Table) (stands : StandsFor 
   stand_in_text_same : (lines : List DockerLine) → docker_text part place day lines ≡ docker_text live place day lines
   stand_in_text_same lines = ap (text_with place day lines) (ap description_in stands.tiploc)
 
-  -- a table and one that may replace it have the same docker text for the place and the day
+  -- if one table may replace another, both have the same docker text for the place and the day
   pub stand_in_text_iff : HasFewMidnights live → HasFewMidnights part → (text : List ℕ)
       → IsDockerText live place day text ↔ IsDockerText part place day text
   stand_in_text_iff few few_part text = (
@@ -256,8 +256,8 @@ module _ (place : List ℕ) (day : ℕ) (live part : Table) (stands : StandsFor 
 -- ---- a table and the thinned table
 
 module _ (place : List ℕ) (day : ℕ) (live : Table) where
-  -- a live schedule that runs near the day is in the thinned table, with the records that the place
-  -- needs
+  -- the thinned table has, at the key of a live schedule that runs near the day, the records of
+  -- this schedule that the place needs
   schedule_left : (key : ScheduleKey) (lines : List (List ℕ)) → live (schedule_key key) ≡ Some (schedule_body lines)
       → runs_near day (first_record lines) ≡ true → thinned place day live (schedule_key key) ≡ Some (schedule_body (lines_for place lines))
   schedule_left key lines is_live runs =

@@ -1,5 +1,5 @@
--- The state made of the kept changes of a file is valid. For the place and the day it gives the
--- same docker as the summary of the file.
+-- The state of the kept changes of a file is valid. For the place and the day it has the same
+-- docker as the summary of the file.
 use Rattle.std.proofs.Common.{◌≡◌, ℕ, ◌-◌, ◌^◌, ◌<◌, ◌≤◌, List, [], ◌∷◌, length, map, subst, inl, inr, ◌⊎◌}
 use Rattle.std.proofs.Common.{refl, ap, sym, ◌∙◌, Bool, true, false, cond, Some, None, Contains, All, arith}
 use Rattle.std.specs.Prelude.{Option, option_and_then, ◌↔◌, fold}
@@ -49,7 +49,7 @@ module _ (file : List (List ℕ)) (kept : List Change) (state : State) (of : IsS
   at_least entry other (inr below) greater =
       let less : entry_cmp other entry ≡ Less = (λ i. ordering_then (below i) (op_cmp other.op entry.op)) in cc
 
-  -- the live table of the state is the table that the changes make, if later changes of the same
+  -- the live table of the state equals the table after the changes, if later changes of the same
   -- key have higher record numbers
   live_is_made : AllLater Apart kept → (key : Key) → live_table state key ≡ table_of kept key
   live_is_made apart key =
@@ -70,7 +70,7 @@ module _ (file : List (List ℕ)) (kept : List Change) (state : State) (of : IsS
             greatest = λ other among. at_least last.0 other (last.3 other among);
           })))
 
--- the live table of the summary of a file is the table that the file's changes make
+-- the live table of the summary of a file equals the table after the file's changes
 pub live_of_summary : (file : List (List ℕ)) (whole : State) → IsSummary (file ∷ []) 0 whole → (key : Key)
     → live_table whole key ≡ after_file empty_table file key
 live_of_summary file whole summary key =
@@ -86,7 +86,7 @@ live_of_summary file whole summary key =
 -- ---- the changes kept of a file
 
 module _ (place : List ℕ) (day : ℕ) (file : List (List ℕ)) (kept : List Change) (is : IsThinning place day (changes file) kept) where
-  -- of two kept changes of one key, the later has the higher record number
+  -- of two kept changes of one key, the later change has the higher record number
   kept_apart : AllLater Apart kept
   kept_apart =
       sublist_later Apart kept (map (thin_change place day) (changes file)) is.some
@@ -97,11 +97,11 @@ module _ (place : List ℕ) (day : ℕ) (file : List (List ℕ)) (kept : List Ch
   was_change change among =
       Contains-map (thin_change place day) (changes file) change (sublist_member kept (map (thin_change place day) (changes file)) change is.some among)
 
-  -- the live table is the table of the file, thinned
+  -- the live table is the thinning of the table after the file's changes
   pub thin_live : (state : State) → IsStateOfChanges file kept state → (key : Key) → live_table state key ≡ thinned place day (after_file empty_table file) key
   thin_live state of key = live_is_made file kept state of kept_apart key ∙ is.enough key
 
--- the thin form of an act leaves a well-formed op of the same key
+-- the op of the thin form of an act is well formed for the same key
 thin_op : (place : List ℕ) (day : ℕ) (key : Key) (act : Act) → IsOpOf key (op_of act) → IsOpOf key (op_of (thin_act place day act))
 thin_op place day key delete good = tt
 thin_op place day key (put body) good = by (may_count day (put_with body))
@@ -147,13 +147,13 @@ ledger_of_one item good = by good.indicator
       kept = all_members (λ (i : LedgerItem). IsKept None i.stamp) (item ∷ []) (is_item (λ (i : LedgerItem). IsKept None i.stamp) tt);
     }
 
--- without a horizon nothing lapses
+-- without a horizon no op has to lapse
 pub no_lapse : (op : Op) → HasNotToLapse 0 op
 no_lapse deleted = tt
 no_lapse lapsed = tt
 no_lapse (put_with body) = omega arith
 
--- a kept change is well formed, and has a record number after the header's
+-- a kept change is well formed, and its record number is at least 2
 pub kept_good : (place : List ℕ) (day : ℕ) (file : List (List ℕ)) → IsFile file → length file ≤ most_records → (kept : List Change)
     → IsThinning place day (changes file) kept → (change : Change) → Contains kept change
     → (IsGoodKey change.key × IsOpOf change.key (op_of change.act)) × ((2 ≤ change.number) × (change.number < 2 ^ 32 - 1))

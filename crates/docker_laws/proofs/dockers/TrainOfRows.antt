@@ -20,7 +20,7 @@ use Rattle.docker_laws.proofs.dockers.FirstOfRows.{IsFirst, best_is_first, found
 by_key : IsTotalOrder (on (λ (train : Train). train.key) schedule_choice_cmp)
 by_key = on_total (λ (train : Train). train.key) schedule_choice_total
 
--- a schedule found in a row has the row's key and the row's body
+-- the schedule in a row has the row's key and the row's body
 row_is : (key : Key) (body : Body) (train : Train) → schedule_of key body ≡ Some train → (key ≡ schedule_key train.key) × (body ≡ schedule_body train.lines)
 row_is (schedule_key key) (schedule_body lines) train is =
     let e : record { key = key; lines = lines } ≡ train = some_is (record { key = key; lines = lines }) train is in
@@ -65,7 +65,7 @@ module _ (live : Table) (rows : List Row) (uid : List ℕ) (has : HasSchedulesOf
       first = λ other others is. first.1 (record { key = other; lines = others }) is;
     }
 
-    -- the best schedule of the rows is the chosen one
+    -- the best schedule of the rows is the chosen schedule
     pub best_is_chosen : (found : Option Train) → IsChosenSoFar uid day rows found → IsChosenOn live uid day found
     best_is_chosen found best =
         first_is_chosen found (best_is_first by_key (is_running uid day) (schedules_in rows) Runs running among_running passes_running found best)
@@ -108,7 +108,7 @@ rows_have live rows are uid = record {
 pub trains_tell : (live : Table) (rows : List Row) → AreRowsOf live rows → TellsTrains live (train_in rows)
 trains_tell live rows are uid day = train_tells live rows uid (rows_have live rows are uid) day
 
--- for a UID and a day there is only one possible result of the choice
+-- for a UID and a day, the chosen schedule is unique
 pub one_answer : (live : Table) (uid : List ℕ) (day : ℕ) (a b : Option Train) → IsChosenOn live uid day a → IsChosenOn live uid day b → a ≡ b
 one_answer live uid day None None one two = refl
 one_answer live uid day None (Some b) one two = absurd (one b.key b.lines two.running)
@@ -117,7 +117,7 @@ one_answer live uid day (Some a) (Some b) one two =
     let same = one_chosen live uid day a.key b.key a.lines b.lines one two in
     λ i. Some (record { key = same.0 i; lines = same.1 i })
 
--- for a UID and a day there is only one possible train, or none
+-- for a UID and a day, the train is unique
 pub one_train_answer : (live : Table) (uid : List ℕ) (day : ℕ) (a b : Option Train) → IsTrainOn live uid day a → IsTrainOn live uid day b → a ≡ b
 one_train_answer live uid day None None one two = refl
 one_train_answer live uid day None (Some b) one two = absurd (one b.key b.lines two)

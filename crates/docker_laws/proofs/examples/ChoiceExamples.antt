@@ -13,7 +13,7 @@ use Rattle.cif_laws.proofs.records.Builders.{no_text, bs, lo, f2_origin, f2_term
 use Rattle.cif_laws.proofs.lists.Membership.{Contains-cons, nil-Contains}
 use Rattle.state_laws.proofs.states.PlainTable.{Keyed, Found, NotFound, find_in, live_at, live_none}
 
--- a live body comes from an entry that puts it
+-- a body in the live table is the body of one of the state's entries
 pub in_state : (state : State) (key : Key) (body : Body) → live_table state key ≡ Some body → (entry : Entry) × Contains state.entries (key, entry)
     × (body_of entry.op ≡ Some body)
 in_state state key body h = by (find_in state.entries key)
@@ -38,8 +38,8 @@ placed key lines = (schedule_key key, put_lines lines)
 abbrev key_of : ℕ → ℕ → ScheduleKey
 key_of day letter = record { uid = codes "C10001"; runs_from = day; indicator = letter }
 
--- the three schedules of one UID: a permanent one, an overlay on two of its days, and a
--- cancellation on a third
+-- the three schedules of one UID: a permanent schedule, an overlay on two of its days, and a
+-- cancellation on a third day
 abbrev permanent : List (List ℕ)
 permanent = bs (codes "N") (codes "C10001") (codes "240610") (codes "240616") (codes "1111111") (codes "1A10") (codes "P") ∷ f2_origin ∷ f2_terminus ∷ []
 

@@ -142,7 +142,7 @@ only_line : (line : DockerLine) → IsEventLine live (codes "ASHFELD") 23537 lin
 only_line line (inl made) = only_event_line line made
 only_line line (inr made) = absurd (no_association_line line made)
 
--- the docker list of the worked file is this one line
+-- the docker list of the worked file has only this line
 pub f2_docker : IsDockerList live (codes "ASHFELD") 23537 (the_line ∷ [])
 f2_docker = record {
   ascending = (tt, tt);

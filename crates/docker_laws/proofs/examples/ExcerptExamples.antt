@@ -1,5 +1,5 @@
--- Worked excerpts for COLWELL: what the docker of COLWELL needs, what the walk leaves, and what the
--- docker would lose without it.
+-- Worked excerpts for COLWELL: the entries that the docker of COLWELL needs, and the excerpt that
+-- the walk computes. Without the needed entries the docker would be wrong.
 use Rattle.std.proofs.Common.{◌≡◌, ℕ, List, [], ◌∷◌, refl, inl, inr, Some, None, arith, ap, ◌∙◌, subst, Contains, ◌⊎◌}
 use Rattle.std.specs.Prelude.{codes, slice_index}
 use Rattle.jiff_core.specs.Calendar.{days_from_civil, day_count, days_of_years, days_of_months}
@@ -92,7 +92,7 @@ runs_by_overlay : ¬ TrainRuns (live_table overlaid) (codes "C40001") 23538 stop
 unfolding days_from_civil day_count days_of_years days_of_months
 runs_by_overlay runs = runs.chosen.first short_key short (record { uid_is = refl; is_live = refl; runs_then = refl }) refl
 
--- without the overlay it would run by the permanent schedule on that day
+-- without the overlay, the train would run by the permanent schedule on that day
 would_stop : TrainRuns (live_table alone) (codes "C40001") 23538 stops_key stops
 unfolding days_from_civil day_count days_of_years days_of_months
 would_stop = record {
@@ -246,8 +246,9 @@ parted_is_no_excerpt is = by (is (schedule_key partner_key))
 partner_is_kept : (excerpt_for place joined).entries ≡ joined.entries
 partner_is_kept = refl
 
--- an excerpt of a state with only the associated train has no entry. If the association were joined
--- to it later, the associated train would be missing. So an excerpt must be made of a whole state
+-- the excerpt of a state with only the associated train has no entry. If the association were
+-- joined to this excerpt later, the associated train would be missing. So an excerpt must be
+-- computed from a whole state
 partner_alone_is_dropped : (excerpt_for place (state_of (put_in (schedule_key partner_key) (schedule_body partner) ∷ []))).entries ≡ []
 partner_alone_is_dropped = refl
 
@@ -289,8 +290,8 @@ whole = state_of (
     ∷ put_in (schedule_key (key_of (codes "C40005") 23537 80)) (schedule_body late) ∷ []
     )
 
--- the walk leaves the TIPLOC of COLWELL, both associations there, the base train with its overlay,
--- the associated train, and the last schedule, which calls there
+-- the excerpt has the TIPLOC of COLWELL, both associations at COLWELL, the base train with its
+-- overlay, the associated train, and the last schedule, which calls at COLWELL
 walk_leaves : (excerpt_for place whole).entries
     ≡ put_in (tiploc_key (codes "COLWELL")) (tiploc_body (spaces 63)) ∷ put_in (association_key link_key) (association_body link)
     ∷ with_op (association_key gone_key) deleted ∷ put_in (schedule_key stops_key) (schedule_body stops)
@@ -332,6 +333,6 @@ whole_ascends = (
   ),
 )
 
--- what the walk leaves is an excerpt
+-- the result of the walk is an excerpt
 walk_leaves_excerpt : IsExcerptState place whole (excerpt_for place whole)
 walk_leaves_excerpt = walk_is_excerpt place whole whole_ascends

@@ -1,4 +1,5 @@
--- The changes that are kept for COLWELL and a day. Then four ways of keeping too little.
+-- The changes that are kept for COLWELL and a day. Then four wrong thinnings, each of which keeps
+-- too few changes or records.
 use Rattle.std.proofs.Common.{length, length-append, ◌≡◌, ℕ, ◌≤◌, List, [], ◌∷◌, refl, inl, inr, ◌⊎◌}
 use Rattle.std.proofs.Common.{Some, None, arith, lit<, ap, sym, ◌∙◌, subst, Bool, true, false, cond}
 use Rattle.std.specs.Prelude.{codes, slice_index, ◌↔◌, ◌&&◌, nat_le}
@@ -74,8 +75,8 @@ all_changes =
     ∷ change_of 6 (schedule_key stops_key) (put (schedule_body stops)) ∷ change_of 9 (schedule_key short_key) (put (schedule_body way_round))
     ∷ change_of 13 (schedule_key (key_of (codes "C40003") 23528 80)) (put (schedule_body long_ago)) ∷ []
 
--- for COLWELL on 11 June these are kept: its TIPLOC, the association there, the train that calls
--- there, the overlay in its thin form, and a deletion
+-- for COLWELL on 11 June these changes are kept: its TIPLOC, its association, the train that calls
+-- at COLWELL, the overlay in its thin form, and a deletion
 kept_of_all : thin_changes place 23538 all_changes
     ≡ change_of 3 (tiploc_key (codes "COLWELL")) (put (tiploc_body (spaces 63))) ∷ change_of 4 (association_key link_key) (put (association_body link))
     ∷ change_of 6 (schedule_key stops_key) (put (schedule_body stops)) ∷ change_of 9 (schedule_key short_key) (put (schedule_body short))
@@ -85,7 +86,7 @@ kept_of_all = refl
 
 -- ---- two tables with different dockers
 
--- two dockers differ if one has a line on the day and the other has none
+-- two dockers differ if one has a line on the day and the other has no line
 differ : (whole wrong : Table) (day : ℕ) (line : DockerLine) → IsEventLine wrong place day line
     → ((other : DockerLine) → ¬ IsEventLine whole place day other) → ((other : DockerLine) → ¬ IsAssociationLine whole place day other)
     → ¬ ((lines : List DockerLine) → IsDockerList whole place day lines ↔ IsDockerList wrong place day lines)
@@ -119,7 +120,7 @@ same_schedule : (key other : ScheduleKey) → is_eq (schedule_key_cmp key other)
 unfolding schedule_in
 same_schedule key other h = ap schedule_in (same_key (schedule_key key) (schedule_key other) h)
 
--- this is the only live schedule
+-- the live table has no other schedule
 only_stops : (other : ScheduleKey) (others : List (List ℕ)) → table_of stops_alone (schedule_key other) ≡ Some (schedule_body others) → stops_key ≡ other
 only_stops other others h = by (is_eq (schedule_key_cmp stops_key other)) refl h
   where
@@ -234,7 +235,7 @@ not_there lines same calls =
     let bad : false ≡ true = test in
     cc
 
--- so on that day it doesn't run by the schedule that calls at COLWELL
+-- so on 11 June the train doesn't run by the schedule that calls at COLWELL
 not_by_stops : (uid : List ℕ) (start : ℕ) (key : ScheduleKey) (lines : List (List ℕ)) → stops_key ≡ key → start ≡ 23538
     → ¬ TrainRuns (table_of overlaid) uid start key lines
 not_by_stops uid start key lines same day runs =
@@ -276,7 +277,7 @@ dropped_overlay_is_wrong =
     differ (table_of overlaid) (table_of stops_alone) 23538 (line_of_event stops_key 23538 stops arrives) (stops_line 23538 refl refl)
     no_arrival_then no_link_then
 
--- the overlay may also be kept with other ends, if neither is COLWELL
+-- the overlay may also be kept with another origin and terminus, if neither is COLWELL
 abbrev other_ends : List (List ℕ)
 other_ends =
     first_record way_round ∷ lo (codes "EASTRIG") no_text (codes "0000") no_text no_text no_text
@@ -307,7 +308,7 @@ basic_alone_is_wrong is = by is.journey_or_none
 
 -- ---- wrong: an associated train that starts on the next day is dropped
 
--- a train of 12 June that doesn't call at COLWELL
+-- a train on 12 June that doesn't call at COLWELL
 abbrev follows_on : List (List ℕ)
 follows_on =
     bs (codes "N") (codes "C40002") (codes "240612") (codes "240612") (codes "0010000") (codes "4D42") (codes "P")

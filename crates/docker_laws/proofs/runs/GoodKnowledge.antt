@@ -34,7 +34,7 @@ no_files_good = (All-nil IsFile, All-nil (λ file. length file ≤ most_records)
 pub nothing_good : (format : Format) → IsGoodKnown format nothing
 nothing_good format = (no_files_good, none_good format)
 
--- if two sets of knowledge are good, so are both together
+-- the union of two good sets of knowledge is good
 pub united_good : (format : Format) (first second : Known) → IsGoodKnown format first → IsGoodKnown format second → IsGoodKnown format (united first second)
 united_good format first second one two = (
   (All-append IsFile first.files second.files one.0.0 two.0.0, All-append (λ file. length file ≤ most_records) first.files second.files one.0.1 two.0.1),
@@ -66,7 +66,7 @@ good_at P [] i d all one = one
 good_at P (x ∷ xs) zero d all one = All-head P x xs all
 good_at P (x ∷ xs) (suc i) d all one = good_at P xs i d (All-tail P x xs all) one
 
--- what each office and each message knows is good
+-- the knowledge of each office and each message is good
 abbrev pub AllGood : Format → KnownSets → Type 0
 AllGood format known = All (IsGoodKnown format) known.offices × All (IsGoodKnown format) known.messages
 

@@ -1,4 +1,4 @@
--- What is known after one more event of a run, and how many offices and messages there are.
+-- The knowledge after one more event of a run, and the number of offices and messages.
 use Rattle.std.proofs.Common.{◌≡◌, ℕ, suc, ◌+◌, Bool, true, false, cond, List, [], ◌∷◌, ◌++◌, length, refl, ap, ◌∙◌, arith, length-append, length-set}
 use Rattle.std.specs.Prelude.{fold, filter}
 use Rattle.std.specs.List.{zip}
@@ -14,7 +14,8 @@ zip_more [] (b ∷ ys) x y same = absurd (omega arith)
 zip_more (a ∷ xs) [] x y same = absurd (omega arith)
 zip_more (a ∷ xs) (b ∷ ys) x y same = ap (λ rest. (a, b) ∷ rest) (zip_more xs ys x y (omega arith))
 
--- what is known after one more event follows from what was known before it, the event and its reply
+-- the knowledge after one more event is `after_reply` of the knowledge before it, with the event
+-- and its reply
 pub sets_more : (offices : ℕ) (events : List RunEvent) (replies : List Reply) (event : RunEvent) (reply : Reply) → length events ≡ length replies
     → known_sets offices (events ++ event ∷ []) (replies ++ reply ∷ []) ≡ after_reply (known_sets offices events replies) (event, reply)
 sets_more offices events replies event reply same =
@@ -23,15 +24,15 @@ sets_more offices events replies event reply same =
 
 -- ---- replies
 
--- there are as many replies as events
+-- the number of replies equals the number of events
 pub replies_long : (known : KnownSets) (events : List RunEvent) (replies : List Reply) → AreReplies known events replies → length events ≡ length replies
 replies_long known [] [] are = refl
 replies_long known [] (reply ∷ replies) are = absurd are
 replies_long known (event ∷ events) [] are = absurd are
 replies_long known (event ∷ events) (reply ∷ replies) are = ap suc (replies_long (after_reply known (event, reply)) events replies are.1)
 
--- possible replies to events, with a possible reply to one more event, are possible replies to all,
--- for a run that begins with any knowledge
+-- if all replies are possible, they are still possible after an event and its possible reply are
+-- appended, for a run that begins with any knowledge
 pub replies_after : (known : KnownSets) (events : List RunEvent) (replies : List Reply) (event : RunEvent) (reply : Reply)
     → AreReplies known events replies → IsReply (fold after_reply known (zip events replies)) event reply → AreReplies known (events ++ event ∷ [])
     (replies ++ reply ∷ [])
@@ -41,8 +42,8 @@ replies_after known (other ∷ events) [] event reply are is = absurd are
 replies_after known (other ∷ events) (answer ∷ replies) event reply are is =
     (are.0, replies_after (after_reply known (other, answer)) events replies event reply are.1 is)
 
--- possible replies to events, with a possible reply to one more event, are possible replies to all,
--- for a run from its start
+-- if all replies are possible, they are still possible after an event and its possible reply are
+-- appended, for a run from its start
 pub replies_more : (offices : ℕ) (events : List RunEvent) (replies : List Reply) (event : RunEvent) (reply : Reply)
     → AreReplies (none_known offices) events replies → IsReply (known_sets offices events replies) event reply → AreReplies (none_known offices)
     (events ++ event ∷ []) (replies ++ reply ∷ [])
@@ -91,11 +92,11 @@ messages_along known (event ∷ events) (reply ∷ replies) =
         by true = omega arith
         by false = omega arith
 
--- there are as many offices as at the start
+-- the number of offices is the same as at the start
 pub offices_are : (offices : ℕ) (events : List RunEvent) (replies : List Reply) → length (known_sets offices events replies).offices ≡ offices
 offices_are offices events replies = offices_along (none_known offices) events replies ∙ length-replicate offices nothing
 
--- there are as many messages as states were sent
+-- the number of messages equals the number of states that were sent
 pub messages_are : (offices : ℕ) (events : List RunEvent) (replies : List Reply)
     → length (known_sets offices events replies).messages ≡ sent_count events replies
 messages_are offices events replies =

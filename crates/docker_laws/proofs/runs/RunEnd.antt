@@ -1,5 +1,5 @@
--- Offices that know the same have equal states, and offices that know the same files print the same
--- dockers, even in different runs.
+-- Offices with the same knowledge have equal states, and offices that know the same files print the
+-- same dockers, even in different runs.
 use Rattle.std.proofs.Common.{◌≡◌, ℕ, ◌+◌, Bool, true, false, List, [], ap, sym, ◌∙◌, subst, refl, arith, All}
 use Rattle.std.specs.Prelude.{◌↔◌, max, nat_lt}
 use Rattle.std.proofs.Math.Nat.{le-max_left, le-max_right, max-eq_left, max-eq_right}
@@ -25,8 +25,8 @@ use Rattle.state_laws.proofs.states.SummaryLaws.{summary_unique, lapsed_summary}
 use Rattle.state_laws.proofs.states.OneJoin.{docker_unique}
 use Rattle.cif_laws.proofs.lists.ZipSteps.{zip_at}
 
--- if an exchange has possible replies, and its states and messages match what is known, it may be
--- left by the run
+-- if an exchange has possible replies, and its states and messages match what is known, it is a
+-- possible result of the run
 pub holds_at_end : (format : Format) (offices : ℕ) (events : List RunEvent) (exchange : Exchange) → AreReplies (none_known offices) events exchange.replies
     → Holds format (sets_of offices events exchange) exchange.states exchange.messages → IsRun format offices events exchange
 holds_at_end format offices events exchange replies holds = record { replies = replies; states = holds.states_are; messages = holds.messages_are }
@@ -49,7 +49,7 @@ greater_prints a b day first second = by (nat_lt a b) refl
     by true h = let below = ltb-true a b h in subst (λ n. ¬ IsDayRefused n day) (sym (max-eq_right (omega arith))) second
     by false h = subst (λ n. ¬ IsDayRefused n day) (sym (max-eq_left (ltb-false a b h))) first
 
--- a horizon that doesn't refuse the day leaves the docker as it is
+-- a horizon that doesn't refuse the day leaves the docker unchanged
 docker_stays : (horizon : ℕ) (state : State) (place : List ℕ) (day : ℕ) (text : List ℕ) → IsDay horizon → IsValid state → ¬ IsDayRefused horizon day
     → IsDockerText (live_table state) place day text → IsDockerText (live_table (lapse_state horizon state)) place day text
 docker_stays horizon state place day text is_day valid printed is = by (nat_lt 0 horizon) (nat_lt day (horizon + 3)) refl refl
@@ -63,12 +63,12 @@ docker_stays horizon state place day text is_day valid printed is = by (nat_lt 0
         subst (λ h. IsDockerText (live_table (lapse_state h state)) place day text) (sym zero_is)
         (subst (λ (s : State). IsDockerText (live_table s) place day text) (sym (lapsed_already 0 state (none_to_lapse state.entries))) is)
 
--- a table has only one docker text for a place and a day
+-- a table has at most one docker text for a place and a day
 pub one_text : (live : Table) (place : List ℕ) (day : ℕ) (text other : List ℕ) → IsDockerText live place day text → IsDockerText live place day other → text ≡ other
 one_text live place day text other is that = is.2 ∙ ap (docker_text live place day) (docker_unique _ is.0 that.0 is.1 that.1) ∙ sym that.2
 
--- two states of the same files give the same docker for a place and a day that neither horizon
--- refuses
+-- two states of the same files have the same docker for each place and each day that neither
+-- horizon refuses
 pub docker_of_files : (format : Format) (one two : Known) (first second : State) → IsGoodKnown format one → IsGoodKnown format two → IsStateOf one first
     → IsStateOf two second
     → HaveSameFiles one.files two.files → (place : List ℕ) (day : ℕ) → ¬ IsDayRefused one.horizon day → ¬ IsDayRefused two.horizon day → (text other : List ℕ)
@@ -100,7 +100,7 @@ module _ (format : Format) (offices others : ℕ) (events more : List RunEvent) 
     that_state =
         zip_at IsStateOf (sets_of others more two).offices two.states j nothing (record { horizon = 0; ledger = []; entries = [] }) second.states in_two
 
-    -- two offices that know the same have equal states
+    -- two offices with the same knowledge have equal states
     pub same_state : AreOneKnowledge (office_known (sets_of offices events one) i) (office_known (sets_of others more two) j)
         → office_state one.states i ≡ office_state two.states j
     same_state same =
@@ -109,8 +109,8 @@ module _ (format : Format) (offices others : ℕ) (events more : List RunEvent) 
         (office_state one.states i) (office_state two.states j)
         (subst (λ h. IsSummary (office_known (sets_of offices events one) i).files h (office_state one.states i)) same.1 this_state) that_state
 
-    -- offices that know the same files print the same docker for each place and day that neither
-    -- refuses
+    -- offices that know the same files print the same docker for each place and each day that
+    -- neither office refuses
     pub same_docker : All (IsGoodEvent format) events → All (IsGoodEvent format) more → HaveSameFiles (office_known (sets_of offices events one) i).files
         (office_known (sets_of others more two) j).files
         → (place : List ℕ) (day : ℕ) → ¬ IsDayRefused (office_state one.states i).horizon day → ¬ IsDayRefused (office_state two.states j).horizon day
@@ -128,7 +128,7 @@ module _ (format : Format) (offices others : ℕ) (events more : List RunEvent) 
         (subst (λ h. ¬ IsDayRefused h day) that_state.horizon_is prints_too)
         text other is that
 
-  -- two messages that know the same have equal texts
+  -- two messages with the same knowledge have equal texts
   pub same_message : IsMessage (sets_of offices events one) i → IsMessage (sets_of others more two) j
       → AreOneKnowledge (message_known (sets_of offices events one) i) (message_known (sets_of others more two) j)
       → message_text one.messages i ≡ message_text two.messages j

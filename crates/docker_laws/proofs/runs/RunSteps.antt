@@ -1,4 +1,4 @@
--- If the states and messages match what is known, they still do after each event.
+-- The states and messages of a run match what is known, at the start and after each event.
 use Rattle.std.proofs.Common.{◌≡◌, ℕ, ◌^◌, ◌<◌, ◌≤◌, List, [], ◌∷◌, ◌++◌, length, refl, sym, ◌∙◌, subst, arith, All, set}
 use Rattle.std.proofs.Math.Nat.{max_comm}
 use Rattle.std.proofs.lemmas.List.Elements.{All-set, All-push, All-nil, All-replicate, All-get_or}
@@ -30,15 +30,16 @@ module _ (format : Format) (known : KnownSets) (states : List State) (messages :
   pub message_is : (message : ℕ) → IsMessage known message → IsMessageOf format (message_known known message) (message_text messages message)
   message_is message there = zip_at (IsMessageOf format) known.messages messages message nothing [] holds.messages_are there
 
-  -- what an office knows is good
+  -- the knowledge of an office is good
   pub office_good : (office : ℕ) → IsOffice known office → IsGoodKnown format (office_known known office)
   office_good office there = All-get_or (IsGoodKnown format) known.offices office nothing there holds.offices
 
-  -- what a message knows is good
+  -- the knowledge of a message is good
   pub message_good : (message : ℕ) → IsMessage known message → IsGoodKnown format (message_known known message)
   message_good message there = All-get_or (IsGoodKnown format) known.messages message nothing there holds.sent
 
-  -- there are as many states as offices, and as many texts as messages
+  -- the number of states equals the number of offices, and the number of texts equals the number of
+  -- messages
   pub sizes : (length states ≡ length known.offices) × (length messages ≡ length known.messages)
   sizes = (sym (zip_long IsStateOf known.offices states holds.states_are), sym (zip_long (IsMessageOf format) known.messages messages holds.messages_are))
 
@@ -76,8 +77,8 @@ module _ (format : Format) (known : KnownSets) (states : List State) (messages :
   pub after_refusal : (event : RunEvent) (why : Refusal) → Holds format (after_reply known (event, refused why)) states messages
   after_refusal event why = holds
 
-  -- states and messages still match what is known if an office gets other knowledge, and the state
-  -- that belongs to it
+  -- states and messages still match what is known if an office's knowledge is replaced, and its
+  -- state is replaced by the state of the new knowledge
   with_office_holds : (office : ℕ) (now : Known) (state : State) → IsGoodKnown format now → IsStateOf now state
       → Holds format (record { offices = set known.offices office now; messages = known.messages }) (set states office state) messages
   with_office_holds office now state good is = record {

@@ -13,16 +13,16 @@ use Rattle.docker_model.specs.docker.Event.{Event, event_day, first_event_at}
 use Rattle.docker_model.specs.docker.Choice.{TrainRuns, IsChosenAssociation, IsCancellation, group_of}
 use Rattle.docker_model.specs.docker.DockerLine.{DockerLine, line_of_association}
 
--- the occasion that an association's category calls for. `JJ` is a join, `VV` a division and `NP` a
--- next working; any other category has no occasion, and gives no docker line. For a category of two
--- bytes
+-- the occasion of an association's category. `JJ` is a join, `VV` a division and `NP` a next
+-- working; any other category has no occasion, and its associations have no docker line. For a
+-- category of two bytes
 abbrev pub category_occasion : List ℕ → Option Occasion
 category_occasion category =
     if bytes_eq category (codes "JJ") then Some joining
     else (if bytes_eq category (codes "VV") then Some dividing else (if bytes_eq category (codes "NP") then Some next_working else None))
 
--- whether an association with this date indicator gives a docker line. It does for S, a space, N
--- and P, and for no other letter
+-- whether an association with this date indicator may have a docker line: the indicator is S, a
+-- space, N or P
 abbrev pub is_date_indicator : ℕ → Bool
 is_date_indicator b = (b == 83) || (b == 32) || (b == 78) || (b == 80)
 
@@ -35,27 +35,27 @@ partner_start indicator day =
     if indicator == 78 then (if nat_lt day last_day then Some (day + 1) else None)
     else (if indicator == 80 then (if nat_lt 0 day then Some (day - 1) else None) else Some day)
 
--- no train of this UID starts on the day: no schedule of the UID runs then, or the chosen one is a
--- cancellation
+-- no train of this UID starts on the day: no schedule of the UID runs on that day, or the chosen
+-- schedule is a cancellation
 abbrev pub RunsNot : Table → List ℕ → ℕ → Type 0
 RunsNot live uid day = (key : ScheduleKey) (lines : List (List ℕ)) → ¬ TrainRuns live uid day key lines
 
--- this is the train identity that a line prints for a UID on a day. It is the one in the basic
--- schedule of the train that starts on the day, or `????` if no train of the UID starts then
+-- this is the train identity that a line prints for a UID on a day. It is the identity in the basic
+-- schedule of the train that starts on the day, or `????` if there is no such train
 abbrev pub IsIdentityOn : Table → List ℕ → List ℕ → ℕ → Type 0
 IsIdentityOn live uid identity day =
     ((key : ScheduleKey) × (lines : List (List ℕ)) × TrainRuns live uid day key lines × (identity ≡ columns 33 36 (first_record lines)))
     ⊎ (RunsNot live uid day × (identity ≡ codes "????"))
 
--- like `IsIdentityOn`, for a day that may be `None`: without a day the identity is `????`
+-- like `IsIdentityOn`, for a day that may be `None`: if there is no day, the identity is `????`
 abbrev pub IsPartnerIdentity : Table → List ℕ → Option ℕ → List ℕ → Type 0
 IsPartnerIdentity live uid None identity = identity ≡ codes "????"
 IsPartnerIdentity live uid (Some day) identity = IsIdentityOn live uid identity day
 
 -- this is a docker line of an association, for the place and the day. The association is the chosen
--- one of its group on the base train's start day. It isn't a cancellation, and its category and
--- date indicator give a line. The base train's first event with the association's TIPLOC and suffix
--- is at the place, on the day
+-- association of its group on the base train's start day. It isn't a cancellation. Its category is
+-- a join, a division or a next working, and its date indicator is S, a space, N or P. The base
+-- train's first event with the association's TIPLOC and suffix is at the place, on the day
 pub record IsAssociationLine (live : Table) (place : List ℕ) (day : ℕ) (line : DockerLine) : Type 0 where
   pub start : ℕ
   pub key : AssociationKey

@@ -1,4 +1,4 @@
--- Which of a train's schedules counts on a day, and which association of a group. A day is any
+-- Which schedule of a UID is chosen for a day, and which association of a group. A day is any
 -- number here, without a bound; dockers are made only for days 0 to 36524.
 use Rattle.std.specs.Prelude.{◌≡◌, ℕ, Bool, false, ◌&&◌, nat_le, IsTrue, List, Option, Some, None}
 use Rattle.std.specs.declared.cmp.Ordering.{Ordering}
@@ -44,11 +44,12 @@ IsCancellation indicator = indicator ≡ 67
 abbrev pub choice_cmp : ℕ → ℕ → ℕ → ℕ → Ordering
 choice_cmp indicator first other_indicator other_first = ordering_then (nat_cmp indicator other_indicator) (nat_cmp other_first first)
 
--- the order of choice between two schedules of one UID: the first one is chosen
+-- the order of choice between two schedules of one UID: the schedule that comes first is chosen
 abbrev pub schedule_choice_cmp : ScheduleKey → ScheduleKey → Ordering
 schedule_choice_cmp a b = choice_cmp a.indicator a.runs_from b.indicator b.runs_from
 
--- the order of choice between two associations of one group: the first one is chosen
+-- the order of choice between two associations of one group: the association that comes first is
+-- chosen
 abbrev pub association_choice_cmp : AssociationKey → AssociationKey → Ordering
 association_choice_cmp a b = choice_cmp a.indicator a.start b.indicator b.start
 
@@ -59,15 +60,15 @@ pub record IsRunning (live : Table) (uid : List ℕ) (day : ℕ) (key : Schedule
   pub is_live : live (schedule_key key) ≡ Some (schedule_body lines)
   pub runs_then : IsTrue (schedule_runs (first_record lines) day)
 
--- this is the chosen schedule of the UID on the day: of all schedules of the UID that run then, it
--- comes first in the order of choice. For example, an overlay is chosen before a permanent
+-- this is the chosen schedule of the UID on the day: of all schedules of the UID that run on the
+-- day, it comes first in the order of choice. For example, an overlay is chosen before a permanent
 -- schedule, and a cancellation before both
 pub record IsChosen (live : Table) (uid : List ℕ) (day : ℕ) (key : ScheduleKey) (lines : List (List ℕ)) : Type 0 where
   pub running : IsRunning live uid day key lines
   pub first : (other : ScheduleKey) (others : List (List ℕ)) → IsRunning live uid day other others → IsAtMost schedule_choice_cmp key other
 
--- a train of the UID starts on the day and runs by this schedule: the schedule is the chosen one,
--- and isn't a cancellation
+-- a train of the UID starts on the day and runs by this schedule: the schedule is the chosen
+-- schedule, and isn't a cancellation
 pub record TrainRuns (live : Table) (uid : List ℕ) (day : ℕ) (key : ScheduleKey) (lines : List (List ℕ)) : Type 0 where
   pub chosen : IsChosen live uid day key lines
   pub no_cancellation : ¬ IsCancellation key.indicator
@@ -92,7 +93,7 @@ pub record IsAssociated (live : Table) (group : Group) (day : ℕ) (key : Associ
   pub runs_then : IsTrue (association_runs line day)
 
 -- this is the chosen association of the group on the day: of all associations of the group that run
--- then, it comes first in the order of choice
+-- on the day, it comes first in the order of choice
 pub record IsChosenAssociation (live : Table) (group : Group) (day : ℕ) (key : AssociationKey) (line : List ℕ) : Type 0 where
   pub associated : IsAssociated live group day key line
   pub first : (other : AssociationKey) (others : List ℕ) → IsAssociated live group day other others → IsAtMost association_choice_cmp key other
@@ -102,8 +103,8 @@ pub record Train : Type 0 where
   pub key : ScheduleKey
   pub lines : List (List ℕ)
 
--- this is the chosen schedule of the UID on the day, or `None` if no schedule of the UID runs then.
--- The chosen schedule may be a cancellation
+-- this is the chosen schedule of the UID on the day, or `None` if no schedule of the UID runs on
+-- the day. The chosen schedule may be a cancellation
 abbrev pub IsChosenOn : Table → List ℕ → ℕ → Option Train → Type 0
 IsChosenOn live uid day None = (key : ScheduleKey) (lines : List (List ℕ)) → ¬ IsRunning live uid day key lines
 IsChosenOn live uid day (Some train) = IsChosen live uid day train.key train.lines

@@ -1,4 +1,4 @@
--- The lines of a docker: what each consists of, and their order.
+-- The lines of a docker: the fields of a line, and the order of lines.
 use Rattle.std.specs.Prelude.{ℕ, List, Option, Some, [], find, unwrap_or, codes}
 use Rattle.std.specs.declared.cmp.Ordering.{Ordering}
 use Rattle.std.specs.Ordering.{ordering_then, nat_cmp}
@@ -9,8 +9,8 @@ use Rattle.docker_model.specs.file.Change.{ScheduleKey}
 use Rattle.docker_model.specs.state.Order.{bytes_cmp}
 use Rattle.docker_model.specs.docker.Event.{has_identity, Event, event_line, event_identity}
 
--- what a docker line has at its end: for an event the TIPLOCs of the train's origin and
--- destination, and for an association the associated train's UID and identity
+-- the end of a docker line: for an event the TIPLOCs of the train's origin and destination, and for
+-- an association the associated train's UID and identity
 pub data Detail : Type 0 where
   ends : (origin destination : List ℕ) → Detail
   partner : (uid identity : List ℕ) → Detail
@@ -38,22 +38,22 @@ abbrev pub platform_by_kind : Option Kind → List ℕ → List ℕ
 platform_by_kind (Some intermediate_location) line = columns 34 36 line
 platform_by_kind _ line = columns 20 22 line
 
--- the railway line on which a train leaves, from a location record of this kind. A terminus has
--- none, which is three spaces
+-- the railway line on which a train leaves, from a location record of this kind. For a terminus the
+-- result is three spaces
 abbrev pub track_by_kind : Option Kind → List ℕ → List ℕ
 track_by_kind (Some origin_location) line = columns 23 25 line
 track_by_kind (Some intermediate_location) line = columns 37 39 line
 track_by_kind _ line = spaces 3
 
--- the path by which a train arrives, from a location record of this kind. An origin has none, which
+-- the path by which a train arrives, from a location record of this kind. For an origin the result
 -- is three spaces
 abbrev pub path_by_kind : Option Kind → List ℕ → List ℕ
 path_by_kind (Some intermediate_location) line = columns 40 42 line
 path_by_kind (Some terminating_location) line = columns 23 25 line
 path_by_kind _ line = spaces 3
 
--- the public time that is printed for an event, from a location record of this kind. A pass has
--- none, which is four spaces
+-- the public time that is printed for an event, from a location record of this kind. For a pass the
+-- result is four spaces
 abbrev pub public_by_kind : Option Kind → Occasion → List ℕ → List ℕ
 public_by_kind (Some origin_location) departure line = shown_public (columns 16 19 line)
 public_by_kind (Some intermediate_location) arrival line = shown_public (columns 26 29 line)

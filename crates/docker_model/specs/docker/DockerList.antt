@@ -10,7 +10,7 @@ use Rattle.docker_model.specs.docker.Choice.{TrainRuns}
 use Rattle.docker_model.specs.docker.DockerLine.{DockerLine, line_of_event, docker_line_cmp}
 use Rattle.docker_model.specs.docker.Association.{IsAssociationLine}
 
--- this is the docker line of an event: a train that runs has the event at the place, on the day
+-- this is the docker line of an event that a running train has at the place, on the day
 pub record IsEventLine (live : Table) (place : List ℕ) (day : ℕ) (line : DockerLine) : Type 0 where
   pub start : ℕ
   pub key : ScheduleKey

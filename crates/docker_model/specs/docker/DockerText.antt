@@ -31,9 +31,9 @@ line_text line =
     ++ spaces 1 ++ line.indicator ∷ spaces 1 ++ line.suffix ∷ spaces 1 ++ line.platform ++ spaces 1 ++ line.track
     ++ spaces 1 ++ line.path ++ spaces 1 ++ line.public_time ++ spaces 1 ++ detail_text line.detail
 
--- the TPS description of a timing point, from the body of its TIPLOC key; 26 spaces without a body.
--- A TIPLOC record has it in columns 19 to 44, and these are columns 10 to 35 of the body, which
--- starts at column 10 of the record
+-- the TPS description of a timing point, from the body of its TIPLOC key, or 26 spaces if there is
+-- no body. The description is in columns 19 to 44 of a TIPLOC record. The body starts at column 10
+-- of the record, so the description is in columns 10 to 35 of the body
 abbrev pub description_in : Option Body → List ℕ
 description_in (Some (tiploc_body bytes)) = columns 10 35 bytes
 description_in _ = spaces 26

@@ -1,5 +1,5 @@
 -- The events of a train: the departures, arrivals and passes of its schedule, numbered from 1. A
--- schedule is given as the list of its records.
+-- schedule is represented by the list of its records.
 use Rattle.std.specs.Prelude.{ℕ, ◌+◌, Bool, ◌&&◌, ◌==◌, List, [], map, take, filter, find, slice_index_or, Option, Some, None, codes}
 use Rattle.std.specs.List.{flat_map, enumerate_from, last_or}
 use Rattle.std.specs.Str.{bytes_eq}
@@ -7,16 +7,16 @@ use Rattle.docker_model.specs.records.Record.{columns, column}
 use Rattle.docker_model.specs.file.Journey.{Occasion, times_of, times_along, fall_count}
 use Rattle.docker_model.specs.file.File.{first_record}
 
--- an event of a train. It has its number, the place of its record in the schedule counted from 0,
--- what happens, and when, in half minutes
+-- an event of a train: its number, the place of its record in the schedule counted from 0, its
+-- occasion, and its time in half minutes
 pub record Event : Type 0 where
   pub number : ℕ
   pub place : ℕ
   pub occasion : Occasion
   pub time : ℕ
 
--- every time in the schedule, each with the place of its record, counted from 0. A record has from
--- none to three times
+-- every time in the schedule, each with the place of its record, counted from 0. A record has at
+-- most three times
 abbrev pub placed_times : List (List ℕ) → List (ℕ × (Occasion × ℕ))
 placed_times lines = flat_map (λ placed. map (λ time. (placed.0, time)) (times_of placed.1)) (enumerate_from 0 lines)
 
@@ -26,8 +26,8 @@ events_of lines =
     map (λ counted. record { number = counted.0; place = counted.1.0; occasion = counted.1.1.0; time = counted.1.1.1 })
     (enumerate_from 1 (placed_times lines))
 
--- how often a schedule passes midnight before or at the event with this number. It is 0 for the
--- numbers 0 and 1; above the last number it counts every midnight
+-- how often a schedule passes midnight before or at the event with this number. For the numbers 0
+-- and 1 the result is 0. For a number above the last event's, the result counts every midnight
 abbrev pub falls_to : List (List ℕ) → ℕ → ℕ
 falls_to lines number = fall_count (take number (times_along lines))
 
@@ -50,7 +50,7 @@ abbrev pub has_identity : List ℕ → List ℕ → Bool
 has_identity identity line = bytes_eq (columns 1 2 line) identity
 
 -- the train identity at an event: from the last change en route before the event's record, or from
--- the basic schedule if there is none
+-- the basic schedule if there is no such change
 abbrev pub event_identity : List (List ℕ) → Event → List ℕ
 event_identity lines event =
     changed_identity (last_or None (filter (λ line. has_identity (codes "CR") line) (take event.place lines))) (first_record lines)
@@ -59,7 +59,7 @@ event_identity lines event =
 abbrev pub is_at : List ℕ → ℕ → List ℕ → Bool
 is_at location suffix line = bytes_eq (columns 3 9 line) location && (column 10 line == suffix)
 
--- the first event with this TIPLOC and suffix: the first time in the first such location record
--- that has a time. The docker line of an association belongs to this event of the base train
+-- the first event whose record has this TIPLOC and suffix, or `None` if there is no such event. The
+-- docker line of an association is printed for this event of the base train
 abbrev pub first_event_at : List (List ℕ) → List ℕ → ℕ → Option Event
 first_event_at lines location suffix = find (λ event. is_at location suffix (event_line lines event)) (events_of lines)

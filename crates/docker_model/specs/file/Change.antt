@@ -1,4 +1,4 @@
--- The changes that a file makes: each record puts a body at a key or deletes a key.
+-- The changes of a file: a change puts a body at a key or deletes a key.
 use Rattle.std.specs.Prelude.{ℕ, List, Bool, ◌||◌, take_while, if◌then◌else◌, [], ◌∷◌, Option, Some, map, ◌+◌, ◌++◌}
 use Rattle.std.specs.Str.{bytes_eq}
 use Rattle.docker_model.specs.records.Record.{columns, column, kind_of, Kind, tiploc_insert, tiploc_amend, tiploc_delete, association, basic_schedule}
@@ -7,9 +7,8 @@ use Rattle.docker_model.specs.records.Clock.{is_blank}
 use Rattle.docker_model.specs.records.Field.{is_deletion, as_new}
 use Rattle.docker_model.specs.file.File.{follows_basic}
 
--- the key of an association. It has the UIDs of the base train and the associated train, and the
--- first date as a day number. It also has the timing point, the base train's suffix and the STP
--- indicator
+-- the key of an association. Its fields are the UIDs of base and associated train, the first date
+-- as a day number, the timing point, the base train's suffix and the STP indicator
 pub record AssociationKey : Type 0 where
   pub base : List ℕ
   pub associated : List ℕ
@@ -31,19 +30,19 @@ pub data Key : Type 0 where
   association_key : (key : AssociationKey) → Key
   schedule_key : (key : ScheduleKey) → Key
 
--- a body, which a put leaves at its key: columns 10 to 72 of a TIPLOC record, the whole record of
--- an association, or the records of a schedule
+-- a body: the value that a put stores at its key. It is columns 10 to 72 of a TIPLOC record, the
+-- whole record of an association, or the records of a schedule
 pub data Body : Type 0 where
   tiploc_body : (bytes : List ℕ) → Body
   association_body : (line : List ℕ) → Body
   schedule_body : (lines : List (List ℕ)) → Body
 
--- what a change does to its key: it deletes the key, or puts a body there
+-- what a change does to its key: it deletes the key, or puts a body at the key
 pub data Act : Type 0 where
   delete : Act
   put : (body : Body) → Act
 
--- a change: the number of the record that makes it, its key, and what it does to the key
+-- a change of a key by a record: the number of the record, the key, and the act
 pub record Change : Type 0 where
   pub number : ℕ
   pub key : Key
@@ -57,7 +56,7 @@ tiploc_named line = tiploc_key (columns 3 9 line)
 abbrev pub new_tiploc_named : List ℕ → Key
 new_tiploc_named line = tiploc_key (columns 73 79 line)
 
--- the key that an association record names
+-- the key of an association record
 abbrev pub association_named : List ℕ → Key
 association_named line = association_key (record {
   base = columns 4 9 line;
@@ -68,7 +67,7 @@ association_named line = association_key (record {
   indicator = column 80 line;
 })
 
--- the key that a basic schedule names
+-- the key of a basic schedule
 abbrev pub schedule_named : List ℕ → Key
 schedule_named line = schedule_key (record {
   uid = columns 4 9 line;
@@ -80,20 +79,20 @@ schedule_named line = schedule_key (record {
 abbrev pub tiploc_details : List ℕ → Body
 tiploc_details line = tiploc_body (columns 10 72 line)
 
--- whether a TIPLOC amendment keeps the code: its new code is blank or the same as the old one
+-- whether a TIPLOC amendment keeps the code: its new code is blank or the same as the old code
 abbrev pub keeps_code : List ℕ → Bool
 keeps_code line = is_blank (columns 73 79 line) || bytes_eq (columns 73 79 line) (columns 3 9 line)
 
--- the records of a schedule after its basic schedule. Of all records that follow in the file, these
--- are the ones before the next unit or the trailer
+-- the records of a schedule after its basic schedule, from all records that follow in the file.
+-- They end before the next unit or the trailer
 abbrev pub schedule_rest : List (List ℕ) → List (List ℕ)
 schedule_rest following = take_while (λ line. follows_basic (kind_of line)) following
 
--- what a record of this kind does: a list of keys, each with its act. The last argument is the
--- records that follow it. A TIPLOC amendment with a new code does two things: it deletes the old
--- code and puts the new one. A basic schedule puts the whole schedule, and the records after it in
--- the schedule do nothing. A schedule or an association is put with its transaction set to N, so a
--- new record and a revision put the same body
+-- the acts of a record of this kind: a list of keys, each with its act. The last argument is the
+-- records that follow this record in the file. A TIPLOC amendment with a new code has two acts: a
+-- deletion of the old code, and a put of the new code. A basic schedule puts the whole schedule,
+-- and the records after it in the schedule have no acts. A schedule or an association is put with
+-- its transaction set to N, so a new record and a revision put the same body
 abbrev pub acts_by_kind : Option Kind → List ℕ → List (List ℕ) → List (Key × Act)
 acts_by_kind (Some tiploc_insert) line following = (tiploc_named line, put (tiploc_details line)) ∷ []
 acts_by_kind (Some tiploc_amend) line following =
@@ -106,17 +105,17 @@ acts_by_kind (Some basic_schedule) line following =
     (schedule_named line, if is_deletion line then delete else put (schedule_body (as_new line ∷ schedule_rest following))) ∷ []
 acts_by_kind _ line following = []
 
--- the changes that one record makes, each with this record number. The last argument is the records
--- that follow it
+-- the changes of one record, each with this record number. The last argument is the records that
+-- follow this record in the file
 abbrev pub changes_of_record : ℕ → List ℕ → List (List ℕ) → List Change
 changes_of_record number line following =
     map (λ act. record { number = number; key = act.0; act = act.1 }) (acts_by_kind (kind_of line) line following)
 
--- the changes that these records make. The first record has this number
+-- the changes of these records. The first record has this number
 abbrev pub changes_from : ℕ → List (List ℕ) → List Change
 changes_from number [] = []
 changes_from number (line ∷ following) = changes_of_record number line following ++ changes_from (number + 1) following
 
--- the changes that a file makes, in the order of its records. The header has the record number 1
+-- the changes of a file, in the order of its records. The header has the record number 1
 abbrev pub changes : List (List ℕ) → List Change
 changes file = changes_from 1 file

@@ -1,4 +1,4 @@
--- The fault that the first bytes of a file already show, whatever bytes follow them.
+-- The fault that the first bytes of a file determine, whatever bytes follow.
 use Rattle.std.specs.Prelude.{ℕ, ◌+◌, ◌≤◌, ◌==◌, nat_le, if◌then◌else◌, List, [], ◌∷◌, length, count_by}
 use Rattle.std.specs.List.{slice_split}
 use Rattle.docker_model.specs.file.Text.{lines_of}
@@ -18,8 +18,8 @@ abbrev pub sure_lines : List ℕ → ℕ
 sure_lines text =
     count_by (λ b. b == 10) text + (if nat_le 82 (length (last_of (slice_split (λ b. b == 10) text))) then 1 else 0)
 
--- these first bytes of a file already show this fault: the record at fault is a line that is
--- certain
+-- every file that begins with these bytes has this fault, whatever bytes follow: the record at
+-- fault is one of the certain lines
 pub record IsFaultSoFar (limit : ℕ) (text : List ℕ) (fault : FileFault) : Type 0 where
   pub is : IsRecordFault limit (lines_of text) fault
   pub told : fault.number ≤ sure_lines text

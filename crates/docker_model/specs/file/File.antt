@@ -7,7 +7,7 @@ use Rattle.docker_model.specs.records.Field.{is_deletion, HasGoodFields}
 use Rattle.docker_model.specs.file.Journey.{midnights}
 
 -- the first of these records: the header if they are a file, and the basic schedule if they are a
--- schedule. Without records it is empty
+-- schedule. If there are no records, the result is empty
 abbrev pub first_record : List (List ℕ) → List ℕ
 first_record [] = []
 first_record (line ∷ lines) = line

@@ -18,7 +18,7 @@ pub data FileCause : Type 0 where
   third_midnight : FileCause
   no_end : FileCause
 
--- the rank of a cause. If several causes hold for a record, the one with the lowest rank is
+-- the rank of a cause. If several causes hold for a record, the cause with the lowest rank is
 -- reported
 abbrev pub cause_rank : FileCause → ℕ
 cause_rank too_many = 0
@@ -53,7 +53,7 @@ abbrev pub HasThirdFall : List (List ℕ) → List ℕ → Type 0
 HasThirdFall earlier line =
     (lines : List (List ℕ)) × EndsInSchedule earlier lines × (midnights lines ≤ 2) × (2 < midnights (lines ++ line ∷ []))
 
--- the cause holds for a record that follows these earlier ones, in a file with this limit on its
+-- the cause holds for a record that follows these earlier records, in a file with this limit on its
 -- records. The cause `no_end` never holds for a record
 abbrev pub HoldsOf : ℕ → List (List ℕ) → List ℕ → FileCause → Type 0
 HoldsOf limit earlier line too_many = limit ≤ length earlier
@@ -76,8 +76,9 @@ pub record FileFault : Type 0 where
   pub number : ℕ
   pub cause : FileCause
 
--- this is the fault of the first record at fault. All records before it are within the limit and
--- begin a file; with it they are over the limit or no longer begin a file
+-- this is the fault of the first record at fault. The records before that record are within the
+-- limit and begin a file. Together with that record, they are over the limit or no longer begin a
+-- file
 pub record IsRecordFault (limit : ℕ) (records : List (List ℕ)) (fault : FileFault) : Type 0 where
   pub earlier : List (List ℕ)
   pub line : List ℕ
@@ -102,7 +103,7 @@ pub record IsUnended (limit : ℕ) (records : List (List ℕ)) (fault : FileFaul
 abbrev pub IsFileFault : ℕ → List ℕ → FileFault → Type 0
 IsFileFault limit text fault = IsRecordFault limit (lines_of text) fault ⊎ IsUnended limit (lines_of text) fault
 
--- the text is this file: its lines are the file's records, and there are at most `limit` of them
+-- the text is this file: its lines are the file's records, and the file has at most `limit` records
 pub record IsFileText (limit : ℕ) (text : List ℕ) (file : List (List ℕ)) : Type 0 where
   pub lines : lines_of text ≡ file
   pub is : IsFile file

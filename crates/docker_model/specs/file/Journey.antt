@@ -16,12 +16,12 @@ pub data Occasion : Type 0 where
   next_working : Occasion
   departure : Occasion
 
--- a list with this occasion and its time, or the empty list without a time
+-- a list of one pair, this occasion and its time. It is empty if there is no time
 abbrev pub timed : Occasion → Option ℕ → List (Occasion × ℕ)
 timed occasion None = []
 timed occasion (Some time) = (occasion, time) ∷ []
 
--- the times in a record of this kind, in half minutes, each with what happens then. An origin has a
+-- the times in a record of this kind, in half minutes, each with its occasion. An origin has a
 -- departure and a terminus an arrival. An intermediate location may have an arrival, a pass and a
 -- departure, in this order
 abbrev pub times_by_kind : Option Kind → List ℕ → List (Occasion × ℕ)
@@ -33,7 +33,7 @@ times_by_kind (Some intermediate_location) line =
 times_by_kind (Some terminating_location) line = timed arrival (scheduled_time (columns 11 15 line))
 times_by_kind _ line = []
 
--- the times in a record, in half minutes, each with what happens then
+-- the times in a record, in half minutes, each with its occasion
 abbrev pub times_of : List ℕ → List (Occasion × ℕ)
 times_of line = times_by_kind (kind_of line) line
 
@@ -53,7 +53,7 @@ fall_count (time ∷ later ∷ times) = (if nat_lt later time then 1 else 0) + f
 abbrev pub midnights : List (List ℕ) → ℕ
 midnights lines = fall_count (times_along lines)
 
--- the schedule calls at this TIPLOC: one of its LO, LI and LT records names it
+-- the schedule calls at this TIPLOC: one of its LO, LI and LT records has it in columns 3 to 9
 pub record CallsAt (place : List ℕ) (lines : List (List ℕ)) : Type 0 where
   pub line : List ℕ
   pub among : Contains lines line

@@ -14,8 +14,8 @@ is_blank field = list_all (λ b. b == 32) field
 abbrev pub is_clock : List ℕ → Bool
 is_clock field = list_all is_ascii_digit (take 4 field) && nat_lt (two_digits field 0) 24 && nat_lt (two_digits field 2) 60
 
--- the minute of the day that HHMM spells in the first four bytes: `0715` is 435. For a field of
--- four or five bytes
+-- the minute of the day for the HHMM in the first four bytes: `0715` is 435. For a field of four or
+-- five bytes
 abbrev pub minute_of : List ℕ → ℕ
 minute_of field = 60 * two_digits field 0 + two_digits field 2
 
@@ -39,7 +39,6 @@ scheduled_time field = if is_blank field then None else Some (half_minutes field
 abbrev pub is_public_time : List ℕ → Bool
 is_public_time field = is_blank field || is_clock field
 
--- the minute of the day that a public time of four bytes spells, or `None` for `0000` and for a
--- blank field
+-- the minute of the day for a public time of four bytes, or `None` for `0000` and for a blank field
 abbrev pub public_time : List ℕ → Option ℕ
 public_time field = if is_blank field || bytes_eq field (codes "0000") then None else Some (minute_of field)

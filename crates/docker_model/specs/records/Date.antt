@@ -1,6 +1,5 @@
--- Dates. A day is a number, and 1 January 1960 is day 0. The calendar is the one of the crate
--- `jiff`. Each definition says how wide its field is; past the end of a shorter field, bytes read
--- as 0.
+-- Dates. A day is a number, and 1 January 1960 is day 0. The calendar of the crate `jiff` is used.
+-- Each definition says how wide its field is; past the end of a shorter field, bytes read as 0.
 use Rattle.std.specs.Prelude.{ℕ, ◌+◌, ◌-◌, ◌*◌, List, slice_index, nat_le, if◌then◌else◌, Bool, ◌&&◌}
 use Rattle.std.specs.Prelude.{pos, ◌+ℤ◌, unsigned_abs, ◌≤◌, codes, ◌||◌, ◌==◌, ◌%◌, count_by}
 use Rattle.std.specs.List.{list_all, range_with_len}
@@ -10,8 +9,8 @@ use Rattle.std.specs.Str.{bytes_eq}
 use Rattle.jiff.specs.Words.{days_in_month}
 use Rattle.jiff_core.specs.Calendar.{days_from_civil}
 
--- the number that two digits of a field spell. The first digit is at place `i`, counted from 0: in
--- `2025` the digits at place 2 spell 25. For a field that has both digits
+-- the value of two digits of a field. The first digit is at place `i`, counted from 0: in `2025`
+-- the digits at place 2 have the value 25. For a field that has both digits
 abbrev pub two_digits : List ℕ → ℕ → ℕ
 two_digits field i = 10 * (slice_index field i - 48) + (slice_index field (i + 1) - 48)
 
@@ -41,7 +40,7 @@ IsDay day = day ≤ last_day
 abbrev pub no_end_number : ℕ
 no_end_number = 65535
 
--- whether six bytes are a date as YYMMDD: digits that name a day of the calendar
+-- whether six bytes are a date as YYMMDD: digits for a day that the calendar has
 abbrev pub is_date : List ℕ → Bool
 is_date field = list_all is_ascii_digit field && is_calendar_day (full_year (two_digits field 0)) (two_digits field 2) (two_digits field 4)
 
@@ -49,7 +48,7 @@ is_date field = list_all is_ascii_digit field && is_calendar_day (full_year (two
 abbrev pub date_number : List ℕ → ℕ
 date_number field = day_number (full_year (two_digits field 0)) (two_digits field 2) (two_digits field 4)
 
--- whether six bytes are a date as DDMMYY: digits that name a day of the calendar
+-- whether six bytes are a date as DDMMYY: digits for a day that the calendar has
 abbrev pub is_date_day_first : List ℕ → Bool
 is_date_day_first field = list_all is_ascii_digit field && is_calendar_day (full_year (two_digits field 4)) (two_digits field 2) (two_digits field 0)
 
@@ -82,12 +81,12 @@ runs_on_weekday field weekday = slice_index field weekday == 49
 abbrev pub weekday_of : ℕ → ℕ
 weekday_of day = (day + 4) % 7
 
--- the year of a day number from 0 to 36524. It is found as the last year that has begun by then
+-- the year of a day number from 0 to 36524: the last year that begins on or before that day
 abbrev pub year_of : ℕ → ℕ
 year_of day = 1959 + count_by (λ year. nat_le (day_number year 1 1) day) (range_with_len 1960 100)
 
--- the month of a day number from 0 to 36524. It is found as the last month of the year that has
--- begun by then
+-- the month of a day number from 0 to 36524: the last month of its year that begins on or before
+-- that day
 abbrev pub month_of : ℕ → ℕ
 month_of day = count_by (λ month. nat_le (day_number (year_of day) month 1) day) (range_with_len 1 12)
 

@@ -1,5 +1,5 @@
--- The fields that are checked in each kind of record, in the order of their columns. If several are
--- bad, the leftmost is reported. Each definition says how wide its field is.
+-- The fields that are checked in each kind of record, in the order of their columns. If several
+-- fields are bad, the leftmost field is reported. Each definition says how wide its field is.
 use Rattle.std.specs.Prelude.{ℕ, Bool, List, ◌||◌, ◌==◌, slice_index, not, ◌≡◌, IsTrue, slice_set}
 use Rattle.std.specs.Prelude.{if◌then◌else◌, [], ◌∷◌, ◌++◌, Option, Some, None, option_map, find}
 use Rattle.docker_model.specs.records.Record.{IsTextOfLength, column, Kind, header, tiploc_insert, tiploc_amend, tiploc_delete}
@@ -22,7 +22,7 @@ checked from to test = record { first = from; last = to; is_good = test }
 abbrev pub is_update_indicator : List ℕ → Bool
 is_update_indicator field = (slice_index field 0 == 70) || (slice_index field 0 == 85)
 
--- whether seven bytes may be a TIPLOC: the first isn't a space
+-- whether seven bytes may be a TIPLOC: the first byte isn't a space
 abbrev pub is_tiploc : List ℕ → Bool
 is_tiploc field = not (slice_index field 0 == 32)
 
@@ -89,7 +89,7 @@ checked_fields terminating_location line =
 checked_fields change_en_route line = []
 checked_fields trailer line = []
 
--- the fields that are checked in a record. A record of an unknown kind has none
+-- the fields that are checked in a record. A record of an unknown kind has no checked fields
 abbrev pub fields_of : Option Kind → List ℕ → List CheckedField
 fields_of None line = []
 fields_of (Some kind) line = checked_fields kind line

@@ -26,7 +26,7 @@ leftmost_bad_byte bytes = option_map (λ i. i + 1) (position (λ b. not (is_prin
 abbrev pub columns : ℕ → ℕ → List ℕ → List ℕ
 columns first last line = slice_range line (first - 1) last
 
--- the byte in column `n`. Past the end of a shorter line it reads as 0
+-- the byte in column `n`, or 0 past the end of a shorter line
 abbrev pub column : ℕ → List ℕ → ℕ
 column n line = slice_index line (n - 1)
 
@@ -69,6 +69,6 @@ is_location (Some intermediate_location) = true
 is_location (Some terminating_location) = true
 is_location _ = false
 
--- a list of lines, each a list of bytes. They may be records
+-- a list of lines, each a list of bytes, such as the records of a file
 abbrev pub Lines : Type 0
 Lines = List (List ℕ)

@@ -1,4 +1,5 @@
--- What holds at each point of a run: the states and messages match what offices and messages know.
+-- The invariant of a run: at each point, the states and messages match what offices and messages
+-- know.
 use Rattle.std.specs.Prelude.{◌≡◌, ℕ, ◌≤◌, ◌↔◌, List, All, Contains, slice_index_or, [], length, filter, Bool, true, false, ⊤}
 use Rattle.std.specs.List.{AllZip, zip}
 use Rattle.docker_model.specs.file.File.{IsFile, most_records}
@@ -11,7 +12,7 @@ use Rattle.docker_model.specs.run.Run.{take_file, send_state, deliver, reload, h
 abbrev pub HaveSameFiles : Files → Files → Type 0
 HaveSameFiles first second = (file : List (List ℕ)) → Contains first file ↔ Contains second file
 
--- both know the same: the same files and the same horizon
+-- both have the same knowledge: the same files and the same horizon
 abbrev pub AreOneKnowledge : Known → Known → Type 0
 AreOneKnowledge first second = HaveSameFiles first.files second.files × (first.horizon ≡ second.horizon)
 
@@ -23,8 +24,8 @@ AreFiles files = All IsFile files × All (λ file. length file ≤ most_records)
 abbrev pub IsGoodKnown : Format → Known → Type 0
 IsGoodKnown format known = AreFiles known.files × IsHorizonOf format known.horizon
 
--- this event may be part of a run: a limit on a file is at most 4,294,967,294 records, and the
--- format allows a horizon
+-- this event may be part of a run. If it takes a file, its limit is at most 4,294,967,294 records.
+-- If it sets a horizon, the format allows that horizon
 abbrev pub IsGoodEvent : Format → RunEvent → Type 0
 IsGoodEvent format (take_file office text limit) = limit ≤ most_records
 IsGoodEvent format (horizon_event office day) = IsHorizonOf format day
@@ -39,11 +40,13 @@ pub record Holds (format : Format) (known : KnownSets) (states : List State) (me
   pub states_are : AllZip IsStateOf known.offices states
   pub messages_are : AllZip (IsMessageOf format) known.messages messages
 
--- the state of an office, given by its number from 0; an empty state if there is no such office
+-- the state of the office with this number, counted from 0, or an empty state if there is no such
+-- office
 abbrev pub office_state : List State → ℕ → State
 office_state states office = slice_index_or states office (record { horizon = 0; ledger = []; entries = [] })
 
--- the text of a message, given by its number from 0; an empty text if there is no such message
+-- the text of the message with this number, counted from 0, or an empty text if there is no such
+-- message
 abbrev pub message_text : List (List ℕ) → ℕ → List ℕ
 message_text messages message = slice_index_or messages message []
 
@@ -51,7 +54,7 @@ message_text messages message = slice_index_or messages message []
 abbrev pub sets_of : ℕ → List RunEvent → Exchange → KnownSets
 sets_of offices events exchange = known_sets offices events exchange.replies
 
--- whether the event sends a state, which makes a message
+-- whether the event sends a state as a message
 abbrev pub is_sending : RunEvent → Bool
 is_sending (take_file office text limit) = false
 is_sending (send_state office) = true
@@ -63,6 +66,6 @@ is_sending (horizon_event office day) = false
 abbrev pub is_sent : RunEvent × Reply → Bool
 is_sent happened = elim happened.1 [ done ↦ is_sending happened.0 | refused why ↦ false ]
 
--- how many messages the events made: the number of sent states
+-- the number of messages: one for each state that the events sent
 abbrev pub sent_count : List RunEvent → List Reply → ℕ
 sent_count events replies = length (filter is_sent (zip events replies))

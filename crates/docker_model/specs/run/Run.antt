@@ -8,9 +8,9 @@ use Rattle.docker_model.specs.state.Summary.{IsSummary}
 use Rattle.docker_model.specs.state.StateText.{Format, state_text}
 
 -- an event of a run. An office takes a file, sends its state as a message, receives a message,
--- reloads a message in place of its state, or sets a horizon. Offices and messages are given by
--- their numbers from 0. A message that no event delivers is lost; one that several events deliver
--- is repeated
+-- reloads a message in place of its state, or sets a horizon. Offices and messages are numbered
+-- from 0. A message that no event delivers is lost. A message that several events deliver is
+-- repeated
 pub data RunEvent : Type 0 where
   take_file : (office : ℕ) (text : List ℕ) (limit : ℕ) → RunEvent
   send_state : (office : ℕ) → RunEvent
@@ -44,7 +44,8 @@ pub record Known : Type 0 where
 abbrev pub nothing : Known
 nothing = record { files = []; horizon = 0 }
 
--- what two know together: the files of both, and the greater of the two horizons
+-- what two offices or messages know together: the files of both, and the greater of the two
+-- horizons
 abbrev pub united : Known → Known → Known
 united first second = record { files = first.files ++ second.files; horizon = max first.horizon second.horizon }
 
@@ -53,22 +54,22 @@ pub record KnownSets : Type 0 where
   pub offices : List Known
   pub messages : List Known
 
--- what an office knows, given its number from 0; nothing if there is no such office
+-- what the office with this number, counted from 0, knows; `nothing` if there is no such office
 abbrev pub office_known : KnownSets → ℕ → Known
 office_known known office = slice_index_or known.offices office nothing
 
--- what a message knows, given its number from 0; nothing if there is no such message
+-- what the message with this number, counted from 0, knows; `nothing` if there is no such message
 abbrev pub message_known : KnownSets → ℕ → Known
 message_known known message = slice_index_or known.messages message nothing
 
--- what is known once this office knows `now` instead
+-- the knowledge after this office's part of it is replaced by `now`
 abbrev pub with_office : KnownSets → ℕ → Known → KnownSets
 with_office known office now = record { offices = slice_set known.offices office now; messages = known.messages }
 
 -- what is known after an event that was done. Taking a file adds it to what the office knows.
 -- Sending a state makes a message that knows what the office knows. Delivering a message adds what
 -- the message knows to what the office knows, and reloading it replaces what the office knows.
--- Setting a horizon raises the office's horizon, unless that is already greater
+-- Setting a horizon raises the office's horizon, unless the office's horizon is already greater
 abbrev pub after_done : KnownSets → RunEvent → KnownSets
 after_done known (take_file office text limit) =
     with_office known office (united (record { files = lines_of text ∷ []; horizon = 0 }) (office_known known office))
@@ -97,8 +98,8 @@ IsOffice known office = office < length known.offices
 abbrev pub IsMessage : KnownSets → ℕ → Type 0
 IsMessage known message = message < length known.messages
 
--- this reply may follow when an office takes a file: `done` if the text is a file, its fault if
--- not, or out of memory in either case
+-- this reply is allowed when an office takes a file: `done` if the text is a file, the text's fault
+-- if it isn't, and out of memory in either case
 abbrev pub IsFileReply : ℕ → List ℕ → Reply → Type 0
 IsFileReply limit text done = IsFileText limit text (lines_of text)
 IsFileReply limit text (refused (bad_file fault)) = IsFileFault limit text fault
@@ -112,7 +113,7 @@ IsDoneOrNoMemory (refused no_memory) = ⊤
 IsDoneOrNoMemory (refused _) = ⊥
 
 -- the reply to an event that names an office: `no_office` if there is no such office. Otherwise
--- `There` holds, which says what the reply may be then
+-- `There` holds, the condition on the reply of an office that exists
 pub record IsOfficeReply (known : KnownSets) (office : ℕ) (reply : Reply) (There : Type 0) : Type 0 where
   pub absent : ¬ IsOffice known office → reply ≡ refused no_office
   pub there : IsOffice known office → There
@@ -149,16 +150,16 @@ IsStateOf known state = IsSummary known.files known.horizon state
 abbrev pub IsMessageOf : Format → Known → List ℕ → Type 0
 IsMessageOf format known text = (state : State) × IsStateOf known state × (text ≡ state_text format state)
 
--- what a run leaves: the state of each office, the text of each message, and the reply to each
+-- the result of a run: the state of each office, the text of each message, and the reply to each
 -- event
 pub record Exchange : Type 0 where
   pub states : List State
   pub messages : List (List ℕ)
   pub replies : List Reply
 
--- these events at this many offices may leave this exchange. Each reply is one that its event may
--- have. Each state is the summary of what its office knows at the end. Each message is the text, in
--- this format, of the summary of what the message knows
+-- this exchange is a possible result of these events at this many offices. Each event may have its
+-- reply. Each state is the summary of what its office knows at the end. Each message is the text,
+-- in this format, of the summary of what the message knows
 pub record IsRun (format : Format) (offices : ℕ) (events : List RunEvent) (exchange : Exchange) : Type 0 where
   pub replies : AreReplies (none_known offices) events exchange.replies
   pub states : AllZip IsStateOf (known_sets offices events exchange.replies).offices exchange.states

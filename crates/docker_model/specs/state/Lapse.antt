@@ -6,20 +6,21 @@ use Rattle.docker_model.specs.state.Op.{body_end, Op, deleted, lapsed, put_with,
 use Rattle.docker_model.specs.state.Table.{Table}
 
 -- what an op becomes under a horizon: a put whose body ended before the horizon becomes `lapsed`,
--- and any other op stays. For example, under horizon 100 a body that ends on day 99 lapses, and one
--- that ends on day 100 stays
+-- and any other op is unchanged. For example, under horizon 100 a body that ends on day 99 lapses,
+-- and a body that ends on day 100 doesn't
 abbrev pub lapse : ℕ → Op → Op
 lapse horizon deleted = deleted
 lapse horizon lapsed = lapsed
 lapse horizon (put_with body) = if nat_lt (body_end body) horizon then lapsed else put_with body
 
--- the op stays as it is under the horizon: it isn't a put of a body that ended before that day
+-- the op is unchanged by the lapse under the horizon: it isn't a put of a body that ended before
+-- that day
 abbrev pub HasNotToLapse : ℕ → Op → Type 0
 HasNotToLapse horizon deleted = ⊤
 HasNotToLapse horizon lapsed = ⊤
 HasNotToLapse horizon (put_with body) = horizon ≤ body_end body
 
--- an entry under a horizon: its op may lapse, and its stamp stays
+-- an entry after the lapse under a horizon: its op may lapse, and its stamp is unchanged
 abbrev pub lapse_entry : ℕ → Entry → Entry
 lapse_entry horizon entry = record { stamp = entry.stamp; op = lapse horizon entry.op }
 
@@ -31,11 +32,11 @@ lapse_keyed horizon entry = (entry.0, lapse_entry horizon entry.1)
 abbrev pub lapse_entries : ℕ → List (Key × Entry) → List (Key × Entry)
 lapse_entries horizon entries = map (lapse_keyed horizon) entries
 
--- a body under a horizon, or `None` if it ended before that day
+-- this body, or `None` if it ended before the horizon
 abbrev pub unlapsed : ℕ → Body → Option Body
 unlapsed horizon body = if nat_lt (body_end body) horizon then None else Some body
 
--- a table under a horizon: it loses the bodies that ended before that day
+-- a table without the bodies that ended before the horizon
 abbrev pub lapse_table : ℕ → Table → Table
 lapse_table horizon table key = option_and_then (unlapsed horizon) (table key)
 

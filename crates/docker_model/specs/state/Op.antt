@@ -1,5 +1,5 @@
--- Ops and entries, and the orders of keys, bodies, ops and entries. An op is what an entry says of
--- its key: deleted, lapsed, or put with a body.
+-- Ops and entries, and the orders of keys, bodies, ops and entries. An op is the value of an entry:
+-- its key is deleted, lapsed, or put with a body.
 use Rattle.std.specs.Prelude.{ℕ, if◌then◌else◌, List, Option, Some, None}
 use Rattle.std.specs.List.{concat}
 use Rattle.std.specs.declared.cmp.Ordering.{Ordering}
@@ -77,13 +77,14 @@ body_cmp a b =
     ordering_then (nat_cmp (body_end a) (body_end b))
     (ordering_then (bytes_cmp (body_bytes a) (body_bytes b)) (nat_cmp (body_tag a) (body_tag b)))
 
--- what an entry says of its key: the key is deleted, its body has lapsed, or it has a body
+-- an op, which is the value of an entry: its key is deleted, its key's body has lapsed, or its key
+-- has a body
 pub data Op : Type 0 where
   deleted : Op
   lapsed : Op
   put_with : (body : Body) → Op
 
--- the op that an act leaves: a deletion is `deleted`, and a put is a put with the same body
+-- the op of an act: `deleted` for a deletion, and a put with the same body for a put
 abbrev pub op_of : Act → Op
 op_of delete = deleted
 op_of (put body) = put_with body
@@ -107,8 +108,8 @@ op_cmp (put_with a) deleted = Greater
 op_cmp (put_with a) lapsed = Greater
 op_cmp (put_with a) (put_with b) = body_cmp a b
 
--- an entry: what a state says of a key, with the stamp of the change that said it. Of two entries
--- of one key the greater one counts
+-- an entry: the op of a key in a state, with the stamp of the change that made it. Of two entries
+-- of one key, a join keeps the greater entry
 pub record Entry : Type 0 where
   pub stamp : Stamp
   pub op : Op

@@ -13,18 +13,18 @@ pub record Moment : Type 0 where
   pub day : ℕ
   pub minute : ℕ
 
--- the stamp of a file: its moment and its current file reference. Of two files the one with the
+-- the stamp of a file: its moment and its current file reference. Of two files, the file with the
 -- greater stamp is newer
 pub record FileStamp : Type 0 where
   pub moment : Moment
   pub reference : List ℕ
 
--- the stamp of a change: the stamp of its file, and the number of its record there
+-- the stamp of a change: the stamp of its file, and the number of its record in that file
 pub record Stamp : Type 0 where
   pub file : FileStamp
   pub number : ℕ
 
--- what a ledger has for one file: its file stamp, its update indicator (F or U) and its last file
+-- a ledger's item for one file: its file stamp, its update indicator (F or U) and its last file
 -- reference
 pub record LedgerItem : Type 0 where
   pub stamp : FileStamp

@@ -20,8 +20,8 @@ pub record State : Type 0 where
   pub ledger : List LedgerItem
   pub entries : List (Key × Entry)
 
--- the item can come from a header: its day and minute exist, and its references and indicator are
--- well formed
+-- this can be the ledger item of a header: its day and minute exist, and its references and
+-- indicator are well formed
 pub record IsGoodItem (item : LedgerItem) : Type 0 where
   pub day : IsDay item.stamp.moment.day
   pub minute : item.stamp.moment.minute < 1440
@@ -29,7 +29,7 @@ pub record IsGoodItem (item : LedgerItem) : Type 0 where
   pub indicator : (item.indicator ≡ 70) ⊎ (item.indicator ≡ 85)
   pub last_reference : IsTextOfLength 7 item.last_reference
 
--- an association record can name this key: each of its fields is well formed
+-- this can be the key of an association record: each field of the key is well formed
 pub record IsGoodAssociationKey (key : AssociationKey) : Type 0 where
   pub base : IsTextOfLength 6 key.base
   pub associated : IsTextOfLength 6 key.associated
@@ -38,13 +38,13 @@ pub record IsGoodAssociationKey (key : AssociationKey) : Type 0 where
   pub suffix : IsTrue (is_printable key.suffix)
   pub indicator : IsStpLetter key.indicator
 
--- a basic schedule can name this key: each of its fields is well formed
+-- this can be the key of a basic schedule: each field of the key is well formed
 pub record IsGoodScheduleKey (key : ScheduleKey) : Type 0 where
   pub uid : IsTextOfLength 6 key.uid
   pub runs_from : IsDay key.runs_from
   pub indicator : IsStpLetter key.indicator
 
--- a record can name this key: each of its fields is well formed
+-- this can be the key of a record: each field of the key is well formed
 abbrev pub IsGoodKey : Key → Type 0
 IsGoodKey (tiploc_key code) = IsTiploc code
 IsGoodKey (association_key key) = IsGoodAssociationKey key
@@ -59,7 +59,7 @@ pub record IsAssociationOf (key : AssociationKey) (line : List ℕ) : Type 0 whe
   pub key_is : association_named line ≡ association_key key
 
 -- these records are a schedule with this key and the transaction N. There are at most 4,294,967,294
--- of them
+-- records
 pub record IsScheduleOf (key : ScheduleKey) (lines : List (List ℕ)) : Type 0 where
   pub schedule : IsSchedule lines
   pub few : length lines < 2 ^ 32 - 1
@@ -80,8 +80,8 @@ IsOpOf key deleted = ⊤
 IsOpOf key lapsed = ⊤
 IsOpOf key (put_with body) = IsBodyOf key body
 
--- the ledger is well formed: its items ascend, each could come from a header, and none is below
--- their floor
+-- the ledger is well formed: its items are strictly ascending, each can be the item of a header,
+-- and no item is below their floor
 pub record IsLedger (ledger : List LedgerItem) : Type 0 where
   pub each : All IsGoodItem ledger
   pub ascending : IsStrictlyAscending ledger_item_cmp ledger
@@ -89,14 +89,14 @@ pub record IsLedger (ledger : List LedgerItem) : Type 0 where
   pub is_floor : IsFloor ledger floor
   pub kept : All (λ item. IsKept floor item.stamp) ledger
 
--- the stamp names a file in the ledger and a record number that a change can have, from 2 to
+-- the stamp's file is in the ledger, and its record number can be the number of a change: from 2 to
 -- 4,294,967,294
 pub record IsStampIn (ledger : List LedgerItem) (stamp : Stamp) : Type 0 where
   pub in_ledger : Contains (map (λ (item : LedgerItem). item.stamp) ledger) stamp.file
   pub low : 2 ≤ stamp.number
   pub high : stamp.number < 2 ^ 32 - 1
 
--- the key is well formed, and so is its entry, whose stamp names a file in the ledger
+-- the key and its entry are well formed, and the file of the entry's stamp is in the ledger
 pub record IsGoodEntry (ledger : List LedgerItem) (entry : Key × Entry) : Type 0 where
   pub key : IsGoodKey entry.0
   pub stamp : IsStampIn ledger entry.1.stamp
@@ -106,7 +106,8 @@ pub record IsGoodEntry (ledger : List LedgerItem) (entry : Key × Entry) : Type 
 abbrev pub AreAscending : List (Key × Entry) → Type 0
 AreAscending entries = IsStrictlyAscending (on (λ (entry : Key × Entry). entry.0) key_cmp) entries
 
--- these may be the entries of a state with this ledger: each is well formed, and they ascend by key
+-- these may be the entries of a state with this ledger: each entry is well formed, and the entries
+-- are strictly ascending by key
 abbrev pub AreEntries : List LedgerItem → List (Key × Entry) → Type 0
 AreEntries ledger entries = All (IsGoodEntry ledger) entries × AreAscending entries
 
@@ -115,7 +116,7 @@ abbrev pub HaveLapsed : ℕ → List (Key × Entry) → Type 0
 HaveLapsed horizon entries = All (λ (entry : Key × Entry). HasNotToLapse horizon entry.1.op) entries
 
 -- the state is valid: its horizon is a day number, its ledger and entries are well formed, and
--- nothing in it still has to lapse
+-- every entry that should have lapsed has lapsed
 pub record IsValid (state : State) : Type 0 where
   pub horizon : IsDay state.horizon
   pub ledger : IsLedger state.ledger
@@ -127,7 +128,7 @@ abbrev pub entry_at : State → Key → Option Entry
 entry_at state key = option_and_then (λ (entry : Key × Entry). Some entry.1) (find (λ entry. is_eq (key_cmp entry.0 key)) state.entries)
 
 -- the live table of a state: the body of each key that is put. A key that is deleted or lapsed, or
--- has no entry, has none
+-- has no entry, has no body
 abbrev pub live_table : State → Key → Option Body
 live_table state key = option_and_then (λ (entry : Entry). body_of entry.op) (entry_at state key)
 
@@ -136,12 +137,13 @@ live_table state key = option_and_then (λ (entry : Entry). body_of entry.op) (e
 abbrev pub HasGoodBodies : Table → Type 0
 HasGoodBodies live = (key : Key) (body : Body) → live key ≡ Some body → IsBodyOf key body
 
--- the state with this horizon in place of the old one. Its entries have lapsed under this horizon
+-- the state with this horizon in place of the old horizon. Its entries have lapsed under this
+-- horizon
 abbrev pub lapse_state : ℕ → State → State
 lapse_state horizon state = record { horizon = horizon; ledger = state.ledger; entries = lapse_entries horizon state.entries }
 
--- the state after this horizon was set. The greater of the old and the new horizon counts, and the
--- entries lapse under it
+-- the state after this horizon was set. Its horizon is the greater of the old and the new horizon,
+-- and its entries have lapsed under that horizon
 abbrev pub raise_horizon : ℕ → State → State
 raise_horizon horizon state = lapse_state (max state.horizon horizon) state
 
@@ -150,14 +152,15 @@ raise_horizon horizon state = lapse_state (max state.horizon horizon) state
 abbrev pub without_horizon : State → State
 without_horizon state = record { horizon = 0; ledger = state.ledger; entries = state.entries }
 
--- of all entries that the list has for this key, this is the greatest
+-- this is the greatest of all entries that the list has for this key
 pub record IsGreatestAmong (entries : List (Key × Entry)) (key : Key) (entry : Entry) : Type 0 where
   pub among : Contains entries (key, entry)
   pub greatest : (other : Entry) → Contains entries (key, other) → IsAtMost entry_cmp other entry
 
 -- this is the join of two states: the result of merging one into the other. Its ledger is the union
 -- of both ledgers, and each key has the greater of its entries. Ledger items and entries below the
--- floor of the union are left out. The greater horizon counts, and entries lapse under it
+-- floor of the union are left out. Its horizon is the greater of the two horizons, and its entries
+-- have lapsed under that horizon
 pub record IsJoin (first second joined : State) : Type 0 where
   pub horizon : joined.horizon ≡ max first.horizon second.horizon
   pub floor : Option FileStamp

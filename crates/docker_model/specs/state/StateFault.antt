@@ -33,8 +33,8 @@ pub record StateFault : Type 0 where
   pub at : ℕ
   pub cause : StateCause
 
--- the ledger item that follows these good items is bad for this cause. It isn't well formed, isn't
--- above the items before it, or raises the floor above the first of them
+-- the ledger item that follows these good items is bad for this cause. The item isn't well formed,
+-- isn't above the items before it, or raises the floor above the first item of the ledger
 abbrev pub IsBadItem : List LedgerItem → LedgerItem → StateCause → Type 0
 IsBadItem ledger item bad_item = ¬ IsGoodItem item
 IsBadItem ledger item bad_order = IsGoodItem item × ¬ IsAboveItems ledger item
@@ -48,15 +48,15 @@ IsBadKey state key bad_body = ¬ IsGoodKey key
 IsBadKey state key bad_order = IsGoodKey key × ¬ IsAboveEntries state key
 IsBadKey state key _ = ⊥
 
--- the bytes are a good body for this key. For a schedule they are its number of lines, and the
--- lines follow one by one. An association must not have ended before the state's horizon
+-- the bytes are a good body for this key. For a schedule, the bytes are its number of lines, and
+-- each line is a later part. An association must not have ended before the state's horizon
 abbrev pub IsBodyPart : State → Key → List ℕ → Type 0
 IsBodyPart state (tiploc_key code) bytes = IsTextOfLength 63 bytes
 IsBodyPart state (association_key key) bytes = IsAssociationOf key bytes × (state.horizon ≤ body_end (association_body bytes))
 IsBodyPart state (schedule_key key) bytes = IsLineCount (from_be_bytes w32 bytes)
 
--- the next part of an entry is bad for this cause. The state has the entries before it, and the
--- parts of this entry before the bad one are good
+-- the next part of an entry is bad for this cause. The state has the entries before this one, and
+-- the parts of this entry before the bad part are good
 abbrev pub IsBadEntryPart : Format → State → EntryPart → List ℕ → StateCause → Type 0
 IsBadEntryPart format state before_tag bytes cause = (cause ≡ bad_tag) × ¬ IsTag (slice_index bytes 0)
 IsBadEntryPart format state (before_key tag) bytes cause = IsBadKey state (key_in tag bytes) cause
@@ -89,8 +89,8 @@ pub record HasBadPart (format : Format) (limit : ℕ) (text : List ℕ) (fault :
   pub bad : IsBadPart format before bytes fault.cause
   pub item_at : fault.at ≡ length (items_before format before)
 
--- this is the fault `too_long`: the next part would go past the limit, and the text has bytes past
--- it. The offset is the limit
+-- this is the fault `too_long`: the next part would go past the limit, and the text is longer than
+-- the limit. The offset is the limit
 pub record IsLong (format : Format) (limit : ℕ) (text : List ℕ) (fault : StateFault) : Type 0 where
   pub before : Before
   pub good : AreGood format before
@@ -114,7 +114,8 @@ pub record IsShort (format : Format) (limit : ℕ) (text : List ℕ) (fault : St
   pub cause : fault.cause ≡ too_short
   pub item_at : fault.at ≡ length (items_before format before)
 
--- this is the fault `has_tail`: more bytes follow a complete state. The offset is where they begin
+-- this is the fault `has_tail`: more bytes follow a complete state. The offset is where these bytes
+-- begin
 pub record HasTail (format : Format) (limit : ℕ) (text : List ℕ) (fault : StateFault) : Type 0 where
   pub state : State
   pub valid : AreGood format (at_end state)

@@ -14,7 +14,7 @@ use Rattle.docker_model.specs.state.State.{State, IsGoodKey, IsStampIn, IsLedger
 use Rattle.docker_model.specs.state.StateText.{Format, head_text, mark, ledger_text, entries_text, state_text}
 use Rattle.docker_model.specs.state.StateText.{key_bytes, stamp_bytes, IsHorizonOf, IsToldState, TellsHorizon}
 
--- how far a reader has come in an entry, and what the entry's parts before that point say
+-- a point between two parts of an entry, with the values of the entry's parts before that point
 pub data EntryPart : Type 0 where
   before_tag : EntryPart
   before_key : (tag : ℕ) → EntryPart
@@ -23,8 +23,9 @@ pub data EntryPart : Type 0 where
   before_body : (key : Key) (stamp : Stamp) → EntryPart
   before_line : (key : ScheduleKey) (stamp : Stamp) (count : ℕ) (lines : List (List ℕ)) → EntryPart
 
--- how far a reader has come in a state's text, and what the parts before that point say. These are
--- the horizon, the counts, the ledger, the complete entries, and the parts of an incomplete entry
+-- a point between two parts of a state's text, with the values of the parts before that point. The
+-- values are the horizon, the counts, the ledger, the complete entries, and the parts of an
+-- incomplete entry
 pub data Before : Type 0 where
   before_mark : Before
   before_horizon : Before
@@ -48,7 +49,7 @@ items_before format (at_end state) = state_text format state
 abbrev pub key_text : Key → List ℕ
 key_text key = key_tag key ∷ key_bytes key
 
--- the bytes of an entry before this point in it
+-- the bytes of an entry before this point in the entry
 abbrev pub part_text : EntryPart → List ℕ
 part_text before_tag = []
 part_text (before_key tag) = tag ∷ []
@@ -59,7 +60,7 @@ part_text (before_line key stamp count lines) =
     key_text (schedule_key key) ++ stamp_bytes stamp ++ 1 ∷ to_be_bytes w32 count ++ concat lines
 
 -- the bytes before this point that belong to an incomplete item. Only an entry can be incomplete,
--- as every other item is one part
+-- because every other item is one part
 abbrev pub parts_before : Before → List ℕ
 parts_before (in_entry count state part) = part_text part
 parts_before _ = []
@@ -102,7 +103,7 @@ width (at_end state) = 0
 abbrev pub IsTag : ℕ → Type 0
 IsTag tag = (tag ≡ 1) ⊎ (tag ≡ 2) ⊎ (tag ≡ 3)
 
--- a text may state this as a schedule's number of lines: it is from 1 to 4,294,967,294
+-- this can be a schedule's number of lines: it is from 1 to 4,294,967,294
 abbrev pub IsLineCount : ℕ → Type 0
 IsLineCount count = (0 < count) × (count < 2 ^ 32 - 1)
 
@@ -114,8 +115,8 @@ IsAboveEntries state key = All (λ entry. IsBelow key_cmp entry.0 key) state.ent
 abbrev pub IsAboveItems : List LedgerItem → LedgerItem → Type 0
 IsAboveItems ledger item = All (λ earlier. IsBelow ledger_item_cmp earlier item) ledger
 
--- the item is for a full extract newer than the first item of the ledger. It would raise the floor
--- above that item, so a ledger can't contain both
+-- the item is for a full extract newer than the first item of the ledger. The newer item would
+-- raise the floor above the first item, so a ledger can't contain both
 abbrev pub RaisesFloor : List LedgerItem → LedgerItem → Type 0
 RaisesFloor [] item = ⊥
 RaisesFloor (first ∷ ledger) item = IsFull item × IsBelow file_stamp_cmp first.stamp item.stamp
@@ -126,8 +127,7 @@ pub record AreLinesOf (key : ScheduleKey) (lines : List (List ℕ)) : Type 0 whe
   pub new : HasNewTransaction (first_record lines)
   pub key_is : schedule_named (first_record lines) ≡ schedule_key key
 
--- these lines begin a schedule with this key. If there are `count` of them, they are a whole
--- schedule
+-- these lines begin a schedule with this key. If there are `count` lines, they are a whole schedule
 pub record AreLinesUpTo (key : ScheduleKey) (count : ℕ) (lines : List (List ℕ)) : Type 0 where
   pub lines_of : AreLinesOf key lines
   pub complete : length lines ≡ count → IsSchedule lines
@@ -144,7 +144,7 @@ IsStampHere state key stamp = IsKeyHere state key × IsStampIn state.ledger stam
 abbrev pub HaveNotToLapse : State → List (List ℕ) → Type 0
 HaveNotToLapse state lines = state.horizon ≤ body_end (schedule_body lines)
 
--- the parts of an entry before this point in it are good
+-- the parts of an entry before this point in the entry are good
 abbrev pub IsPartHere : State → EntryPart → Type 0
 IsPartHere state before_tag = ⊤
 IsPartHere state (before_key tag) = IsTag tag

@@ -1,5 +1,5 @@
--- The bytes of a state's text, in two formats. The format DKS1 has no horizon, and DKS2 has one
--- after its mark. All numbers are big endian.
+-- The bytes of a state's text, in two formats. The format DKS1 has no horizon, and DKS2 has a
+-- horizon after its mark. All numbers are big endian.
 use Rattle.std.specs.Prelude.{ℕ, List, codes, [], ◌++◌, ◌∷◌, length, slice_range, slice_index, ◌==◌, if◌then◌else◌, ⊤, ◌≡◌, ◌⊎◌, All}
 use Rattle.std.specs.List.{concat, flat_map}
 use Rattle.std.specs.Int.{w16, to_be_bytes, w32, w64, from_be_bytes}
@@ -14,12 +14,12 @@ pub data Format : Type 0 where
   dks_1 : Format
   dks_2 : Format
 
--- the four bytes at the head of a state's text, which name its format
+-- the mark of a format, which is the first four bytes of a state's text
 abbrev pub mark : Format → List ℕ
 mark dks_1 = codes "DKS1"
 mark dks_2 = codes "DKS2"
 
--- the two bytes of the horizon, or none if the format has no horizon
+-- the two bytes of the horizon, or no bytes if the format has no horizon
 abbrev pub horizon_bytes : Format → ℕ → List ℕ
 horizon_bytes dks_1 horizon = []
 horizon_bytes dks_2 horizon = to_be_bytes w16 horizon
@@ -78,18 +78,18 @@ entries_text format count state =
 abbrev pub state_text : Format → State → List ℕ
 state_text format state = entries_text format (length state.entries) state
 
--- the file stamp that these 11 bytes spell
+-- the file stamp that these 11 bytes encode
 abbrev pub file_stamp_in : List ℕ → FileStamp
 file_stamp_in bytes = record {
   moment = record { day = from_be_bytes w16 (slice_range bytes 0 2); minute = from_be_bytes w16 (slice_range bytes 2 4) };
   reference = slice_range bytes 4 11;
 }
 
--- the ledger item that these 19 bytes spell
+-- the ledger item that these 19 bytes encode
 abbrev pub item_in : List ℕ → LedgerItem
 item_in bytes = record { stamp = file_stamp_in bytes; indicator = slice_index bytes 11; last_reference = slice_range bytes 12 19 }
 
--- the key of an association that these 23 bytes spell
+-- the key of an association that these 23 bytes encode
 abbrev pub association_key_in : List ℕ → Key
 association_key_in bytes = association_key (record {
   base = slice_range bytes 0 6;
@@ -100,7 +100,7 @@ association_key_in bytes = association_key (record {
   indicator = slice_index bytes 22;
 })
 
--- the key of a schedule that these 9 bytes spell
+-- the key of a schedule that these 9 bytes encode
 abbrev pub schedule_key_in : List ℕ → Key
 schedule_key_in bytes = schedule_key (record {
   uid = slice_range bytes 0 6;
@@ -108,11 +108,11 @@ schedule_key_in bytes = schedule_key (record {
   indicator = slice_index bytes 8;
 })
 
--- the key that these bytes spell: 7 bytes for tag 1, 23 for tag 2, 9 for tag 3
+-- the key that these bytes encode: 7 bytes for tag 1, 23 for tag 2, 9 for tag 3
 abbrev pub key_in : ℕ → List ℕ → Key
 key_in tag bytes = if tag == 1 then tiploc_key bytes else (if tag == 2 then association_key_in bytes else schedule_key_in bytes)
 
--- the stamp that these 15 bytes spell
+-- the stamp that these 15 bytes encode
 abbrev pub stamp_in : List ℕ → Stamp
 stamp_in bytes = record { file = file_stamp_in bytes; number = from_be_bytes w32 (slice_range bytes 11 15) }
 

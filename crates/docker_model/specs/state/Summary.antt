@@ -1,5 +1,5 @@
 -- The summary of a set of files under a horizon, which is the state of an office that knows these
--- files. The set is given as a list in any order.
+-- files. The set is represented by a list in any order.
 use Rattle.std.specs.Prelude.{◌≡◌, ℕ, ◌↔◌, List, map, Option, Contains}
 use Rattle.docker_model.specs.file.Change.{Key, Change, changes}
 use Rattle.docker_model.specs.state.Order.{IsStrictlyAscending, IsAtMost}
@@ -32,7 +32,7 @@ pub record IsEntryOf (files : List (List (List ℕ))) (floor : Option FileStamp)
   pub key_is : change.key ≡ key
   pub entry_is : entry_of file change ≡ entry
 
--- of all entries that changes of this key leave in files that count, this is the greatest
+-- this is the greatest entry that a change of this key leaves, in any file that counts
 pub record IsGreatestEntryOf (files : List (List (List ℕ))) (floor : Option FileStamp) (key : Key) (entry : Entry) : Type 0 where
   pub is : IsEntryOf files floor key entry
   pub greatest : (other : Entry) → IsEntryOf files floor key other → IsAtMost entry_cmp other entry

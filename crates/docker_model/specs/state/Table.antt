@@ -1,4 +1,4 @@
--- The plain table of a set of files: what one gets by applying the newest full extract and then the
+-- The plain table of a set of files: the result of applying the newest full extract and then the
 -- later files, record by record.
 use Rattle.std.specs.Prelude.{◌≡◌, ℕ, Bool, ◌==◌, if◌then◌else◌, List, [], ◌∷◌, ◌↔◌, Option, None, fold, Contains}
 use Rattle.std.specs.List.{list_any}
@@ -16,8 +16,8 @@ Table = Key → Option Body
 abbrev pub empty_table : Table
 empty_table key = None
 
--- the table after a change. The change puts a body at its key or removes the body there, and all
--- other keys stay
+-- the table after a change. The change puts a body at its key or removes the body of its key. All
+-- other keys are unchanged
 abbrev pub after_change : Table → Change → Table
 after_change table change key = if is_eq (key_cmp change.key key) then body_of (op_of change.act) else table key
 
@@ -34,7 +34,7 @@ abbrev pub is_full : List (List ℕ) → Bool
 is_full file = (ledger_item_of file).indicator == 70
 
 -- the last full extract and the files after it, or all files if there is no full extract. For
--- example, from an update, a full extract and another update, the last two are left
+-- example, of an update, a full extract and another update, the result has the last two
 abbrev pub from_last_full : List (List (List ℕ)) → List (List (List ℕ))
 from_last_full [] = []
 from_last_full (file ∷ files) = if list_any is_full files then from_last_full files else file ∷ files
@@ -44,8 +44,9 @@ pub record IsInMomentOrder (files ordered : List (List (List ℕ))) : Type 0 whe
   pub same : (file : List (List ℕ)) → Contains ordered file ↔ Contains files file
   pub ascending : IsStrictlyAscending (on moment_of moment_cmp) ordered
 
--- this is the plain table of a set of files with distinct moments. It starts empty, and gets the
--- changes of the newest full extract and then of each later file, in the order of their moments
+-- this is the plain table of a set of files with distinct moments. It is the empty table after the
+-- changes of the newest full extract and then of each later file, in the order of their moments. If
+-- there is no full extract, it is the empty table after the changes of all files
 pub record IsPlainTable (files : List (List (List ℕ))) (table : Table) : Type 0 where
   pub ordered : List (List (List ℕ))
   pub order : IsInMomentOrder files ordered

@@ -16,8 +16,8 @@ use Rattle.cif_laws.proofs.records.Builders.{f2_basic, f2_schedule}
 use Rattle.state_laws.proofs.examples.StateExamples.{f2_item, end_of_f2}
 use Rattle.state_laws.proofs.examples.SummaryExamples as plain
 
--- the schedule ends on 14 June, day 23541. Under the horizon 14 June it is still live, and under 15
--- June it has lapsed
+-- the schedule ends on 14 June, day 23541. Under the horizon 14 June the schedule is live, and
+-- under the horizon 15 June it has lapsed
 lives : lapse 23541 (put_with (schedule_body f2_schedule)) ≡ put_with (schedule_body f2_schedule)
 unfolding days_from_civil day_count days_of_years days_of_months
 lives = refl
@@ -65,7 +65,7 @@ length_of_first = refl
 length_of_second : length (state_text dks_2 f2_state) ≡ 311
 length_of_second = refl
 
--- under the horizon 15 June the entry has lapsed: it keeps its stamp and has no body
+-- under the horizon 15 June the entry has lapsed: its stamp is unchanged, and it has no body
 pub raised_state : raise_horizon 23542 f2_state ≡ state_with 23542 (lapsed_entry ∷ [])
 unfolding days_from_civil day_count days_of_years days_of_months
 raised_state = refl
@@ -154,8 +154,8 @@ op_three = inl (record {
     no_op (inr (inl e)) = omega arith
     no_op (inr (inr e)) = omega arith
 
--- a lapsed op is good even without a horizon. It ends the entry, and the bytes of the old body are
--- a tail after the state
+-- a lapsed op is good even without a horizon. The entry ends after the lapsed op, and the bytes of
+-- the old body are a tail after the state
 op_two : IsStateFault dks_2 1000 (take 66 text ++ 2 ∷ drop 67 text) (record { at = 67; cause = has_tail })
 op_two = inr (inr (inr (record {
   state = state_with 0 (lapsed_entry ∷ []);
@@ -186,7 +186,7 @@ op_two = inr (inr (inr (record {
       ops = All-from_recursion (λ (entry : Key × Entry). TellsOp dks_2 entry.1.op) (lapsed_entry ∷ []) (tt, tt);
     }
 
--- the end of a schedule is known from its first record
+-- the end number of a schedule can be computed from its first record
 end_of_line : body_end (schedule_body (f2_basic ∷ [])) ≡ 23541
 unfolding days_from_civil day_count days_of_years days_of_months
 end_of_line = refl

@@ -1,5 +1,5 @@
--- Orders of keys and of their bytes, computed. Three examples show that the two orders would differ
--- without the tag, with the low byte of a number first, and for keys that no record can name.
+-- Orders of keys and of their bytes, computed. In three examples the two orders differ: without the
+-- tag, with the low byte of a number first, and for keys that no record can have.
 use Rattle.std.proofs.Common.{◌≡◌, ℕ, List, ◌∷◌, refl}
 use Rattle.std.specs.Prelude.{codes}
 use Rattle.std.specs.Int.{w16, to_le_bytes}
@@ -37,8 +37,8 @@ later_day_in_bytes = refl
 low_byte_first : bytes_cmp (to_le_bytes w16 255) (to_le_bytes w16 256) ≡ Greater
 low_byte_first = refl
 
--- two keys of associations with UIDs of different lengths: the first key is lower by its fields,
--- and the second by its bytes
+-- two keys of associations with UIDs of different lengths: the first key is lower in the order of
+-- fields, and the second key is lower in the order of bytes
 abbrev association_of : List ℕ → List ℕ → Key
 association_of base associated =
     association_key (record { base = base; associated = associated; start = 0; location = codes "ASHFELD"; suffix = 32; indicator = 80 })

@@ -14,7 +14,7 @@ use Rattle.state_laws.proofs.examples.StateExamples.{f2_item}
 abbrev own : State
 own = record { horizon = 23542; ledger = []; entries = [] }
 
--- the received put is staged as it came
+-- the received put is staged unchanged
 all_are_staged : IsStaged own None f2_state.entries f2_state.entries
 all_are_staged = record {
   ascending = (tt, tt);
@@ -44,6 +44,6 @@ committed_so = record {
         subst (λ e. Contains (raise_horizon 23542 f2_state).entries (key, e)) is (lapsed_to 23542 f2_state.entries key before here)
     back key entry before (inr mine) is = absurd (nil-Contains (key, before) mine.0)
 
--- the commit lapses the schedule, and its entry keeps its stamp
+-- after the commit the schedule has lapsed, and the stamp of its entry is unchanged
 commit_raises : IsCommit own f2_state.ledger f2_state.entries (state_with 23542 (lapsed_entry ∷ []))
 commit_raises = subst (IsCommit own f2_state.ledger f2_state.entries) raised_state committed_so

@@ -18,7 +18,7 @@ f2_item = record {
   last_reference = codes "DFROC1Z";
 }
 
--- the header of the worked file gives this ledger item
+-- the ledger item of the worked file is `f2_item`
 pub item_of_f2 : ledger_item_of f2 ≡ f2_item
 unfolding days_from_civil day_count days_of_years days_of_months
 item_of_f2 = refl

@@ -20,7 +20,7 @@ use Rattle.cif_laws.proofs.lists.BoolsAndOptions.{both, either}
 use Rattle.cif_laws.proofs.lists.FilteredMembers.{filter_back, filter_forth}
 use Rattle.cif_laws.proofs.records.Locations.{IsLocation}
 
--- if `list_any` finds that the test passes, it passes for some element
+-- if `list_any` is true for a test, some member passes the test
 pub any_back : {A : Type 0} (test : A → Bool) (xs : List A) → list_any test xs ≡ true → (x : A) × Contains xs x × (test x ≡ true)
 any_back test [] is = absurd (false_true is)
   where
@@ -33,7 +33,7 @@ any_back test (x ∷ xs) is = by (any_back test xs) (either (test x) (list_any t
     by rest (inl h) = (x, cons-Contains-first x xs, h)
     by rest (inr h) = let found = rest h in (found.0, cons-Contains x xs found.0 found.1, found.2)
 
--- if the test passes for some element, `list_any` finds that it passes
+-- if some member passes a test, `list_any` is true for the test
 pub any_forth : {A : Type 0} (test : A → Bool) (xs : List A) (x : A) → Contains xs x → test x ≡ true → list_any test xs ≡ true
 any_forth test [] x among h = absurd (nil-Contains x among)
 any_forth test (z ∷ xs) x among h = by (λ inside. any_forth test xs x inside h) (Contains-cons z xs x among)
@@ -73,7 +73,7 @@ location_forth line (inl h) = ap is_location h
 location_forth line (inr (inl h)) = ap is_location h
 location_forth line (inr (inr h)) = ap is_location h
 
--- the test `calls_at` passes exactly if the schedule calls at the place
+-- the test `calls_at` passes if and only if the schedule calls at the place
 pub calls_test : (place : List ℕ) (lines : List (List ℕ)) → (calls_at place lines ≡ true) ↔ CallsAt place lines
 calls_test place lines = (
   λ is.
@@ -124,7 +124,8 @@ links_row_back (association_key key) (schedule_body lines) place link among = ab
 links_row_back (tiploc_key code) body place link among = absurd (nil-Contains (place, link) among)
 links_row_back (schedule_key key) body place link among = absurd (nil-Contains (place, link) among)
 
--- the index rows of calls that all rows give, sorted and without duplicates, are the index of calls
+-- the index rows of calls for all rows of a table, sorted and without duplicates, are the table's
+-- index of calls
 pub calling_from_rows : (live : Table) (rows : List Row) (index : List CallingRow) → AreRowsOf live rows → IsStrictlyAscending calling_cmp index
     → ((row : CallingRow) → Contains index row ↔ Contains (flat_map (λ (r : Row). calls_of r.0 r.1) rows) row) → IsCallingIndex live index
 calling_from_rows live rows index are up same = record {
@@ -141,8 +142,8 @@ calling_from_rows live rows index are up same = record {
   );
 }
 
--- the index rows of associations that all rows give, sorted and without duplicates, are the index
--- of associations
+-- the index rows of associations for all rows of a table, sorted and without duplicates, are the
+-- table's index of associations
 pub linked_from_rows : (live : Table) (rows : List Row) (index : List LinkedRow) → AreRowsOf live rows → IsStrictlyAscending linked_cmp index
     → ((row : LinkedRow) → Contains index row ↔ Contains (flat_map (λ (r : Row). links_of r.0 r.1) rows) row) → IsLinkedIndex live index
 linked_from_rows live rows index are up same = record {

@@ -1,5 +1,6 @@
--- The indexes of a join, made from the indexes of the two states: at each key the join has the live
--- body of one of the states, or none. The same holds for the indexes after a horizon is set.
+-- The indexes of a join, computed from the indexes of the two states: at each key the join has the
+-- live body of one of the states, or no body. The indexes after a horizon is set are computed from
+-- the indexes before it.
 use Rattle.std.proofs.Common.{◌≡◌, ℕ, ◌<◌, ◌≤◌, List, refl, ap, sym, ◌∙◌, inl, inr, ◌⊎◌, Some, None, Contains}
 use Rattle.std.specs.Prelude.{Option, ◌↔◌, option_and_then}
 use Rattle.std.proofs.lemmas.List.Elements.{Contains-append_cases}
@@ -16,7 +17,7 @@ use Rattle.state_laws.proofs.states.Lapse.{below_or, put_lapses, put_stays}
 use Rattle.state_laws.proofs.states.TableLapsed.{body_gone, live_stays}
 use Rattle.state_laws.proofs.joins.StagedEntry.{entry_at_iff}
 
--- after the lapse an op has the body that it had, or none
+-- after the lapse an op has the same body as before, or no body
 lapsed_body : (horizon : ℕ) (op : Op) → (body_of (lapse horizon op) ≡ body_of op) ⊎ (body_of (lapse horizon op) ≡ None)
 lapsed_body horizon deleted = inl refl
 lapsed_body horizon lapsed = inl refl
@@ -27,7 +28,7 @@ lapsed_body horizon (put_with body) = by (below_or horizon body)
     by (inl below) = inr (ap body_of (put_lapses horizon body below))
     by (inr above) = inl (ap body_of (put_stays horizon body above))
 
--- at each key the join has the live body of one of the two states, or none
+-- at each key the join has the live body of one of the two states, or no body
 pub join_from_either : (own other joined : State) → AreAscending own.entries → AreAscending other.entries → IsJoin own other joined
     → IsFromEither (live_table own) (live_table other) (live_table joined)
 join_from_either own other joined up_own up_other join key = by (entry_at joined key) refl
@@ -53,7 +54,7 @@ join_from_either own other joined up_own up_other join key = by (entry_at joined
         let told = (join.entries key entry).0 ((entry_at_iff joined join.entries_ascend key entry).0 is) in
         pick told.0 entry is told.3 (lapsed_body joined.horizon told.0.op) (Contains-append_cases own.entries other.entries (key, told.0) told.1.among)
 
--- at each key the lapsed table has the body of the table, or none
+-- at each key the lapsed table has the body of the table, or no body
 pub lapse_from_either : (horizon : ℕ) (live : Table) → IsFromEither live live (lapse_table horizon live)
 lapse_from_either horizon live key = by (live key) refl
   where
@@ -69,7 +70,8 @@ lapse_from_either horizon live key = by (live key) refl
     by (Some body) is = pick body is (below_or horizon body)
 
 module _ (one two live : Table) (from : IsFromEither one two live) where
-  -- the indexes of calls of two tables determine the index of calls of a table made from both
+  -- if a table has at each key the body of one of two tables or no body, its index of calls can be
+  -- computed from their indexes of calls
   pub calling_from_either : (first second index : List CallingRow) → IsCallingIndex one first → IsCallingIndex two second
       → IsStrictlyAscending calling_cmp index
       → ((row : CallingRow) → Contains index row ↔ IsCallingFromEither one two live first second row) → IsCallingIndex live index
@@ -97,8 +99,8 @@ module _ (one two live : Table) (from : IsFromEither one two live) where
       back place key lines made (inr (inl e)) = inr ((is_second.members place key).1 (lines, record { is_live = sym e ∙ made.is_live; calls = made.calls }), e)
       back place key lines made (inr (inr none)) = none_some (schedule_body lines) (sym none ∙ made.is_live)
 
-  -- the indexes of associations of two tables determine the index of associations of a table made
-  -- from both
+  -- if a table has at each key the body of one of two tables or no body, its index of associations
+  -- can be computed from their indexes of associations
   pub linked_from_either : (first second index : List LinkedRow) → IsLinkedIndex one first → IsLinkedIndex two second → IsStrictlyAscending linked_cmp index
       → ((row : LinkedRow) → Contains index row ↔ IsLinkedFromEither one two live first second row) → IsLinkedIndex live index
   linked_from_either first second index is_first is_second up same = record {

@@ -1,5 +1,5 @@
--- The rows of an index for one place follow each other. A segment of the index has exactly these
--- rows, if all rows in it are for the place and no row outside it is.
+-- The rows of an index for one place are a segment of the index: all rows in the segment are for
+-- the place, and no row outside the segment is.
 use Rattle.std.proofs.Common.{◌≡◌, ℕ, List, [], ◌∷◌, ◌++◌, map, refl, ap, ◌∙◌, Bool, true, false, cond, Contains, append-nil}
 use Rattle.std.specs.Prelude.{filter}
 use Rattle.std.specs.Str.{bytes_eq}
@@ -30,7 +30,8 @@ module _ {K : Type 0} (place : List ℕ) where
       by true h rest = absurd (each row (cons-Contains-first row rows) ((bytes_eq-Decides row.0 place).0 h))
       by false h rest = rest
 
-  -- the rows for the place are the rows of the segment
+  -- if all rows of a segment are for the place and no other row is, filtering the index by the
+  -- place gives the segment
   pub piece_is : (front rows back : List (List ℕ × K)) → ((row : List ℕ × K) → Contains front row → ¬ (row.0 ≡ place))
       → ((row : List ℕ × K) → Contains rows row → row.0 ≡ place)
       → ((row : List ℕ × K) → Contains back row → ¬ (row.0 ≡ place)) → filter (λ (row : List ℕ × K). bytes_eq row.0 place) ((front ++ rows) ++ back) ≡ rows

@@ -1,4 +1,4 @@
--- A live table has only one index of each kind, and only one list of rows for each walk.
+-- A live table has at most one index of each kind, and at most one list of rows for each walk.
 use Rattle.std.proofs.Common.{◌≡◌, List, ℕ, map, sym, ◌∙◌, Contains, refl, subst, [], ◌∷◌, ap, Some}
 use Rattle.std.specs.Prelude.{◌↔◌, filter}
 use Rattle.std.specs.Str.{bytes_eq}
@@ -36,24 +36,24 @@ rows_total = on_total (λ (row : Row). row.0) key_total
 through : {P Q R : Type 0} → (P ↔ Q) → (R ↔ Q) → (P ↔ R)
 through one two = (λ p. two.1 (one.0 p), λ r. one.1 (two.0 r))
 
--- a table has only one index of calls
+-- a table has at most one index of calls
 pub one_calling_index : (live : Table) (a b : List CallingRow) → IsCallingIndex live a → IsCallingIndex live b → a ≡ b
 one_calling_index live a b one two =
     same_list calling_total a b one.ascending two.ascending (λ row. through (one.members row.0 row.1) (two.members row.0 row.1))
 
--- a table has only one index of associations
+-- a table has at most one index of associations
 pub one_linked_index : (live : Table) (a b : List LinkedRow) → IsLinkedIndex live a → IsLinkedIndex live b → a ≡ b
 one_linked_index live a b one two = same_list linked_total a b one.ascending two.ascending (λ row. through (one.members row.0 row.1) (two.members row.0 row.1))
 
--- a place has only one list of the schedules that call there
+-- a place has at most one list of rows of the schedules that call at it
 pub one_calling : (live : Table) (place : List ℕ) (a b : List Row) → AreCalling live place a → AreCalling live place b → a ≡ b
 one_calling live place a b one two = same_list rows_total a b one.ascending two.ascending (λ row. through (one.members row.0 row.1) (two.members row.0 row.1))
 
--- a place has only one list of the associations there
+-- a place has at most one list of rows of its associations
 pub one_linked : (live : Table) (place : List ℕ) (a b : List Row) → AreLinked live place a → AreLinked live place b → a ≡ b
 one_linked live place a b one two = same_list rows_total a b one.ascending two.ascending (λ row. through (one.members row.0 row.1) (two.members row.0 row.1))
 
--- a UID has only one list of rows
+-- a UID has at most one list of rows
 pub one_of_uid : (live : Table) (uid : List ℕ) (a b : List Row) → AreOfUid live uid a → AreOfUid live uid b → a ≡ b
 one_of_uid live uid a b one two = same_list rows_total a b one.ascending two.ascending (λ row. through (one.members row.0 row.1) (two.members row.0 row.1))
 
@@ -61,7 +61,7 @@ one_of_uid live uid a b one two = same_list rows_total a b one.ascending two.asc
 
 -- ---- the rows that an index finds
 
--- the keys in the index rows for one place ascend
+-- the keys in the index rows for one place are strictly ascending
 at_place_ascends : {K : Type 0} (cmp : K → K → Ordering) (wrap : K → Key) → ((a b : K) → cmp a b ≡ Less → key_cmp (wrap a) (wrap b) ≡ Less)
     → (place : List ℕ) (index : List (List ℕ × K))
     → AllLater (λ (a b : List ℕ × K). ordering_then (bytes_cmp a.0 b.0) (cmp a.1 b.1) ≡ Less) index
@@ -83,7 +83,8 @@ at_place_ascends {K} cmp wrap to place index up =
         let level : bytes_cmp a.0 b.0 ≡ Equal = (λ i. bytes_cmp (one i) (two i)) ∙ tied_itself nat_list_cmp_total place in
         sym (λ i. ordering_then (level i) (cmp a.1 b.1)) ∙ below
 
--- the keys that an index finds for a place are the keys in its rows for the place
+-- a key is among the filtered keys for a place if and only if the index has a row with this place
+-- and this key
 found_at : {K : Type 0} (wrap : K → Key) (place : List ℕ) (index : List (List ℕ × K)) (key : Key)
     → Contains (map (λ (r : List ℕ × K). wrap r.1) (filter (λ (r : List ℕ × K). bytes_eq r.0 place) index)) key
     ↔ ((k : K) × Contains index (place, k) × (wrap k ≡ key))
@@ -109,8 +110,8 @@ order_of_keys (row ∷ rows) up = (above rows up.0, order_of_keys rows up.1)
     above (other ∷ others) all = (all.0, above others all.1)
 
 module _ (live : Table) (place : List ℕ) where
-  -- live rows with the keys that the index of calls finds for a place are the schedules that call
-  -- there
+  -- live rows with the keys in the index of calls for a place are the rows of the schedules that
+  -- call at the place
   pub calling_by_index : (index : List CallingRow) (rows : List Row) → IsCallingIndex live index → map (λ (row : Row). row.0) rows ≡ calling_keys index place
       → ((key : Key) (body : Body) → Contains rows (key, body) → live key ≡ Some body) → AreCalling live place rows
   calling_by_index index rows is keys each = record {
@@ -136,8 +137,8 @@ module _ (live : Table) (place : List ℕ) where
     );
   }
 
-  -- live rows with the keys that the index of associations finds for a place are the associations
-  -- there
+  -- live rows with the keys in the index of associations for a place are the rows of the
+  -- associations at the place
   pub linked_by_index : (index : List LinkedRow) (rows : List Row) → IsLinkedIndex live index → map (λ (row : Row). row.0) rows ≡ linked_keys index place
       → ((key : Key) (body : Body) → Contains rows (key, body) → live key ≡ Some body) → AreLinked live place rows
   linked_by_index index rows is keys each = record {

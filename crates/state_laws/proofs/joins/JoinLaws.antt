@@ -1,5 +1,5 @@
--- The join is commutative and associative, and a valid state joined with itself stays the same. Two
--- states have at most one join.
+-- The join is commutative, associative and, for valid states, idempotent. Two states have at most
+-- one join.
 use Rattle.std.proofs.Common.{◌++◌, ◌≡◌, ◌∙◌, sym, ◌≤◌, subst, ℕ, arith, ap, List, Contains, inl, inr, ◌⊎◌, Some, None}
 use Rattle.std.specs.Prelude.{max, Option}
 use Rattle.std.proofs.Math.Nat.{max_comm, le-max_left, le-max_right, max-eq_left}
@@ -43,25 +43,25 @@ reduced_join a b c horizon is = record {
   entries = is.of_keys;
 }
 
--- the join of two states is also their join in the other order
+-- the join is commutative
 pub join_commutes : (a b c : State) → IsJoin a b c → IsJoin b a c
 join_commutes a b c is =
     reduced_join b a c (is.horizon ∙ max_comm a.horizon b.horizon)
     (reduced_along (a.ledger ++ b.ledger) (b.ledger ++ a.ledger) (a.entries ++ b.entries) (b.entries ++ a.entries) (same_members_turned a.ledger b.ledger)
     (same_members_turned a.entries b.entries) c (join_reduced a b c is))
 
--- two states have only one join
+-- two states have at most one join
 pub join_unique : (a b c d : State) → IsJoin a b c → IsJoin a b d → c ≡ d
 join_unique a b c d is_c is_d =
     reduced_unique (a.ledger ++ b.ledger) (a.entries ++ b.entries) c d (is_c.horizon ∙ sym is_d.horizon) (join_reduced a b c is_c) (join_reduced a b d is_d)
 
 -- ---- the join of three states
 
--- the horizon of a join is at least the first state's
+-- the horizon of a join is at least the first state's horizon
 pub horizon_left : (a b c : State) → IsJoin a b c → a.horizon ≤ c.horizon
 horizon_left a b c is = subst (λ h. a.horizon ≤ h) (sym is.horizon) (le-max_left a.horizon b.horizon)
 
--- the horizon of a join is at least the second state's
+-- the horizon of a join is at least the second state's horizon
 pub horizon_right : (a b c : State) → IsJoin a b c → b.horizon ≤ c.horizon
 horizon_right a b c is = subst (λ h. b.horizon ≤ h) (sym is.horizon) (le-max_right a.horizon b.horizon)
 
@@ -81,7 +81,7 @@ max_rotates a b c =
     (omega arith) in
     omega arith
 
--- three states have the same join, whichever two are joined first
+-- the join is associative
 pub join_associates : (a b c ab bc x y : State) → IsJoin a b ab → IsJoin ab c x → IsJoin b c bc → IsJoin a bc y → x ≡ y
 join_associates a b c ab bc x y is_ab is_x is_bc is_y =
     let turn = join_commutes a bc y is_y in
@@ -107,7 +107,7 @@ one_of_two xs x among = by (Contains-append_cases xs xs x among)
     by (inl here) = here
     by (inr here) = here
 
--- the join of a valid state with itself is that state
+-- the join is idempotent for valid states
 pub join_idempotent : (a : State) → IsValid a → IsJoin a a a
 join_idempotent a valid = record {
   horizon = sym (max-eq_left {n = a.horizon} {m = a.horizon} (omega arith));

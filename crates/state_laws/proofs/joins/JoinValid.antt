@@ -20,7 +20,7 @@ use Rattle.state_laws.proofs.states.Lapse.{below_or, put_lapses, put_stays, has_
 use Rattle.state_laws.proofs.states.LapsedGreatest.{lapsed_from}
 use Rattle.state_laws.proofs.states.KeptEntries.{lapse_ascends}
 
--- items keep their floor when the items below it are left out
+-- leaving out items below the floor leaves the floor unchanged
 pub kept_floor : (items ledger : List LedgerItem) (floor : Option FileStamp) → IsFloor items floor
     → ((item : LedgerItem) → Contains ledger item → Contains items item) → ((item : LedgerItem) → Contains items item → IsKept floor item.stamp
     → Contains ledger item)
@@ -34,7 +34,7 @@ kept_floor items ledger (Some stamp) greatest from to = record {
   greatest = λ item among. greatest.greatest item (from item among);
 }
 
--- a ledger that has all kept items has the file stamp of each kept item
+-- if the joined ledger has all kept items of a ledger, it has the file stamp of each kept item
 pub stamp_stays : (ledger joined : List LedgerItem) (floor : Option FileStamp) → ((item : LedgerItem) → Contains ledger item → IsKept floor item.stamp
     → Contains joined item)
     → (stamp : FileStamp) → IsKept floor stamp → Contains (map (λ (item : LedgerItem). item.stamp) ledger) stamp
@@ -135,7 +135,7 @@ raised_is_valid horizon state day valid = lapsed_is_valid (max state.horizon hor
 
 -- ---- the floor of a ledger
 
--- the ledger of a state has only one floor
+-- the ledger of a state has at most one floor
 pub one_floor : (state : State) (first second : Option FileStamp) → IsFloor state.ledger first → IsFloor state.ledger second → first ≡ second
 one_floor state = floor_unique state.ledger state.ledger (λ item. (λ x. x, λ x. x))
 
@@ -143,8 +143,8 @@ one_floor state = floor_unique state.ledger state.ledger (λ item. (λ x. x, λ 
 abbrev pub first_full : List LedgerItem → Option FileStamp
 first_full ledger = option_map (λ (item : LedgerItem). item.stamp) (find (λ (item : LedgerItem). item.indicator == 70) ledger)
 
--- this is the file stamp of some full extract among the items. It is `None` if no item is for a
--- full extract
+-- this is the file stamp of some full extract among the items, or `None` if no item is for a full
+-- extract
 FirstFull : List LedgerItem → Option FileStamp → Type 0
 FirstFull ledger None = (item : LedgerItem) → Contains ledger item → ¬ IsFull item
 FirstFull ledger (Some stamp) = (item : LedgerItem) × Contains ledger item × IsFull item × (item.stamp ≡ stamp)

@@ -1,5 +1,6 @@
--- Setting a horizon. A horizon that isn't greater than the state's changes nothing. A horizon may
--- be set after a join instead of before it. Without a horizon nothing lapses.
+-- Setting a horizon. Setting a horizon that isn't greater than the state's leaves the state
+-- unchanged. A horizon may be set after a join instead of before it. Without a horizon no entry
+-- lapses.
 use Rattle.std.proofs.Common.{◌≡◌, ℕ, ◌≤◌, List, [], ◌∷◌, Contains, subst, ap, sym, ◌∙◌, arith}
 use Rattle.std.specs.Prelude.{Option, ◌↔◌, max}
 use Rattle.std.proofs.Math.Nat.{le-max_left, max-eq_left, max-zero, zero-max}
@@ -19,7 +20,7 @@ use Rattle.state_laws.proofs.states.KeptEntries.{lapse_ascends, entries_stay}
 
 -- ---- when nothing lapses
 
--- if no body ended before a horizon, the lapse under it changes only the horizon
+-- if no body ended before a horizon, the lapse under this horizon changes only the horizon
 pub lapsed_already : (horizon : ℕ) (state : State) → HaveLapsed horizon state.entries
     → lapse_state horizon state ≡ record { horizon = horizon; ledger = state.ledger; entries = state.entries }
 lapsed_already horizon state all = λ i. record {
@@ -34,18 +35,19 @@ pub entry_of_valid_stays : (state : State) (key : Key) (entry : Entry) → IsVal
 entry_of_valid_stays state key entry valid among =
     entry_stays state.horizon entry (All-contains (λ (e : Keyed). HasNotToLapse state.horizon e.1.op) state.entries (key, entry) valid.have_lapsed among)
 
--- setting a horizon that isn't greater than the state's changes nothing
+-- setting a horizon that isn't greater than the state's horizon leaves the state unchanged
 pub not_greater : (horizon : ℕ) (state : State) → IsValid state → horizon ≤ state.horizon → raise_horizon horizon state ≡ state
 not_greater horizon state valid low = ap (λ h. lapse_state h state) (max-eq_left low) ∙ lapsed_already state.horizon state valid.have_lapsed
 
--- a valid state that loses its horizon, and gets it again, is the same state
+-- removing the horizon of a valid state and setting it again leaves the state unchanged
 pub set_last : (state : State) → IsValid state → raise_horizon state.horizon (without_horizon state) ≡ state
 set_last state valid =
     ap (λ h. lapse_state h (without_horizon state)) (zero-max state.horizon) ∙ lapsed_already state.horizon (without_horizon state) valid.have_lapsed
 
 -- ---- a horizon that is set after a join
 
--- to join a state without its horizon, and then set this horizon, gives the join
+-- joining with a state without its horizon, and then setting this horizon, equals joining with the
+-- state
 pub join_then_set : (a b c : State) → IsJoin a (without_horizon b) c → IsJoin a b (raise_horizon b.horizon c)
 join_then_set a b c is = record {
   horizon = horizons;
@@ -86,8 +88,8 @@ none_to_lapse entries = All-from_recursion (λ (entry : Keyed). HasNotToLapse 0 
     each [] = tt
     each (x ∷ xs) = (none_has_to x.1.op, each xs)
 
--- this state is the summary of the files without a horizon: each key has its greatest entry,
--- unchanged
+-- this state is the summary of the files without a horizon: each key has its greatest entry, which
+-- hasn't lapsed under a horizon
 pub record IsPlainSummary (files : List (List (List ℕ))) (state : State) : Type 0 where
   pub no_horizon : state.horizon ≡ 0
   pub floor : Option FileStamp

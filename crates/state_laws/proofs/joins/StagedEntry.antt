@@ -1,4 +1,5 @@
--- One more entry is offered, and is staged or left out. Also the entry that a state has at a key.
+-- The staged entries after one more entry is offered: the offered entry is staged or left out. Also
+-- the entry that a state has at a key.
 use Rattle.std.proofs.Common.{◌≡◌, List, [], ◌∷◌, ◌++◌, refl, ap, sym, ◌∙◌, subst, inl, inr, ◌⊎◌, Some, None, Contains, arith}
 use Rattle.std.specs.Prelude.{Option, ◌↔◌, option_and_then}
 use Rattle.std.specs.declared.cmp.Ordering.TheVariants.{Less}
@@ -26,7 +27,8 @@ use Rattle.state_laws.proofs.joins.StagedJoin.{commit_is_join}
 Some_is : {A : Type 0} (a b : A) → Some a ≡ Some b → a ≡ b
 Some_is a b h = cc
 
--- a state has an entry at a key exactly if the list of its entries has it
+-- `entry_at` is `Some entry` for a key if and only if the list of the state's entries contains the
+-- key with this entry
 pub entry_at_iff : (state : State) → AreAscending state.entries → (key : Key) (entry : Entry) → (entry_at state key ≡ Some entry) ↔ Contains state.entries
     (key, entry)
 entry_at_iff state up key entry = by (find_in state.entries key)
@@ -43,7 +45,7 @@ entry_at_iff state up key entry = by (find_in state.entries key)
           λ among. absurd (none entry among),
         )
 
--- an entry is to be staged exactly if it isn't below the floor and is greater than the state's
+-- an entry is to be staged if and only if it isn't below the floor and is greater than the state's
 -- entry at its key
 pub to_stage_by_get : (own : State) → AreAscending own.entries → (floor : Option FileStamp) (key : Key) (entry : Entry)
     → IsToStage own floor key entry ↔ (IsKept floor entry.stamp.file × IsGreaterThan (entry_at own key) entry)
@@ -64,7 +66,7 @@ to_stage_by_get own up floor key entry = by (entry_at own key) refl
 
 -- ---- staging step by step
 
--- before the first offer nothing is staged
+-- before the first offer no entry is staged
 pub nothing_staged : (own : State) (floor : Option FileStamp) → IsStaged own floor [] []
 nothing_staged own floor = record {
   ascending = tt;
@@ -73,7 +75,7 @@ nothing_staged own floor = record {
 
 module _ (own : State) (floor : Option FileStamp) (offered staged : List (Key × Entry)) (key : Key) (entry : Entry)
     (stages : IsStaged own floor offered staged) where
-  -- an offered entry that is to be staged becomes the last of the staged entries
+  -- an offered entry that is to be staged is appended to the staged entries
   pub one_staged_more : ((other : Key × Entry) → Contains staged other → key_cmp other.0 key ≡ Less) → IsToStage own floor key entry
       → IsStaged own floor (offered ++ (key, entry) ∷ []) (staged ++ (key, entry) ∷ [])
   one_staged_more above to = record {
@@ -100,7 +102,7 @@ module _ (own : State) (floor : Option FileStamp) (offered staged : List (Key ×
       back k e to_stage (inl here) = Contains-append_left staged ((key, entry) ∷ []) (k, e) ((stages.members k e).1 (here, to_stage))
       back k e to_stage (inr here) = Contains-append_right staged ((key, entry) ∷ []) (k, e) here
 
-  -- an offered entry that isn't to be staged leaves the staged entries as they are
+  -- an offered entry that isn't to be staged leaves the staged entries unchanged
   pub one_left_out : ¬ IsToStage own floor key entry → IsStaged own floor (offered ++ (key, entry) ∷ []) staged
   one_left_out out = record {
     ascending = stages.ascending;
@@ -118,8 +120,8 @@ module _ (own : State) (floor : Option FileStamp) (offered staged : List (Key ×
 
 -- ---- all entries
 
--- when all entries of a received state have been staged and committed, the result is the join with
--- the received state without its horizon
+-- after all entries of a received state are offered and the staged entries are committed, the state
+-- is the join with the received state without its horizon
 pub staging_joins_before : (own received : State) (floor : Option FileStamp) (staged : List (Key × Entry)) (after : State) → IsValid own → IsValid received
     → IsFloor (own.ledger ++ received.ledger) floor → IsStaged own floor received.entries staged → IsCommit own received.ledger staged after
     → IsJoin own (without_horizon received) after
@@ -128,7 +130,7 @@ staging_joins_before own received floor staged after valid valid_too is_floor st
     (λ item. (λ x. x, λ x. x)) floor commit.floor is_floor commit.is_floor in
     commit_is_join own received valid valid_too staged after commit (subst (λ f. IsStaged own f received.entries staged) floors stages)
 
--- when the horizon of the received state is then set, the result is the join with the received
+-- after the horizon of the received state is then set, the state is the join with the received
 -- state
 pub staging_joins : (own received : State) (floor : Option FileStamp) (staged : List (Key × Entry)) (after : State) → IsValid own → IsValid received
     → IsFloor (own.ledger ++ received.ledger) floor → IsStaged own floor received.entries staged → IsCommit own received.ledger staged after
@@ -136,7 +138,7 @@ pub staging_joins : (own received : State) (floor : Option FileStamp) (staged : 
 staging_joins own received floor staged after valid valid_too is_floor stages commit =
     join_then_set own received after (staging_joins_before own received floor staged after valid valid_too is_floor stages commit)
 
--- the state that a commit leaves is valid
+-- the state after a commit is valid
 pub commit_is_valid : (own received : State) (floor : Option FileStamp) (staged : List (Key × Entry)) (after : State) → IsValid own → IsValid received
     → IsFloor (own.ledger ++ received.ledger) floor → IsStaged own floor received.entries staged → IsCommit own received.ledger staged after → IsValid after
 commit_is_valid own received floor staged after valid valid_too is_floor stages commit =
@@ -146,7 +148,7 @@ commit_is_valid own received floor staged after valid valid_too is_floor stages 
     without : IsValid (without_horizon received)
     without = record { horizon = omega arith; ledger = valid_too.ledger; entries = valid_too.entries; have_lapsed = none_to_lapse received.entries }
 
--- of the entries that the state has already, none is staged
+-- if a state's own entries are offered, no entry is staged
 pub own_stages_nothing : (own : State) (floor : Option FileStamp) → IsStaged own floor own.entries []
 own_stages_nothing own floor = record {
   ascending = tt;

@@ -1,5 +1,5 @@
--- When all entries of a received state have been staged and committed, the result is the join with
--- the received state without its horizon.
+-- After all entries of a received state are offered and the staged entries are committed, the state
+-- is the join with the received state without its horizon.
 use Rattle.std.proofs.Common.{◌≡◌, ℕ, List, ◌++◌, ap, sym, ◌∙◌, subst, inl, inr, ◌⊎◌, Some, None, Contains}
 use Rattle.std.specs.Prelude.{Option}
 use Rattle.std.specs.declared.cmp.Ordering.TheVariants.{Equal}
@@ -25,7 +25,7 @@ use Rattle.state_laws.proofs.states.ExactEntries.{exact_entry}
 stamp_up : (low high : Entry) → IsAtMost entry_cmp low high → IsAtMost file_stamp_cmp low.stamp.file high.stamp.file
 stamp_up low high up greater = up (λ i. ordering_then (ordering_then (greater i) (nat_cmp low.stamp.number high.stamp.number)) (op_cmp low.op high.op))
 
--- if the lower of two entries isn't below the floor, the greater isn't either
+-- if the lower of two entries isn't below the floor, the greater entry isn't below it either
 pub kept_up : (floor : Option FileStamp) (low high : Entry) → IsAtMost entry_cmp low high → IsKept floor low.stamp.file → IsKept floor high.stamp.file
 kept_up None low high up kept = tt
 kept_up (Some floor) low high up kept = at_most_trans file_stamp_total floor low.stamp.file high.stamp.file kept (stamp_up low high up)
@@ -52,7 +52,7 @@ module _ (own received : State) (valid : IsValid own) (valid_too : IsValid recei
   Best : Key → Entry → Type 0
   Best key entry = IsGreatestAmong (own.entries ++ received.entries) key entry × IsKept commit.floor entry.stamp.file
 
-  -- a staged entry isn't below the floor, and is the greatest of its key
+  -- a staged entry isn't below the floor, and is the greatest entry of its key
   staged_best : (key : Key) (entry : Entry) → Contains staged (key, entry) → Best key entry
   unfolding Best
   staged_best key entry among =
@@ -69,8 +69,8 @@ module _ (own received : State) (valid : IsValid own) (valid_too : IsValid recei
       under offered to other (inl here) = at_most_below entry_cmp other entry (to.greater other here)
       under offered to other (inr here) = subst (λ e. IsAtMost entry_cmp other e) (one_received key other entry here offered) (at_most_itself entry_total other)
 
-  -- an entry of the state is the greatest of its key, if it isn't below the floor and no entry of
-  -- the key is staged
+  -- an entry of the state is the greatest entry of its key, if it isn't below the floor and no
+  -- entry of the key is staged
   own_best : (key : Key) (entry : Entry) → Contains own.entries (key, entry) → IsKept commit.floor entry.stamp.file → HasNoEntryOf staged key → Best key entry
   unfolding Best
   own_best key entry among kept none = (
@@ -108,7 +108,7 @@ module _ (own received : State) (valid : IsValid own) (valid_too : IsValid recei
   unfolding Best
   back key entry best = by (Contains-append_cases own.entries received.entries (key, entry) best.0.among)
     where
-      -- if the state's entry is the greatest of its key, no entry of the key is staged
+      -- if the state's entry is the greatest entry of its key, no entry of the key is staged
       none_staged : Contains own.entries (key, entry) → HasNoEntryOf staged key
       none_staged here other inside =
           let told = (stages.members key other).0 inside in
@@ -137,7 +137,7 @@ module _ (own received : State) (valid : IsValid own) (valid_too : IsValid recei
       by (inl here) = inr (here, best.1, none_staged here)
       by (inr here) = as_received here (find_in own.entries key)
 
-  -- a commit leaves the join with the received state without its horizon
+  -- the state after a commit is the join with the received state without its horizon
   pub commit_is_join : IsJoin own (without_horizon received) after
   unfolding Best
   commit_is_join = record {
@@ -156,7 +156,7 @@ module _ (own received : State) (valid : IsValid own) (valid_too : IsValid recei
     );
   }
 
--- a state, ledger items and staged entries determine what a commit leaves
+-- a state, ledger items and staged entries uniquely determine the state after a commit
 pub one_commit : (own : State) (items : List LedgerItem) (staged : List (Key × Entry)) (a b : State) → IsCommit own items staged a → IsCommit own items staged b
     → a ≡ b
 one_commit own items staged a b one two =
@@ -182,7 +182,7 @@ one_commit own items staged a b one two =
     moved : (key : Key) (entry : Entry) (f g : Option FileStamp) (m n : ℕ) → f ≡ g → m ≡ n → Told key entry f m → Told key entry g n
     moved key entry f g m n floors horizons told = subst (λ h. Told key entry g h) horizons (subst (λ floor. Told key entry floor m) floors told)
 
--- the offered entries determine the staged entries
+-- the offered entries uniquely determine the staged entries
 pub one_staged : (own : State) (floor : Option FileStamp) (offered a b : List (Key × Entry)) → IsStaged own floor offered a → IsStaged own floor offered b
     → a ≡ b
 one_staged own floor offered a b one two =

@@ -1,5 +1,5 @@
--- The received ledger items and the staged entries make a valid state. A join with this state does
--- the same as the commit.
+-- The received ledger items and the staged entries are a valid state. The join with this state
+-- equals the state after the commit.
 use Rattle.std.proofs.Common.{◌≡◌, List, ◌++◌, ◌∙◌, ap, subst, arith, inl, inr, ◌⊎◌, Contains}
 use Rattle.std.specs.Prelude.{Option}
 use Rattle.std.specs.Ordering.{ordering_reverse}
@@ -18,7 +18,7 @@ use Rattle.cif_laws.proofs.orders.AtMost.{at_most_itself, at_most_below}
 use Rattle.state_laws.proofs.joins.RaisedHorizon.{none_to_lapse}
 use Rattle.state_laws.proofs.states.OneJoin.{floor_unique}
 
--- the ledger items of a valid state and the staged entries make a valid state
+-- the ledger items of a valid state and the staged entries are a valid state
 pub staged_is_valid : (own received : State) (floor : Option FileStamp) (staged : List (Key × Entry)) → IsValid received
     → IsStaged own floor received.entries staged
     → IsValid (staged_state received.ledger staged)
@@ -89,7 +89,7 @@ module _ (own received : State) (floor : Option FileStamp) (staged : List (Key �
           subst (λ e. IsAtMost entry_cmp other e) (one_per_key own.entries up key other entry here told.0) (at_most_itself entry_total other)
       under other (inr there) = absurd (told.2 other there)
 
-  -- the join with the state of received items and staged entries is what the commit leaves
+  -- the join with the state of received items and staged entries is the state after the commit
   pub join_with_staged : IsCommit own received.ledger staged after
   unfolding Best
   join_with_staged = record {

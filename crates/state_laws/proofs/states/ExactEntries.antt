@@ -14,7 +14,7 @@ use Rattle.docker_model.specs.state.State.{IsBodyOf, IsOpOf}
 use Rattle.cif_laws.proofs.orders.Orders.{then_equal, exact_stamp}
 use Rattle.cif_laws.proofs.lists.Fronts.{same_front}
 
--- two lists of records that join to the same bytes are equal
+-- two lists of records with the same concatenation are equal
 pub same_lines : (xs ys : List (List ℕ)) → All IsRecord xs → All IsRecord ys → concat xs ≡ concat ys → xs ≡ ys
 same_lines [] [] good_x good_y same = refl
 same_lines [] (y ∷ ys) good_x good_y same =

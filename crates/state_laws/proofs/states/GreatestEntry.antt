@@ -1,4 +1,4 @@
--- The greatest entry of a key in a list, and that each key has one or no entry at all.
+-- The greatest entry of a key in a list. Each key that has an entry has a greatest entry.
 use Rattle.std.proofs.Common.{List, Contains, ◌≡◌, ◌∷◌, subst, inl, inr, ◌⊎◌, ap, [], refl, Bool, true, false}
 use Rattle.std.specs.Ordering.{is_eq}
 use Rattle.docker_model.specs.file.Change.{Key}
@@ -69,7 +69,7 @@ still first entries key apart (inr best) =
     by other (inl e) = absurd (apart (ap (λ (pair : Keyed). pair.0) e))
     by other (inr inside) = best.2 other inside
 
--- a list has no entry of a key, or it has a greatest one
+-- a list has no entry of a key, or has a greatest entry of the key
 pub greatest_in : (entries : List Keyed) (key : Key) → NoEntry entries key ⊎ GreatestEntry entries key
 greatest_in [] key = inl (λ entry among. nil-Contains (key, entry) among)
 greatest_in (first ∷ entries) key = by (is_eq (key_cmp first.0 key)) refl (greatest_in entries key)

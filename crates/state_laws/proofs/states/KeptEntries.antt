@@ -1,4 +1,4 @@
--- Entries under a floor and a horizon: which are kept, and what the lapse makes of entries in key
+-- Entries under a floor and a horizon: which entries are kept, and the lapse of entries in key
 -- order.
 use Rattle.std.proofs.Common.{◌≡◌, ℕ, ◌<◌, ◌≤◌, List, [], ◌∷◌, subst, inl, inr, ◌⊎◌, refl, sym, ◌∙◌, Some, None}
 use Rattle.std.specs.Prelude.{Option}
@@ -16,14 +16,14 @@ use Rattle.cif_laws.proofs.orders.AtMost.{at_most_trans, level, at_most_itself}
 use Rattle.state_laws.proofs.states.PlainTable.{Keyed}
 use Rattle.state_laws.proofs.states.Lapse.{below_or, put_lapses, put_stays, entry_stays}
 
--- if the lower of two entries isn't below the floor, the greater isn't either
+-- if the lower of two entries isn't below the floor, the greater entry isn't below it either
 pub kept_up : (floor : Option FileStamp) (low high : Entry) → IsAtMost entry_cmp low high → IsKept floor low.stamp.file → IsKept floor high.stamp.file
 kept_up None low high most kept = tt
 kept_up (Some floor) low high most kept =
     at_most_trans file_stamp_total floor low.stamp.file high.stamp.file kept
     (λ greater. most (λ i. ordering_then (ordering_then (greater i) (nat_cmp low.stamp.number high.stamp.number)) (op_cmp low.op high.op)))
 
--- the lapse never makes an op greater
+-- an op after the lapse is at most the op before it
 op_lapse_below : (horizon : ℕ) (op : Op) → IsAtMost op_cmp (lapse horizon op) op
 op_lapse_below horizon deleted = at_most_itself op_total deleted
 op_lapse_below horizon lapsed = at_most_itself op_total lapsed
@@ -33,7 +33,7 @@ op_lapse_below horizon (put_with body) = by (below_or horizon body)
     by (inl below) = subst (λ op. IsAtMost op_cmp op (put_with body)) (sym (put_lapses horizon body below)) (λ greater. cc)
     by (inr above) = subst (λ op. IsAtMost op_cmp op (put_with body)) (sym (put_stays horizon body above)) (at_most_itself op_total (put_with body))
 
--- the lapse never makes an entry greater
+-- an entry after the lapse is at most the entry before it
 pub lapse_below : (horizon : ℕ) (entry : Entry) → IsAtMost entry_cmp (lapse_entry horizon entry) entry
 lapse_below horizon entry = by (stamp_cmp entry.stamp entry.stamp) (at_most_itself entry_total entry)
   where
@@ -55,7 +55,7 @@ level_lapsed first second is up down =
     let ops : first.op ≡ second.op = tied_lapsed first.op (subst (λ op. op_cmp first.op op ≡ Equal) is parts.1) ∙ sym is in
     λ i. record { stamp = exact_stamp first.stamp second.stamp parts.0 i; op = ops i }
 
--- the lapse turns an op into `lapsed`, or leaves it as it is
+-- an op after the lapse is `lapsed`, or the op doesn't have to lapse
 pub lapses_or_not : (horizon : ℕ) (op : Op) → (lapse horizon op ≡ lapsed) ⊎ HasNotToLapse horizon op
 lapses_or_not horizon deleted = inr tt
 lapses_or_not horizon lapsed = inl refl
@@ -72,12 +72,12 @@ above_lapsed : (horizon : ℕ) (first : Keyed) (entries : List Keyed) → AllByR
 above_lapsed horizon first [] all = tt
 above_lapsed horizon first (entry ∷ entries) all = (all.0, above_lapsed horizon first entries all.1)
 
--- entries in key order are in key order after the lapse
+-- the lapse preserves the key order of entries
 pub lapse_ascends : (horizon : ℕ) (entries : List Keyed) → AreAscending entries → AreAscending (lapse_entries horizon entries)
 lapse_ascends horizon [] up = tt
 lapse_ascends horizon (entry ∷ entries) up = (above_lapsed horizon entry entries up.0, lapse_ascends horizon entries up.1)
 
--- entries that don't lapse stay as they are
+-- the lapse leaves entries that don't have to lapse unchanged
 pub entries_stay : (horizon : ℕ) (entries : List Keyed) → AllByRecursion (λ (entry : Keyed). HasNotToLapse horizon entry.1.op) entries
     → lapse_entries horizon entries ≡ entries
 entries_stay horizon [] all = refl

@@ -1,5 +1,5 @@
--- The lapse keeps the order of ops and entries. A second lapse under the same horizon changes
--- nothing. A lapse under two horizons, one after the other, is a lapse under the greater one.
+-- The lapse is monotone: it preserves the order of ops and entries. It is idempotent. The lapse
+-- under one horizon and then under another equals the lapse under the greater horizon.
 use Rattle.std.proofs.Common.{◌≡◌, ℕ, ◌<◌, ◌≤◌, subst, inl, inr, ◌⊎◌, refl, ap, sym, ◌∙◌, Bool, true, false, cond, arith}
 use Rattle.std.specs.Prelude.{max, nat_lt}
 use Rattle.std.specs.declared.cmp.Ordering.{Ordering}
@@ -16,7 +16,7 @@ use Rattle.docker_model.specs.state.Lapse.{lapse, HasNotToLapse, lapse_entry}
 
 -- ---- a put lapses or stays
 
--- a body ended before the horizon, or it didn't
+-- a body ended before the horizon, or its end is at least the horizon
 pub below_or : (horizon : ℕ) (body : Body) → (body_end body < horizon) ⊎ (horizon ≤ body_end body)
 below_or horizon body = by (nat_lt (body_end body) horizon) refl
   where
@@ -28,17 +28,17 @@ below_or horizon body = by (nat_lt (body_end body) horizon) refl
 pub put_lapses : (horizon : ℕ) (body : Body) → body_end body < horizon → lapse horizon (put_with body) ≡ lapsed
 put_lapses horizon body below = λ i. cond (lt-ltb (body_end body) horizon below i) lapsed (put_with body)
 
--- a put of a body that didn't end before the horizon stays
+-- the lapse leaves a put of a body that didn't end before the horizon unchanged
 pub put_stays : (horizon : ℕ) (body : Body) → horizon ≤ body_end body → lapse horizon (put_with body) ≡ put_with body
 put_stays horizon body above = λ i. cond (le-ltb (body_end body) horizon above i) lapsed (put_with body)
 
--- an op that doesn't lapse stays as it is
+-- the lapse leaves an op that doesn't have to lapse unchanged
 pub op_stays : (horizon : ℕ) (op : Op) → HasNotToLapse horizon op → lapse horizon op ≡ op
 op_stays horizon deleted has_not = refl
 op_stays horizon lapsed has_not = refl
 op_stays horizon (put_with body) has_not = put_stays horizon body has_not
 
--- an op that has been lapsed doesn't lapse again under the same horizon
+-- an op after the lapse doesn't have to lapse again under the same horizon
 pub has_lapsed : (horizon : ℕ) (op : Op) → HasNotToLapse horizon (lapse horizon op)
 has_lapsed horizon deleted = tt
 has_lapsed horizon lapsed = tt
@@ -48,11 +48,11 @@ has_lapsed horizon (put_with body) = by (below_or horizon body)
     by (inl below) = subst (HasNotToLapse horizon) (sym (put_lapses horizon body below)) tt
     by (inr above) = subst (HasNotToLapse horizon) (sym (put_stays horizon body above)) above
 
--- a second lapse under the same horizon changes nothing
+-- the lapse under a horizon is idempotent
 pub lapse_again : (horizon : ℕ) (op : Op) → lapse horizon (lapse horizon op) ≡ lapse horizon op
 lapse_again horizon op = op_stays horizon (lapse horizon op) (has_lapsed horizon op)
 
--- under the horizon 0 nothing lapses
+-- the lapse under the horizon 0 leaves each op unchanged
 pub lapse_none : (op : Op) → lapse 0 op ≡ op
 lapse_none deleted = refl
 lapse_none lapsed = refl
@@ -68,7 +68,8 @@ max_most a b n first second = by (nat_lt a b) refl
     by true h = let below = ltb-true a b h in subst (λ m. m ≤ n) (sym (max-eq_right (omega arith))) second
     by false h = subst (λ m. m ≤ n) (sym (max-eq_left (ltb-false a b h))) first
 
--- a lapse under two horizons, one after the other, is a lapse under the greater one
+-- the lapse of an op under one horizon and then under another equals the lapse under the greater
+-- horizon
 pub lapse_twice : (second first : ℕ) (op : Op) → lapse second (lapse first op) ≡ lapse (max second first) op
 lapse_twice second first deleted = refl
 lapse_twice second first lapsed = refl
@@ -88,7 +89,7 @@ lapse_twice second first (put_with body) = by (below_or first body) (below_or se
 
 -- ---- the order of ops after a lapse
 
--- the op `lapsed` is at most what the lapse makes of a put
+-- the op `lapsed` is at most each put after the lapse
 lapsed_least : (horizon : ℕ) (body : Body) → IsAtMost op_cmp lapsed (lapse horizon (put_with body))
 lapsed_least horizon body = by (below_or horizon body)
   where
@@ -116,7 +117,7 @@ ends_in_order a b most = by (nat_lt (body_end b) (body_end a)) refl
         (nat_cmp (body_tag a) (body_tag b)))))
     by false h = ltb-false _ _ h
 
--- if one op is at most another, it still is after the lapse of both
+-- the lapse of ops is monotone
 pub lapse_keeps_order : (horizon : ℕ) (a b : Op) → IsAtMost op_cmp a b → IsAtMost op_cmp (lapse horizon a) (lapse horizon b)
 lapse_keeps_order horizon deleted deleted most = most
 lapse_keeps_order horizon deleted lapsed most = most
@@ -135,7 +136,7 @@ lapse_keeps_order horizon (put_with a) (put_with b) most = by (below_or horizon 
         subst (λ op. IsAtMost op_cmp op (lapse horizon (put_with b))) (sym (put_stays horizon a above))
         (subst (IsAtMost op_cmp (put_with a)) (sym (put_stays horizon b (omega arith))) most)
 
--- if one entry is at most another, it still is after the lapse of both
+-- the lapse of entries is monotone
 pub lapse_entry_keeps_order : (horizon : ℕ) (a b : Entry) → IsAtMost entry_cmp a b → IsAtMost entry_cmp (lapse_entry horizon a) (lapse_entry horizon b)
 lapse_entry_keeps_order horizon a b most = by (stamp_cmp a.stamp b.stamp) most
   where
@@ -146,10 +147,11 @@ lapse_entry_keeps_order horizon a b most = by (stamp_cmp a.stamp b.stamp) most
 
 -- ---- entries
 
--- a lapse of an entry under two horizons, one after the other, is a lapse under the greater one
+-- the lapse of an entry under one horizon and then under another equals the lapse under the greater
+-- horizon
 pub entry_twice : (second first : ℕ) (entry : Entry) → lapse_entry second (lapse_entry first entry) ≡ lapse_entry (max second first) entry
 entry_twice second first entry = λ i. record { stamp = entry.stamp; op = lapse_twice second first entry.op i }
 
--- an entry that doesn't lapse stays as it is
+-- the lapse leaves an entry that doesn't have to lapse unchanged
 pub entry_stays : (horizon : ℕ) (entry : Entry) → HasNotToLapse horizon entry.op → lapse_entry horizon entry ≡ entry
 entry_stays horizon entry has_not = λ i. record { stamp = entry.stamp; op = op_stays horizon entry.op has_not i }

@@ -15,7 +15,7 @@ use Rattle.cif_laws.proofs.lists.Membership.{Contains-cons, cons-Contains, cons-
 abbrev File : Type 0
 File = List (List ℕ)
 
--- a list of files in moment order, with one more file at its place in the order
+-- a list of files in moment order, with one more file inserted in order
 abbrev put_in_place : Ordering → File → File → List File → List File → List File
 put_in_place Less file first rest below = file ∷ first ∷ rest
 put_in_place Equal file first rest below = first ∷ rest

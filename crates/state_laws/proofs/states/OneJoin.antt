@@ -10,7 +10,7 @@ use Rattle.cif_laws.proofs.orders.Orders.{file_stamp_total, exact_file_stamp, do
 use Rattle.cif_laws.proofs.orders.Ascending.{same_list}
 use Rattle.cif_laws.proofs.orders.AtMost.{level}
 
--- items have only one floor, in whatever order a list has them
+-- two lists with the same items have the same floor
 pub floor_unique : (first second : List LedgerItem) → ((item : LedgerItem) → Contains first item ↔ Contains second item)
     → (f g : Option FileStamp) → IsFloor first f → IsFloor second g → f ≡ g
 floor_unique first second same None None f g = refl

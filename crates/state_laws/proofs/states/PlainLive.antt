@@ -11,7 +11,7 @@ use Rattle.state_laws.proofs.states.MomentOrder.{moment_order}
 use Rattle.state_laws.proofs.states.TableLapsed.{body_stays}
 use Rattle.state_laws.proofs.states.LapsedPlainTable.{live_is_plain}
 
--- the lapse under the horizon 0 changes no table
+-- the lapse under the horizon 0 leaves each table unchanged
 pub lapse_table_none : (table : Table) (key : Key) → lapse_table 0 table key ≡ table key
 lapse_table_none table key = by (table key)
   where

@@ -38,12 +38,12 @@ step table entry key = cond (is_eq (key_cmp entry.0 key)) (body_of entry.1.op) (
 abbrev pub Ascends : Keyed → Keyed → Type 0
 Ascends first second = first.0 ≡ second.0 → IsBelow stamp_cmp first.1.stamp second.1.stamp
 
--- no entry in the list has this key, so the entries leave the table there as it was
+-- no entry in the list has this key, so the entries leave the table unchanged at this key
 abbrev pub NoneThere : List Keyed → Table → Key → Type 0
 NoneThere entries table key = ((entry : Entry) → ¬ Contains entries (key, entry)) × (fold step table entries key ≡ table key)
 
--- the list has a last entry of this key, which is also its greatest, and the entries leave its body
--- in the table there
+-- the list has a last entry of this key, which is also the key's greatest entry, and after the
+-- entries the table has this entry's body at the key
 abbrev pub LastThere : List Keyed → Table → Key → Type 0
 LastThere entries table key =
     (entry : Entry) × Contains entries (key, entry) × (fold step table entries key ≡ body_of entry.op)
@@ -81,7 +81,7 @@ not_first entry entries table key above last =
         inr (subst (λ (pair : Keyed). IsBelow stamp_cmp pair.1.stamp last.0.stamp) e below)
     by other (inr inside) = last.3 other inside
 
--- at each key the table is as it was, or has the body of the last entry of the key
+-- after the entries, at each key the table is unchanged, or has the body of the key's last entry
 pub last_there : (entries : List Keyed) (table : Table) (key : Key) → AllLater Ascends entries → NoneThere entries table key ⊎ LastThere entries table key
 last_there [] table key up = inl (λ entry among. nil-Contains (key, entry) among, refl)
 last_there (entry ∷ entries) table key up = by (last_there entries (step table entry) key up.1)
@@ -105,7 +105,7 @@ entries_of file = map (entry_of_change file) (changes file)
 abbrev pub entries_along : List (List (List ℕ)) → List Keyed
 entries_along files = flat_map entries_of files
 
--- the changes of a file make the same table as their entries
+-- the table after the changes of a file equals the table after the entries of these changes
 pub fold_entries : (file : List (List ℕ)) (table : Table) (cs : List Change) → fold after_change table cs ≡ fold step table (map (entry_of_change file) cs)
 fold_entries file table [] = refl
 fold_entries file table (change ∷ cs) = fold_entries file (after_change table change) cs
@@ -114,7 +114,7 @@ fold_append : (table : Table) (xs ys : List Keyed) → fold step table (xs ++ ys
 fold_append table [] ys = refl
 fold_append table (x ∷ xs) ys = fold_append (step table x) xs ys
 
--- files make the same table as the entries of their changes
+-- the table after files equals the table after the entries of their changes
 pub after_files_is : (table : Table) (files : List (List (List ℕ))) → after_files table files ≡ fold step table (entries_along files)
 after_files_is table [] = refl
 after_files_is table (file ∷ files) =
@@ -125,13 +125,13 @@ after_files_is table (file ∷ files) =
 number_below : (m n : ℕ) → m < n → nat_cmp m n ≡ Less
 number_below m n below = λ i. cond (lt-ltb m n below i) Less (cond (m == n) Equal Greater)
 
--- of two entries of one file with the same key, the later has the greater stamp
+-- of two entries of one file with the same key, the later entry has the greater stamp
 pub within_file : (file : List (List ℕ)) (first second : Change) → Apart first second → Ascends (entry_of_change file first) (entry_of_change file second)
 within_file file first second (inl below) same =
     (λ i. ordering_then (tied_itself file_stamp_total (file_stamp_of file) i) (number_below first.number second.number below i))
 within_file file first second (inr apart) same = absurd (apart same)
 
--- the entry comes from a file with a later moment
+-- the entry is from a file with a later moment
 abbrev IsLaterThan : List (List ℕ) → Keyed → Type 0
 IsLaterThan file entry = IsBelow moment_cmp (moment_of file) entry.1.stamp.file.moment
 
@@ -151,7 +151,7 @@ across_files file change second below same =
     λ i. ordering_then (ordering_then (below i) (bytes_cmp (file_stamp_of file).reference second.1.stamp.file.reference))
     (nat_cmp change.number second.1.stamp.number)
 
--- the entries of files in moment order are in the order of their stamps
+-- if files are in moment order, the entries of their changes are in the order of their stamps
 pub entries_ascend : (files : List (List (List ℕ))) → IsStrictlyAscending (on moment_of moment_cmp) files → AllLater Ascends (entries_along files)
 entries_ascend [] up = tt
 entries_ascend (file ∷ files) up =
@@ -214,7 +214,7 @@ NoneAbove files file = (other : List (List ℕ)) → Contains files other → is
 abbrev SomeAbove : List (List (List ℕ)) → List (List ℕ) → Type 0
 SomeAbove files file = (other : List (List ℕ)) × Contains files other × (is_full other ≡ true) × (CmpStamps file other ≡ Less)
 
--- the file counts: it is one of the files, and no full extract among them is newer
+-- the file counts: it is one of the files, and no full extract among the files is newer
 abbrev KeptThere : List (List (List ℕ)) → List (List ℕ) → Type 0
 KeptThere files file = Contains files file × NoneAbove files file
 
@@ -281,7 +281,7 @@ kept_or_dropped (first ∷ files) up file among = by (list_any is_full files) re
         deeper (inl kept) = inl (subst (λ v. Contains (cond v (from_last_full files) (first ∷ files)) file) (sym h) kept)
         deeper (inr above) = inr (above.0, cons-Contains first files above.0 above.1, above.2, above.3)
 
--- the last full extract and the files after it are in moment order, if all files are
+-- if files are in moment order, the last full extract and the files after it are in moment order
 pub suffix_ascends : (files : List (List (List ℕ))) → Ascending files → Ascending (from_last_full files)
 suffix_ascends [] up = tt
 suffix_ascends (first ∷ files) up = by (list_any is_full files) (suffix_ascends files up.1)
@@ -319,7 +319,8 @@ not_dropped files ordered same (Some stamp) is file kept above =
 
 module _ (files ordered : List (List (List ℕ))) (order : IsInMomentOrder files ordered) (floor : Option FileStamp)
     (is_floor : IsFloor (map ledger_item_of files) floor) where
-  -- an entry of a file that counts is among the entries from the last full extract on
+  -- an entry of a file that counts is among the entries of the last full extract and the files
+  -- after it
   pub in_entries : (key : Key) (entry : Entry) → IsEntryOf files floor key entry → Contains (entries_along (from_last_full ordered)) (key, entry)
   in_entries key entry made =
       let there = (order.same made.file).1 made.kept.among in
@@ -332,7 +333,7 @@ module _ (files ordered : List (List (List ℕ))) (order : IsInMomentOrder files
       by (inl kept) = kept
       by (inr above) = absurd (not_dropped files ordered order.same floor is_floor made.file made.kept.kept above)
 
-  -- an entry from the last full extract on comes from a file that counts
+  -- an entry of the last full extract or of a file after it is an entry of a file that counts
   pub out_entries : (key : Key) (entry : Entry) → Contains (entries_along (from_last_full ordered)) (key, entry) → IsEntryOf files floor key entry
   out_entries key entry among =
       let found = Contains-flat_map entries_of (from_last_full ordered) (key, entry) among in
@@ -353,11 +354,11 @@ module _ (files ordered : List (List (List ℕ))) (order : IsInMomentOrder files
 abbrev pub Found : List Keyed → Key → Type 0
 Found entries key = (pair : Keyed) × (find (λ entry. is_eq (key_cmp entry.0 key)) entries ≡ Some pair) × Contains entries (key, pair.1)
 
--- a search finds no entry of the key, since the list has none
+-- a search for the key finds no entry, since the list has no entry of the key
 abbrev pub NotFound : List Keyed → Key → Type 0
 NotFound entries key = (find (λ entry. is_eq (key_cmp entry.0 key)) entries ≡ None) × ((entry : Entry) → ¬ Contains entries (key, entry))
 
--- a search finds an entry of the key, or the list has none
+-- a search finds an entry of the key, or the list has no entry of the key
 pub find_in : (entries : List Keyed) (key : Key) → Found entries key ⊎ NotFound entries key
 find_in [] key = inr (refl, λ entry among. nil-Contains (key, entry) among)
 find_in (first ∷ entries) key = by (is_eq (key_cmp first.0 key)) refl (find_in entries key)

@@ -1,7 +1,7 @@
--- The reduction of ledger items and entries under a horizon. It keeps the items that aren't below
--- their floor, and the greatest entry of each key if that isn't below the floor either. All entries
--- lapse. A reduction in two steps is the same as in one, if the horizon of the first step isn't
--- greater.
+-- The reduction of ledger items and entries under a horizon. It has the items that aren't below
+-- their floor, and the greatest entry of each key if that entry isn't below the floor. All its
+-- entries have lapsed. A reduction in two steps equals the reduction in one step, if the horizon of
+-- the first step is at most the horizon of the second.
 use Rattle.std.proofs.Common.{◌≡◌, ℕ, ◌≤◌, List, ◌++◌, Contains, subst, inl, inr, ◌⊎◌, ap, sym, ◌∙◌, Some, None}
 use Rattle.std.specs.Prelude.{Option, ◌↔◌}
 use Rattle.std.proofs.Math.Nat.{max-eq_left}
@@ -25,9 +25,9 @@ abbrev pub KeptOf : List Keyed → Option FileStamp → ℕ → Key → Entry �
 KeptOf entries floor horizon key entry =
     (greatest : Entry) × IsGreatestAmong entries key greatest × IsKept floor greatest.stamp.file × (lapse_entry horizon greatest ≡ entry)
 
--- the state is the reduction of these items and entries under its horizon. It has the items that
--- aren't below their floor. It has the greatest entry of each key, lapsed, unless that entry is
--- below the floor
+-- the state is the reduction of these items and entries under its horizon. The state has the items
+-- that aren't below their floor, and the greatest entry of each key after its lapse, unless that
+-- entry is below the floor
 pub record IsReduced (items : List LedgerItem) (entries : List Keyed) (state : State) : Type 0 where
   pub floor : Option FileStamp
   pub is_floor : IsFloor items floor
@@ -105,7 +105,7 @@ module _ (items more : List LedgerItem) (entries others : List Keyed) (once twic
     Whole : Type 0
     Whole = (best : Entry) × IsGreatestAmong (entries ++ others) key best
 
-    -- an entry in the second step is at most the greatest of all entries
+    -- each entry of the second step is at most the greatest of all entries of the key
     under_best : (best : Entry) → IsGreatestAmong (entries ++ others) key best → (other : Entry) → Contains (once.entries ++ others) (key, other)
         → IsAtMost entry_cmp other best
     under_best best is other among = by (Contains-append_cases once.entries others (key, other) among)
@@ -118,8 +118,8 @@ module _ (items more : List LedgerItem) (entries others : List Keyed) (once twic
             (subst (λ e. IsAtMost entry_cmp e told.0) told.3 (lapse_below once.horizon told.0))
             (is.greatest told.0 (Contains-append_left entries others (key, told.0) told.1.among))
 
-    -- if the greatest of all entries isn't below the floor, the second step has it. It comes from
-    -- the first step, lapsed, or from the other entries
+    -- if the greatest of all entries isn't below the floor, the second step contains it: the result
+    -- of the first step has its lapse, or the other entries have it
     stands : (best : Entry) → IsGreatestAmong (entries ++ others) key best → IsKept second.floor best.stamp.file
         → Contains once.entries (key, lapse_entry once.horizon best) ⊎ Contains others (key, best)
     stands best is kept = by (Contains-append_cases entries others (key, best) is.among)
@@ -134,12 +134,13 @@ module _ (items more : List LedgerItem) (entries others : List Keyed) (once twic
           λ i. lapse_entry once.horizon best,
         ))
 
-    -- the greatest entry in the second step and the greatest of all are equal after the lapse
+    -- the greatest entry of the second step and the greatest of all entries are equal after the
+    -- lapse
     same_lapse : (best top : Entry) → IsGreatestAmong (entries ++ others) key best → IsGreatestAmong (once.entries ++ others) key top
         → IsKept second.floor best.stamp.file → IsKept second.floor top.stamp.file → lapse_entry twice.horizon best ≡ lapse_entry twice.horizon top
     same_lapse best top is_best is_top kept_best kept_top = by (stands best is_best kept_best)
       where
-        -- if the second step has the greatest of all as it was, both are equal after the lapse
+        -- if the second step has the greatest of all entries itself, both are equal after the lapse
         itself : Contains (once.entries ++ others) (key, best) → lapse_entry twice.horizon best ≡ lapse_entry twice.horizon top
         itself there =
             one_per_key twice.entries second.entries_ascend key (lapse_entry twice.horizon best) (lapse_entry twice.horizon top)
@@ -152,7 +153,8 @@ module _ (items more : List LedgerItem) (entries others : List Keyed) (once twic
             ))
             ((second.of_keys key (lapse_entry twice.horizon top)).1 (top, is_top, kept_top, λ i. lapse_entry twice.horizon top))
 
-        -- if the second step has the greatest of all lapsed, both are equal after the lapse
+        -- if the second step has the lapse of the greatest of all entries, both are equal after the
+        -- lapse
         between : lapse once.horizon best.op ≡ lapsed → Contains once.entries (key, lapse_entry once.horizon best)
             → lapse_entry twice.horizon best ≡ lapse_entry twice.horizon top
         between has there =
@@ -218,7 +220,7 @@ module _ (items more : List LedgerItem) (entries others : List Keyed) (once twic
             with_top (lapse_entry once.horizon told.0) told.2 (Contains-append_left once.entries others (key, lapse_entry once.horizon told.0) there) top
         by (inr top) (inr there) = with_top told.0 told.2 (Contains-append_right once.entries others (key, told.0) there) top
 
-  -- a reduction in two steps is the reduction in one
+  -- a reduction in two steps equals the reduction in one step
   pub reduced_twice : IsReduced (items ++ more) (entries ++ others) twice
   reduced_twice = record {
     floor = second.floor;

@@ -1,5 +1,5 @@
--- A reduction depends only on which items and entries there are, not on their order. Under one
--- horizon it is only one state.
+-- A reduction depends only on the members of the lists of items and entries, not on their order.
+-- For a given horizon there is at most one reduction.
 use Rattle.std.proofs.Common.{List, Some, None, ◌≡◌, subst, sym}
 use Rattle.std.specs.Prelude.{Option}
 use Rattle.std.specs.Cmp.{on_total}
@@ -25,7 +25,7 @@ floor_along items more same (Some stamp) greatest = record {
   greatest = λ item among. greatest.greatest item ((same item).1 among);
 }
 
--- the greatest entry of a key depends only on which entries there are
+-- the greatest entry of a key depends only on the members of the list
 pub greatest_along : (entries others : List Keyed) → SameMembers entries others → (key : Key) (entry : Entry) → IsGreatestAmong entries key entry
     → IsGreatestAmong others key entry
 greatest_along entries others same key entry best = record {
@@ -38,7 +38,7 @@ kept_of_along : (entries others : List Keyed) → SameMembers entries others →
 kept_of_along entries others same f g floors h key entry told =
     (told.0, greatest_along entries others same key told.0 told.1, subst (λ floor. IsKept floor told.0.stamp.file) floors told.2, told.3)
 
--- a reduction depends only on which items and entries there are
+-- a reduction depends only on the members of the lists of items and entries
 pub reduced_along : (items more : List LedgerItem) (entries others : List Keyed) → SameMembers items more → SameMembers entries others
     → (state : State) → IsReduced items entries state → IsReduced more others state
 reduced_along items more entries others same same_entries state is = record {
@@ -57,7 +57,7 @@ reduced_along items more entries others same same_entries state is = record {
   );
 }
 
--- under one horizon, items and entries have only one reduction
+-- for a given horizon, items and entries have at most one reduction
 pub reduced_unique : (items : List LedgerItem) (entries : List Keyed) (s t : State) → s.horizon ≡ t.horizon → IsReduced items entries s
     → IsReduced items entries t → s ≡ t
 reduced_unique items entries s t horizons is_s is_t =

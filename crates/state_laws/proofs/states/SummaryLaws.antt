@@ -1,6 +1,6 @@
 -- A set of files has at most one summary under each horizon. The join of two summaries is the
--- summary of all files of both under the greater horizon. A summary on which a horizon is set is
--- the summary under the greater of the two.
+-- summary of both sets of files together, under the greater horizon. Setting a horizon on a summary
+-- gives the summary under the greater of the two horizons.
 use Rattle.std.proofs.Common.{◌≡◌, ℕ, ◌≤◌, List, ◌++◌, map, Contains, subst, inl, inr, ◌⊎◌, ap, sym, ◌∙◌}
 use Rattle.std.specs.Prelude.{max}
 use Rattle.std.specs.List.{flat_map}
@@ -87,7 +87,7 @@ entries_of_union files others entry = (
 
 -- ---- the laws
 
--- a set of files has only one summary under a horizon, in whatever order a list has them
+-- a set of files has at most one summary under a horizon, whatever the order of the list
 pub summary_unique : (files others : List File) → SameMembers files others → (horizon : ℕ) (s t : State) → IsSummary files horizon s
     → IsSummary others horizon t → s ≡ t
 summary_unique files others same horizon s t is_s is_t =
@@ -113,7 +113,8 @@ join_is_summary files others g h one two joined of_files of_others is =
     (entries_along (files ++ others))
     (items_of_union files others) (entries_of_union files others) joined second)
 
--- the lapse of a summary under a horizon that isn't lower gives the summary under that horizon
+-- the lapse of a summary under a horizon that is at least its own horizon is the summary under that
+-- horizon
 pub lapsed_summary : (files : List File) (low high : ℕ) (state : State) → low ≤ high → IsSummary files low state → IsSummary files high (lapse_state high state)
 lapsed_summary files low high state rises is = record {
   horizon_is = λ i. high;
@@ -137,7 +138,7 @@ lapsed_summary files low high state rises is = record {
     twofold : (entry : Entry) → lapse_entry high (lapse_entry low entry) ≡ lapse_entry high entry
     twofold entry = entry_twice high low entry ∙ ap (λ h. lapse_entry h entry) (max-eq_left rises)
 
--- a summary on which a horizon is set is the summary under the greater of the two horizons
+-- setting a horizon on a summary gives the summary under the greater of the two horizons
 pub raised_summary : (files : List File) (g h : ℕ) (state : State) → IsSummary files g state → IsSummary files (max g h) (raise_horizon h state)
 raised_summary files g h state is =
     let same : max state.horizon h ≡ max g h = ap (λ n. max n h) is.horizon_is in

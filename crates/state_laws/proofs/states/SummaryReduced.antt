@@ -20,7 +20,7 @@ use Rattle.state_laws.proofs.states.ReducedEntries.{IsReduced}
 abbrev pub File : Type 0
 File = List (List ℕ)
 
--- an entry below the floor is at most any entry that isn't
+-- an entry below the floor is at most any entry that isn't below the floor
 pub below_kept : (floor : Option FileStamp) (low high : Entry) → IsKept floor high.stamp.file → IsKept floor low.stamp.file ⊎ IsAtMost entry_cmp low high
 below_kept None low high kept = inl tt
 below_kept (Some floor) low high kept = by (at_most_or file_stamp_total floor low.stamp.file)
@@ -50,7 +50,7 @@ module _ (files : List File) (floor : Option FileStamp) (key : Key) where
         subst (λ (e : Entry). IsKept floor e.stamp.file) made.entry_is made.kept.kept,
       )
 
-  -- an entry that isn't below the floor comes from a file that counts
+  -- an entry that isn't below the floor is an entry of a file that counts
   pub entry_out : (entry : Entry) → Contains (entries_along files) (key, entry) → IsKept floor entry.stamp.file → IsEntryOf files floor key entry
   entry_out entry among kept =
       let found = Contains-flat_map entries_of files (key, entry) among in
@@ -65,7 +65,7 @@ module _ (files : List File) (floor : Option FileStamp) (key : Key) where
         entry_is = is;
       }
 
-  -- the greatest entry from files that count is the greatest of all entries, and isn't below the
+  -- the greatest entry of the files that count is the greatest of all entries, and isn't below the
   -- floor
   pub greatest_forth : (entry : Entry) → IsGreatestEntryOf files floor key entry → IsGreatestAmong (entries_along files) key entry
       × IsKept floor entry.stamp.file
@@ -78,7 +78,8 @@ module _ (files : List File) (floor : Option FileStamp) (key : Key) where
       by other among (inl kept) = best.greatest other (entry_out other among kept)
       by other among (inr low) = low
 
-  -- if the greatest of all entries isn't below the floor, it is the greatest from files that count
+  -- if the greatest of all entries isn't below the floor, it is the greatest entry of the files
+  -- that count
   pub greatest_back : (entry : Entry) → IsGreatestAmong (entries_along files) key entry → IsKept floor entry.stamp.file
       → IsGreatestEntryOf files floor key entry
   greatest_back entry best kept = record {

@@ -1,5 +1,5 @@
--- A table under a horizon: it has the bodies that didn't end before the horizon. The live table of
--- a state after a lapse is the live table before it, lapsed.
+-- The lapse of a table under a horizon, which leaves the bodies that didn't end before the horizon.
+-- The live table of a state after a lapse is the lapse of the state's live table.
 use Rattle.std.proofs.Common.{◌≡◌, ℕ, ◌<◌, ◌≤◌, List, [], ◌∷◌, inl, inr, ◌⊎◌, refl, ap, sym, ◌∙◌, Bool, true, false, cond, Some, None}
 use Rattle.std.specs.Prelude.{Option, find, option_and_then}
 use Rattle.std.specs.Ordering.{is_eq}
@@ -14,20 +14,20 @@ use Rattle.state_laws.proofs.states.PlainTable.{Keyed}
 
 -- ---- a body lapses or stays
 
--- a body that ended before the horizon is dropped
+-- a body that ended before the horizon is removed
 pub body_gone : (horizon : ℕ) (body : Body) → body_end body < horizon → unlapsed horizon body ≡ None
 body_gone horizon body below = λ i. cond (lt-ltb (body_end body) horizon below i) None (Some body)
 
--- a body that didn't end before the horizon stays
+-- a body that didn't end before the horizon is unchanged
 pub body_stays : (horizon : ℕ) (body : Body) → horizon ≤ body_end body → unlapsed horizon body ≡ Some body
 body_stays horizon body above = λ i. cond (le-ltb (body_end body) horizon above i) None (Some body)
 
--- a body that didn't end before the horizon is still in the table after the lapse
+-- if a body in a table didn't end before the horizon, the table still has it after the lapse
 pub live_stays : (horizon : ℕ) (table : Table) (key : Key) (body : Body) → table key ≡ Some body → horizon ≤ body_end body
     → lapse_table horizon table key ≡ Some body
 live_stays horizon table key body is above = ap (option_and_then (unlapsed horizon)) is ∙ body_stays horizon body above
 
--- a body in the table after the lapse was in the table before it
+-- each body in a table after the lapse is in the table before the lapse
 pub was_live : (horizon : ℕ) (table : Table) (key : Key) (body : Body) → lapse_table horizon table key ≡ Some body → table key ≡ Some body
 was_live horizon table key body is = by (table key) is
   where
@@ -41,7 +41,7 @@ was_live horizon table key body is = by (table key) is
 
 -- ---- the live table of a state
 
--- after the lapse an op has its body, unless that ended before the horizon
+-- the body of an op after the lapse is the op's body, unless that body ended before the horizon
 pub body_lapses : (horizon : ℕ) (op : Op) → body_of (lapse horizon op) ≡ option_and_then (unlapsed horizon) (body_of op)
 body_lapses horizon deleted = refl
 body_lapses horizon lapsed = refl
@@ -51,7 +51,7 @@ body_lapses horizon (put_with body) = by (below_or horizon body)
     by (inl below) = ap body_of (put_lapses horizon body below) ∙ sym (body_gone horizon body below)
     by (inr above) = ap body_of (put_stays horizon body above) ∙ sym (body_stays horizon body above)
 
--- the body of the entry that a search found, if it found one
+-- the body of the entry that a search found, or `None` if the search found no entry
 abbrev pub body_in : Option Keyed → Option Body
 body_in found = option_and_then (λ (entry : Entry). body_of entry.op) (option_and_then (λ (entry : Keyed). Some entry.1) found)
 
@@ -69,10 +69,10 @@ found_lapsed horizon (first ∷ entries) key = by (is_eq (key_cmp first.0 key)) 
     by true rest = body_lapses horizon first.1.op
     by false rest = rest
 
--- at each key the live table after the lapse of a state is the live table before it, lapsed
+-- at each key the live table of a state after the lapse is the lapse of the state's live table
 pub live_lapsed_at : (horizon : ℕ) (state : State) (key : Key) → live_table (lapse_state horizon state) key ≡ lapse_table horizon (live_table state) key
 live_lapsed_at horizon state key = found_lapsed horizon state.entries key
 
--- the live table after the lapse of a state is the live table before it, lapsed
+-- the live table of a state after the lapse is the lapse of the state's live table
 pub live_lapsed : (horizon : ℕ) (state : State) → live_table (lapse_state horizon state) ≡ lapse_table horizon (live_table state)
 live_lapsed horizon state = λ i key. live_lapsed_at horizon state key i

@@ -1,4 +1,4 @@
--- A good part of a state's text leads to the next part.
+-- After a good part of a state's text, a reader reaches the point before the next part.
 use Rattle.std.proofs.Common.{refl, arith, ◌≡◌, ℕ, ap, sym, subst, [], ◌++◌, ◌∙◌, append-nil, ◌<◌}
 use Rattle.std.proofs.Common.{◌^◌, List, ◌∷◌, length, append_assoc, length-append, inl, inr, ◌≤◌}
 use Rattle.std.specs.List.{flat_map, concat}
@@ -21,7 +21,7 @@ use Rattle.state_laws.proofs.texts.StateReadBack.{read_16, item_read, item_width
 use Rattle.state_laws.proofs.texts.TextStages.{Leads, one_step, then_leads}
 use Rattle.state_laws.proofs.texts.TextsBefore.{after_items_text, read_64, after_entries_text, entry_done_text, after_lines_text, read_32}
 
--- the first parts are the mark, the horizon and the number of items
+-- after the mark, a reader reaches the number of items, or in the format with a horizon the horizon
 step_mark_1 : Leads dks_1 before_mark (before_ledger_count 0)
 step_mark_1 = one_step dks_1 before_mark (before_ledger_count 0) (mark dks_1) refl (omega arith) (λ cause bad. bad.1 refl) refl refl
 
@@ -36,12 +36,12 @@ step_horizon horizon day =
     one_step dks_2 before_horizon (before_ledger_count horizon) (to_be_bytes w16 horizon) refl (omega arith)
     (λ cause bad. bad.1 (subst IsDay (sym (day_read horizon day)) day)) (ap before_ledger_count (day_read horizon day)) refl
 
--- after the mark comes the horizon, in the format that has one
+-- in the format with a horizon, a reader reaches the horizon after the mark
 pub horizon_leads : (format : Format) → AreGood format before_horizon → Leads format before_mark before_horizon
 horizon_leads dks_1 good = absurd good
 horizon_leads dks_2 good = step_mark_2
 
--- the mark and the horizon lead to the number of items
+-- after the mark and the horizon, a reader reaches the number of items
 pub head_leads : (format : Format) (horizon : ℕ) → IsHorizonOf format horizon → Leads format before_mark (before_ledger_count horizon)
 head_leads dks_1 horizon none = subst (λ h. Leads dks_1 before_mark (before_ledger_count h)) (sym none) step_mark_1
 head_leads dks_2 horizon day = then_leads dks_2 before_mark before_horizon (before_ledger_count horizon) step_mark_2 (step_horizon horizon day)
@@ -53,7 +53,7 @@ count_of_ledger format horizon count =
     after_items_text format horizon count [] (omega arith) ∙ append-nil (head_text format horizon ++ to_be_bytes w64 count)
     ∙ ap (λ xs. xs ++ to_be_bytes w64 count) (sym (append-nil (head_text format horizon)))
 
--- the number of items leads to the first item
+-- after the number of items, a reader reaches the first item
 pub step_ledger_count : (format : Format) (horizon : ℕ) (count : ℕ) → count < 2 ^ 64 → Leads format (before_ledger_count horizon) (after_items horizon count [])
 step_ledger_count format horizon count fits =
     one_step format (before_ledger_count horizon) (after_items horizon count []) (to_be_bytes w64 count) refl (omega arith) (λ cause bad. bad)
@@ -70,7 +70,7 @@ item_text format horizon count ledger item below =
     ∙ sym (append_assoc front (flat_map item_bytes ledger) (item_bytes item))
     ∙ ap (λ xs. xs ++ item_bytes item) (sym (append-nil (ledger_text format horizon count ledger)))
 
--- an item isn't bad if it is well formed, is above those before it, and doesn't raise the floor
+-- an item isn't bad if it is well formed, is above the items before it, and doesn't raise the floor
 pub no_bad_item : (ledger : List LedgerItem) (item : LedgerItem) (cause : StateCause) → IsGoodItem item → IsAboveItems ledger item → ¬ RaisesFloor ledger item
     → ¬ IsBadItem ledger item cause
 no_bad_item ledger item bad_item good above floor bad = bad good
@@ -78,7 +78,7 @@ no_bad_item ledger item bad_order good above floor bad = bad.1 above
 no_bad_item ledger item bad_floor good above floor bad = floor bad.2
 no_bad_item ledger item _ good above floor bad = bad
 
--- an item that isn't bad leads to the part after it
+-- after an item that isn't bad, a reader reaches the next part
 pub step_item : (format : Format) (horizon : ℕ) → (count : ℕ) (ledger : List LedgerItem) (item : LedgerItem) → length ledger < count → IsGoodItem item
     → IsAboveItems ledger item → ¬ RaisesFloor ledger item
     → Leads format (before_item horizon count ledger) (after_items horizon count (ledger ++ item ∷ []))
@@ -88,7 +88,7 @@ step_item format horizon count ledger item below good above floor =
     (ap (λ it. after_items horizon count (ledger ++ it ∷ [])) (item_read item good))
     (item_text format horizon count ledger item below)
 
--- the number of entries leads to the first entry
+-- after the number of entries, a reader reaches the first entry
 pub step_entry_count : (format : Format) (horizon : ℕ) → (count : ℕ) (ledger : List LedgerItem) → count < 2 ^ 64
     → Leads format (before_entry_count horizon ledger) (after_entries count (record { horizon = horizon; ledger = ledger; entries = [] }))
 step_entry_count format horizon count ledger fits =
@@ -101,19 +101,19 @@ step_entry_count format horizon count ledger fits =
     ∙ ap (λ xs. xs ++ to_be_bytes w64 count) (sym (append-nil (ledger_text format horizon (length ledger) ledger)))
     )
 
--- one more part of an entry is added at the end of the text read
+-- the text read after one more part of an entry is the text read before, followed by this part
 pub part_more : (format : Format) → (count : ℕ) (state : State) (old part : List ℕ) → entries_text format count state ++ (old ++ part) ≡
     (entries_text format count state ++ old) ++ part
 part_more format count state old part = sym (append_assoc (entries_text format count state) old part)
 
--- a tag leads to the key
+-- after a tag, a reader reaches the key
 pub step_tag : (format : Format) → (count : ℕ) (state : State) (tag : ℕ) → IsTag tag → Leads format (in_entry count state before_tag)
     (in_entry count state (before_key tag))
 step_tag format count state tag is =
     one_step format (in_entry count state before_tag) (in_entry count state (before_key tag)) (tag ∷ []) refl (omega arith) (λ cause bad. bad.1 is) refl
     (part_more format count state [] (tag ∷ []))
 
--- a key isn't bad if it is well formed and above those before it
+-- a key isn't bad if it is well formed and above the keys before it
 pub no_bad_key : (state : State) (key : Key) (cause : StateCause) → IsGoodKey key → IsAboveEntries state key → ¬ IsBadKey state key cause
 no_bad_key state key bad_body good above bad = bad good
 no_bad_key state key bad_order good above bad = bad.1 above
@@ -125,7 +125,7 @@ key_some (tiploc_key code) = omega arith
 key_some (association_key key) = omega arith
 key_some (schedule_key key) = omega arith
 
--- a key that isn't bad leads to the stamp
+-- after a key that isn't bad, a reader reaches the stamp
 pub step_key : (format : Format) → (count : ℕ) (state : State) (key : Key) → IsGoodKey key → IsAboveEntries state key
     → Leads format (in_entry count state (before_key (key_tag key))) (in_entry count state (before_stamp key))
 step_key format count state key good above =
@@ -135,7 +135,7 @@ step_key format count state key good above =
     (ap (λ k. in_entry count state (before_stamp k)) (key_read key good))
     (part_more format count state (key_tag key ∷ []) (key_bytes key))
 
--- a stamp whose file is in the ledger leads to the op
+-- after a stamp whose file is in the ledger, a reader reaches the op
 pub step_stamp : (format : Format) → (count : ℕ) (state : State) (key : Key) (stamp : Stamp) → IsLedger state.ledger → IsStampIn state.ledger stamp
     → Leads format (in_entry count state (before_stamp key)) (in_entry count state (before_op key stamp))
 step_stamp format count state key stamp ledger is =
@@ -145,7 +145,7 @@ step_stamp format count state key stamp ledger is =
     (ap (λ s. in_entry count state (before_op key s)) (stamp_read state.ledger stamp ledger is))
     (part_more format count state (key_text key) (stamp_bytes stamp))
 
--- an op may begin with 0 and 1 in each format, and with 2 in the format that has lapsed ops
+-- an op may begin with 0 or 1 in each format, and with 2 in the format that has lapsed ops
 zero_told : (format : Format) → IsOpByte format 0
 zero_told dks_1 = inl refl
 zero_told dks_2 = inl refl
@@ -158,7 +158,7 @@ two_told : (format : Format) → TellsOp format lapsed → IsOpByte format 2
 two_told dks_1 told = absurd told
 two_told dks_2 told = inr (inr refl)
 
--- a deletion leads to the part after its entry
+-- after a deletion, a reader reaches the part after its entry
 pub step_deleted : (format : Format) → (count : ℕ) (state : State) (key : Key) (stamp : Stamp) → length state.entries < count
     → Leads format (in_entry count state (before_op key stamp)) (after_entries count (with_entry state key stamp deleted))
 step_deleted format count state key stamp below =
@@ -166,7 +166,7 @@ step_deleted format count state key stamp below =
     (λ cause bad. bad.1 (zero_told format)) refl
     (entry_done_text format count state key stamp deleted below ∙ part_more format count state (key_text key ++ stamp_bytes stamp) (0 ∷ []))
 
--- in the format that has lapsed ops, a lapsed op leads to the part after its entry
+-- in the format that has lapsed ops, a reader reaches the part after the entry of a lapsed op
 pub step_lapsed : (format : Format) → (count : ℕ) (state : State) (key : Key) (stamp : Stamp) → TellsOp format lapsed → length state.entries < count
     → Leads format (in_entry count state (before_op key stamp)) (after_entries count (with_entry state key stamp lapsed))
 step_lapsed format count state key stamp told below =
@@ -174,7 +174,7 @@ step_lapsed format count state key stamp told below =
     (λ cause bad. bad.1 (two_told format told)) refl
     (entry_done_text format count state key stamp lapsed below ∙ part_more format count state (key_text key ++ stamp_bytes stamp) (2 ∷ []))
 
--- the op of a put leads to its body
+-- after the op of a put, a reader reaches the body
 pub step_put : (format : Format) → (count : ℕ) (state : State) (key : Key) (stamp : Stamp) → Leads format (in_entry count state (before_op key stamp))
     (in_entry count state (before_body key stamp))
 step_put format count state key stamp =
@@ -191,7 +191,7 @@ body_text format count state key stamp body below =
     ∙ ap (λ xs. entries_text format count state ++ xs) (sym (append_assoc (key_text key ++ stamp_bytes stamp) (1 ∷ []) (put_bytes body)))
     ∙ part_more format count state (key_text key ++ stamp_bytes stamp ++ 1 ∷ []) (put_bytes body)
 
--- the body of a TIPLOC leads to the part after its entry
+-- after the body of a TIPLOC, a reader reaches the part after its entry
 pub step_tiploc : (format : Format) → (count : ℕ) (state : State) (code : List ℕ) (stamp : Stamp) (bytes : List ℕ) → length state.entries < count
     → IsTextOfLength 63 bytes
     → Leads format (in_entry count state (before_body (tiploc_key code) stamp))
@@ -201,7 +201,7 @@ step_tiploc format count state code stamp bytes below is =
     (after_entries count (with_entry state (tiploc_key code) stamp (put_with (tiploc_body bytes)))) bytes is.0 (omega arith)
     (λ cause bad. bad.1 is) refl (body_text format count state (tiploc_key code) stamp (tiploc_body bytes) below)
 
--- the body of an association that hasn't lapsed leads to the part after its entry
+-- after the body of an association that hasn't lapsed, a reader reaches the part after its entry
 pub step_association : (format : Format) → (count : ℕ) (state : State) (key : _) (stamp : Stamp) (line : List ℕ) → length state.entries < count
     → IsAssociationOf key line → state.horizon ≤ body_end (association_body line)
     → Leads format (in_entry count state (before_body (association_key key) stamp))
@@ -221,7 +221,7 @@ count_text format count state key stamp n below =
     ∙ ap (λ xs. entries_text format count state ++ xs) (append-nil (head ++ 1 ∷ to_be_bytes w32 n) ∙ sym (append_assoc head (1 ∷ []) (to_be_bytes w32 n)))
     ∙ part_more format count state (head ++ 1 ∷ []) (to_be_bytes w32 n)
 
--- the number of a schedule's lines leads to its first line
+-- after the number of a schedule's lines, a reader reaches the first line
 pub step_count : (format : Format) → (count : ℕ) (state : State) (key : ScheduleKey) (stamp : Stamp) (n : ℕ) → length state.entries < count → IsLineCount n
     → Leads format (in_entry count state (before_body (schedule_key key) stamp)) (after_lines count state key stamp n [])
 step_count format count state key stamp n below is =
@@ -249,7 +249,7 @@ line_text format count state key stamp n lines line below more =
     ∙ ap (λ xs. entries_text format count state ++ xs) (sym (append_assoc head (concat lines) line))
     ∙ part_more format count state (head ++ concat lines) line
 
--- a good line of a schedule leads to the part after it
+-- after a good line of a schedule, a reader reaches the next part
 pub step_line : (format : Format) → (count : ℕ) (state : State) (key : ScheduleKey) (stamp : Stamp) (n : ℕ) (lines : List (List ℕ)) (line : List ℕ)
     → length state.entries < count → length lines < n
     → length line ≡ 80 → AreLinesUpTo key n (lines ++ line ∷ []) → HaveNotToLapse state (lines ++ line ∷ [])

@@ -1,4 +1,4 @@
--- A ledger with one more good item is a ledger.
+-- Appending a good item to a ledger gives a ledger.
 use Rattle.std.proofs.Common.{◌≡◌, subst, List, [], ◌∷◌, ◌++◌, refl, sym, inl, inr, ◌⊎◌, arith, All, Contains, Some, None}
 use Rattle.std.specs.Prelude.{Option}
 use Rattle.std.specs.List.{AllByRecursion}
@@ -17,7 +17,7 @@ use Rattle.cif_laws.proofs.lists.AllOf.{all_append, all_weaker}
 use Rattle.cif_laws.proofs.lists.Decisions.{Decided, nat_decided}
 use Rattle.cif_laws.proofs.orders.Ascending.{ascending_last}
 
--- if one item is below another, its file stamp isn't above the other's
+-- if one item is below another, its file stamp is at most the other item's file stamp
 pub stamps_below : (first second : LedgerItem) → IsBelow ledger_item_cmp first second → IsAtMost file_stamp_cmp first.stamp second.stamp
 stamps_below first second below above =
     by (ordering_then (nat_cmp first.indicator second.indicator) (bytes_cmp first.last_reference second.last_reference))
@@ -43,7 +43,7 @@ module _ (ledger : List LedgerItem) (item : LedgerItem) (is : IsLedger ledger) (
   each_ascends : IsStrictlyAscending ledger_item_cmp (ledger ++ item ∷ [])
   each_ascends = ascending_last ledger_item_cmp ledger item is.ascending above_each
 
-  -- if the item isn't for a full extract, the floor stays
+  -- if the item isn't for a full extract, appending it leaves the floor unchanged
   same_floor : ¬ IsFull item → (at : Option FileStamp) → IsFloor ledger at → IsFloor (ledger ++ item ∷ []) at
   same_floor other None none = λ it among full. by it full (Contains-append_cases ledger (item ∷ []) it among)
     where
@@ -66,7 +66,7 @@ module _ (ledger : List LedgerItem) (item : LedgerItem) (is : IsLedger ledger) (
   kept_last None none = tt
   kept_last (Some stamp) greatest = subst (λ s. IsAtMost file_stamp_cmp s item.stamp) greatest.stamped (at_most_last greatest.full greatest.among)
 
-  -- if the item is for a full extract, its file stamp is the floor
+  -- if the item is for a full extract, the floor after it is appended is its file stamp
   floor_at_last : IsFull item → IsFloor (ledger ++ item ∷ []) (Some item.stamp)
   floor_at_last full = record {
     full = item;
@@ -96,7 +96,7 @@ kept_each (first ∷ ledger) item up floor full = (
     low : IsAtMost file_stamp_cmp item.stamp first.stamp
     low = by (at_most_or file_stamp_total item.stamp first.stamp)
 
--- a ledger with one more good item is a ledger
+-- appending a good item to a ledger gives a ledger
 pub one_item_more : (ledger : List LedgerItem) (item : LedgerItem) → IsLedger ledger → IsGoodItem item → IsAboveItems ledger item → ¬ RaisesFloor ledger item
     → IsLedger (ledger ++ item ∷ [])
 one_item_more ledger item is good above floor = by (nat_decided item.indicator 70)

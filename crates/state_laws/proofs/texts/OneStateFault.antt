@@ -13,7 +13,7 @@ use Rattle.docker_model.specs.state.StateFault.{IsBadEntryPart, IsBadPart, HasBa
 use Rattle.cif_laws.proofs.lists.Fronts.{same_front}
 use Rattle.state_laws.proofs.texts.TextsApart.{same_end, IsStopped, one_stop, stop_of_bad, stop_of_long, stop_of_short, stop_at_end}
 
--- a bad item has only one cause
+-- a bad item has at most one cause
 one_item_cause : (ledger : List LedgerItem) (item : LedgerItem) (first second : StateCause) → IsBadItem ledger item first → IsBadItem ledger item second
     → first ≡ second
 one_item_cause ledger item bad_item bad_item one two = refl

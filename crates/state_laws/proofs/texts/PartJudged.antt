@@ -1,4 +1,4 @@
--- A part of a state's text is bad, or it leads to the next part.
+-- A part of a state's text is bad, or a reader reaches the next part after it.
 use Rattle.std.proofs.Common.{◌≡◌, ℕ, ◌-◌, ◌<◌, ◌≤◌, ◌^◌, List, [], ◌∷◌, ◌++◌, length, refl, ap, sym, ◌∙◌, subst}
 use Rattle.std.proofs.Common.{inl, inr, ◌⊎◌, arith, true, false, cond, nat_le, append-nil, length-append}
 use Rattle.std.specs.Prelude.{slice_index}
@@ -32,13 +32,12 @@ use Rattle.state_laws.proofs.texts.PartDecisions.{stamp_in_decided, above_entrie
 use Rattle.state_laws.proofs.texts.LedgerGrown.{one_item_more, no_items}
 use Rattle.state_laws.proofs.texts.StateGrown.{good_after_items, good_after_entries, tells_deleted, tells_put, no_entries, one_entry_more}
 
--- the part leads to the next one: all that has been read is good, and the text read ends with the
--- part
+-- the part is good: after it, all parts read are good, and the text read ends with this part
 abbrev pub Good : (format : Format) → Before → List ℕ → Type 0
 Good format before bytes =
     AreGood format (advance format before bytes) × (text_before format (advance format before bytes) ≡ text_before format before ++ bytes)
 
--- the part is bad for some cause, or it leads to the next one
+-- the part is bad for some cause, or it is good
 abbrev pub Judged : (format : Format) → Before → List ℕ → Type 0
 Judged format before bytes = ((cause : StateCause) × IsBadPart format before bytes cause) ⊎ Good format before bytes
 
@@ -107,11 +106,11 @@ judge_entry_count format horizon ledger bytes good size small =
           ∙ (λ i. sym (append-nil (items_before format (before_entry_count horizon ledger))) i ++ eight_bytes bytes size small i),
     )
 
--- the format can hold the state, and an entry follows those in it
+-- the format can hold the state, and at least one entry follows the state's entries in the text
 abbrev pub StateHere : (format : Format) → ℕ → State → Type 0
 StateHere format count state = IsToldState format state × (length state.ledger < 2 ^ 64) × (length state.entries < count) × (count < 2 ^ 64)
 
--- after a good entry all that has been read is good
+-- after a good entry all parts read are good
 pub entry_done : (format : Format) → (count : ℕ) (state : State) (key : Key) (stamp : Stamp) (op : Op) → StateHere format count state
     → IsStampHere state key stamp → IsOpOf key op → HasNotToLapse state.horizon op → TellsOp format op
     → AreGood format (after_entries count (with_entry state key stamp op))
@@ -121,7 +120,7 @@ entry_done format count state key stamp op told here of stays tells =
     good_after_entries format count (with_entry state key stamp op) (one_entry_more format state key stamp op told.0 here of stays tells) told.1
     (omega arith) told.3
 
--- after good lines of a schedule all that has been read is good
+-- after good lines of a schedule all parts read are good
 pub good_after_lines : (format : Format) → (count : ℕ) (state : State) (key : ScheduleKey) (stamp : Stamp) (n : ℕ) (lines : List (List ℕ))
     → StateHere format count state → IsStampHere state (schedule_key key) stamp
     → IsLineCount n → length lines ≤ n → (lines ≡ []) ⊎ (AreLinesUpTo key n lines × HaveNotToLapse state lines)
@@ -292,7 +291,7 @@ judge_part format count state (before_op key stamp) bytes told here size small =
 judge_part format count state (before_body key stamp) bytes told here size small = judge_body format count state key stamp bytes told here size small
 judge_part format count state (before_line key stamp n lines) bytes told here size small = judge_line format count state key stamp n lines bytes told here
 
--- a part with the right number of bytes is bad or leads to the next one
+-- a part with the right number of bytes is bad for some cause, or is good
 pub judge : (format : Format) → (before : Before) (bytes : List ℕ) → AreGood format before → 0 < width before → length bytes ≡ width before → AreBytes bytes
     → Judged format before bytes
 judge format before_mark bytes good some size small = judge_mark format bytes

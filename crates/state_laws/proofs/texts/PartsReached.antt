@@ -1,4 +1,4 @@
--- A reader reaches each point of a state's text part by part, if everything before that point is
+-- A reader reaches each point of a state's text part by part, if all parts before that point are
 -- good.
 use Rattle.std.proofs.Common.{List, ◌∷◌, ◌++◌, ◌≡◌, [], refl, ap, sym, ◌∙◌, subst, Contains, Some, None, ℕ, ◌<◌}
 use Rattle.std.proofs.Common.{◌≤◌, length, arith, append_assoc, append-nil, length-append, inl, inr, ◌^◌, ◌⊎◌}
@@ -62,7 +62,7 @@ item_floor (first ∷ before) item later is raises =
     by None none kept = none item among raises.0
     by (Some stamp) greatest kept = not_above stamp (file_stamp_cmp stamp first.stamp) refl kept (greatest.greatest item among raises.0)
 
--- each item of a ledger leads to the next
+-- after the first items of a ledger, a reader reaches the point after all its items
 pub items_lead : (format : Format) (horizon : ℕ) → (count : ℕ) (before later : List LedgerItem) → IsLedger (before ++ later) → length (before ++ later) ≤ count
     → Leads format (after_items horizon count before) (after_items horizon count (before ++ later))
 items_lead format horizon count before [] is within = no_step format _ _ (ap (after_items horizon count) (sym (append-nil before)))
@@ -77,7 +77,7 @@ items_lead format horizon count before (item ∷ later) is within =
     (item_floor before item later is))
     (then_leads format _ _ _ rest (no_step format _ _ (ap (after_items horizon count) grouped))))
 
--- the first lines of a schedule begin a schedule
+-- each prefix of lines that begin a schedule begins a schedule
 pub begins_front : (front rest : List (List ℕ)) → BeginsSchedule (front ++ rest) → BeginsSchedule front
 begins_front front rest begins = (rest ++ begins.0, subst IsSchedule (append_assoc front rest begins.0) begins.1)
 
@@ -102,7 +102,7 @@ lines_front key n front rest some are within =
     by [] low whole done = subst IsSchedule (append-nil front) (done (ap length (append-nil front) ∙ whole))
     by (line ∷ more) low whole done = let size = length-append front (line ∷ more) in absurd (omega arith)
 
--- the first lines of a schedule haven't lapsed if all its lines haven't
+-- if the lines of a schedule haven't lapsed, a prefix that isn't empty hasn't lapsed
 front_stays : (state : State) (front rest : List (List ℕ)) → 0 < length front → HaveNotToLapse state (front ++ rest) → HaveNotToLapse state front
 front_stays state front rest some stays = subst (λ line. state.horizon ≤ readable_end (columns 16 21 line)) (first_of_front front rest some) stays
 
@@ -111,7 +111,7 @@ line_size lines line more begins =
     let all = recursion_from_All IsRecord ((lines ++ line ∷ more) ++ begins.0) begins.1.records in
     (all_behind IsRecord lines (line ∷ more) (all_front IsRecord (lines ++ line ∷ more) begins.0 all)).0.0
 
--- the lines of a schedule lead, one by one, to the part after its entry
+-- after the first lines of a schedule, a reader reaches the point after all its lines
 pub lines_lead : (format : Format) → (count : ℕ) (state : State) (key : ScheduleKey) (stamp : Stamp) (n : ℕ) (lines more : List (List ℕ))
     → length state.entries < count
     → AreLinesUpTo key n (lines ++ more) → HaveNotToLapse state (lines ++ more) → length (lines ++ more) ≤ n
@@ -138,7 +138,8 @@ is_tag (tiploc_key code) = inl refl
 is_tag (association_key key) = inr (inl refl)
 is_tag (schedule_key key) = inr (inr refl)
 
--- the parts of an entry lead, one by one, to the part after the entry
+-- from the beginning of an entry, a reader reaches each part of the entry and then the point after
+-- the entry
 tag_leads : (format : Format) → (count : ℕ) (state : State) (tag : ℕ) → length state.entries < count → IsTag tag → Leads format (after_entries count state)
     (in_entry count state (before_key tag))
 tag_leads format count state tag below is = then_leads format _ _ _ (no_step format _ _ (more_entries count state below)) (step_tag format count state tag is)
@@ -207,7 +208,7 @@ entry_leads format count state key stamp (put_with body) below ledger told above
 abbrev state_of : (horizon : ℕ) → List LedgerItem → List (Key × Entry) → State
 state_of horizon ledger entries = record { horizon = horizon; ledger = ledger; entries = entries }
 
--- the entries of a state lead, one by one, to the end of the text
+-- after the first entries of a state, a reader reaches the point after all its entries
 pub entries_lead : (format : Format) (horizon : ℕ) → (count : ℕ) (ledger : List LedgerItem) (before later : List (Key × Entry)) → IsLedger ledger
     → AllByRecursion (IsToldEntry format horizon ledger) later → AreAscending (before ++ later)
     → length (before ++ later) ≤ count → Leads format (after_entries count (record { horizon = horizon; ledger = ledger; entries = before }))
@@ -224,7 +225,7 @@ entries_lead format horizon count ledger before (entry ∷ later) is good up wit
     then_leads format _ _ _ (entry_leads format count (state_of horizon ledger before) entry.0 entry.1.stamp entry.1.op (omega arith) is good.0 above)
     (then_leads format _ _ _ rest (no_step format _ _ (ap (λ entries. after_entries count (state_of horizon ledger entries)) grouped)))
 
--- the mark leads to each item of a ledger and to the number of entries
+-- from the beginning of a text, a reader reaches the point after any items of a ledger
 ledger_leads : (format : Format) (horizon : ℕ) → (count : ℕ) (ledger : List LedgerItem) → IsHorizonOf format horizon → IsLedger ledger → count < 2 ^ 64
     → length ledger ≤ count → Leads format before_mark (after_items horizon count ledger)
 ledger_leads format horizon count ledger is_horizon is fits within =
@@ -275,7 +276,7 @@ part_leads format count state (before_line key stamp n lines) below ledger here 
         let more = here.2 in
         lines_lead format count state key stamp n [] lines below (record { lines_of = are.0; complete = λ whole. absurd (omega arith) }) are.1 (omega arith)
 
--- a reader comes from the start to each point before which all is good
+-- from the beginning of a text, a reader reaches each point before which all parts are good
 pub reach : (format : Format) (before : Before) → AreGood format before → Leads format before_mark before
 reach format before_mark good = no_step format _ _ refl
 reach format before_horizon good = horizon_leads format good

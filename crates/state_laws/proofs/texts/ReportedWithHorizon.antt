@@ -1,5 +1,5 @@
--- The format with a horizon can hold each valid state, also one that was read from a text without a
--- horizon.
+-- The format with a horizon can hold each valid state, including each state that was read from a
+-- text without a horizon.
 use Rattle.std.proofs.Common.{◌≡◌, ℕ, List, [], ◌∷◌}
 use Rattle.std.specs.List.{AllByRecursion}
 use Rattle.std.proofs.lemmas.List.Elements.{All-from_recursion}
@@ -28,7 +28,7 @@ valid_is_told state valid = record {
     each [] = tt
     each (x ∷ xs) = (any_op_told x.1.op, each xs)
 
--- a state that was read from a text without a horizon has none, and the other format can hold it
--- too
+-- a state that was read from a text without a horizon has no horizon, and the format with a horizon
+-- can hold it
 pub migrated_is_told : (limit : ℕ) (text : List ℕ) (state : State) → IsStateText dks_1 limit text state → (state.horizon ≡ 0) × AreGood dks_2 (at_end state)
 migrated_is_told limit text state is = (is.valid.0.horizon, (valid_is_told state is.valid.0.valid, is.valid.1, is.valid.2))

@@ -1,4 +1,4 @@
--- Bytes that are decoded and encoded again are the same bytes, if their number is right.
+-- Encoding is inverse to decoding, for bytes of the right number.
 use Rattle.std.proofs.Common.{◌≡◌, ℕ, zero, suc, ◌<◌, ◌^◌, List, [], ◌∷◌, ◌++◌, length, take, drop, get_or, refl, ap, sym, subst, inl, inr, arith}
 use Rattle.std.specs.Prelude.{slice_index, slice_range}
 use Rattle.std.specs.List.{AllByRecursion}
@@ -12,13 +12,13 @@ use Rattle.docker_model.specs.state.StatePart.{key_width, IsTag}
 abbrev pub AreBytes : List ℕ → Type 0
 AreBytes bytes = AllByRecursion (λ b. b < 256) bytes
 
--- each element of a list of bytes is a byte; past its end, the element 0 is a byte too
+-- each element of a list of bytes is below 256, and so is the default 0 past the end
 pub small_at : (bytes : List ℕ) → AreBytes bytes → (i : ℕ) → get_or bytes i 0 < 256
 small_at [] small i = omega arith
 small_at (b ∷ bytes) small zero = small.0
 small_at (b ∷ bytes) small (suc i) = small_at bytes small.1 i
 
--- the first element of a list, by which a list of known length is written out
+-- the first element of a list, or 0 if the list is empty
 abbrev head_of : List ℕ → ℕ
 head_of [] = 0
 head_of (x ∷ xs) = x
@@ -48,7 +48,7 @@ four_bytes bytes size small = be_bytes_4 bytes _ size (small_at bytes small) ref
 pub eight_bytes : (bytes : List ℕ) → length bytes ≡ 8 → AreBytes bytes → to_be_bytes w64 (from_be_bytes w64 bytes) ≡ bytes
 eight_bytes bytes size small = be_bytes_8 bytes _ size (small_at bytes small) refl
 
--- eight bytes spell a number below 2^64
+-- the number that eight bytes encode is below 2^64
 pub eight_fit : (bytes : List ℕ) → AreBytes bytes → from_be_bytes w64 bytes < 2 ^ 64
 eight_fit bytes small =
     let b0 = small_at bytes small 0 in
@@ -112,6 +112,6 @@ tag_of_key tag bytes (inl e) = subst (λ t. key_tag (key_in t bytes) ≡ t) (sym
 tag_of_key tag bytes (inr (inl e)) = subst (λ t. key_tag (key_in t bytes) ≡ t) (sym e) refl
 tag_of_key tag bytes (inr (inr e)) = subst (λ t. key_tag (key_in t bytes) ≡ t) (sym e) refl
 
--- a list of one byte consists of its first byte
+-- a list of one byte is the list of its first byte
 pub single : (bytes : List ℕ) → length bytes ≡ 1 → slice_index bytes 0 ∷ [] ≡ bytes
 single bytes size = subst (λ xs. slice_index xs 0 ∷ [] ≡ xs) (cells_are 1 bytes size) refl

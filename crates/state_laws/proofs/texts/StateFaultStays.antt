@@ -1,11 +1,10 @@
--- Three kinds of fault remain when a text is continued: a bad part, a byte needed past the limit,
--- and a byte after the state.
+-- Appending bytes to a text preserves three kinds of fault: a bad part, `too_long` and `has_tail`.
 use Rattle.std.proofs.Common.{ℕ, List, ◌∷◌, ◌++◌, ◌∙◌, arith, append_assoc, length-append}
 use Rattle.docker_model.specs.state.StateText.{Format, state_text}
 use Rattle.docker_model.specs.state.StatePart.{text_before}
 use Rattle.docker_model.specs.state.StateFault.{StateFault, HasBadPart, IsLong, HasTail}
 
--- a bad part is bad in each longer text
+-- appending bytes to a text preserves the fault of a bad part
 pub bad_part_stays : (format : Format) → (limit : ℕ) (text more : List ℕ) (fault : StateFault) → HasBadPart format limit text fault
     → HasBadPart format limit (text ++ more) fault
 bad_part_stays format limit text more fault has = record {
@@ -20,7 +19,7 @@ bad_part_stays format limit text more fault has = record {
   item_at = has.item_at;
 }
 
--- a byte needed past the limit is needed in each longer text
+-- appending bytes to a text preserves the fault `too_long`
 pub long_stays : (format : Format) → (limit : ℕ) (text more : List ℕ) (fault : StateFault) → IsLong format limit text fault
     → IsLong format limit (text ++ more) fault
 long_stays format limit text more fault is = record {
@@ -35,7 +34,7 @@ long_stays format limit text more fault is = record {
   limit_at = is.limit_at;
 }
 
--- a byte after the state comes after it in each longer text
+-- appending bytes to a text preserves the fault `has_tail`
 pub tail_stays : (format : Format) → (limit : ℕ) (text more : List ℕ) (fault : StateFault) → HasTail format limit text fault
     → HasTail format limit (text ++ more) fault
 tail_stays format limit text more fault has = record {

@@ -1,4 +1,4 @@
--- If a format can hold a state, it can also hold the state with one more good entry.
+-- If a format can hold a state, it can also hold the state after a good entry is appended.
 use Rattle.std.proofs.Common.{ℕ, arith, List, [], ◌∷◌, ◌++◌, All, ◌≡◌, ◌<◌, ◌≤◌, ◌^◌, length, sym, subst, inl, inr, ◌⊎◌, true, false, cond, nat_le}
 use Rattle.std.specs.Ordering.{on}
 use Rattle.std.proofs.lemmas.List.Elements.{All-from_recursion, recursion_from_All}
@@ -50,12 +50,13 @@ no_entries format horizon ledger is_horizon is = record {
   ops = All-from_recursion (λ (entry : Key × Entry). TellsOp format entry.1.op) [] tt;
 }
 
--- a property of all entries and of one more is a property of the longer list
+-- if all entries of a list and one more entry have a property, all entries of the list with that
+-- entry appended have it
 one_more : (P : Key × Entry → Type 0) (entries : List (Key × Entry)) (entry : Key × Entry) → All P entries → P entry → All P (entries ++ entry ∷ [])
 one_more P entries entry all last =
     All-from_recursion P (entries ++ entry ∷ []) (all_append P entries (entry ∷ []) (recursion_from_All P entries all) (last, tt))
 
--- a valid state with one more good entry is valid
+-- appending a good entry to a valid state gives a valid state
 pub valid_more : (state : State) (key : Key) (stamp : Stamp) (op : Op) → IsValid state → IsStampHere state key stamp → IsOpOf key op
     → HasNotToLapse state.horizon op → IsValid (with_entry state key stamp op)
 valid_more state key stamp op valid here of stays = record {
@@ -82,7 +83,7 @@ one_entry_more format state key stamp op told here of stays tells = record {
   ops = one_more (λ (e : Key × Entry). TellsOp format e.1.op) state.entries (key, record { stamp = stamp; op = op }) told.ops tells;
 }
 
--- all that is read before the part after these items is good
+-- after these items all parts read are good
 pub good_after_items : (format : Format) (horizon : ℕ) → (count : ℕ) (ledger : List LedgerItem) → IsHorizonOf format horizon → IsLedger ledger
     → length ledger ≤ count → count < 2 ^ 64 → AreGood format (after_items horizon count ledger)
 good_after_items format horizon count ledger is_horizon is within fits = by (leb_tells count (length ledger))
@@ -94,7 +95,7 @@ good_after_items format horizon count ledger is_horizon is within fits = by (leb
     by (inr told) =
         subst (λ b. AreGood format (cond b (before_entry_count horizon ledger) (before_item horizon count ledger))) (sym told.0) (is_horizon, is, told.1, fits)
 
--- all that is read before the part after these entries is good
+-- after these entries all parts read are good
 pub good_after_entries : (format : Format) → (count : ℕ) (state : State) → IsToldState format state → length state.ledger < 2 ^ 64
     → length state.entries ≤ count → count < 2 ^ 64 → AreGood format (after_entries count state)
 good_after_entries format count state valid items within fits = by (leb_tells count (length state.entries))

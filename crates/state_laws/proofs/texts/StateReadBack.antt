@@ -1,5 +1,5 @@
--- A ledger item, a key and a stamp can be read back from their bytes, and have as many bytes as the
--- format says.
+-- Decoding is inverse to encoding, for ledger items, keys and stamps. Each has the number of bytes
+-- that the format states.
 use Rattle.std.proofs.Common.{◌≡◌, ℕ, suc, ◌+◌, ◌-◌, ◌<◌, ◌^◌, List, [], ◌∷◌, ◌++◌, length, take, drop}
 use Rattle.std.proofs.Common.{refl, ap, ◌∙◌, subst, arith, append_assoc, length-append, Contains}
 use Rattle.std.specs.Prelude.{slice_index, slice_range}
@@ -15,15 +15,15 @@ use Rattle.docker_model.specs.state.StateText.{item_in, key_in, stamp_in, associ
 use Rattle.docker_model.specs.state.StatePart.{key_width}
 use Rattle.cif_laws.proofs.lists.Membership.{Contains-map}
 
--- to drop `n + k` elements of two lists, the first of which has `n`, drops `k` elements of the
--- second
+-- if a list has `n` elements, dropping `n + k` elements of its concatenation with another list is
+-- dropping `k` elements of the other list
 pub drop_past : (xs ys : List ℕ) (n k : ℕ) → length xs ≡ n → drop (n + k) (xs ++ ys) ≡ drop k ys
 drop_past [] ys n k size = ap (λ j. drop j ys) (omega arith)
 drop_past (x ∷ xs) ys n k size =
     let up : n + k ≡ suc ((n - 1) + k) = omega arith in
     ap (λ j. drop j (x ∷ xs ++ ys)) up ∙ drop_past xs ys (n - 1) k (omega arith)
 
--- a header can have this file stamp
+-- this can be the file stamp of a header
 record IsGoodFileStamp (stamp : FileStamp) : Type 0 where
   day : stamp.moment.day < 2 ^ 16
   minute : stamp.moment.minute < 2 ^ 16
@@ -71,7 +71,7 @@ stamp_of_ledger ledger stamp is in_it =
     of_all : (item : LedgerItem) → Contains ledger item → IsGoodItem item
     of_all item among = subst IsGoodItem among.2 (is.each among.0 item among.1)
 
--- a stamp that names a file of the ledger can be read back from its bytes
+-- a stamp whose file is in the ledger can be read back from its bytes
 pub stamp_read : (ledger : List LedgerItem) (stamp : Stamp) → IsLedger ledger → IsStampIn ledger stamp → stamp_in (stamp_bytes stamp) ≡ stamp
 stamp_read ledger stamp is in_it =
     let good = stamp_of_ledger ledger stamp is in_it in
@@ -82,7 +82,7 @@ stamp_read ledger stamp is in_it =
     ∙ from_be_bytes-to_be_bytes_4 stamp.number (omega arith) in
     λ i. record { file = file i; number = number i }
 
--- a stamp that names a file of the ledger has 15 bytes
+-- a stamp whose file is in the ledger has 15 bytes
 pub stamp_width : (ledger : List LedgerItem) (stamp : Stamp) → IsLedger ledger → IsStampIn ledger stamp → length (stamp_bytes stamp) ≡ 15
 stamp_width ledger stamp is in_it =
     let good = stamp_of_ledger ledger stamp is in_it in
@@ -189,7 +189,7 @@ schedule_sized key good =
     let one = length-append key.uid (to_be_bytes w16 key.runs_from ++ (key.indicator ∷ [])) in
     omega arith
 
--- a good key has as many bytes as `key_width` says for its tag
+-- the number of bytes of a good key is `key_width` of its tag
 pub key_width_is : (key : Key) → IsGoodKey key → length (key_bytes key) ≡ key_width (key_tag key)
 key_width_is (tiploc_key code) good = good.0.0
 key_width_is (association_key key) good = ap length (association_bytes_are key) ∙ association_sized key good

@@ -1,5 +1,5 @@
--- A walk over the parts of a text finds that it is the text of a state within the limit, or finds a
--- fault.
+-- Each text is the text of a state within the limit, or has a fault. The proof walks over the parts
+-- of the text.
 use Rattle.std.proofs.Common.{◌≡◌, ℕ, zero, suc, ◌+◌, ◌<◌, ◌≤◌, List, [], ◌∷◌, ◌++◌, length, take, drop, refl, ap}
 use Rattle.std.proofs.Common.{sym, ◌∙◌, subst, inl, inr, ◌⊎◌, arith, append_assoc, append-nil, length-append, All}
 use Rattle.std.proofs.lemmas.List.{take-append-drop, length-take-le}
@@ -33,7 +33,7 @@ part_some state (before_body (association_key key) stamp) here = omega arith
 part_some state (before_body (schedule_key key) stamp) here = omega arith
 part_some state (before_line key stamp n lines) here = omega arith
 
--- a point in a text is the end of a state, or has a next part
+-- a point in a text is the end of a state, or has a next part of at least one byte
 pub end_or_part : (format : Format) → (before : Before) → AreGood format before → ((state : State) × (before ≡ at_end state)) ⊎ (0 < width before)
 end_or_part format before_mark good = inr (omega arith)
 end_or_part format before_horizon good = inr (omega arith)
@@ -43,7 +43,7 @@ end_or_part format (before_entry_count horizon ledger) good = inr (omega arith)
 end_or_part format (in_entry count state part) good = inr (part_some state part good.4)
 end_or_part format (at_end state) good = inl (state, refl)
 
--- the text is the text of a state within the limit, or it has a fault
+-- the text is the text of a state within the limit, or has a fault
 abbrev pub Answer : (format : Format) → ℕ → List ℕ → Type 0
 Answer format limit text = ((state : State) × IsStateText format limit text state) ⊎ ((fault : StateFault) × IsStateFault format limit text fault)
 

@@ -1,5 +1,5 @@
--- Reading a text part by part. The parts that have been read determine the text that has been read.
--- Of two different points in one text, one is later.
+-- Reading a text part by part. The text read is the concatenation of the parts read. Of two
+-- different points in one text, one is later.
 use Rattle.std.proofs.Common.{◌≡◌, ℕ, ◌<◌, List, ◌++◌, length, [], ◌∷◌, ap, ◌∙◌, sym, subst, append_assoc, append-nil, ◌⊎◌, refl, inl, inr}
 use Rattle.std.specs.Prelude.{⊤}
 use Rattle.std.specs.List.{concat}
@@ -10,7 +10,7 @@ use Rattle.docker_model.specs.state.StateFault.{StateCause, IsBadPart}
 use Rattle.state_laws.specs.TextStage.{advance}
 use Rattle.cif_laws.proofs.lists.Fronts.{same_front}
 
--- these bytes are the next part, and aren't bad
+-- these bytes are the next part, and the part isn't bad
 pub record IsNextPart (format : Format) (before : Before) (part : List ℕ) : Type 0 where
   pub size : length part ≡ width before
   pub some : 0 < width before
@@ -27,17 +27,17 @@ abbrev pub after_parts : (format : Format) → Before → List (List ℕ) → Be
 after_parts format before [] = before
 after_parts format before (part ∷ parts) = after_parts format (advance format before part) parts
 
--- good parts lead from the point `before` to the point `after`
+-- a reader reaches the point `after` from the point `before`, part by part, and no part is bad
 pub record Leads (format : Format) (before after : Before) : Type 0 where
   pub parts : List (List ℕ)
   pub follow : Follow format before parts
   pub to : after_parts format before parts ≡ after
 
--- a point leads to itself
+-- a reader reaches each point from itself
 pub no_step : (format : Format) → (before after : Before) → before ≡ after → Leads format before after
 no_step format before after same = record { parts = []; follow = tt; to = same }
 
--- a part that isn't bad leads to the point after it
+-- a reader reaches the point after a part from the point before it, if the part isn't bad
 pub one_step : (format : Format) → (before after : Before) (part : List ℕ) → length part ≡ width before → 0 < width before
     → ((cause : StateCause) → ¬ IsBadPart format before part cause) → advance format before part ≡ after
     → text_before format after ≡ text_before format before ++ part → Leads format before after
@@ -47,7 +47,7 @@ one_step format before after part size some not_bad to text = record {
   to = to;
 }
 
--- if one point leads to a second and that to a third, the first leads to the third
+-- the relation `Leads` is transitive
 pub then_leads : (format : Format) → (before between after : Before) → Leads format before between → Leads format between after → Leads format before after
 then_leads format before between after first second = by before first.parts first.follow first.to
   where
@@ -57,7 +57,8 @@ then_leads format before between after first second = by before first.parts firs
         let rest = by (advance format from part) parts follow.1 to in
         record { parts = part ∷ rest.parts; follow = (follow.0, rest.follow); to = rest.to }
 
--- the text before the point that some parts lead to is the text before them, then the parts
+-- the text before the point after some parts is the text before these parts, followed by their
+-- concatenation
 pub after_text : (format : Format) → (before : Before) (parts : List (List ℕ)) → Follow format before parts
     → text_before format (after_parts format before parts) ≡ text_before format before ++ concat parts
 after_text format before [] follow = sym (append-nil (text_before format before))
@@ -65,8 +66,8 @@ after_text format before (part ∷ parts) follow =
     after_text format (advance format before part) parts follow.1 ∙ ap (λ front. front ++ concat parts) follow.0.text
     ∙ append_assoc (text_before format before) part (concat parts)
 
--- the point `after` is later: the text before it has at least one more part than the text before
--- the other
+-- the point `after` is later than the point `before`: the text before `after` is the text before
+-- `before`, followed by its next part and any further bytes
 pub record IsLater (format : Format) (before after : Before) : Type 0 where
   pub part : List ℕ
   pub more : List ℕ

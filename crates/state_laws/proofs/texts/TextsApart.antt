@@ -1,4 +1,5 @@
--- States with the same text are equal. A reader of a text under a limit stops at only one point.
+-- States with the same text are equal. A reader of a text under a limit stops at no more than one
+-- point.
 use Rattle.std.proofs.Common.{◌≡◌, ℕ, ◌+◌, ◌≤◌, List, [], ◌++◌, length, ap, sym, ◌∙◌, subst, inl, inr, arith, append_assoc, append-nil, length-append}
 use Rattle.std.proofs.lemmas.List.{append_cancel_left}
 use Rattle.docker_model.specs.state.State.{State}
@@ -9,12 +10,12 @@ use Rattle.cif_laws.proofs.lists.Fronts.{same_front}
 use Rattle.state_laws.proofs.texts.TextStages.{IsLater, AreInLine, in_line}
 use Rattle.state_laws.proofs.texts.PartsReached.{reach}
 
--- the state at this point, if the point is the end of a text, and otherwise the other state
+-- the state at this point if the point is the end of a text, and otherwise the state `other`
 pub state_or : State → Before → State
 state_or other (at_end state) = state
 state_or other _ = other
 
--- two ends that are equal have the same state
+-- if two end points are equal, their states are equal
 pub same_end : (first second : State) → at_end first ≡ at_end second → first ≡ second
 unfolding state_or
 same_end first second same = ap (state_or first) same
@@ -23,13 +24,14 @@ same_end first second same = ap (state_or first) same
 pub no_part_at_end : (format : Format) → (state : State) (after : Before) → IsLater format (at_end state) after → ⊥
 no_part_at_end format state after later = let some = later.is_next.some in omega arith
 
--- two points of one text before which all is good are equal, or one is later than the other
+-- if all parts before two points of one text are good, the points are equal, or one is later than
+-- the other
 pub both_in_line : (format : Format) → (text : List ℕ) (first second : Before) (rest more : List ℕ) → AreGood format first → AreGood format second
     → text ≡ text_before format first ++ rest → text ≡ text_before format second ++ more → AreInLine format first second
 both_in_line format text first second rest more good also one two =
     in_line format before_mark first second rest more (reach format first good) (reach format second also) (sym one ∙ two)
 
--- a state's text isn't a proper prefix of another state's text
+-- if a state's text is a prefix of another state's text, the two states are equal
 pub no_front : (format : Format) → (first second : State) (rest : List ℕ) → AreGood format (at_end first) → AreGood format (at_end second)
     → state_text format first ++ rest ≡ state_text format second → (first ≡ second) × (rest ≡ [])
 no_front format first second rest good also same =
@@ -78,7 +80,8 @@ no_bad_part format limit text state rest fault good is has =
     by (inr (inl later)) = bad_stops format text has.before (at_end state) has.bytes has.rest rest fault.cause has.size has.bad has.whole whole later
     by (inr (inr later)) = no_part_at_end format state has.before later
 
--- a reader of the text under the limit reaches this point, and none later
+-- a reader of the text under the limit stops at this point: it reaches this point, and no later
+-- point
 pub record IsStopped (format : Format) (limit : ℕ) (text : List ℕ) (before : Before) : Type 0 where
   pub good : AreGood format before
   pub rest : List ℕ
@@ -87,7 +90,7 @@ pub record IsStopped (format : Format) (limit : ℕ) (text : List ℕ) (before :
   pub stops : (after : Before) (more : List ℕ) → IsLater format before after → text ≡ text_before format after ++ more
       → length (text_before format after) ≤ limit → ⊥
 
--- a reader of a text under a limit stops at only one point
+-- a reader of a text under a limit stops at no more than one point
 pub one_stop : (format : Format) → (limit : ℕ) (text : List ℕ) (first second : Before) → IsStopped format limit text first → IsStopped format limit text second
     → first ≡ second
 one_stop format limit text first second one two = by (both_in_line format text first second one.rest two.rest one.good two.good one.whole two.whole)
@@ -97,7 +100,8 @@ one_stop format limit text first second one two = by (both_in_line format text f
     by (inr (inl later)) = absurd (one.stops second two.rest later two.whole two.within)
     by (inr (inr later)) = absurd (two.stops first one.rest later one.whole one.within)
 
--- from one point to a later one, the text has the next part and whatever follows it
+-- from an earlier point to a later point, the text grows by the width of the next part and the
+-- length of the bytes after that part
 pub later_size : (format : Format) → (before after : Before) (later : IsLater format before after)
     → length (text_before format before) + width before + length later.more ≡ length (text_before format after)
 later_size format before after later =
@@ -129,7 +133,7 @@ stop_of_long format limit text fault is = record {
   stops = λ after more later whole within. (let size = later_size format is.before after later in let needs = is.needs in omega arith);
 }
 
--- a reader stops before a part in which the text ends
+-- a reader stops before a part that the end of the text cuts off
 pub stop_of_short : (format : Format) → (limit : ℕ) (text : List ℕ) (fault : StateFault) (is : IsShort format limit text fault)
     → IsStopped format limit text is.before
 stop_of_short format limit text fault is =

@@ -23,26 +23,26 @@ read_32 = from_be_bytes-to_be_bytes_4
 pub read_64 : (n : ℕ) → n < 2 ^ 64 → from_be_bytes w64 (to_be_bytes w64 n) ≡ n
 read_64 = from_be_bytes-to_be_bytes_8
 
--- after some of the items another item comes
+-- after some of the items the next part is another item
 pub more_items : (horizon : ℕ) → (count : ℕ) (ledger : List LedgerItem) → length ledger < count
     → after_items horizon count ledger ≡ before_item horizon count ledger
 more_items horizon count ledger below = λ i. cond (lt-leb count (length ledger) below i) (before_entry_count horizon ledger) (before_item horizon count ledger)
 
--- after all items the number of entries comes
+-- after all items the next part is the number of entries
 pub all_items : (horizon : ℕ) → (ledger : List LedgerItem) → after_items horizon (length ledger) ledger ≡ before_entry_count horizon ledger
 all_items horizon ledger =
     λ i. cond (le-leb (length ledger) (length ledger) (omega arith) i) (before_entry_count horizon ledger) (before_item horizon (length ledger) ledger)
 
--- after some of the entries another entry comes
+-- after some of the entries the next part belongs to another entry
 pub more_entries : (count : ℕ) (state : State) → length state.entries < count → after_entries count state ≡ in_entry count state before_tag
 more_entries count state below = λ i. cond (lt-leb count (length state.entries) below i) (at_end state) (in_entry count state before_tag)
 
--- after all entries the text ends
+-- after all entries the point is the end of the text
 pub all_entries : (state : State) → after_entries (length state.entries) state ≡ at_end state
 all_entries state =
     λ i. cond (le-leb (length state.entries) (length state.entries) (omega arith) i) (at_end state) (in_entry (length state.entries) state before_tag)
 
--- after some lines of a schedule another line comes
+-- after some of a schedule's lines the next part is another line
 pub more_lines : (count : ℕ) (state : State) (key : ScheduleKey) (stamp : Stamp) (n : ℕ) (lines : List (List ℕ)) → length lines < n
     → after_lines count state key stamp n lines ≡ in_entry count state (before_line key stamp n lines)
 more_lines count state key stamp n lines below =
@@ -88,7 +88,7 @@ after_entries_text format count state within = by (leb_tells count (length state
         ∙ append-nil (entries_text format (length state.entries) state) ∙ ap (λ n. entries_text format n state) same
     by (inr told) = (λ i. text_before format (cond (told.0 i) (at_end state) (in_entry count state before_tag))) ∙ append-nil (entries_text format count state)
 
--- one more entry adds its bytes at the end of the text
+-- appending an entry to the state appends the entry's bytes to the text
 pub with_entry_text : (format : Format) → (count : ℕ) (state : State) (key : Key) (stamp : Stamp) (op : Op)
     → entries_text format count (with_entry state key stamp op) ≡ entries_text format count state ++ entry_bytes (key, record { stamp = stamp; op = op })
 with_entry_text format count state key stamp op =

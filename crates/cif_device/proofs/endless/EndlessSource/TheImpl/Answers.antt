@@ -1,4 +1,4 @@
--- A read never fails, and the source can't name its bytes.
+-- A read never fails, and contracts don't know the bytes of the source.
 use Rattle.std.proofs.Common.{refl}
 use Rattle.cif_device.proofs.endless.EndlessSource.TheImpl.Goals as goal
 

@@ -1,4 +1,4 @@
--- One more byte follows the first `at` bytes.
+-- The source returns one more byte after the first `at` bytes.
 use Rattle.std.proofs.Common.{rules, arith, subst, sym}
 use Rattle.std.proofs.lemmas.Grind.{common_steps}
 use Rattle.std.proofs.lemmas.List.{take_more_set}

@@ -1,4 +1,4 @@
--- The source has given the first `at` bytes of the buffer.
+-- The source has returned the first `at` bytes of the buffer.
 use Rattle.std.proofs.Common.{◌≡◌, ◌≤◌, length, take}
 use Rattle.cif_device.specs.Device.{Goes}
 use Rattle.cif_device.proofs.endless.EndlessSource.read.Given as goal

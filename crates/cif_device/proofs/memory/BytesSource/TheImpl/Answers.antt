@@ -1,4 +1,4 @@
--- A read never fails, so all that a source promises of failures holds.
+-- A read never fails, so the promises of a source about failures hold.
 use Rattle.std.proofs.Common.{Some, ap, refl}
 use Rattle.cif_device.proofs.memory.BytesSource.TheImpl.Goals as goal
 
