@@ -1,23 +1,23 @@
--- The order of bytes, for lists of lines that start with equal lines.
+-- Comparing lists of lines by their joined bytes. Equal lines at the front can be skipped.
 use Rattle.std.proofs.Common.{◌≡◌, ℕ, List, [], ◌∷◌, ◌++◌, refl, ap, sym, ◌∙◌}
 use Rattle.std.specs.List.{concat}
 use Rattle.std.specs.Ordering.{ordering_then}
 use Rattle.std.specs.Cmp.{nat_cmp_total, tied_itself}
 use Rattle.docker_model.specs.state.Order.{bytes_cmp}
 
--- equal bytes at the front don't change the order of what comes after them
+-- putting the same bytes in front of two lists of bytes doesn't change how they compare
 pub behind_front : (front xs ys : List ℕ) → bytes_cmp (front ++ xs) (front ++ ys) ≡ bytes_cmp xs ys
 behind_front [] xs ys = refl
 behind_front (b ∷ front) xs ys =
     ap (λ first. ordering_then first (bytes_cmp (front ++ xs) (front ++ ys))) (tied_itself nat_cmp_total b) ∙ behind_front front xs ys
 
--- two equal lines don't change the order of the lines after them
+-- putting equal lines in front of two lists of lines doesn't change how their joined bytes compare
 pub behind_same : (line other : List ℕ) (lines others : List (List ℕ)) → line ≡ other
     → bytes_cmp (concat (line ∷ lines)) (concat (other ∷ others)) ≡ bytes_cmp (concat lines) (concat others)
 behind_same line other lines others same =
     ap (λ l. bytes_cmp (line ++ concat lines) (l ++ concat others)) (sym same) ∙ behind_front line (concat lines) (concat others)
 
--- equal first lines of two lists don't change the order of the rest
+-- two lists of lines that begin with equal lines compare like what follows these lines
 pub after_first_record : (lines others rest left : List (List ℕ)) (line other : List ℕ) → lines ≡ line ∷ rest → others ≡ other ∷ left → line ≡ other
     → bytes_cmp (concat rest) (concat left) ≡ bytes_cmp (concat lines) (concat others)
 after_first_record lines others rest left line other one two same =

@@ -1,4 +1,4 @@
--- The lines that the reader of a schedule has taken, and what the reader keeps of them.
+-- What the reader of a schedule remembers of the lines it has taken, and why it accepts or refuses the next line.
 use Rattle.std.proofs.Common.{◌≡◌, ℕ, ◌+◌, ◌≤◌, ◌<◌, Bool, true, false, cond, List, [], ◌∷◌, ◌++◌, map}
 use Rattle.std.proofs.Common.{subst, refl, ap, sym, ◌∙◌, Some, None, arith, append-nil, append_assoc}
 use Rattle.std.specs.Prelude.{Option, IsTrue, ◌↔◌, ◌||◌, ◌&&◌, nat_le, is_some, is_none, IsOk, OnOk, IfErr, Result, Ok, Err}
@@ -34,13 +34,13 @@ Lines = List (List ℕ)
 abbrev no_stage : Option Stage
 no_stage = None
 
--- equal `Some` values have equal contents
+-- if `Some x` equals `Some y`, then `x` equals `y`
 some_is : {A : Type 0} (x y : A) → Some x ≡ Some y → x ≡ y
 some_is x y same = cc
 
--- ---- the end
+-- ---- the end of a schedule
 
--- lines that lead to a stage are a schedule if and only if a schedule may end at that stage
+-- lines that lead to a stage are a whole schedule if and only if a schedule may end at that stage
 whole_iff : (lines : Lines) (stage : Stage) → stage_of lines ≡ Some stage → IsSchedule lines ↔ (may_end stage lines ≡ true)
 whole_iff lines stage at = (
   λ is.
@@ -49,7 +49,7 @@ whole_iff lines stage at = (
   λ may. (schedule_iff_stage lines).1 (stage, record { found = at; may = may }),
 )
 
--- the test by the stage and the flag is the test of the lines
+-- whether a schedule may end can be decided from the stage and the flag that the reader remembers
 may_end_same : (stage : Stage) (lines : Lines) (lacking : Bool) → lacking ≡ may_lack (first_record lines)
     → may_end_by (Some stage) lacking ≡ may_end stage lines
 may_end_same after_basic lines lacking same = same
@@ -68,20 +68,20 @@ complete_iff journey lines has = by journey.stage refl
         let same = may_end_same stage lines journey.lacking has.lacking_is in
         (λ test. iff.1 (sym same ∙ test), λ is. same ∙ iff.0 is)
 
--- lines are a schedule if and only if the test by the stage and the flag passes
+-- the test of the remembered stage and flag passes if and only if the lines taken are a whole schedule
 pub complete_by : (journey : JourneyState) (lines : Lines) (result : Bool) → result ≡ may_end_by journey.stage journey.lacking → HasLines journey lines
     → IsTrue result ↔ IsSchedule lines
 complete_by journey lines result told has =
     let iff = complete_iff journey lines has in (λ test. iff.0 (sym told ∙ test), λ is. told ∙ iff.1 is)
 
--- ---- one more line
+-- ---- the next line
 
--- the stage after one more line; the first line has to be a basic schedule
+-- the stage after the next line; none if the line is refused. The first line must be a basic schedule
 abbrev pub next_by : Option Stage → Lines → List ℕ → Option Stage
 next_by None lines line = cond (is_first_line line) (Some after_basic) None
 next_by (Some stage) lines line = next_stage stage lines line
 
--- the cause, if there is no next stage
+-- the cause for a line that leads to no stage
 abbrev pub cause_by : Option Stage → List ℕ → fault.FileCause
 cause_by None line = first_line_cause line
 cause_by (Some stage) line = schedule_cause stage line
@@ -112,13 +112,13 @@ fault_by journey lines line has is nowhere = by journey.stage refl nowhere
         (subst (λ l. IsScheduleFault l line (first_line_cause line)) (sym (has.fresh h)) (first (is_first_line line) refl told))
     by (Some stage) h told = subst (λ s. IsScheduleFault lines line (cause_by s line)) (sym h) (schedule_fault lines stage line (sym has.stage_is ∙ h) is told)
 
--- a line that leads to no stage is refused, and `cause_by` is its cause
+-- if a line leads to no stage, it is refused, with the cause that `cause_by` gives
 pub refused_by : (journey : JourneyState) (lines : Lines) (line : List ℕ) (cause : fault.FileCause) → HasLines journey lines → IsRecord line
     → next_by journey.stage lines line ≡ None → cause_by journey.stage line ≡ cause → IsScheduleFault lines line cause
 refused_by journey lines line cause has is nowhere same = subst (IsScheduleFault lines line) same (fault_by journey lines line has is nowhere)
 
--- if a result is `Ok` exactly when there is a next stage, it is `Ok` exactly when some schedule
--- begins with these lines
+-- suppose a result is `Ok` if and only if the line leads to a stage. Then it is `Ok` if and only if
+-- some schedule begins with the lines taken and this line
 pub judged_ok : {A : Type 0} (answer : Result A FileCause) (journey : JourneyState) (lines : Lines) (line : List ℕ) → HasLines journey lines → IsRecord line
     → IsOk answer ↔ (is_some (next_by journey.stage lines line) ≡ true) → IsOk answer ↔ BeginsSchedule (lines ++ line ∷ [])
 judged_ok answer journey lines line has is iff = (
@@ -135,7 +135,8 @@ judged_ok answer journey lines line has is iff = (
     from None h begins = absurd ((fault_by journey lines line has is h).here begins)
     from (Some next) h begins = iff.1 (λ i. is_some (h i))
 
--- if a result is an error exactly when there is no next stage, its cause is why the line is refused
+-- suppose a result is `Ok` if and only if the line leads to a stage, and its error is otherwise the
+-- cause of `cause_by`. Then this cause is why no schedule continues with the line
 pub judged_err : {A : Type 0} (answer : Result A FileCause) (journey : JourneyState) (lines : Lines) (line : List ℕ) (told : fault.FileCause)
     → HasLines journey lines → IsRecord line
     → IsOk answer ↔ (is_some (next_by journey.stage lines line) ≡ true) → told ≡ cause_by journey.stage line
@@ -149,7 +150,7 @@ judged_err (Err cause) journey lines line told has is iff same err =
     by None h = fault_by journey lines line has is h
     by (Some next) h = let bad = iff.1 (λ i. is_some (h i)) in absurd cc
 
--- a first line leads to a stage if and only if it passes the test of a first line
+-- before any line is taken, a line leads to a stage if and only if it is a basic schedule with good fields
 pub first_test : (journey : JourneyState) (lines : Lines) (line : List ℕ) → journey.stage ≡ None
     → is_some (next_by journey.stage lines line) ≡ is_first_line line
 first_test journey lines line at = (λ i. is_some (next_by (at i) lines line)) ∙ by (is_first_line line)
@@ -158,18 +159,18 @@ first_test journey lines line at = (λ i. is_some (next_by (at i) lines line)) �
     by true = refl
     by false = refl
 
--- this stage comes from an earlier one by a line of this kind
+-- Says that the reader is at a stage, and that a line of this kind leads from it to the next one.
 pub record LeadsOn (stage : Option Stage) (kind : Option Kind) (next : Stage) : Type 0 where
   pub here : Stage
   pub at : stage ≡ Some here
   pub after : stage_after here kind ≡ Some next
 
--- each stage after a line comes from an earlier stage
+-- if a line of this kind leads to a stage, the reader was at an earlier stage
 pub leads_on : (stage : Option Stage) (kind : Option Kind) (next : Stage) → stage_then stage kind ≡ Some next → LeadsOn stage kind next
 leads_on None kind next led = absurd cc
 leads_on (Some here) kind next led = record { here = here; at = refl; after = led }
 
--- a later line whose kind may come next leads to a stage if and only if the line is sound
+-- a line of a kind that may come next leads to a stage if and only if its fields and times are sound
 pub next_test : (journey : JourneyState) (lines : Lines) (line : List ℕ) (next : Stage) → IsRecord line → stage_then journey.stage (kind_of line) ≡ Some next
     → is_some (next_by journey.stage lines line) ≡ is_sound_next lines line
 next_test journey lines line next is led =
@@ -182,7 +183,7 @@ next_test journey lines line next is led =
     by true = refl
     by false = refl
 
--- a line whose kind may come next is refused for its leftmost bad field, or for a third midnight
+-- a line of a kind that may come next is refused either for its leftmost bad field or for a third midnight
 pub next_cause : (journey : JourneyState) (line : List ℕ) (next : Stage) → stage_then journey.stage (kind_of line) ≡ Some next
     → field_cause line ≡ cause_by journey.stage line
 next_cause journey line next led =
@@ -196,11 +197,11 @@ next_cause journey line next led =
         (λ i. cond (is_none (h i)) bad_kind (cond (is_none (stage_after here (kind_of line))) bad_place (field_cause line)))
         ∙ (λ i. cond (is_none (after i)) bad_place (field_cause line))
 
--- a fact that is equivalent to one test is equivalent to an equal test
+-- if a fact holds if and only if one test passes, the same is true of an equal test
 pub iff_along : (P : Type 0) (a b : Bool) → a ≡ b → P ↔ (b ≡ true) → P ↔ (a ≡ true)
 iff_along P a b same iff = (λ p. same ∙ iff.0 p, λ test. iff.1 (sym same ∙ test))
 
--- a record of no kind is refused after any lines
+-- a line that is no kind of record is refused with the cause `Kind`, whatever lines come before
 pub unknown_kind : (journey : JourneyState) (lines : Lines) (line : List ℕ) → HasLines journey lines → IsRecord line → kind_of line ≡ None
     → IsScheduleFault lines line fault.bad_kind
 unknown_kind journey lines line has is none = refused_by journey lines line fault.bad_kind has is (nowhere journey.stage) (cause journey.stage)
@@ -223,7 +224,7 @@ unknown_kind journey lines line has is none = refused_by journey lines line faul
     cause None = λ i. cond (is_none (none i)) bad_kind (cond (is_basic_kind (kind_of line)) (field_cause line) bad_place)
     cause (Some stage) = λ i. cond (is_none (none i)) bad_kind (cond (is_none (stage_after stage (kind_of line))) bad_place (field_cause line))
 
--- a line is refused if its kind can't come next
+-- if a record of this kind can't come next, the line is refused with the cause `Place`
 pub out_of_place : (journey : JourneyState) (lines : Lines) (line : List ℕ) (stage : Stage) (kind : Kind) → HasLines journey lines → IsRecord line
     → journey.stage ≡ Some stage → kind_of line ≡ Some kind
     → stage_after stage (Some kind) ≡ None → IsScheduleFault lines line fault.bad_place
@@ -241,10 +242,9 @@ out_of_place journey lines line stage kind has is at known none =
     by true = refl
     by false = refl
 
--- ---- the times of one more line
+-- ---- the times of the next line
 
--- times in two parts pass midnight as often as the first part, and then the second after the
--- first's last time
+-- Counting midnights can be split after an optional first time: the total is the count up to it plus the count from it on.
 pub falls_in_turn : (last first : Option ℕ) (rest : List ℕ) → falls_after last (time_list first ++ rest) ≡ falls_after last (time_list first) + falls_after
     (later_or first last) rest
 falls_in_turn None None rest = omega arith
@@ -252,8 +252,7 @@ falls_in_turn (Some last) None rest = omega arith
 falls_in_turn None (Some time) rest = omega arith
 falls_in_turn (Some last) (Some time) rest = omega arith
 
--- the last time after three optional times is the last of them that there is, or the earlier last
--- time
+-- the last time after three optional times is the last one of them that is given, or the time before them if none is
 pub last_in_turn : (last first second third : Option ℕ) → later_or third (later_or second (later_or first last)) ≡ later_or
     (last_of (time_list first ++ time_list second ++ time_list third)) last
 last_in_turn last None None None = refl
@@ -268,9 +267,9 @@ last_in_turn last (Some a) (Some b) (Some c) = refl
 one_line : (line : List ℕ) → times_along (line ∷ []) ≡ map (λ (time : Occasion × ℕ). time.1) (times_of line)
 one_line line = ap (map (λ (time : Occasion × ℕ). time.1)) (append-nil (times_of line))
 
--- ---- what the reader keeps after one more line
+-- ---- what the reader remembers after the next line
 
--- one more line leaves the first line as it is
+-- taking another line doesn't change which line was the first
 first_stays : (lines : Lines) (stage : Stage) (line : List ℕ) → stage_of lines ≡ Some stage → first_record (lines ++ line ∷ []) ≡ first_record lines
 first_stays [] stage line at = cc
 first_stays (basic ∷ rest) stage line at = refl
@@ -284,7 +283,7 @@ next_is lines line stage next at is sound after =
     ∙ (λ i. cond (sound i) (stage_after stage (kind_of line)) None)
     ∙ after
 
--- for a deletion only the stage changes
+-- in a deletion, taking another line changes nothing that the reader remembers except the stage
 pub deletion_goes_on : (journey : JourneyState) (lines : Lines) (line : List ℕ) (stage next : Stage) → HasLines journey lines → IsRecord line
     → journey.stage ≡ Some stage → journey.deletion ≡ true
     → stage_after stage (kind_of line) ≡ Some next → HasLines (record journey { stage = Some next }) (lines ++ line ∷ [])
@@ -303,7 +302,7 @@ deletion_goes_on journey lines line stage next has is at deletion after =
     deletion_sound : is_deletion (first_record lines) ≡ true → is_sound_next lines line ≡ true
     deletion_sound told = λ i. told i || (has_good_fields line && nat_le (midnights (lines ++ line ∷ [])) 2)
 
--- a line is sound if its fields are good and the schedule still passes midnight at most twice
+-- a line is sound if and only if its fields are good and, with its times, the schedule passes midnight at most twice
 sound_by_falls : (journey : JourneyState) (lines : Lines) (line : List ℕ) (more : ℕ) → HasLines journey lines → journey.deletion ≡ false
     → more ≡ journey.falls + falls_after journey.last (times_along (line ∷ [])) → is_sound_next lines line ≡ (has_good_fields line && nat_le more 2)
 sound_by_falls journey lines line more has kept falls =
@@ -312,7 +311,7 @@ sound_by_falls journey lines line more has kept falls =
     (sym (has.falls_are kept) i + falls_after (sym (has.last_is kept) i) (times_along (line ∷ []))) 2))
     ∙ (λ i. has_good_fields line && nat_le (sym falls i) 2)
 
--- a schedule that isn't a deletion continues with a sound line
+-- unless the schedule is a deletion, a sound line leads to the next stage, the new count of midnights and the new last time
 pub sound_goes_on : (journey : JourneyState) (lines : Lines) (line : List ℕ) (stage next : Stage) (more : ℕ) (later : Option ℕ) → HasLines journey lines
     → IsRecord line → journey.stage ≡ Some stage
     → journey.deletion ≡ false → stage_after stage (kind_of line) ≡ Some next → HasGoodFields line
@@ -332,7 +331,7 @@ sound_goes_on journey lines line stage next more later has is at kept after fiel
       last_is = λ _. last ∙ (λ i. later_or (last_of (times_along (line ∷ []))) (has.last_is kept i)) ∙ sym (last_time_step lines line);
     }
 
--- three optional times pass midnight as often as each of them in turn
+-- the midnights passed by three optional times are the sum of the counts for each time in turn
 pub falls_of_three : (falls : ℕ) (last first second third : Option ℕ)
     → ((falls + falls_after last (time_list first)) + falls_after (later_or first last) (time_list second)) + falls_after
     (later_or second (later_or first last)) (time_list third)
@@ -343,23 +342,23 @@ falls_of_three falls last first second third =
     let two = falls_in_turn (later_or first last) second (time_list third) in
     omega arith
 
--- ---- the times of a line, by its kind
+-- ---- the times of a line of each kind
 
--- an origin has one time
+-- an origin has one time, in columns 11 to 15
 pub origin_time : (line : List ℕ) → HasKind origin_location line → HasGoodFields line
     → map (λ (time : Occasion × ℕ). time.1) (times_of line) ≡ half_minutes (columns 11 15 line) ∷ []
 origin_time line is good =
     (λ i. map (λ (time : Occasion × ℕ). time.1) (times_by_kind (is i) line))
     ∙ ap (λ time. map (λ (t : Occasion × ℕ). t.1) (timed departure time)) (time_there (columns 11 15 line) (good_fields origin_location line is good).1.0)
 
--- a terminus has one time
+-- a terminus has one time, in columns 11 to 15
 pub terminus_time : (line : List ℕ) → HasKind terminating_location line → HasGoodFields line
     → map (λ (time : Occasion × ℕ). time.1) (times_of line) ≡ half_minutes (columns 11 15 line) ∷ []
 terminus_time line is good =
     (λ i. map (λ (time : Occasion × ℕ). time.1) (times_by_kind (is i) line))
     ∙ ap (λ time. map (λ (t : Occasion × ℕ). t.1) (timed arrival time)) (time_there (columns 11 15 line) (good_fields terminating_location line is good).1.0)
 
--- a call has at most three times
+-- an intermediate location has up to three times: its arrival, its pass and its departure, in this order
 pub call_times : (line : List ℕ) (first second third : Option ℕ) → HasKind intermediate_location line
     → first ≡ scheduled_time (columns 11 15 line) → second ≡ scheduled_time (columns 21 25 line) → third ≡ scheduled_time (columns 16 20 line)
     → map (λ (time : Occasion × ℕ). time.1) (times_of line) ≡ time_list first ++ time_list second ++ time_list third
@@ -381,11 +380,11 @@ call_times line first second third is one two three =
 
 -- ---- the first line
 
--- a basic schedule with good fields is a schedule's first line
+-- a basic schedule with good fields can be the first line of a schedule
 pub first_line_is : (line : List ℕ) → IsRecord line → HasKind basic_schedule line → HasGoodFields line → is_first_line line ≡ true
 first_line_is line is kind fields = (first_line_iff_test line).0 (record { is = is; kind = kind; fields = fields })
 
--- after a basic schedule, the reader keeps the stage, the flags and no times
+-- after a basic schedule the reader remembers its stage and flags, no midnight and no last time
 pub basic_read : (line : List ℕ) (journey : JourneyState) → is_first_line line ≡ true → journey.stage ≡ Some after_basic
     → journey.deletion ≡ is_deletion line → journey.lacking ≡ may_lack line
     → journey.falls ≡ 0 → journey.last ≡ None → HasLines journey (line ∷ [])
@@ -401,16 +400,16 @@ basic_read line journey first at deletion lacking falls last =
       last_is = λ _. last ∙ ap last_of (sym times);
     }
 
--- ---- one more line whose kind may come next
+-- ---- the next line, if a record of its kind may come next
 
--- after a line of a deletion, the reader keeps the next stage, and otherwise what it kept before
+-- in a deletion, after a line of a kind that may come next the reader remembers the next stage, and all else as before
 pub deletion_read : (journey : JourneyState) (lines : Lines) (line : List ℕ) (next : Stage) → HasLines journey lines → IsRecord line
     → stage_then journey.stage (kind_of line) ≡ Some next
     → journey.deletion ≡ true → HasLines (record journey { stage = Some next }) (lines ++ line ∷ [])
 deletion_read journey lines line next has is led deletion =
     let on = leads_on journey.stage (kind_of line) next led in deletion_goes_on journey lines line on.here next has is on.at deletion on.after
 
--- the times of the line, and what the reader keeps after them
+-- Says that these are the times of the line, and that this is the count of midnights and this the last time after them.
 pub record IsTimed (journey : JourneyState) (line : List ℕ) (first second third : Option ℕ) (more : ℕ) (later : Option ℕ) : Type 0 where
   pub times : map (λ (time : Occasion × ℕ). time.1) (times_of line) ≡ time_list first ++ time_list second ++ time_list third
   pub falls : more ≡ journey.falls + falls_after journey.last (time_list first ++ time_list second ++ time_list third)
@@ -421,7 +420,7 @@ timed_falls : (journey : JourneyState) (line : List ℕ) (first second third : O
     → more ≡ journey.falls + falls_after journey.last (times_along (line ∷ []))
 timed_falls journey line first second third more later told = told.falls ∙ (λ i. journey.falls + falls_after journey.last (sym (one_line line ∙ told.times) i))
 
--- a line is sound if and only if the schedule still passes midnight at most twice
+-- a line with good fields is sound if and only if the schedule, with the line's times, passes midnight at most twice
 pub sound_test : (journey : JourneyState) (lines : Lines) (line : List ℕ) (first second third : Option ℕ) (more : ℕ) (later : Option ℕ)
     → HasLines journey lines → journey.deletion ≡ false
     → HasGoodFields line → IsTimed journey line first second third more later → is_sound_next lines line ≡ nat_le more 2
@@ -429,21 +428,21 @@ sound_test journey lines line first second third more later has kept fields told
     sound_by_falls journey lines line more has kept (timed_falls journey line first second third more later told)
     ∙ (λ i. test_by_none (leftmost_bad_field line) fields i && nat_le more 2)
 
--- if the schedule passes midnight at most twice, the line is sound
+-- a line with good fields is sound if the schedule, with the line's times, passes midnight at most twice
 pub sound_by_few : (journey : JourneyState) (lines : Lines) (line : List ℕ) (first second third : Option ℕ) (more : ℕ) (later : Option ℕ)
     → HasLines journey lines → journey.deletion ≡ false
     → HasGoodFields line → IsTimed journey line first second third more later → more ≤ 2 → is_sound_next lines line ≡ true
 sound_by_few journey lines line first second third more later has kept fields told few =
     sound_test journey lines line first second third more later has kept fields told ∙ le-leb more 2 few
 
--- if the schedule passes midnight a third time, the line isn't sound
+-- a line isn't sound if the schedule, with the line's times, passes midnight more than twice
 pub unsound_by_many : (journey : JourneyState) (lines : Lines) (line : List ℕ) (first second third : Option ℕ) (more : ℕ) (later : Option ℕ)
     → HasLines journey lines → journey.deletion ≡ false
     → HasGoodFields line → IsTimed journey line first second third more later → 2 < more → ¬ (is_sound_next lines line ≡ true)
 unsound_by_many journey lines line first second third more later has kept fields told many sound =
     let few = leb-true more 2 (sym (sound_test journey lines line first second third more later has kept fields told) ∙ sound) in omega arith
 
--- after a sound line, the reader keeps the next stage, the count of midnights and the last time
+-- after a sound line the reader remembers the next stage, the new count of midnights and the new last time
 pub sound_read : (journey : JourneyState) (lines : Lines) (line : List ℕ) (next : Stage) (first second third : Option ℕ) (more : ℕ) (later : Option ℕ)
     → HasLines journey lines → IsRecord line
     → stage_then journey.stage (kind_of line) ≡ Some next → journey.deletion ≡ false → HasGoodFields line
@@ -454,14 +453,14 @@ sound_read journey lines line next first second third more later has is led kept
     sound_goes_on journey lines line on.here next more later has is on.at kept on.after fields (timed_falls journey line first second third more later told) few
     (told.last ∙ last_in_turn journey.last first second third ∙ (λ i. later_or (last_of (sym (one_line line ∙ told.times) i)) journey.last))
 
--- ---- results for a line
+-- ---- the result of taking a line
 
--- a promise for an `Ok` result holds if the result is `Ok`
+-- what is promised for an `Ok` result holds if the result is `Ok`
 pub of_ok : {A E P : Type 0} (answer : Result A E) → OnOk answer P → IsOk answer → P
 of_ok (Ok value) holds is = holds
 of_ok (Err cause) holds is = absurd (false≢true is)
 
--- a cause refuses the line if it refuses the line after any lines that the reader may have taken
+-- a cause that is right whatever lines the reader may have taken satisfies `FaultsLine`
 pub faults_line : {A : Type 0} (answer : Result A FileCause) (journey : JourneyState) (line : List ℕ)
     → ((lines : Lines) → HasLines journey lines → IfErr answer (λ cause. IsScheduleCause lines line (cause_meant cause)))
     → IfErr answer (FaultsLine journey line)

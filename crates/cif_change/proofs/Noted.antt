@@ -1,4 +1,4 @@
--- Notes stay as they are when more is noted, and each row notes its places.
+-- Notes of earlier rows stay right when more rows are noted, and each row's piece names the row's places.
 use Rattle.std.proofs.Common.{◌≡◌, ℕ, zero, suc, ◌+◌, ◌-◌, ◌≤◌, ◌<◌, List, [], ◌∷◌, ◌++◌, map, take, drop, length, get_or, refl}
 use Rattle.std.proofs.Common.{ap, sym, ◌∙◌, subst, Bool, true, false, cond, Some, None, inl, inr, ◌⊎◌, arith, append-nil}
 use Rattle.std.specs.Prelude.{slice_get, min}
@@ -20,9 +20,9 @@ none_some a h = cc
 some_is : {A : Type 0} (a b : A) → Some a ≡ Some b → a ≡ b
 some_is a b h = cc
 
--- ---- what stays
+-- ---- what stays right
 
--- a list that has one more element still has the others
+-- appending an element to a list keeps the other elements at their indexes
 pub pushed_keeps : {A : Type 0} (xs : List A) (x : A) (ys : List A) → ys ≡ xs ++ x ∷ [] → Keeps xs ys
 pushed_keeps {A} xs x ys pushed i z is = ap (λ (zs : List A). slice_get zs i) pushed ∙ there xs i is
   where
@@ -31,7 +31,7 @@ pushed_keeps {A} xs x ys pushed i z is = ap (λ (zs : List A). slice_get zs i) p
     there (y ∷ ys) zero is = is
     there (y ∷ ys) (suc i) is = there ys i is
 
--- the new element is the last one
+-- an element appended to a list is at the index that was the list's length
 pub pushed_at : {A : Type 0} (xs : List A) (x : A) (ys : List A) → ys ≡ xs ++ x ∷ [] → slice_get ys (length xs) ≡ Some x
 pushed_at {A} xs x ys pushed = ap (λ (zs : List A). slice_get zs (length xs)) pushed ∙ there xs
   where
@@ -39,13 +39,13 @@ pushed_at {A} xs x ys pushed = ap (λ (zs : List A). slice_get zs (length xs)) p
     there [] = refl
     there (y ∷ ys) = there ys
 
--- a longer list that keeps a list has no fewer elements
+-- a list that keeps the elements of another list is at least as long
 pub keeps_len : {A : Type 0} (xs ys : List A) → Keeps xs ys → length xs ≤ length ys
 keeps_len [] ys keeps = omega arith
 keeps_len (x ∷ xs) [] keeps = absurd (none_some x (keeps 0 x refl))
 keeps_len (x ∷ xs) (y ∷ ys) keeps = let rest = keeps_len xs ys (λ i z is. keeps (suc i) z is) in omega arith
 
--- a part of a list stays the same in a longer list
+-- a part of a list is the same part of any list that keeps its elements
 part_kept : (f n : ℕ) (xs ys : List ℕ) → Keeps xs ys → f + n ≤ length xs → take n (drop f ys) ≡ take n (drop f xs)
 part_kept zero zero xs ys keeps within = refl
 part_kept zero (suc n) [] ys keeps within = absurd (omega arith)
@@ -58,7 +58,7 @@ part_kept (suc f) n [] ys keeps within = absurd (omega arith)
 part_kept (suc f) n (x ∷ xs) [] keeps within = absurd (none_some x (keeps 0 x refl))
 part_kept (suc f) n (x ∷ xs) (y ∷ ys) keeps within = part_kept f n xs ys (λ i z is. keeps (suc i) z is) (omega arith)
 
--- indexes of places are still indexes of the same places
+-- numbers that are indexes of places in a list are indexes of the same places in a list that keeps its elements
 pub ranks_kept : (old new : List (List ℕ)) → Keeps old new → (places : List (List ℕ)) (numbers : List ℕ) → AreRanks old places numbers
     → AreRanks new places numbers
 ranks_kept old new keeps [] [] are = refl
@@ -72,7 +72,7 @@ ranks_kept old new keeps (place ∷ places) (n ∷ ns) are =
     λ i. first i ∷ rest i
 
 module _ (names more : List (List ℕ)) (numbers others : List ℕ) (keeps : Keeps names more) (kept : Keeps numbers others) where
-  -- what a piece noted for a row is still noted
+  -- a row that is noted in a piece stays noted there when places and numbers are added
   pub noted_kept : (item : Item) (piece : Piece) → IsNoted names numbers item piece → IsNoted more others item piece
   noted_kept item piece is = record {
     calls = subst (λ (ns : List ℕ). AreRanks more (call_places item.0 item.1) ns) (sym (same false))
@@ -85,14 +85,14 @@ module _ (names more : List (List ℕ)) (numbers others : List ℕ) (keeps : Kee
       same : (links : Bool) → numbers_of links others piece ≡ numbers_of links numbers piece
       same links = ap (if_asked piece.is_link links) (part_kept piece.from piece.count numbers others kept is.within)
 
-  -- what all pieces noted for their rows is still noted
+  -- rows that are noted in pieces stay noted there when places and numbers are added
   pub all_kept : (items : List Item) (pieces : List Piece) → AreNoted names numbers items pieces → AreNoted more others items pieces
   all_kept [] [] are = tt
   all_kept [] (piece ∷ pieces) are = are
   all_kept (item ∷ items) [] are = are
   all_kept (item ∷ items) (piece ∷ pieces) are = (noted_kept item piece are.0, all_kept items pieces are.1)
 
--- ---- one more row
+-- ---- the next row
 
 all_more : (names : List (List ℕ)) (numbers : List ℕ) (items : List Item) (pieces : List Piece) (item : Item) (piece : Piece)
     → AreNoted names numbers items pieces → IsNoted names numbers item piece → AreNoted names numbers (items ++ item ∷ []) (pieces ++ piece ∷ [])
@@ -105,7 +105,7 @@ in_all : (pieces : List Piece) (piece : Piece) → numbers_in (pieces ++ piece �
 in_all [] piece = omega arith
 in_all (other ∷ pieces) piece = let rest = in_all pieces piece in omega arith
 
--- one more row is noted after the others
+-- if the new notes have one more piece, in which the next row is noted, they are the notes of all rows with this one
 pub row_noted : (old new : Notes) (item : Item) (piece : Piece) → Keeps old.names.list.items new.names.list.items → Keeps old.numbers.items new.numbers.items
     → IsNext new.names.list.items old.numbers.items new.numbers.items item piece → new.pieces.items ≡ old.pieces.items ++ piece ∷ []
     → (items : List Item) → HasNoted items old → HasNoted (items ++ item ∷ []) new
@@ -122,7 +122,7 @@ row_noted old new item piece keeps kept next pushed items has = record {
       );
 }
 
--- more names and numbers don't change what is noted, as long as no row is added
+-- if no piece is added, the notes stay right for the same rows, although places and numbers may have been added
 pub none_noted : (old new : Notes) → Keeps old.names.list.items new.names.list.items → Keeps old.numbers.items new.numbers.items
     → new.pieces.items ≡ old.pieces.items → (items : List Item) → HasNoted items old → HasNoted items new
 none_noted old new keeps kept same items has = record {
@@ -136,7 +136,7 @@ none_noted old new keeps kept same items has = record {
       );
 }
 
--- ---- a row's places
+-- ---- the places of a row
 
 nothing_next : (names : List (List ℕ)) (numbers : List ℕ) (item : Item) → call_places item.0 item.1 ≡ [] → link_places item.0 item.1 ≡ []
     → IsNext names numbers numbers item no_piece
@@ -160,13 +160,13 @@ no_calls (schedule_key key) lapsed never = (refl, refl)
 no_calls (association_key key) lapsed never = (refl, refl)
 no_calls (tiploc_key code) lapsed never = (refl, refl)
 
--- a row whose key isn't put adds no number
+-- for a row whose key isn't put, no number has to be added: its piece has none
 none_next : (names : List (List ℕ)) (numbers : List ℕ) (key : Key) (op : Op) → body_of op ≡ None → IsNext names numbers numbers (key, op) no_piece
 none_next names numbers key op none =
     let nowhere = no_calls key op (λ body put. none_some body (sym none ∙ ap body_of put)) in
     nothing_next names numbers (key, op) nowhere.0 nowhere.1
 
--- a row whose key isn't put gets a piece without numbers
+-- after appending a piece without numbers, a row whose key isn't put is noted
 pub none_row : (old new : Notes) (piece : Piece) → old.names.list.items ≡ new.names.list.items → old.numbers.items ≡ new.numbers.items → piece ≡ no_piece
     → new.pieces.items ≡ old.pieces.items ++ piece ∷ [] → (items : List Item) (key : Key) (op : Op) → body_of op ≡ None → HasNoted items old
     → HasNoted (items ++ (key, op) ∷ []) new
@@ -179,7 +179,7 @@ none_row old new piece same_names same_numbers none pushed items key op not_put 
     (none_next new.names.list.items new.numbers.items key op not_put)))
     pushed items has
 
--- the numbers that are new are all numbers after the old ones
+-- if a piece has as many numbers as were added, taking that many of the new numbers takes all of them
 came_all : (old new : List ℕ) (count : ℕ) → count ≡ length new - length old → take count (drop (length old) new) ≡ drop (length old) new
 came_all old new count is = by (drop (length old) new) (let len = length-drop (length old) new in omega arith)
   where
@@ -194,7 +194,7 @@ module _ (names : List (List ℕ)) (old new : List ℕ) (kept : Keeps old new) (
   came : take count (drop (length old) new) ≡ drop (length old) new
   came = came_all old new count count_is
 
-  -- the piece of a schedule has the numbers of the places at which the schedule calls
+  -- if the added numbers name the places where a schedule calls, they are the schedule's piece
   pub calls_next : (key : ScheduleKey) (lines : List (List ℕ)) → AreRanks names (map (columns 3 9) (location_lines lines)) (drop (length old) new)
       → IsNext names old new (schedule_key key, put_with (schedule_body lines)) (record { is_link = false; from = length old; count = count })
   calls_next key lines are = record {
@@ -206,7 +206,7 @@ module _ (names : List (List ℕ)) (old new : List ℕ) (kept : Keeps old new) (
     apart = (let len = keeps_len old new kept in omega arith);
   }
 
--- like `calls_next`, for a row that equals such a row
+-- a row whose key and body are equal to a schedule's is noted in the same way as the schedule
 pub calls_put : (names : List (List ℕ)) (old new : List ℕ) → Keeps old new → (from count : ℕ) → from ≡ length old → count ≡ length new - length old
     → (key : Key) (body : Body) (schedule : ScheduleKey) (lines : List (List ℕ)) → key ≡ schedule_key schedule → body ≡ schedule_body lines
     → AreRanks names (map (columns 3 9) (location_lines lines)) (drop (length old) new)
@@ -218,7 +218,7 @@ calls_put names old new kept from count from_is count_is key body schedule lines
     (sym from_is)
     (calls_next names old new kept count count_is schedule lines are))
 
--- a number that is added names its place
+-- a single added number, the index of a place, names this place
 pub one_pushed : (names : List (List ℕ)) (old new : List ℕ) (place : List ℕ) (number : ℕ) → new ≡ old ++ number ∷ [] → slice_get names number ≡ Some place
     → AreRanks names (place ∷ []) (drop (length old) new)
 one_pushed names old new place number pushed is =
@@ -226,9 +226,9 @@ one_pushed names old new place number pushed is =
     ∙ ap (map (slice_get names)) (drop-append_seam old (number ∷ []))
     ∙ (λ i. is i ∷ [])
 
--- ---- one place after the other
+-- ---- noting one place after another
 
--- a list begins with the list that it keeps
+-- a list that keeps the elements of another list begins with that list
 keeps_front : (xs ys : List ℕ) → Keeps xs ys → ys ≡ xs ++ drop (length xs) ys
 keeps_front [] ys keeps = refl
 keeps_front (x ∷ xs) [] keeps = absurd (none_some x (keeps 0 x refl))
@@ -237,7 +237,7 @@ keeps_front (x ∷ xs) (y ∷ ys) keeps =
     let rest = keeps_front xs ys (λ i z is. keeps (suc i) z is) in
     λ i. same i ∷ rest i
 
--- the numbers that came first, and the numbers after them, are the new numbers
+-- the numbers added in two steps, one after the other, are all the added numbers
 came_since : (first old new more : List ℕ) → Keeps first old → Keeps old new
     → drop (length first) old ++ (drop (length old) new ++ more) ≡ drop (length first) new ++ more
 came_since first old new more one two =
@@ -254,7 +254,8 @@ one_more names places place (n ∷ []) more are rest =
     let first : slice_get names n ≡ Some place = cc in
     λ i. first i ∷ rest i
 
--- the places of the remaining lines are still to be noted, after the places that are noted
+-- Says that only the remaining lines' places are still to be noted: followed by numbers for these,
+-- the noted numbers name the places of all lines.
 abbrev pub IsLeft : List (List ℕ) → List (List ℕ) → List (List ℕ) → List ℕ → List ℕ → Type 0
 IsLeft names all rest first numbers = (others : List (List ℕ)) (more : List ℕ) → Keeps names others → AreRanks others rest more
     → AreRanks others all (drop (length first) numbers ++ more)
@@ -275,14 +276,14 @@ pub all_came : (names all : List (List ℕ)) (first numbers : List ℕ) → IsLe
 all_came names all first numbers left =
     subst (AreRanks names all) (append-nil (drop (length first) numbers)) (left names [] (λ i x is. is) refl)
 
--- a location record gives the next place
+-- if the first remaining line is a location record, its TIPLOC is the first of the remaining places
 pub location_first : (rest behind : List (List ℕ)) (line : List ℕ) → rest ≡ line ∷ behind → is_location (kind_of line) ≡ true
     → map (columns 3 9) (location_lines rest) ≡ columns 3 9 line ∷ map (columns 3 9) (location_lines behind)
 location_first rest behind line whole is =
     ap (λ (lines : List (List ℕ)). map (columns 3 9) (location_lines lines)) whole
     ∙ (λ i. map (columns 3 9) (cond (is i) (line ∷ location_lines behind) (location_lines behind)))
 
--- a line that isn't a location record gives no place
+-- if the first remaining line isn't a location record, the remaining places are found in the lines after it
 pub location_other : (rest behind : List (List ℕ)) (line : List ℕ) → rest ≡ line ∷ behind → is_location (kind_of line) ≡ false
     → map (columns 3 9) (location_lines rest) ≡ map (columns 3 9) (location_lines behind)
 location_other rest behind line whole is =
@@ -293,9 +294,9 @@ pub no_lines : (rest : List (List ℕ)) → length rest ≡ 0 → rest ≡ []
 no_lines [] none = refl
 no_lines (line ∷ rest) none = absurd (omega arith)
 
--- ---- one row after the other
+-- ---- noting one row after another
 
--- the elements of a list before this rest
+-- the elements of a list before a given rest of it
 abbrev pub front_of : List Item → List Item → List Item
 front_of all rest = take (length all - length rest) all
 
@@ -305,12 +306,12 @@ front_is front rest all whole =
     let same : length (front ++ rest) - length rest ≡ length front = omega arith in
     sym (ap (λ (xs : List Item). front_of xs rest) whole) ∙ ap (λ n. take n (front ++ rest)) same ∙ take-append_seam front rest
 
--- all items before the rest are noted
+-- Says that the notes are of exactly the rows before the rest.
 pub record AreNotedBefore (all rest : List Item) (notes : Notes) : Type 0 where
   pub noted : HasNoted (front_of all rest) notes
   pub whole : front_of all rest ++ rest ≡ all
 
--- at first no item is noted
+-- at first all rows remain, and the notes are of no row
 pub none_before : (all : List Item) (notes : Notes) → HasNoted [] notes → AreNotedBefore all all notes
 none_before all notes none =
     let front : front_of all all ≡ [] = front_is [] all all refl in
@@ -319,7 +320,7 @@ none_before all notes none =
       whole = ap (λ (items : List Item). items ++ all) front;
     }
 
--- one more item is noted
+-- after noting the first of the remaining rows, the notes are of all rows before the others
 pub one_noted : (all rest behind : List Item) (item : Item) (old new : Notes) → rest ≡ item ∷ behind
     → ((items : List Item) → HasNoted items old → HasNoted (items ++ item ∷ []) new) → AreNotedBefore all rest old → AreNotedBefore all behind new
 one_noted all rest behind item old new rest_is noted before =
@@ -331,12 +332,12 @@ one_noted all rest behind item old new rest_is noted before =
       whole = ap (λ (items : List Item). items ++ behind) front ∙ all_is;
     }
 
--- at the end all items are noted
+-- when no row remains, the notes are of all rows
 pub all_noted : (all rest : List Item) (notes : Notes) → length rest ≡ 0 → AreNotedBefore all rest notes → HasNoted all notes
 all_noted all [] notes none before = subst (λ (items : List Item). HasNoted items notes) (sym (append-nil (front_of all [])) ∙ before.whole) before.noted
 all_noted all (item ∷ rest) notes none before = absurd (omega arith)
 
--- ---- changes
+-- ---- notes of changes
 
 -- if a change's key is noted with the op that the change leaves, the change is noted
 pub change_noted : (notes : Notes) (made : List model.Change) (change : model.Change) (op : Op) → op_of change.act ≡ op
@@ -346,7 +347,7 @@ change_noted notes made change op is has =
     (sym (map-append {B = Item} (λ (c : model.Change). (c.key, op_of c.act)) made (change ∷ [])))
     (subst (λ (o : Op). HasNoted (items_put made ++ (change.key, o) ∷ []) notes) (sym is) has)
 
--- ---- some of the rows
+-- ---- notes of some of the rows
 
 piece_at : (names : List (List ℕ)) (numbers : List ℕ) (items : List Item) (pieces : List Piece) → AreNoted names numbers items pieces → (n : ℕ) (item : Item)
     → slice_get items n ≡ Some item → IsNoted names numbers item (get_or pieces n no_piece)
@@ -356,7 +357,7 @@ piece_at names numbers (first ∷ items) (piece ∷ pieces) are zero item is =
     subst (λ (i : Item). IsNoted names numbers i piece) (some_is first item is) are.0
 piece_at names numbers (first ∷ items) (piece ∷ pieces) are (suc n) item is = piece_at names numbers items pieces are.1 n item is
 
--- the rows that are picked are noted, with their own pieces
+-- taking the pieces at some indexes gives the notes of the rows at these indexes
 pub picked_noted : (names : List (List ℕ)) (numbers : List ℕ) (items : List Item) (pieces : List Piece) → AreNoted names numbers items pieces → (order : List ℕ)
     (picked : List Item) → ArePicked items order picked → AreNoted names numbers picked (map (λ n. get_or pieces n no_piece) order)
 picked_noted names numbers items pieces are [] [] is = tt
@@ -369,9 +370,9 @@ picked_noted names numbers items pieces are (n ∷ order) (item ∷ picked) is =
     let behind : ArePicked items order picked = cc in
     (piece_at names numbers items pieces are n item here, picked_noted names numbers items pieces are order picked behind)
 
--- ---- parts of a list, cut to its length
+-- ---- indexes past the end of a list
 
--- dropping more elements than the list has is dropping all
+-- dropping more elements than a list has drops all of them
 pub drop_min : (n : ℕ) (xs : List ℕ) → drop (min n (length xs)) xs ≡ drop n xs
 drop_min n xs = by (cases_lt n (length xs))
   where
@@ -379,7 +380,7 @@ drop_min n xs = by (cases_lt n (length xs))
     by (inl few) = ap (λ k. drop k xs) (omega arith)
     by (inr past) = drop_all (min n (length xs)) xs (omega arith) ∙ sym (drop_all n xs past)
 
--- taking more elements than the list has is taking all
+-- taking more elements than a list has takes all of them
 pub take_min : (n : ℕ) (xs : List ℕ) → take (min n (length xs)) xs ≡ take n xs
 take_min n xs = by (cases_lt n (length xs))
   where

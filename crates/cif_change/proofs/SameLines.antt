@@ -1,4 +1,4 @@
--- Lines are equal if their blocks of sixteen bytes are.
+-- Two lines are equal if and only if their five blocks of sixteen bytes are. A block is compared with one lane for each byte.
 use Rattle.std.proofs.Common.{◌≡◌, ℕ, ◌+◌, ◌*◌, ◌%◌, ◌^◌, ◌≤◌, nat_eq, Bool, true, false, cond, not, ◌&&◌, List}
 use Rattle.std.proofs.Common.{[], ◌∷◌, ◌++◌, map, length, take, drop, w8, refl, sym, ap, subst, ◌∙◌, arith}
 use Rattle.std.specs.Prelude.{◌↔◌, IsTrue}
@@ -12,11 +12,11 @@ use lib.Lanes.{mask_l, top, zip2}
 abbrev differ : ℕ → ℕ → Bool
 differ a b = not (nat_eq a b)
 
--- the lane of two bytes: 255 if they differ, and 0 if not
+-- the lane for two bytes: 255 if they differ, and otherwise 0
 abbrev pub lane : ℕ → ℕ → ℕ
 lane a b = cond (differ a b) 255 0
 
--- a number whose lowest bit is 1 isn't 0
+-- a binary number whose lowest digit is 1 isn't 0
 one_set : (m : ℕ) → nat_eq (1 + 2 * m) 0 ≡ false
 one_set m = grind (arith, nat_tests)
 
@@ -24,7 +24,7 @@ one_set m = grind (arith, nat_tests)
 twice : (m : ℕ) → nat_eq (0 + 2 * m) 0 ≡ nat_eq m 0
 twice m = grind (arith, nat_tests)
 
--- if the mask of differences is 0, the bytes are equal
+-- two lists of the same length are equal if the mask, with a bit for each pair of bytes that differ, is 0
 none_differs : (xs ys : List ℕ) → length xs ≡ length ys → nat_eq (mask_l (zip2 differ xs ys)) 0 ≡ true → xs ≡ ys
 none_differs [] [] even none = refl
 none_differs [] (y ∷ ys) even none = absurd (omega arith)
@@ -36,7 +36,7 @@ none_differs (x ∷ xs) (y ∷ ys) even none = by (nat_eq x y) refl none (none_d
     by true one told rest = let same = eqb-true x y one in let others = rest (sym (twice (mask_l (zip2 differ xs ys))) ∙ told) in λ i. same i ∷ others i
     by false two told rest = absurd (let bad : false ≡ true = sym (one_set (mask_l (zip2 differ xs ys))) ∙ told in cc)
 
--- if the bytes are equal, the mask is 0
+-- if two lists are equal, the mask with a bit for each pair of bytes that differ is 0
 none_of_same : (xs : List ℕ) → nat_eq (mask_l (zip2 differ xs xs)) 0 ≡ true
 none_of_same [] = refl
 none_of_same (x ∷ xs) = by (nat_eq x x) (grind (arith, nat_tests)) (none_of_same xs)
@@ -45,34 +45,33 @@ none_of_same (x ∷ xs) = by (nat_eq x x) (grind (arith, nat_tests)) (none_of_sa
     by true one rest = twice (mask_l (zip2 differ xs xs)) ∙ rest
     by false two rest = absurd (let bad : false ≡ true = two in cc)
 
--- the mask of the lanes' top bits is the mask of differences
+-- the top bits of the lanes make the mask with a bit for each pair of bytes that differ
 mask_of_lanes : (xs ys : List ℕ) → length xs ≡ length ys → length xs ≤ 64
     → mask_l (map (top 7) (zip2 lane xs ys)) % 2 ^ 64 ≡ mask_l (zip2 differ xs ys)
 mask_of_lanes xs ys even few =
     ap (λ l. mask_l l % 2 ^ 64) (tops_compared w8 differ xs ys) ∙ mask_l-mod (zip2 differ xs ys) 64 (omega (arith, length-zip2 differ xs ys even))
 
--- if no lane is set, the bytes are equal
+-- two lists of the same length are equal if no lane is set
 pub no_lane_differs : (xs ys : List ℕ) → length xs ≡ length ys → length xs ≤ 64
     → nat_eq (mask_l (map (top 7) (zip2 lane xs ys)) % 2 ^ 64) 0 ≡ true → xs ≡ ys
 no_lane_differs xs ys even few none =
     none_differs xs ys even (ap (λ m. nat_eq m 0) (sym (mask_of_lanes xs ys even few)) ∙ none)
 
--- if the bytes are equal, no lane is set
+-- if two lists are equal, no lane is set
 pub no_lane_of_same : (xs ys : List ℕ) → length xs ≤ 64 → xs ≡ ys → nat_eq (mask_l (map (top 7) (zip2 lane xs ys)) % 2 ^ 64) 0 ≡ true
 no_lane_of_same xs ys few same =
     subst (λ (other : List ℕ). nat_eq (mask_l (map (top 7) (zip2 lane xs other)) % 2 ^ 64) 0 ≡ true) same
     (ap (λ m. nat_eq m 0) (mask_of_lanes xs xs refl few) ∙ none_of_same xs)
 
--- two lists are equal from an index on if the next sixteen bytes are equal, and all bytes after
--- them
+-- two lists are equal from an index on if their next sixteen bytes are equal and all bytes after these are equal
 same_rest : (xs ys : List ℕ) (at : ℕ) → take 16 (drop at xs) ≡ take 16 (drop at ys) → drop (at + 16) xs ≡ drop (at + 16) ys → drop at xs ≡ drop at ys
 same_rest xs ys at block rest = chunk-drop at 16 xs ∙ (λ i. block i ++ rest i) ∙ sym (chunk-drop at 16 ys)
 
--- no byte comes after the eightieth
+-- a line has no byte after its eightieth
 nothing_left : (bytes : List ℕ) → length bytes ≡ 80 → drop 80 bytes ≡ []
 nothing_left bytes size = drop_all 80 bytes (let long : length bytes ≤ 80 = omega arith in long)
 
--- two lines are equal if all five blocks are
+-- two lines are equal if all five blocks of them are
 same_line : (xs ys : List ℕ) → length xs ≡ 80 → length ys ≡ 80
     → take 16 (drop 0 xs) ≡ take 16 (drop 0 ys) → take 16 (drop 16 xs) ≡ take 16 (drop 16 ys) → take 16 (drop 32 xs) ≡ take 16 (drop 32 ys)
     → take 16 (drop 48 xs) ≡ take 16 (drop 48 ys) → take 16 (drop 64 xs) ≡ take 16 (drop 64 ys) → xs ≡ ys
@@ -81,7 +80,7 @@ same_line xs ys left right first second third fourth fifth =
     (same_rest xs ys 16 second
     (same_rest xs ys 32 third (same_rest xs ys 48 fourth (same_rest xs ys 64 fifth (nothing_left xs left ∙ sym (nothing_left ys right))))))
 
--- if five tests pass together, each passes
+-- if five tests joined by AND pass, each of them passes
 all_five : (a b c d e : Bool) → ((((a && b) && c) && d) && e) ≡ true → (a ≡ true) × (b ≡ true) × (c ≡ true) × (d ≡ true) × (e ≡ true)
 all_five true true true true true told = (refl, refl, refl, refl, refl)
 all_five true true true true false told = absurd (let bad : false ≡ true = told in cc)
@@ -90,11 +89,11 @@ all_five true true false d e told = absurd (let bad : false ≡ true = told in c
 all_five true false c d e told = absurd (let bad : false ≡ true = told in cc)
 all_five false b c d e told = absurd (let bad : false ≡ true = told in cc)
 
--- two lines have the same sixteen bytes from an index on
+-- Says that two lines have the same sixteen bytes at an index and after it.
 abbrev pub IsSameBlock : List ℕ → List ℕ → ℕ → Type 0
 IsSameBlock xs ys at = take 16 (drop at xs) ≡ take 16 (drop at ys)
 
--- five tests, one for each block, all pass if and only if the lines are equal
+-- two lines are equal if and only if five tests, one for each block, all pass
 pub line_told : (xs ys : List ℕ) → length xs ≡ 80 → length ys ≡ 80 → (a b c d e : Bool)
     → (IsTrue a ↔ IsSameBlock xs ys 0) → (IsTrue b ↔ IsSameBlock xs ys 16) → (IsTrue c ↔ IsSameBlock xs ys 32)
     → (IsTrue d ↔ IsSameBlock xs ys 48) → (IsTrue e ↔ IsSameBlock xs ys 64)

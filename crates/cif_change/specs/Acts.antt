@@ -1,8 +1,8 @@
--- The op that an act leaves at its key.
+-- What an act leaves at its key.
 use Rattle.docker_model.specs.state.Op.{Op, op_of}
 use Rattle.cif_change.specs.declared.change.Act.{Act}
 use Rattle.cif_change.specs.Meaning.{act_meant}
 
--- the op that this act leaves at its key
+-- the op of the entry that an act leaves at its key: put with a body, or deleted
 abbrev pub act_op : Act → Op
 act_op act = op_of (act_meant act)

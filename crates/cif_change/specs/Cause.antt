@@ -1,11 +1,12 @@
--- Causes of faults, translated to the definitions, and their texts.
+-- Causes of the code, translated into those that the definitions use, and the printed texts of causes.
 use Rattle.std.specs.Prelude.{ℕ, List, ◌++◌, codes, decimal, Option, Some, None}
 use Rattle.docker_model.specs.file.FileFault.{too_many, after_trailer, bad_length, bad_byte, bad_kind, bad_place, bad_field, third_midnight, no_end}
 use Rattle.docker_model.specs.file.FileFault as fault
 use Rattle.cif_change.specs.declared.cause.FileCause.{FileCause}
 use Rattle.cif_change.specs.declared.cause.FileCause.TheVariants as cause
 
--- a cause as the definitions have it. Out of memory is None, since it is no fault of a text
+-- a cause of the code, translated into a cause of the definitions; none if memory ran out, which
+-- isn't a fault of the text
 abbrev pub cause_meant : FileCause → Option fault.FileCause
 cause_meant cause.Length = Some bad_length
 cause_meant (cause.Byte at) = Some (bad_byte at)
@@ -18,7 +19,7 @@ cause_meant cause.After = Some after_trailer
 cause_meant cause.TooMany = Some too_many
 cause_meant cause.Memory = None
 
--- the name of a cause
+-- the name under which a cause is printed
 abbrev pub cause_name : FileCause → List ℕ
 cause_name cause.Length = codes "Length"
 cause_name (cause.Byte _) = codes "Byte"
@@ -31,17 +32,17 @@ cause_name cause.After = codes "After"
 cause_name cause.TooMany = codes "TooMany"
 cause_name cause.Memory = codes "Memory"
 
--- the column that a cause names, if it names one
+-- the column of a bad byte or a bad field, counted from 1; none for any other cause
 abbrev pub cause_column : FileCause → Option ℕ
 cause_column (cause.Byte column) = Some column
 cause_column (cause.Field column) = Some column
 cause_column _ = None
 
--- a name, and the column after it if there is one
+-- a name, followed by a space and the column in decimal if there is one: `Field 23`
 abbrev pub name_and_column : List ℕ → Option ℕ → List ℕ
 name_and_column name None = name
 name_and_column name (Some column) = name ++ codes " " ++ decimal column
 
--- the text of a cause: its name, and the column if it names one
+-- the printed text of a cause: its name, and its column if it has one, such as `Field 23`
 abbrev pub cause_text : FileCause → List ℕ
 cause_text it = name_and_column (cause_name it) (cause_column it)

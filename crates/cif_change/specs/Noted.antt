@@ -1,5 +1,5 @@
--- The places that rows name, noted as numbers: each number is the index of a place, and each row
--- has a piece of the numbers.
+-- Notes of the places that rows name. A place is noted as a number, its index in a list of places.
+-- Each row has a piece of the list of all numbers.
 use Rattle.std.specs.Prelude.{⊤, ℕ, ◌≡◌, ◌+◌, ◌≤◌, Bool, true, false, List, [], ◌∷◌, map, take, drop, length, slice_get, Some}
 use Rattle.docker_model.specs.file.Change as model
 use Rattle.docker_model.specs.file.Change.{Key}
@@ -8,57 +8,59 @@ use Rattle.cif_change.specs.declared.notes.Notes.{Notes}
 use Rattle.cif_change.specs.declared.piece.Piece.{Piece}
 use Rattle.cif_change.specs.NamedPlaces.{AreRanks, call_places, link_places}
 
--- a row without its stamp: a key and its op
+-- a row without its stamp: its key and its op
 abbrev pub Item : Type 0
 Item = Key × Op
 
--- the items of these rows
+-- the rows without their stamps
 abbrev pub items_of : List (Key × Entry) → List Item
 items_of rows = map (λ (row : Key × Entry). (row.0, row.1.op)) rows
 
--- the items of these changes: each key with the op that the change leaves there
+-- the keys of some changes, each with the op that the change leaves at its key
 abbrev pub items_put : List model.Change → List Item
 items_put changes = map (λ (change : model.Change). (change.key, op_of change.act)) changes
 
--- the new list has each element of the old one at the same index
+-- Says that each element of the old list is at the same index in the new list.
 abbrev pub Keeps : {A : Type 0} → List A → List A → Type 0
 Keeps {A} old new = (i : ℕ) (x : A) → slice_get old i ≡ Some x → slice_get new i ≡ Some x
 
--- the numbers if the piece is of the kind that is asked for, and otherwise none
+-- the given numbers if the two flags agree, and otherwise none. The flags say whether links are
+-- wanted, and whether the numbers are links.
 abbrev pub if_asked : Bool → Bool → List ℕ → List ℕ
 if_asked true true numbers = numbers
 if_asked true false numbers = []
 if_asked false true numbers = []
 if_asked false false numbers = numbers
 
--- the numbers in a piece, if it is of the kind that is asked for: links or calls
+-- the numbers in a piece, if they are of the wanted kind: links for `true`, calls for `false`
 abbrev pub numbers_of : Bool → List ℕ → Piece → List ℕ
 numbers_of links numbers piece = if_asked piece.is_link links (take piece.count (drop piece.from numbers))
 
--- the numbers in the piece name the places at which the item calls or is linked
+-- Says that the numbers in a piece name the places where the row calls or is linked.
 pub record IsNoted (names : List (List ℕ)) (numbers : List ℕ) (item : Item) (piece : Piece) : Type 0 where
   pub calls : AreRanks names (call_places item.0 item.1) (numbers_of false numbers piece)
   pub links : AreRanks names (link_places item.0 item.1) (numbers_of true numbers piece)
   pub within : piece.from + piece.count ≤ length numbers
 
--- each item is noted in its own piece
+-- Says that each row is noted in the piece at the same index, and that there are no other pieces.
 abbrev pub AreNoted : List (List ℕ) → List ℕ → List Item → List Piece → Type 0
 AreNoted names numbers [] [] = ⊤
 AreNoted names numbers [] (piece ∷ pieces) = ⊥
 AreNoted names numbers (item ∷ items) [] = ⊥
 AreNoted names numbers (item ∷ items) (piece ∷ pieces) = IsNoted names numbers item piece × AreNoted names numbers items pieces
 
--- how many numbers these pieces have
+-- how many numbers some pieces have in total
 abbrev pub numbers_in : List Piece → ℕ
 numbers_in [] = 0
 numbers_in (piece ∷ pieces) = piece.count + numbers_in pieces
 
--- the places of these items are noted, one item after the other
+-- Says that these notes are of exactly these rows, in this order.
 pub record HasNoted (items : List Item) (notes : Notes) : Type 0 where
   pub are : AreNoted notes.names.list.items notes.numbers.items items notes.pieces.items
   pub apart : numbers_in notes.pieces.items ≤ length notes.numbers.items
 
--- the piece of the next item has all numbers that are new
+-- Says that the next row is noted in this piece, and that at least as many numbers were added for
+-- it as the piece has.
 pub record IsNext (names : List (List ℕ)) (old new : List ℕ) (item : Item) (piece : Piece) : Type 0 where
   pub noted : IsNoted names new item piece
   pub apart : length old + piece.count ≤ length new
@@ -67,6 +69,6 @@ pub record IsNext (names : List (List ℕ)) (old new : List ℕ) (item : Item) (
 abbrev pub no_piece : Piece
 no_piece = record { is_link = false; from = 0; count = 0 }
 
--- the picked items stand at these indexes
+-- Says that the picked rows are the rows at these indexes, in this order.
 abbrev pub ArePicked : List Item → List ℕ → List Item → Type 0
 ArePicked items order picked = map (slice_get items) order ≡ map Some picked

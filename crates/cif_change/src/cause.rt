@@ -1,4 +1,4 @@
-//! Why a record is refused.
+//! Causes: why the reader of an extract refuses it.
 ghost use Rattle.std.specs.Prelude.{◌≡◌, ◌≤◌, Some, length};
 ghost use Rattle.cif_change.specs.declared.cause.FileCause.TheVariants.{Field, Memory};
 ghost use Rattle.cif_change.specs.Cause.{cause_column, cause_name, cause_text};
@@ -8,34 +8,35 @@ use std::alloc::AllocError;
 use std::error::Error;
 use std::fmt;
 
-/// The cause of a fault.
+/// Why the reader of an extract refuses a record, or the end of the text.
 #[derive(Clone, Copy, PartialEq, Eq, Debug)]
 pub enum FileCause {
     /// The line doesn't have 80 bytes.
     Length,
-    /// A byte of the line isn't printable. Holds the leftmost such column, from 1.
+    /// A byte of the line isn't printable. The number is the column, from 1, of the leftmost such
+    /// byte.
     Byte(u8),
     /// The line doesn't begin with the identity of a kind of record.
     Kind,
-    /// No file with the earlier records continues with a record of this kind.
+    /// A record of this kind can't follow the records before it: no extract begins in this way.
     Place,
-    /// A checked field of the record isn't good. Holds the first column of the leftmost such field,
-    /// from 1.
+    /// A checked field of the record isn't good. The number is the first column, from 1, of the
+    /// leftmost such field.
     Field(u8),
-    /// The record's schedule passes midnight for the third time there.
+    /// At this record the schedule passes midnight for the third time. Two are allowed.
     Midnights,
-    /// The text ends before a trailer.
+    /// The text ends without a trailer.
     NoEnd,
     /// The record comes after the trailer.
     After,
-    /// There are more records than the limit allows.
+    /// The extract has more records than the limit allows.
     TooMany,
     /// Out of memory: the allocator refused to grow.
     Memory,
 }
 
 impl FileCause {
-    /// The cause's name, as the text of a fault has it.
+    /// The name of the cause, as it is printed in a fault: one word of at most nine characters.
     pub fn name(&self) -> &'static str
         ensures name { result.now ≡ cause_name self.now }
         ensures len { length result.now ≤ 9 }
@@ -54,7 +55,7 @@ impl FileCause {
         }
     }
 
-    /// The column that the cause names, from 1. None if it names none.
+    /// The column, from 1, for a bad byte or a bad field. None for any other cause.
     pub fn column(&self) -> Option<u8>
         ensures { result ≡ cause_column self.now }
     {

@@ -1,4 +1,4 @@
-//! Changes, and the bodies that they put keys with. Bodies and acts have an order.
+//! Changes, the bodies that they put, and the order of bodies and acts.
 ghost use Rattle.std.specs.Prelude.{◌≡◌, ◌↔◌, ◌+◌, ◌-◌, ◌<◌, ◌≤◌, IsTrue};
 ghost use Rattle.std.specs.Ordering.{on, as_partial_cmp, eq_by_cmp};
 ghost use Rattle.std.specs.Cmp.{partial_equiv_from_equiv, on_equiv, on_total, eq_by_cmp_equiv, partial_order_from_total};
@@ -18,21 +18,22 @@ use crate::same::{are_same_lines, compare_lines, is_same_line};
 use cif_line::{Line, NO_END, Until};
 use std::cmp::Ordering;
 
-/// The body that a key is put with. A body that ends earlier is less. If two end together, the
-/// joined bytes of their lines decide, and then the kind of key.
+/// The body that a change puts under its key. Of two bodies, the one that ends earlier is less. If
+/// they end on the same day, the bytes of their joined lines decide, and if these are equal, the
+/// kind of key.
 #[derive(Debug, Drop)]
 pub enum Body {
-    /// Columns 10 to 72 of a TIPLOC's record.
+    /// A TIPLOC's details: columns 10 to 72 of its record.
     Tiploc([u8; 63]),
-    /// An association's record, with transaction `N`.
+    /// An association's record, with its transaction set to `N`.
     Assoc(Line),
-    /// A schedule's records, with transaction `N` in the first.
+    /// A schedule's records, with the transaction of the first set to `N`.
     Schedule(Lines),
 }
 
 impl Body {
-    /// The number of the body's last day, counted from 0 for 1960-01-01. It is 65535 for a TIPLOC,
-    /// and if the end date can't be read or means no end.
+    /// The day number of the body's last day, counted from 0 for 1960-01-01. It is 65535 for a
+    /// TIPLOC, for an end date that means no end, and for one that can't be read.
     pub fn end_number(&self) -> u16
         ensures { result ≡ body_end (body_meant self.now) }
     {
@@ -46,8 +47,8 @@ impl Body {
         }
     }
 
-    /// The tag of the body's kind, which its keys have too: 1 for a TIPLOC, 2 for an association, 3
-    /// for a schedule.
+    /// A number for the kind of body, which is also the tag of its keys: 1 for a TIPLOC, 2 for an
+    /// association, 3 for a schedule.
     fn tag(&self) -> u8
         ensures { result ≡ body_tag (body_meant self.now) }
     {
@@ -58,7 +59,7 @@ impl Body {
         }
     }
 
-    /// The body's bytes. If it has several lines, their bytes are joined.
+    /// The bytes of the body. If it has several lines, these are joined.
     fn bytes(&self) -> Joined<'_>
         ensures { joined_bytes result ≡ body_bytes (body_meant self.now) }
     {
@@ -69,7 +70,7 @@ impl Body {
         }
     }
 
-    /// Compares the bytes of two bodies.
+    /// Compares two bodies by their bytes only.
     fn cmp_bytes(&self, other: &Body) -> Ordering
         ensures { result ≡
             bytes_cmp (body_bytes (body_meant self.now)) (body_bytes (body_meant other.now)) }
@@ -82,7 +83,7 @@ impl Body {
         }
     }
 
-    /// Whether the bodies are equal: of one kind, and with the same bytes.
+    /// Whether two bodies are equal: they are of one kind and have the same bytes.
     fn is_same(&self, other: &Body) -> bool
         ensures { IsTrue result ↔ (body_meant self.now ≡ body_meant other.now) }
     {
@@ -97,7 +98,7 @@ impl Body {
     }
 }
 
-/// Six columns of a line, starting at this one.
+/// The six columns of a line that begin at column `first`.
 fn six_from(line: &Line, first: usize) -> &[u8; 6]
     requires from { 0 < first }
     requires within { first + 5 ≤ 80 }
@@ -109,7 +110,8 @@ fn six_from(line: &Line, first: usize) -> &[u8; 6]
     }
 }
 
-/// The end number of an end date field.
+/// The end number of an end date's field: a day number, or 65535 if there is no end or the field
+/// can't be read.
 fn end_in(field: &[u8; 6]) -> u16
     ensures { result ≡ readable_end field.now }
 {
@@ -153,7 +155,7 @@ impl Ord for Body {
     ghost matches_eq = { λ a b. refl };
 
     fn cmp(&self, other: &Body) -> Ordering {
-        // Most bodies that are compared are equal, and then no end date has to be read.
+        // Most bodies that are compared are equal. In that case no end date has to be read.
         if self.is_same(other) {
             return Ordering::Equal;
         }
@@ -164,12 +166,12 @@ impl Ord for Body {
     }
 }
 
-/// What a change does to its key. A deletion is less than any put.
+/// What a change does to its key. In the order of acts a deletion comes before any put.
 #[derive(Debug, Drop)]
 pub enum Act {
-    /// The key is deleted.
+    /// Deletes the key.
     Delete,
-    /// The key is put with this body, whether or not it was there before.
+    /// Puts this body under the key, whether or not the key was there before.
     Put(Body),
 }
 
@@ -216,13 +218,13 @@ impl Ord for Act {
     }
 }
 
-/// A change that a record makes.
+/// A change: what one record of an extract, or one schedule's records, do to one key.
 #[derive(PartialEq, Eq, Debug, Drop)]
 pub struct Change {
-    /// The number of the record in its file, from 1.
+    /// The number in its file, from 1, of the record that makes the change.
     pub number: u32,
-    /// The key that it changes.
+    /// The key that is changed.
     pub key: Key,
-    /// What it does to the key.
+    /// What is done to the key.
     pub act: Act,
 }

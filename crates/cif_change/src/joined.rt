@@ -1,4 +1,4 @@
-//! The bytes of joined lines.
+//! The joined bytes of several lines, which are compared without copying them into one buffer.
 ghost use Rattle.std.specs.Prelude.{◌≡◌, ◌++◌};
 ghost use Rattle.std.specs.List.{concat};
 ghost use Rattle.docker_model.specs.state.Order.{bytes_cmp};
@@ -6,7 +6,8 @@ ghost use Rattle.docker_model.specs.state.Order.{bytes_cmp};
 use cif_line::Line;
 use std::cmp::Ordering;
 
-/// Some bytes, and then the bytes of some lines.
+/// Bytes still to be compared: first the rest of the current line, and then all bytes of the lines
+/// after it.
 #[derive(Drop)]
 pub(crate) struct Joined<'a> {
     front: &'a [u8],
@@ -22,7 +23,7 @@ impl<'a> Joined<'a> {
         Joined { front, lines }
     }
 
-    /// Compares these bytes with others, byte by byte.
+    /// Compares these bytes with the other ones, byte by byte.
     pub(crate) fn compare(self, other: Joined<'_>) -> Ordering
         ensures { result ≡ bytes_cmp (joined_bytes self.entry) (joined_bytes other.entry) }
     {

@@ -1,4 +1,4 @@
-//! The reader of one schedule's lines.
+//! A reader of the lines of one schedule.
 ghost use Rattle.std.specs.Prelude.{◌≡◌, ℕ, IsTrue, IsOk, IsErr, IfErr, List, [], ◌∷◌, ◌++◌};
 ghost use Rattle.cif_change.specs.JourneyRead.{HasLines, IsScheduleCause, JudgesLine, JudgesWhole};
 ghost use Rattle.cif_change.specs.Cause.{cause_meant};
@@ -9,8 +9,8 @@ use cif_line::Line;
 use std::marker::Model;
 
 /// A reader of the lines of one schedule: a basic schedule (BS), at most one record of extra
-/// details (BX), and a journey. The journey goes from an origin (LO) over intermediate locations
-/// (LI) and changes en route (CR) to a terminating location (LT).
+/// details (BX), and a journey. A journey goes from an origin (LO) through intermediate locations
+/// (LI), with changes en route (CR), to a terminating location (LT).
 #[derive(Debug, Drop)]
 pub struct Journey {
     progress: Progress,
@@ -25,7 +25,7 @@ impl Model for Journey {
 }
 
 impl Journey {
-    /// A reader that has taken no line.
+    /// A reader that hasn't taken a line yet.
     pub fn new() -> Journey
         ensures { HasLines result [] }
     {
@@ -34,11 +34,12 @@ impl Journey {
         }
     }
 
-    /// Takes the next line. It is refused if no schedule begins with the earlier lines and this
-    /// one. The cause is the first that applies: `Kind`, if no kind of record has its identity;
-    /// `Place`, if its kind can't come next; `Field`, for its leftmost bad field; `Midnights`, at
-    /// the third midnight. Within a deletion's journey the last two don't apply. A refused line
-    /// changes nothing.
+    /// Takes the next line. Refuses it if no schedule begins with the lines taken before followed
+    /// by this one. The cause is the first of these that applies. `Kind`: no kind of record has the
+    /// line's identity. `Place`: a record of its kind can't come next. `Field`: it has a bad field,
+    /// and the leftmost is named. `Midnights`: the schedule passes midnight for the third time.
+    /// After the first line of a deletion, `Field` and `Midnights` don't apply. If the line is
+    /// refused, nothing changes.
     pub fn line(&mut self, line: &Line) -> Result<(), FileCause>
         ensures ok { JudgesLine self.old line.now (IsOk result) }
         ensures read { (lines : List (List ℕ)) → HasLines self.old lines → IsOk result →
@@ -50,7 +51,7 @@ impl Journey {
         self.progress.take(line)
     }
 
-    /// Whether the lines that were taken are a schedule.
+    /// Whether the lines taken until now are a whole schedule.
     pub fn complete(&self) -> bool
         ensures { JudgesWhole self.now (IsTrue result) }
     {

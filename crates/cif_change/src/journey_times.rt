@@ -1,4 +1,4 @@
-//! The times of a journey's lines, and how often it passes midnight.
+//! The scheduled times of a journey's lines, and how often the journey passes midnight.
 ghost use Rattle.std.specs.Prelude.{◌≡◌, ◌+◌, ◌≤◌, ◌<◌, ◌↔◌, IsOk, IfOk, IfErr, Some, None, true, if◌then◌else◌};
 ghost use Rattle.docker_model.specs.records.Record.{HasKind, origin_location, intermediate_location, terminating_location};
 ghost use Rattle.docker_model.specs.records.Field.{HasGoodFields, leftmost_bad_field};
@@ -9,14 +9,15 @@ ghost use Rattle.cif_change.specs.JourneyRead.{time_list, times_list, AreTimesOf
 
 use cif_line::{FieldFault, Kind, Line, Time, call, origin, terminus};
 
-/// How often a journey has passed midnight, and its last time.
+/// What a reader keeps of the times before: how often the journey has passed midnight (`falls`),
+/// and the last time.
 #[derive(Clone, Copy, PartialEq, Eq, Debug)]
 pub(crate) struct Clock {
     pub falls: u8,
     pub last: Option<Time>,
 }
 
-/// The times of one line, in order. A line has at most three.
+/// The scheduled times of one line, in the order of the journey. A line has at most three.
 #[derive(Clone, Copy, PartialEq, Eq, Debug)]
 pub(crate) struct LineTimes {
     first: Option<Time>,
@@ -25,7 +26,7 @@ pub(crate) struct LineTimes {
 }
 
 impl Clock {
-    /// The clock before any time.
+    /// The clock before the first time: midnight hasn't been passed, and there is no last time.
     pub(crate) fn new() -> Clock
         ensures { result ≡ record { falls = 0; last = None } }
     {
@@ -35,9 +36,9 @@ impl Clock {
         }
     }
 
-    /// The clock after one more time, if there is one. A time below the last one is past midnight.
-    /// There is no branch on whether there is a time, since calls and passes follow each other
-    /// unpredictably.
+    /// The clock after one more time, or the same clock for None. A time below the last one means
+    /// that midnight has been passed. There is no branch on whether there is a time: calls and
+    /// passes follow each other so irregularly that the processor couldn't predict it.
     fn then(self, time: Option<Time>) -> Clock
         requires { self.falls < 255 }
         ensures falls { result.falls ≡ self.falls + falls_after self.last (time_list time) }
@@ -62,7 +63,8 @@ impl Clock {
     }
 }
 
-/// Whether both times are there and the next one is below the last one, and so past midnight.
+/// Whether both times are given and the next one is below the last one, which means that midnight
+/// has been passed.
 fn is_fall(last: &Option<Time>, next: &Option<Time>) -> bool
     ensures { falls_after last.now (time_list next.now) ≡ (if result then 1 else 0) }
 {
@@ -72,7 +74,7 @@ fn is_fall(last: &Option<Time>, next: &Option<Time>) -> bool
     }
 }
 
-/// The times of a line after the basic schedule, or its leftmost bad field.
+/// The scheduled times of any line after the basic schedule. The error is its leftmost bad field.
 pub(crate) fn times_at(kind: Kind, line: &Line) -> Result<LineTimes, FieldFault>
     requires kind { HasKind (meaning kind) line.now }
     requires follows { follows_basic (Some (meaning kind)) ≡ true }
@@ -92,7 +94,7 @@ pub(crate) fn times_at(kind: Kind, line: &Line) -> Result<LineTimes, FieldFault>
     }
 }
 
-/// The departure of an origin.
+/// The time of an origin: its departure. The error is the leftmost bad field.
 fn origin_times(line: &Line) -> Result<LineTimes, FieldFault>
     requires kind { HasKind origin_location line.now }
     ensures ok { IsOk result ↔ HasGoodFields line.now }
@@ -107,7 +109,8 @@ fn origin_times(line: &Line) -> Result<LineTimes, FieldFault>
     })
 }
 
-/// The arrival, the pass and the departure at an intermediate location, as far as they are given.
+/// The times of an intermediate location: its arrival, pass and departure, each only if it is
+/// given. The error is the leftmost bad field.
 fn call_times(line: &Line) -> Result<LineTimes, FieldFault>
     requires kind { HasKind intermediate_location line.now }
     ensures ok { IsOk result ↔ HasGoodFields line.now }
@@ -122,7 +125,7 @@ fn call_times(line: &Line) -> Result<LineTimes, FieldFault>
     })
 }
 
-/// The arrival at a terminating location.
+/// The time of a terminating location: its arrival. The error is the leftmost bad field.
 fn terminus_times(line: &Line) -> Result<LineTimes, FieldFault>
     requires kind { HasKind terminating_location line.now }
     ensures ok { IsOk result ↔ HasGoodFields line.now }

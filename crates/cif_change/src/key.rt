@@ -1,4 +1,4 @@
-//! The keys that changes name, and the order of keys.
+//! Keys, under which changes put and delete, and the order of keys.
 ghost use Rattle.std.specs.Prelude.{◌≡◌};
 ghost use Rattle.std.specs.Ordering.{on, as_partial_cmp, eq_by_cmp};
 ghost use Rattle.std.specs.Cmp.{partial_equiv_from_equiv, on_equiv, on_total, eq_by_cmp_equiv, partial_order_from_total};
@@ -10,48 +10,48 @@ ghost use Rattle.cif_change.specs.Meaning.{key_meant};
 use cif_line::{Day, Stp, Tiploc, Uid};
 use std::cmp::Ordering;
 
-/// A key that a change puts or deletes. In the order of keys TIPLOCs come first, then associations,
-/// and then schedules.
+/// A key under which a change puts a body, or which it deletes. In the order of keys all TIPLOCs
+/// come first, then all associations, then all schedules.
 #[derive(Clone, Copy, Debug)]
 pub enum Key {
     /// The code of a timing point.
     Tiploc(Tiploc),
-    /// An association of two trains.
+    /// What identifies an association between two trains.
     Assoc(AssocKey),
-    /// A schedule.
+    /// What identifies a schedule of a train.
     Schedule(ScheduleKey),
 }
 
-/// The key of an association.
+/// The key of an association. Keys are compared by these fields, from the first to the last.
 #[derive(Clone, Copy, PartialEq, Eq, PartialOrd, Ord, Debug)]
 pub struct AssocKey {
     /// The UID of the base train.
     pub base: Uid,
     /// The UID of the associated train.
     pub associated: Uid,
-    /// The first day of the association.
+    /// The first day on which the association holds.
     pub start: Day,
     /// The TIPLOC at which the trains are associated.
     pub location: Tiploc,
-    /// The base train's location suffix, which distinguishes its calls at that place.
+    /// The suffix of the base train's call at that TIPLOC, which distinguishes several calls there.
     pub suffix: u8,
     /// The STP indicator.
     pub stp: Stp,
 }
 
-/// The key of a schedule.
+/// The key of a schedule. Keys are compared by these fields, from the first to the last.
 #[derive(Clone, Copy, PartialEq, Eq, PartialOrd, Ord, Debug)]
 pub struct ScheduleKey {
     /// The UID of the train.
     pub uid: Uid,
-    /// The first day on which it runs.
+    /// The runs-from date, the first day on which the schedule runs.
     pub runs_from: Day,
     /// The STP indicator.
     pub stp: Stp,
 }
 
 impl Key {
-    /// The tag of this kind of key: 1 for a TIPLOC, 2 for an association, 3 for a schedule.
+    /// A number for the kind of key: 1 for a TIPLOC, 2 for an association, 3 for a schedule.
     fn tag(&self) -> u8
         ensures { result ≡ key_tag (key_meant self.now) }
     {

@@ -1,5 +1,6 @@
-//! What a file changes: keys, bodies, and the orders of both. It also has the reader of a
-//! schedule's lines, the causes for refusing a record, and the places that changes and rows name.
+//! What an extract changes: keys, the bodies put under them, and the orders of both. The crate also
+//! has the reader of a schedule's lines, the causes for which a record is refused, and notes of the
+//! places that changes and rows name.
 #![tactic(auto)]
 
 mod cause;

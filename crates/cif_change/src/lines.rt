@@ -8,7 +8,7 @@ use crate::same::are_same_lines;
 use cif_line::Line;
 use std::marker::Model;
 
-/// The lines of a schedule, in the order of its file.
+/// The lines of one schedule, in the order of the file.
 #[derive(Debug, Drop)]
 pub struct Lines {
     lines: Vec<Line>,
@@ -23,7 +23,7 @@ impl Model for Lines {
 }
 
 impl Lines {
-    /// A schedule's lines, from this vector.
+    /// Makes the lines of a schedule from a vector.
     pub fn of(lines: Vec<Line>) -> Lines
         ensures { result ≡ lines.items }
     {

@@ -1,4 +1,4 @@
-//! A memo of where each place was last found.
+//! A memo of the index at which each place was last found in a list.
 ghost use Rattle.std.specs.Prelude.{◌≡◌, IfSome, Some, slice_get};
 
 use crate::names::{is_at, packed};
@@ -8,26 +8,26 @@ use std::alloc::Global;
 /// How many slots a memo has.
 const SLOTS: usize = 65_536;
 
-/// How many slots, one after the other, may hold the index of one place.
+/// In how many consecutive slots the index of a place may be.
 const NEAR: usize = 8;
 
-/// Remembers for some places the index at which each was last found. A place's first slot comes
-/// from a hash of its bytes. A slot may also hold another place's index, so the place at the index
-/// is compared.
+/// Remembers the index at which places were last found in a list. It is only a shortcut and may
+/// forget a place. A hash of a place's bytes gives its first slot. Since another place's index may
+/// be in that slot, the place at the remembered index is always compared.
 #[derive(Debug, Drop)]
 pub(crate) struct Memo {
     slots: Vec<u32>,
 }
 
 impl Memo {
-    /// A memo without slots. It allocates nothing, and remembers nothing until it grows.
+    /// A memo without slots. It allocates nothing, and remembers nothing until `grow` is called.
     pub(crate) fn new(alloc: Global) -> Memo {
         Memo {
             slots: Vec::new(alloc),
         }
     }
 
-    /// Makes the slots, if there are none yet. `Memory` if the allocator refuses them.
+    /// Makes the slots, if there are none yet. Returns `Memory` if the allocator refuses.
     pub(crate) fn grow(&mut self) -> Result<(), Memory> {
         if self.slots.is_empty() {
             self.slots = vec![in *self.slots.allocator(); 0u32; SLOTS]?;
@@ -35,7 +35,7 @@ impl Memo {
         Ok(())
     }
 
-    /// The index of a place in this list of places, if it is remembered.
+    /// The index of a place in a list of places, if the memo remembers it.
     pub(crate) fn find(&self, places: &[[u8; 7]], place: &[u8; 7]) -> Option<u32>
         ensures { IfSome result (λ index. slice_get places.now index ≡ Some place.now) }
     {
@@ -50,8 +50,8 @@ impl Memo {
         None
     }
 
-    /// Remembers where a place was found: in the first free one of its slots, or in its first slot
-    /// if none is free.
+    /// Remembers the index of a place. It is written to the first free slot of the place, or to its
+    /// very first slot if none is free.
     pub(crate) fn set(&mut self, place: &[u8; 7], index: u32) {
         let first = slot_of(place);
         for step in 0..NEAR {
@@ -68,8 +68,8 @@ impl Memo {
     }
 }
 
-/// A place's first slot: its bytes as a number, times a constant, of which the highest sixteen bits
-/// count.
+/// The first slot of a place: a hash of sixteen bits. The place's bytes are packed into a number
+/// and multiplied by a constant, and the highest sixteen bits are taken.
 fn slot_of(place: &[u8; 7]) -> usize {
     (packed(place).wrapping_mul(0x9E37_79B9_7F4A_7C15) >> 48) as usize
 }

@@ -1,4 +1,4 @@
-//! The places that rows name, numbered as they come.
+//! The list of places that rows name. A place's number is its index in this list.
 ghost use Rattle.std.specs.Prelude.{◌≡◌, ◌++◌, [], ◌∷◌, IfOk, IsTrue, Some, slice_get};
 ghost use Rattle.std.specs.Int.{from_le_bytes, w64};
 ghost use Rattle.cif_change.specs.Noted.{Keeps};
@@ -7,17 +7,17 @@ use crate::memo::Memo;
 use cif_line::Memory;
 use std::alloc::Global;
 
-/// Places, in the order in which they came. A place may be there more than once, and its number is
-/// one of its indexes.
+/// Places, in the order in which they were first named. If the memo has forgotten a place, it is
+/// listed again. Each of its indexes is then one of its numbers.
 #[derive(Debug, Drop)]
 pub struct PlaceNames {
-    /// The places.
+    /// The places. The index of a place is its number.
     pub list: Vec<[u8; 7]>,
     memo: Memo,
 }
 
 impl PlaceNames {
-    /// No place yet. It allocates nothing.
+    /// A list without places. It allocates nothing.
     pub(crate) fn new(alloc: Global) -> PlaceNames
         ensures { result.list.items ≡ [] }
     {
@@ -27,8 +27,8 @@ impl PlaceNames {
         }
     }
 
-    /// The number of a place. A place that the memo doesn't find gets the next number. `Memory` if
-    /// the allocator refuses to grow.
+    /// The number of a place. A place that the memo doesn't find is appended to the list. Returns
+    /// `Memory` if the allocator refuses, or if the next number doesn't fit in 32 bits.
     pub(crate) fn number_of(&mut self, place: &[u8; 7]) -> Result<u32, Memory>
         ensures kept { Keeps self.old.list.items self.new.list.items }
         ensures number { IfOk result (λ number.
@@ -47,7 +47,7 @@ impl PlaceNames {
     }
 }
 
-/// Whether this place is at this index of the list.
+/// Whether this place is at this index of a list of places.
 pub(crate) fn is_at(places: &[[u8; 7]], index: u32, place: &[u8; 7]) -> bool
     ensures { IsTrue result → slice_get places.now index ≡ Some place.now }
 {
@@ -64,8 +64,8 @@ fn is_same(one: &[u8; 7], other: &[u8; 7]) -> bool
     packed(one) == packed(other)
 }
 
-/// A place packed into one number, its first byte lowest. So two places are compared at once, and
-/// not byte by byte.
+/// The seven bytes of a place packed into one number, the first byte lowest. Two places can then be
+/// compared at once instead of byte by byte.
 pub(crate) fn packed(place: &[u8; 7]) -> u64
     ensures { result ≡ from_le_bytes w64 (place.now ++ 0 ∷ []) }
 {

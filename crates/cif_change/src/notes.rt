@@ -1,4 +1,4 @@
-//! Notes which places rows and changes name, row by row.
+//! Notes of the places that rows and changes name.
 ghost use Rattle.std.specs.Prelude.{◌≡◌, ◌≤◌, ◌++◌, [], ◌∷◌, List, length, map, get_or, vec_len, vec_capacity, IsOk, IsErr, None};
 ghost use Rattle.docker_model.specs.file.Change as model;
 ghost use Rattle.docker_model.specs.state.Op as ops;
@@ -14,20 +14,21 @@ use crate::piece::Piece;
 use cif_line::Memory;
 use std::alloc::Global;
 
-/// Which places rows name. Places have provisional numbers, in the order in which they came, and
-/// each row has a piece of these numbers.
+/// Notes of the places that each row names. A place is noted by its number in `names`. Each row has
+/// a piece of the list `numbers`, given by where it begins and how long it is.
 #[derive(Debug, Drop)]
 pub struct Notes {
-    /// The places and their numbers.
+    /// The list of places, which gives each place its number.
     pub names: PlaceNames,
-    /// The numbers of the places that the rows name, row by row.
+    /// The numbers of all places that the rows name: first those named by row 0, then by row 1, and
+    /// so on.
     pub numbers: Vec<u32>,
-    /// Each row's piece of the numbers.
+    /// Where each row's numbers are in `numbers`.
     pub pieces: Vec<Piece>,
 }
 
 impl Notes {
-    /// Nothing noted yet. It allocates nothing.
+    /// Notes of no row. They allocate nothing.
     pub fn new(alloc: Global) -> Notes
         ensures { HasNoted [] result }
     {
@@ -38,8 +39,9 @@ impl Notes {
         }
     }
 
-    /// The notes of these rows only, in this order. A row's number is how many rows were noted
-    /// before it. The pieces go into `pieces`, which is empty and has room for them.
+    /// The notes of only the rows at these indexes, in this order. The index of a row is how many
+    /// rows were noted before it. The result's pieces are written to `pieces`, which must be empty
+    /// and have room for them.
     pub fn picked(self, order: &[u32], mut pieces: Vec<Piece>) -> Notes
         requires none { pieces.items ≡ [] }
         requires empty { vec_len pieces ≡ 0 }
@@ -62,8 +64,8 @@ impl Notes {
         }
     }
 
-    /// Notes the next row, whose key is put with this body. If memory runs out, the row isn't
-    /// noted.
+    /// Notes the next row, which puts this body under this key. Returns `Memory` if the allocator
+    /// refuses; the row isn't noted then.
     pub fn note_put(&mut self, key: &Key, body: &Body) -> Result<(), Memory>
         ensures ok { IsOk result → (items : List Item) → HasNoted items self.old
             → HasNoted (items ++ (key_meant key.now, put_with (body_meant body.now)) ∷ [])
@@ -77,8 +79,8 @@ impl Notes {
         Ok(())
     }
 
-    /// Notes the next row, whose key isn't put, so it names no place. If memory runs out, the row
-    /// isn't noted.
+    /// Notes the next row, whose key is deleted or lapsed, so that it names no place. Returns
+    /// `Memory` if the allocator refuses; the row isn't noted then.
     pub fn note_none(&mut self) -> Result<(), Memory>
         ensures ok { IsOk result → (items : List Item) (key : model.Key) (op : ops.Op)
             → body_of op ≡ None → HasNoted items self.old
@@ -91,7 +93,8 @@ impl Notes {
         Ok(())
     }
 
-    /// Notes the next change. If memory runs out, the change isn't noted.
+    /// Notes the next change. Returns `Memory` if the allocator refuses; the change isn't noted
+    /// then.
     pub fn note_change(&mut self, change: &Change) -> Result<(), Memory>
         ensures ok { IsOk result → (made : List model.Change)
             → HasNoted (items_put made) self.old
@@ -107,7 +110,7 @@ impl Notes {
     }
 }
 
-/// The pieces at these indexes, in `pieces`, which is empty and has room for them.
+/// The pieces at these indexes, written to `pieces`, which must be empty and have room for them.
 fn picked_pieces(all: &[Piece], order: &[u32], mut pieces: Vec<Piece>) -> Vec<Piece>
     requires none { pieces.items ≡ [] }
     requires empty { vec_len pieces ≡ 0 }
@@ -122,7 +125,7 @@ fn picked_pieces(all: &[Piece], order: &[u32], mut pieces: Vec<Piece>) -> Vec<Pi
     pieces
 }
 
-/// The piece at an index.
+/// The piece at an index; a piece without numbers if the index is past the end.
 fn piece_at(all: &[Piece], number: u32) -> Piece
     ensures { result ≡ get_or all.now number no_piece }
 {

@@ -1,4 +1,4 @@
-//! Notes the numbers of the places that a row names.
+//! Notes the places that one row names.
 ghost use Rattle.std.specs.Prelude.{◌≡◌, [], ◌∷◌, drop, length, map, IsOk, IfOk};
 ghost use Rattle.docker_model.specs.records.Record.{columns};
 ghost use Rattle.docker_model.specs.state.Op.{put_with};
@@ -13,7 +13,8 @@ use crate::piece::Piece;
 use crate::places::{is_location, tiploc_in};
 use cif_line::{Line, Memory};
 
-/// Notes the places that a key with this body names. Returns the row's piece of the numbers.
+/// Notes the places that are named by a key with this body. Returns where their numbers are in the
+/// list of numbers.
 pub(crate) fn piece_of(
     names: &mut PlaceNames,
     numbers: &mut Vec<u32>,
@@ -49,7 +50,7 @@ pub(crate) fn piece_of(
     }
 }
 
-/// How many numbers there are. `Memory` if 32 bits can't hold it.
+/// The length of the list of numbers. Returns `Memory` if it doesn't fit in 32 bits.
 fn count_of(numbers: &Vec<u32>) -> Result<u32, Memory>
     ensures { IfOk result (λ count. count ≡ length numbers.now.items) }
 {
@@ -59,7 +60,8 @@ fn count_of(numbers: &Vec<u32>) -> Result<u32, Memory>
     }
 }
 
-/// Notes the TIPLOC of each location record among the lines.
+/// Notes the TIPLOC of each location record among these lines. Returns `Memory` if the allocator
+/// refuses.
 fn note_locations(
     names: &mut PlaceNames,
     numbers: &mut Vec<u32>,
@@ -81,7 +83,7 @@ fn note_locations(
     Ok(())
 }
 
-/// Notes a place.
+/// Appends the number of a place to the list of numbers. Returns `Memory` if the allocator refuses.
 fn note_place(names: &mut PlaceNames, numbers: &mut Vec<u32>, place: &[u8; 7]) -> Result<(), Memory>
     ensures names { Keeps names.old.list.items names.new.list.items }
     ensures numbers { Keeps numbers.old.items numbers.new.items }

@@ -1,16 +1,17 @@
-//! A row's piece of the numbers that were noted.
+//! Where the numbers of one row are in the list of all numbers.
 ghost use Rattle.std.specs.Prelude.{◌≡◌, false, drop, take};
 ghost use Rattle.cif_change.specs.Noted.{numbers_of};
 
-/// Which of the noted numbers belong to a row. They stand for the places where a schedule calls, or
-/// for the place of an association.
+/// Where the numbers of one row are in the list of all numbers. The numbers name the places where a
+/// schedule calls, or the one place where an association links two trains.
 #[derive(Clone, Copy, Debug, PartialEq, Eq, PartialOrd, Ord)]
 pub struct Piece {
-    /// Whether the row is an association.
+    /// Whether the row is an association. Its number is then a link, and otherwise the numbers are
+    /// calls.
     pub is_link: bool,
-    /// The index of the first number.
+    /// The index of the row's first number.
     pub from: u32,
-    /// How many numbers there are.
+    /// How many numbers the row has.
     pub count: u32,
 }
 
@@ -26,7 +27,8 @@ impl Piece {
         }
     }
 
-    /// The numbers of the piece, if it is of the kind that is asked for: links or calls.
+    /// The row's numbers if they are of the kind that the caller wants: links or calls. Otherwise
+    /// no numbers.
     pub fn numbers<'a>(&self, numbers: &'a [u32], links: bool) -> &'a [u32]
         ensures { result.now ≡ numbers_of links numbers.entry.now self.now }
     {
@@ -38,7 +40,7 @@ impl Piece {
     }
 }
 
-/// The numbers from this index on.
+/// The numbers from index `from` on. No numbers if `from` is past the end.
 fn behind(numbers: &[u32], from: usize) -> &[u32]
     ensures { result.now ≡ drop from numbers.entry.now }
 {

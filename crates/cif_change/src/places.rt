@@ -1,10 +1,11 @@
-//! The places that lines name.
+//! Location records and their TIPLOCs.
 ghost use Rattle.std.specs.Prelude.{◌≡◌};
 ghost use Rattle.docker_model.specs.records.Record.{kind_of, columns, is_location};
 
 use cif_line::{Kind, Line, kind};
 
-/// Whether a line is a location record (LO, LI or LT).
+/// Whether a line is a location record: an origin (LO), an intermediate location (LI) or a terminus
+/// (LT).
 pub(crate) fn is_location(line: &Line) -> bool
     ensures { result ≡ is_location (kind_of line.now) }
 {
@@ -14,7 +15,7 @@ pub(crate) fn is_location(line: &Line) -> bool
     )
 }
 
-/// The TIPLOC in a location record.
+/// The TIPLOC in columns 3 to 9 of a location record.
 pub(crate) fn tiploc_in(line: &Line) -> [u8; 7]
     ensures { result ≡ columns 3 9 line.now }
 {

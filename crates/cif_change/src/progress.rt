@@ -1,12 +1,13 @@
-//! The progress of a reader of a schedule's lines.
+//! What the reader of a schedule's lines remembers from one line to the next.
 ghost use Rattle.std.specs.Prelude.{◌≡◌, ◌≤◌, true, None};
 
 use crate::journey_times::Clock;
 use crate::stage::ScheduleStage;
 
-/// What a reader keeps of a schedule's lines. `stage` is none before the first line. `lacking` says
-/// whether the schedule may lack its journey. The times pass midnight at most twice; of a deletion
-/// none are kept.
+/// What the reader of a schedule remembers of the lines before. `stage` is None before the first
+/// line. `lacking` says whether the schedule may end without a journey. `clock` has the last time
+/// and counts how often midnight was passed, at most twice. For a deletion it stays as it was at
+/// first.
 #[derive(Clone, Copy, PartialEq, Eq, Debug)]
 pub struct Progress {
     pub(crate) stage: Option<ScheduleStage>,

@@ -25,7 +25,8 @@ pub(crate) fn are_same_lines(mut own: &[Line], mut other: &[Line]) -> bool
     own.is_empty() && other.is_empty()
 }
 
-/// Compares the bytes of two lists of lines. Lines at the front that are equal in both are skipped.
+/// Compares the joined bytes of two lists of lines. First skips the lines at the front that are
+/// equal in both.
 pub(crate) fn compare_lines(mut own: &[Line], mut other: &[Line]) -> Ordering
     ensures { result ≡ bytes_cmp (concat own.entry.now) (concat other.entry.now) }
 {
@@ -39,7 +40,7 @@ pub(crate) fn compare_lines(mut own: &[Line], mut other: &[Line]) -> Ordering
     Joined::new(&[], own).compare(Joined::new(&[], other))
 }
 
-/// Whether two lines are equal. There is no branch for a single byte.
+/// Whether two lines are equal. There is no branch for each byte.
 pub(crate) fn is_same_line(own: &Line, other: &Line) -> bool
     ensures { IsTrue result ↔ (own.now ≡ other.now) }
 {
@@ -51,7 +52,7 @@ pub(crate) fn is_same_line(own: &Line, other: &Line) -> bool
         & is_same_block(one, two, 4 * BLOCK)
 }
 
-/// Whether two lines have the same sixteen bytes from this index on.
+/// Whether two lines have the same sixteen bytes at index `at` and after it.
 #[inline(always)]
 fn is_same_block(one: &[u8], two: &[u8], at: usize) -> bool
     requires one { at + BLOCK ≤ length one.now }

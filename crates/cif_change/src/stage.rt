@@ -1,4 +1,4 @@
-//! The stages of a schedule.
+//! The stages of reading a schedule.
 ghost use Rattle.std.specs.Prelude.{◌≡◌, option_map, Some, IsSome, true};
 ghost use Rattle.docker_model.specs.file.File.{follows_basic};
 ghost use Rattle.cif_laws.specs.ScheduleStage.{stage_after};
@@ -7,21 +7,21 @@ ghost use Rattle.cif_change.specs.JourneyRead.{stage_meant, may_end_by, is_over_
 
 use cif_line::Kind;
 
-/// How far a reader has come in a schedule.
+/// Which record of a schedule was read last. This determines which kinds may come next.
 #[derive(Clone, Copy, PartialEq, Eq, Debug)]
 pub(crate) enum ScheduleStage {
-    /// After its basic schedule.
+    /// The basic schedule (BS).
     AfterBasic,
-    /// After its extra details.
+    /// The extra details (BX).
     AfterDetails,
-    /// After its origin or a later line of its journey.
+    /// The origin (LO) or a later record of the journey, but not the terminus.
     InJourney,
-    /// After its terminating location.
+    /// The terminus (LT), the last record of a schedule.
     AfterJourney,
 }
 
 impl ScheduleStage {
-    /// The stage after one more line of this kind. None if a line of this kind can't come next.
+    /// The stage after a record of this kind. None if a record of this kind can't come next.
     pub(crate) fn after(self, kind: Kind) -> Option<ScheduleStage>
         ensures stage { option_map stage_meant result ≡
             stage_after (stage_meant self) (Some (meaning kind)) }
@@ -42,7 +42,8 @@ impl ScheduleStage {
         }
     }
 
-    /// Whether a schedule may end at this stage. `lacking` says whether it may lack its journey.
+    /// Whether a schedule may end at this stage. `lacking` says whether it may end without a
+    /// journey.
     pub(crate) fn may_end(self, lacking: bool) -> bool
         ensures { result ≡ may_end_by (Some (stage_meant self)) lacking }
     {
@@ -54,7 +55,7 @@ impl ScheduleStage {
         }
     }
 
-    /// Whether the journey is complete.
+    /// Whether the terminus has been read, so that the journey is complete.
     pub(crate) fn is_over(self) -> bool
         ensures { result ≡ is_over_by (Some (stage_meant self)) }
     {

@@ -1,4 +1,4 @@
-//! The steps of the reader of a schedule's lines.
+//! What the reader of a schedule does with each line.
 ghost use Rattle.std.specs.Prelude.{◌≡◌, ◌==◌, ℕ, ◌↔◌, IsTrue, IsOk, IsErr, IfOk, IfErr, OnOk, Some, true, List, [], ◌∷◌};
 ghost use Rattle.docker_model.specs.records.Record.{HasKind, IsRecord, basic_schedule, column};
 ghost use Rattle.docker_model.specs.records.Field.{is_deletion};
@@ -15,7 +15,7 @@ use crate::progress::Progress;
 use crate::stage::ScheduleStage;
 use cif_line::{Basic, Kind, Line, Stp, Transaction, basic, kind};
 
-/// How often a journey may pass midnight.
+/// How often a schedule may pass midnight.
 const MOST_MIDNIGHTS: u8 = 2;
 
 impl Progress {
@@ -31,7 +31,7 @@ impl Progress {
         }
     }
 
-    /// Whether the lines that were taken are a schedule.
+    /// Whether the lines taken until now are a whole schedule.
     pub fn complete(self) -> bool
         ensures { JudgesWhole (progress_meant self) (IsTrue result) }
     {
@@ -41,14 +41,14 @@ impl Progress {
         }
     }
 
-    /// Whether the schedule is a deletion.
+    /// Whether the lines are of a schedule that is a deletion.
     pub fn is_deletion(self) -> bool
         ensures { result ≡ (progress_meant self).deletion }
     {
         self.deletion
     }
 
-    /// Whether its journey is complete, so that no further line can belong to it.
+    /// Whether the journey is complete, so that no further line can belong to the schedule.
     pub fn is_over(self) -> bool
         ensures { result ≡ is_over_by (progress_meant self).stage }
     {
@@ -58,8 +58,8 @@ impl Progress {
         }
     }
 
-    /// Takes the next line, or returns why no schedule continues with it. A refused line changes
-    /// nothing.
+    /// Takes the next line. If no schedule begins with the lines taken before followed by this one,
+    /// returns the cause and changes nothing.
     pub(crate) fn take(&mut self, line: &Line) -> Result<(), FileCause>
         ensures ok { JudgesLine (progress_meant self.old) line.now (IsOk result) }
         ensures read { OnOk result (Advances self.old line.now self.new) }
@@ -73,8 +73,8 @@ impl Progress {
         }
     }
 
-    /// Takes the next record, of this kind, or returns why no schedule continues with it. A refused
-    /// record changes nothing.
+    /// Takes the next line, a record of this kind. If no schedule begins with the lines taken
+    /// before followed by this one, returns the cause and changes nothing.
     pub fn advance(&mut self, kind: Kind, line: &Line) -> Result<(), FileCause>
         requires record { IsRecord line.now }
         requires kind { HasKind (meaning kind) line.now }
@@ -92,7 +92,8 @@ impl Progress {
         }
     }
 
-    /// Takes the first line.
+    /// Takes the first line, which must be a basic schedule with good fields. Otherwise returns the
+    /// cause and changes nothing.
     fn begin(&mut self, kind: Kind, line: &Line) -> Result<(), FileCause>
         requires record { IsRecord line.now }
         requires kind { HasKind (meaning kind) line.now }
@@ -110,7 +111,8 @@ impl Progress {
         }
     }
 
-    /// Takes the next line, whose kind may come there.
+    /// Takes a line after the first, whose kind may come next and leads to stage `next`. Refuses it
+    /// only for a bad field or the third midnight. In a deletion it is never refused.
     fn advance_to(&mut self, next: ScheduleStage, kind: Kind, line: &Line) -> Result<(), FileCause>
         requires record { IsRecord line.now }
         requires kind { HasKind (meaning kind) line.now }
@@ -147,7 +149,8 @@ impl Progress {
     }
 }
 
-/// The progress after the first line, if that is a basic schedule with good fields.
+/// The progress after the first line. The cause if the line isn't a basic schedule with good
+/// fields.
 fn after_first_record(kind: Kind, line: &Line) -> Result<Progress, FileCause>
     requires record { IsRecord line.now }
     requires kind { HasKind (meaning kind) line.now }
@@ -161,7 +164,7 @@ fn after_first_record(kind: Kind, line: &Line) -> Result<Progress, FileCause>
     }
 }
 
-/// The progress after a basic schedule, if its fields are good.
+/// The progress after a basic schedule as the first line. The cause if it has a bad field.
 fn progress_after_first_basic(line: &Line) -> Result<Progress, FileCause>
     requires record { IsRecord line.now }
     requires kind { HasKind basic_schedule line.now }
@@ -173,7 +176,7 @@ fn progress_after_first_basic(line: &Line) -> Result<Progress, FileCause>
     Ok(progress_after_basic(&view))
 }
 
-/// The progress after a basic schedule.
+/// The progress after a basic schedule with good fields as the first line.
 pub fn progress_after_basic(view: &Basic<'_>) -> Progress
     requires { is_first_line view.now ≡ true }
     ensures { HasLines (progress_meant result) (view.now ∷ []) }
@@ -188,7 +191,7 @@ pub fn progress_after_basic(view: &Basic<'_>) -> Progress
     }
 }
 
-/// Whether the schedule is a deletion.
+/// Whether the basic schedule is a deletion: its transaction is `D`.
 fn is_deletion(view: &Basic<'_>) -> bool
     ensures { result ≡ is_deletion view.now }
 {
@@ -199,7 +202,8 @@ fn is_deletion(view: &Basic<'_>) -> bool
     }
 }
 
-/// Whether the schedule is a cancellation: the train doesn't run on its days.
+/// Whether the basic schedule is a cancellation: its STP indicator is `C`, and the train doesn't
+/// run on its days.
 fn is_cancellation(view: &Basic<'_>) -> bool
     ensures { result ≡ (column 80 view.now == 67) }
 {

@@ -1,12 +1,12 @@
--- Results that may be `Ok` or `Err`.
+-- Lemmas on results that are `Ok` or `Err`.
 use Rattle.std.specs.Prelude.{Result, Ok, Err, IsOk, OnOk, IfErr}
 
--- if a result is `Ok`, what it promises in that case holds
+-- if a result is `Ok`, what is promised for an `Ok` result holds
 pub at_ok : {A E P : Type 0} (answer : Result A E) → OnOk answer P → IsOk answer → P
 at_ok (Ok value) told ok = told
 at_ok (Err error) told ok = absurd cc
 
--- if a result's error has a property, the error has any property that follows from it
+-- if the error of a result has one property, and any error that has it also has a second property, the error has the second one
 pub if_err_by : {A E : Type 0} {P Q : E → Type 0} (answer : Result A E) → ((error : E) → P error → Q error) → IfErr answer P → IfErr answer Q
 if_err_by (Ok value) by told = told
 if_err_by (Err error) by told = by error told

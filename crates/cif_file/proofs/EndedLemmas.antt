@@ -1,4 +1,4 @@
--- What is returned for a file that was read: its changes, or how many there are.
+-- What the reader returns at the end of a file: the file with its changes, or its counts.
 use Rattle.std.proofs.Common.{◌≡◌, ℕ, ◌+◌, ◌*◌, ◌≤◌, Bool, true, false, List, [], ◌∷◌, length, Some, None, refl, sym, subst, arith, length-append}
 use Rattle.std.proofs.lemmas.List.{length-map}
 use Rattle.std.specs.Prelude.{Option}
@@ -17,7 +17,7 @@ use Rattle.cif_file.specs.SourceRead.{ReadsText, CountsText, ReadsEnded}
 use Rattle.cif_file.specs.declared.parser.FileReading.{FileReading}
 use Rattle.cif_file.proofs.ParserLemmas.{reading_at_none}
 
--- ---- how many changes there are
+-- ---- how many changes a file has
 
 few_acts : (kind : Option Kind) (line : List ℕ) (following : List (List ℕ)) → length (acts_by_kind kind line following) ≤ 2
 few_acts (Some tiploc_insert) line following = omega arith
@@ -34,7 +34,7 @@ few_acts _ line following = omega arith
 as_change : ℕ → Key × Act → Change
 as_change n act = record { number = n; key = act.0; act = act.1 }
 
--- a record makes at most two changes
+-- some records make at most twice as many changes as there are records
 few_changes : (n : ℕ) (records : List (List ℕ)) → length (changes_from n records) ≤ 2 * length records
 unfolding as_change
 few_changes n [] = omega arith
@@ -54,7 +54,7 @@ of_file limit text ended is = record {
   of_records = record { header_is = is.of_records.header_is; count_is = is.of_records.count_is; changes_are = is.of_records.kept.1.changes_are };
 }
 
--- the returned file is made of records
+-- the file that the reader returns was read from some records
 is_read : (limit : ℕ) (text : List ℕ) (ended : Ended FileSoFar) → limit ≤ most_records → IsEndedText KeepsAll limit text ended → IsRead (file_ended ended)
 unfolding of_file
 is_read limit text ended few is =
@@ -62,7 +62,7 @@ is_read limit text ended few is =
     let within = is.is_text.within in
     record { records = is.records; of_records = file.of_records; is_file = is.is_text.is; few = omega arith }
 
--- the returned parts belong to the file, and the places that its changes name are noted
+-- the parts that the reader returns belong to the file; if there are notes, they are right for the file's changes
 are_parts : (limit : ℕ) (text : List ℕ) (ended : Ended FileSoFar) → limit ≤ most_records → IsEndedText KeepsAll limit text ended
     → ArePartsOfFile (parts_ended ended)
 are_parts limit text ended few is = record {
@@ -70,18 +70,18 @@ are_parts limit text ended few is = record {
   noted = subst (λ (all : List Change). AreNotesOf all ended.keeper.made.notes) (sym is.of_records.kept.1.changes_are) is.of_records.kept.1.noted;
 }
 
--- the limit of a reading is at most `most_records`
+-- the limit of a reader is at most `most_records`
 limit_at : (reading : FileReading FileSoFar) (limit : ℕ) (text : List ℕ) → IsReading KeepsAll reading limit text → limit ≤ most_records
 limit_at reading limit text at = let room = reading.records.room in let same = at.counted.limit_is in omega arith
 
--- like `are_parts`, for a parser that was fed a text and returned no fault
+-- if a parser that hasn't returned a fault returns a file at the end, the parts that it returns belong to the file
 pub are_parts_some : (parser : ParserState) (ended : Ended FileSoFar) → WasFed parser → parser.fault ≡ None → EndsBy KeepsAll parser.reading ended
     → ArePartsOfFile (parts_ended ended)
 are_parts_some parser ended fed none ends =
     let at = reading_at_none parser fed.limit fed.text none fed.read in
     are_parts fed.limit fed.text ended (limit_at parser.reading fed.limit fed.text at) (ends fed.limit fed.text at)
 
--- like `of_file`, for a text that a source held
+-- if the reader returns a file for the text that a source held, the source held the text of that file
 pub reads_text : (limit : ℕ) (left : Option (List ℕ)) (ended : Ended FileSoFar) → ReadsEnded KeepsAll limit left ended → ReadsText limit left (file_ended ended)
 reads_text limit left ended reads = record { text = reads.text; held = reads.held; of_text = of_file limit reads.text ended reads.of_text }
 
@@ -89,7 +89,7 @@ pub reads_parts : (limit : ℕ) (left : Option (List ℕ)) (ended : Ended FileSo
     → ArePartsOfFile (parts_ended ended)
 reads_parts limit left ended few reads = are_parts limit reads.text ended few reads.of_text
 
--- ---- the file's counts
+-- ---- the counts of a file
 
 pub of_count : (limit : ℕ) (text : List ℕ) (ended : Ended Tally) → limit ≤ most_records → IsEndedText CountsChanges limit text ended
     → IsCountOfFileText (count_ended ended) limit text

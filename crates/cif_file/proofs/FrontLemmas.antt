@@ -1,4 +1,4 @@
--- What the reader of a file keeps of the records that it has taken.
+-- What the reader of a file's records has after taking a record, and why it refuses one.
 use Rattle.std.proofs.Common.{◌≡◌, ℕ, ◌+◌, ◌<◌, inl, inr, Bool, true, false, cond, List, [], ◌∷◌, ◌++◌, length, map, subst}
 use Rattle.std.proofs.Common.{refl, ap, sym, ◌∙◌, Some, None, arith, append-nil, append_assoc, length-append, take}
 use Rattle.std.specs.Prelude.{Option, IsTrue, ◌↔◌, ◌&&◌, is_some, is_none, option_map, slice_index_or, OnOk, Result, Ok, Err}
@@ -42,7 +42,7 @@ use Rattle.cif_file.specs.RecordsRead.{header_of, IsOpen, IsKept, HasRecords, Is
 abbrev Lines : Type 0
 Lines = List (List ℕ)
 
--- ---- the changes of records in two parts
+-- ---- the changes of two lists of records, one after the other
 
 acts_alike : (kind : Option Kind) (line : List ℕ) (following others : Lines) → schedule_rest following ≡ schedule_rest others
     → acts_by_kind kind line following ≡ acts_by_kind kind line others
@@ -57,7 +57,7 @@ numbered : (n : ℕ) (line : List ℕ) (following others : Lines) → schedule_r
     → changes_of_record n line following ≡ changes_of_record n line others
 numbered n line following others same = ap (map (as_change n)) (acts_alike (kind_of line) line following others same)
 
--- whether a line can follow a basic schedule. A line that can't ends the schedule before it
+-- whether a line is of a kind that comes within a schedule; any other line ends the schedule before it
 abbrev follows : List ℕ → Bool
 follows line = follows_basic (kind_of line)
 
@@ -79,7 +79,7 @@ changes_append n (record_first ∷ records) line more stops =
     ∙ sym (append_assoc (changes_of_record n record_first records) (changes_from (n + 1) records) (changes_from (n + 1 + length records) (line ∷ more)))
     ∙ ap (λ k. (changes_of_record n record_first records ++ changes_from (n + 1) records) ++ changes_from k (line ∷ more)) (omega arith)
 
--- one more record that begins a unit adds its changes to the changes before it
+-- if the next record doesn't come within a schedule, its changes are added to the changes before
 pub changes_anew : (records : Lines) (line : List ℕ) → follows_basic (kind_of line) ≡ false
     → changes (records ++ line ∷ []) ≡ changes records ++ changes_of_record (length records + 1) line []
 changes_anew records line stops =
@@ -87,9 +87,9 @@ changes_anew records line stops =
     ∙ ap (λ last. changes records ++ last) (append-nil (changes_of_record (1 + length records) line []))
     ∙ ap (λ k. changes records ++ changes_of_record k line []) (omega arith)
 
--- ---- lists
+-- ---- lists of records
 
--- if there are records, adding more leaves the first one as it is
+-- adding records after the first one doesn't change the header
 header_stays : (records more : Lines) → 0 < length records → header_of (records ++ more) ≡ header_of records
 header_stays [] more some = absurd (omega arith)
 header_stays (first ∷ records) more some = refl
@@ -102,9 +102,9 @@ some_lines : (lines : Lines) (stage : Stage) → stage_of lines ≡ Some stage �
 some_lines [] stage at = absurd cc
 some_lines (basic ∷ others) stage at = omega arith
 
--- ---- a schedule that is whole
+-- ---- a schedule that is complete
 
--- lines that have a stage are a schedule if and only if a schedule may end at that stage
+-- lines that lead to a stage are a whole schedule if and only if a schedule may end at that stage
 whole_iff : (lines : Lines) (stage : Stage) → stage_of lines ≡ Some stage → IsSchedule lines ↔ (may_end stage lines ≡ true)
 whole_iff lines stage at = (
   λ is.
@@ -119,7 +119,7 @@ same_change : (n m : ℕ) (k l : Key) (b c : Bool) (body : Body) → n ≡ m →
     → ◌≡◌ {A = Change} (record { number = n; key = k; act = cond b delete (put body) }) (record { number = m; key = l; act = cond c delete (put body) })
 same_change n m k l b c body numbers keys tests = λ i. record { number = numbers i; key = keys i; act = cond (tests i) delete (put body) }
 
--- a whole schedule makes its change
+-- a schedule that is complete adds one change, its own, to the changes before
 pub changes_closed : (opened : Opened) (lines before : Lines) → HasLines (progress_meant opened.progress) lines → opened.number ≡ length before + 1
     → key_meant (key.Schedule opened.key) ≡ schedule_named (first_record lines) → IsSchedule lines
     → changes (before ++ lines) ≡ changes before ++ change_opened opened lines ∷ []
@@ -139,9 +139,9 @@ changes_closed opened (basic ∷ others) before has number named is =
     kind : HasKind basic_schedule basic
     kind = subst (HasKind basic_schedule) (sym (ap first_record is.whole)) is.kind
 
--- ---- what is kept
+-- ---- what a keeper has
 
--- an equal keeper keeps equal changes
+-- a keeper that is equal to another has the same lines and changes
 same_keeper : {K : Type 0} (keeps : Keeps K) (old new : K) (lines : Lines) (made more : List Change) → new ≡ old → made ≡ more → keeps old lines made
     → keeps new lines more
 same_keeper keeps old new lines made more same equal kept =
@@ -149,7 +149,7 @@ same_keeper keeps old new lines made more same equal kept =
 
 -- ---- records that begin a unit
 
--- a record that begins a unit isn't one that follows a basic schedule
+-- a record that begins a unit doesn't come within a schedule
 pub anew_by_unit : (line : List ℕ) → is_some (unit_by_kind (kind_of line) line) ≡ true → follows_basic (kind_of line) ≡ false
 anew_by_unit line begins = by (follows_basic (kind_of line)) refl
   where
@@ -157,7 +157,7 @@ anew_by_unit line begins = by (follows_basic (kind_of line)) refl
     by false h = h
     by true h = let bad : false ≡ true = (λ i. is_some (sym (no_unit_by_kind (kind_of line) line h) i)) ∙ begins in cc
 
--- after whole units, a good record that begins a unit leads to the place that its kind gives
+-- after whole units, a record with good fields that begins a unit leads to the place given by its kind
 pub place_over : {K : Type 0} (keeps : Keeps K) (front : Front K) (records : Lines) (line : List ℕ) (next : Place) → (over : IsOver keeps front records)
     → IsRecord line → HasGoodFields line
     → unit_by_kind (kind_of line) line ≡ Some next
@@ -167,9 +167,9 @@ place_over keeps front records line next over is fields begins =
     ∙ over.anew line (anew_by_unit line (λ i. is_some (begins i)))
     ∙ test_by_next between_units line next (record { is = is; sound = test_by_none (leftmost_bad_field line) fields; place_is = begins })
 
--- ---- one more unit
+-- ---- taking a record that begins a unit
 
--- after whole units, the reader takes the trailer
+-- after whole units, the reader can take a trailer
 pub trailer_added : {K : Type 0} (keeps : Keeps K) (old new : Front K) (records : Lines) (line : List ℕ) → IsOver keeps old records → IsRecord line
     → HasKind trailer line → HasGoodFields line
     → new.header ≡ old.header → new.stage ≡ AfterEnd → new.keeper ≡ old.keeper → HasRecords keeps new (records ++ line ∷ [])
@@ -186,7 +186,7 @@ trailer_added keeps old new records line over is kind fields same_header place m
   );
 }
 
--- after whole units, the reader takes a record that is a unit by itself
+-- after whole units, the reader can take a record that is a unit by itself, and makes its changes
 pub single_added : {K : Type 0} (keeps : Keeps K) (old new : Front K) (records : Lines) (line : List ℕ) (number : ℕ) → IsOver keeps old records
     → IsRecord line → HasGoodFields line
     → unit_by_kind (kind_of line) line ≡ Some between_units
@@ -204,7 +204,7 @@ single_added keeps old new records line number over is fields begins counted sam
   );
 }
 
--- after whole units, the reader takes a basic schedule
+-- after whole units, the reader can take a basic schedule, and is then in this schedule
 pub basic_added : {K : Type 0} (keeps : Keeps K) (old new : Front K) (opened : Opened) (records : Lines) (line : List ℕ) → IsOver keeps old records
     → IsRecord line → HasKind basic_schedule line
     → HasGoodFields line
@@ -237,7 +237,7 @@ basic_added keeps old new opened records line over is kind fields number named h
 between_some : (records : Lines) → IsPlaceOf records between_units → 0 < length records
 between_some records at = let told = at_of_place records between_units at in let size = ap (λ (l : Lines). length l) told.whole in omega arith
 
--- between units all units are whole
+-- at the stage between units, all units are whole
 pub over_of_between : {K : Type 0} (keeps : Keeps K) (front : Front K) (records : Lines) → HasRecords keeps front records → front.stage ≡ BetweenUnits
     → IsOver keeps front records
 over_of_between keeps front records has place =
@@ -251,13 +251,13 @@ over_of_between keeps front records has place =
       anew = λ line _. ap (λ p. next_place p line) told.0;
     }
 
--- in a schedule, the reader keeps the schedule that is being read
+-- at the stage in a schedule, the reader is in that schedule and the keeper has its lines
 pub opened_of : {K : Type 0} (keeps : Keeps K) (front : Front K) (opened : Opened) (records : Lines) (has : HasRecords keeps front records)
     → front.stage ≡ InSchedule opened
     → IsOpen keeps opened front.keeper has.place records
 opened_of keeps front opened records has place = subst (λ p. IsKept keeps p front.keeper has.place records) place has.kept_are
 
--- after a whole schedule all units are whole, once its change is made
+-- if a schedule is complete, all units are whole once its change is made
 pub over_of_closed : {K : Type 0} (keeps : Keeps K) (old new : Front K) (opened : Opened) (records : Lines) → HasRecords keeps old records
     → old.stage ≡ InSchedule opened → IsWholeBy opened
     → new.header ≡ old.header
@@ -281,9 +281,9 @@ over_of_closed keeps old new opened records has place whole same_header closed =
           ((whole_iff told.lines told.stage told.stage_is).0 is) stops;
     }
 
--- ---- one more line of a schedule
+-- ---- taking a further line of a schedule
 
--- the schedule that is being read, with one more line after its earlier ones
+-- Says that the stage is in the same schedule as before, with this line after its earlier lines.
 pub record IsFollowed (opened : Opened) (line : List ℕ) (stage : FileStage) : Type 0 where
   pub later : Opened
   pub place : stage ≡ InSchedule later
@@ -297,8 +297,7 @@ followed opened line BetweenUnits gone = absurd gone
 followed opened line (InSchedule later) gone = record { later = later; place = refl; number = gone.0; named = gone.1; read = gone.2 }
 followed opened line AfterEnd gone = absurd gone
 
--- a line that continues the schedule that is being read comes right after the schedule's earlier
--- lines
+-- if the schedule can continue with a line, that line comes directly after the lines taken before
 pub stands_before : {K : Type 0} (keeps : Keeps K) (front new : Front K) (opened : Opened) (records : Lines) (line : List ℕ) → HasRecords keeps front records
     → front.stage ≡ InSchedule opened → new.header ≡ front.header → new.keeper ≡ front.keeper → IsRecord line
     → follows_basic (kind_of line) ≡ true → (after : IsFollowed opened line new.stage)
@@ -327,7 +326,7 @@ stage_begun : (lines : Lines) (line : List ℕ) → BeginsSchedule (lines ++ lin
 stage_begun [] line begins = (begins_iff_stage line []).0 begins
 stage_begun (basic ∷ others) line begins = (begins_iff_stage basic (others ++ line ∷ [])).0 begins
 
--- after the line, the place is the place of the schedule's next stage
+-- after the line, the records lead to the place in the schedule's next stage
 place_followed : {K : Type 0} (keeps : Keeps K) (front : Front K) (opened : Opened) (line : List ℕ) (records : Lines)
     (before : StandsBefore keeps front opened line records) (next : Stage)
     → stage_of (before.lines ++ line ∷ []) ≡ Some next → IsPlaceOf (records ++ line ∷ []) (place_in next (before.lines ++ line ∷ []))
@@ -356,14 +355,13 @@ header_followed keeps front opened line records before =
     let size = ap (λ (l : Lines). length l) before.whole ∙ length-append before.before before.lines in
     before.header_is ∙ sym (header_stays records (line ∷ []) (omega arith))
 
--- a keeper that adds a line to a schedule's lines, of which there are some, keeps the longer
--- schedule
+-- if a keeper with some lines of a schedule adds a line, it has these lines followed by the new one
 pub added_to : {K : Type 0} (keeps : Keeps K) (old new : K) (lines : Lines) (line : List ℕ) (made : List Change) → 0 < length lines
     → AddsLine keeps old line new → keeps old lines made → keeps new (lines ++ line ∷ []) made
 added_to keeps old new [] line made some added kept = absurd (omega arith)
 added_to keeps old new (basic ∷ others) line made some added kept = added basic others made kept
 
--- the reader takes a line that leaves the schedule open
+-- the reader can take a line after which the schedule may continue
 pub line_added : {K : Type 0} (keeps : Keeps K) (old new : Front K) (opened : Opened) (line : List ℕ) (records : Lines)
     → StandsBefore keeps old opened line records
     → is_over_by (progress_meant opened.progress).stage ≡ false
@@ -393,7 +391,7 @@ line_added keeps old new opened line records before inside same_header place add
           });
     }
 
--- the reader takes a line that ends the schedule
+-- the reader can take a line that ends the schedule, and makes the schedule's change
 pub line_closed : {K : Type 0} (keeps : Keeps K) (old new : Front K) (opened : Opened) (line : List ℕ) (records : Lines)
     → StandsBefore keeps old opened line records
     → is_over_by (progress_meant opened.progress).stage ≡ true
@@ -420,7 +418,7 @@ line_closed keeps old new opened line records before outside same_header place c
       );
     }
 
--- ---- a line that can follow
+-- ---- which lines may come next
 
 next_of_unit : (line : List ℕ) → is_some (unit_by_kind (kind_of line) line) ≡ true → (next : Place) × (unit_by_kind (kind_of line) line ≡ Some next)
 next_of_unit line begins = by (unit_by_kind (kind_of line) line) refl
@@ -429,7 +427,7 @@ next_of_unit line begins = by (unit_by_kind (kind_of line) line) refl
     by None h = absurd (let bad : false ≡ true = (λ i. is_some (sym h i)) ∙ begins in cc)
     by (Some next) h = (next, h)
 
--- after whole units, a good record that begins a unit can follow
+-- after whole units, a record with good fields that begins a unit may come next
 pub unit_goes_on : {K : Type 0} (keeps : Keeps K) (front : Front K) (records : Lines) (line : List ℕ) → HasRecords keeps front records
     → front.stage ≡ BetweenUnits → IsRecord line
     → HasGoodFields line
@@ -438,7 +436,7 @@ unit_goes_on keeps front records line has place is fields begins =
     let next = next_of_unit line begins in
     (next.0, place_over keeps front records line next.0 (over_of_between keeps front records has place) is fields next.1)
 
--- after a whole schedule, a good record that begins a unit can follow
+-- after a complete schedule, a record with good fields that begins a unit may come next
 pub anew_goes_on : {K : Type 0} (keeps : Keeps K) (front : Front K) (opened : Opened) (records : Lines) (line : List ℕ) → HasRecords keeps front records
     → front.stage ≡ InSchedule opened
     → IsWholeBy opened → IsRecord line → HasGoodFields line
@@ -454,20 +452,20 @@ anew_goes_on keeps front opened records line has place whole is fields begins =
           ∙ test_by_next between_units line next.0 (record { is = is; sound = test_by_none (leftmost_bad_field line) fields; place_is = next.1 }),
     )
 
--- in a schedule, a line that continues it can follow
+-- a line with which the schedule continues may come next
 pub line_goes_on : {K : Type 0} (keeps : Keeps K) (front : Front K) (opened : Opened) (line : List ℕ) (records : Lines)
     → StandsBefore keeps front opened line records → GoesOnWith records line
 line_goes_on keeps front opened line records before =
     let next = stage_begun before.lines line before.goes_on in
     (place_in next.0 (before.lines ++ line ∷ []), place_followed keeps front opened line records before next.0 next.1)
 
--- ---- the end
+-- ---- the end of the file
 
 end_by_test : (place : Place) → is_after_end place ≡ true → place ≡ after_end
 end_by_test after_end h = refl
 end_by_test _ h = absurd cc
 
--- records are a file if and only if the reader is after the trailer
+-- if a flag says whether the reader is after the trailer, it says whether the records are a file
 pub ended_iff : {K : Type 0} (keeps : Keeps K) (front : Front K) (records : Lines) (ended : Bool) → HasRecords keeps front records
     → ((place : Place) → IsKept keeps front.stage front.keeper place records → is_after_end place ≡ ended)
     → IsTrue ended ↔ IsFile records
@@ -477,19 +475,19 @@ ended_iff keeps front records ended has tells = (
       one_place records after_end has.place ((file_iff_place records).0 file) has.at in sym (tells has.place has.kept_are) ∙ ap is_after_end (sym same),
 )
 
--- before the header, the reader isn't after the trailer
+-- at the stage before the header, the reader isn't after the trailer
 pub tells_before : {K : Type 0} (keeps : Keeps K) (front : Front K) (records : Lines) (place : Place) → front.stage ≡ BeforeHeader
     → IsKept keeps front.stage front.keeper place records → is_after_end place ≡ false
 tells_before keeps front records place at told =
     ap is_after_end (subst (λ p. IsKept keeps p front.keeper place records) at told).0
 
--- between units, the reader isn't after the trailer
+-- at the stage between units, the reader isn't after the trailer
 pub tells_between : {K : Type 0} (keeps : Keeps K) (front : Front K) (records : Lines) (place : Place) → front.stage ≡ BetweenUnits
     → IsKept keeps front.stage front.keeper place records → is_after_end place ≡ false
 tells_between keeps front records place at told =
     ap is_after_end (subst (λ p. IsKept keeps p front.keeper place records) at told).0
 
--- in a schedule, the reader isn't after the trailer
+-- at the stage in a schedule, the reader isn't after the trailer
 pub tells_inside : {K : Type 0} (keeps : Keeps K) (front : Front K) (opened : Opened) (records : Lines) (place : Place) → front.stage ≡ InSchedule opened
     → IsKept keeps front.stage front.keeper place records → is_after_end place ≡ false
 tells_inside keeps front opened records place at told =
@@ -501,13 +499,13 @@ pub tells_ended : {K : Type 0} (keeps : Keeps K) (front : Front K) (records : Li
 tells_ended keeps front records place at told =
     ap is_after_end (subst (λ p. IsKept keeps p front.keeper place records) at told).0
 
--- ---- why a record can't follow
+-- ---- why a record may not come next
 
 none_of : (b : Bool) (o : Option Place) → o ≡ None → cond b o None ≡ None
 none_of true o h = h
 none_of false o h = refl
 
--- if the file isn't at its end, the cause of a record is the cause that its kind gives
+-- unless the trailer was read, the cause for a record within the limit is the one that its kind gives
 told_cause : (records : Lines) (line : List ℕ) (place : Place) (cause : fault.FileCause) → IsRecord line → is_after_end place ≡ false
     → kind_cause place line ≡ cause
     → (limit : ℕ) → length records < limit → cause_of limit (length records) place line ≡ cause
@@ -521,7 +519,7 @@ no_place (in_schedule stage lines) line =
     ∙ none_of (may_end stage lines) None refl
 no_place after_end line = refl
 
--- a record of no kind can't follow
+-- a record of no kind may not come next
 pub no_kind : {K : Type 0} (keeps : Keeps K) (front : Front K) (records : Lines) (line : List ℕ) → HasRecords keeps front records → ¬ IsFile records
     → IsRecord line → kind_of line ≡ None
     → IsNoNext records line bad_kind
@@ -538,7 +536,7 @@ no_kind keeps front records line has unended is none = record {
     by false h = h
     by true h = absurd (unended ((file_iff_place records).1 (has.at ∙ ap Some (end_by_test has.place h))))
 
--- before the header, a record of another kind can't follow
+-- before the header, no record of another kind may come next
 pub no_header : {K : Type 0} (keeps : Keeps K) (front : Front K) (records : Lines) (line : List ℕ) (kind : Kind) → HasRecords keeps front records
     → front.stage ≡ BeforeHeader → IsRecord line
     → HasKind kind line → is_header_kind (Some kind) ≡ false
@@ -563,7 +561,7 @@ both_false : (b c : Bool) → c ≡ false → (b && c) ≡ false
 both_false true c h = h
 both_false false c h = refl
 
--- before the header, a header with a bad field can't follow
+-- before the header, a header with a bad field may not come next
 pub bad_header : {K : Type 0} (keeps : Keeps K) (front : Front K) (records : Lines) (line : List ℕ) (column : ℕ) → HasRecords keeps front records
     → front.stage ≡ BeforeHeader → IsRecord line
     → HasKind header line → leftmost_bad_field line ≡ Some column
@@ -581,7 +579,7 @@ bad_header keeps front records line column has at is known bad =
           );
     }
 
--- a good header is the first record
+-- the reader can take a header with good fields as the first record
 pub header_added : {K : Type 0} (keeps : Keeps K) (old new : Front K) (records : Lines) (line : List ℕ) → HasRecords keeps old records
     → old.stage ≡ BeforeHeader → IsRecord line
     → HasKind header line → HasGoodFields line
@@ -608,7 +606,7 @@ header_added keeps old new records line has at is kind fields same_header place 
       );
     }
 
--- a record that begins no unit, or has a bad field, leads nowhere from between units
+-- between units, a record that begins no unit or has a bad field leads to no place
 pub no_unit : (line : List ℕ) → ¬ ((is_some (unit_by_kind (kind_of line) line) ≡ true) × HasGoodFields line) → next_place between_units line ≡ None
 no_unit line bad = by (next_place between_units line) refl
   where
@@ -621,7 +619,7 @@ no_unit line bad = by (next_place between_units line) refl
 cause_between : (line : List ℕ) (kind : Kind) → HasKind kind line → kind_cause between_units line ≡ place_cause between_units line
 cause_between line kind known = λ i. cond (is_none (known i)) bad_kind (place_cause between_units line)
 
--- a record that begins no unit, or has a bad field, can't follow between units
+-- between units, a record that begins no unit or has a bad field may not come next
 pub bad_between : {K : Type 0} (keeps : Keeps K) (front : Front K) (records : Lines) (line : List ℕ) (kind : Kind) → HasRecords keeps front records
     → front.stage ≡ BetweenUnits → IsRecord line
     → HasKind kind line
@@ -635,7 +633,7 @@ bad_between keeps front records line kind has at is known bad =
       is = told_cause records line between_units (place_cause between_units line) is refl (cause_between line kind known);
     }
 
--- after a whole schedule, a record that begins no unit, or has a bad field, can't follow
+-- after a complete schedule, a record that begins no unit or has a bad field may not come next
 pub bad_behind : {K : Type 0} (keeps : Keeps K) (front : Front K) (opened : Opened) (records : Lines) (line : List ℕ) (kind : Kind)
     → HasRecords keeps front records
     → front.stage ≡ InSchedule opened → IsWholeBy opened → IsRecord line → HasKind kind line
@@ -660,7 +658,7 @@ not_may stage lines bad = by (may_end stage lines) refl
     by false h = h
     by true h = absurd (bad h)
 
--- a record that begins a unit can't follow a schedule that isn't whole
+-- after lines that aren't a whole schedule, a record that begins a unit may not come next
 pub not_whole : {K : Type 0} (keeps : Keeps K) (front : Front K) (opened : Opened) (records : Lines) (line : List ℕ) (kind : Kind)
     → HasRecords keeps front records → front.stage ≡ InSchedule opened
     → ((lines : Lines) → HasLines (progress_meant opened.progress) lines → ¬ IsSchedule lines) → IsRecord line → HasKind kind line
@@ -685,7 +683,7 @@ not_whole keeps front opened records line kind has at open_end is known stops =
     none_stage true o h = h
     none_stage false o h = refl
 
--- a line that can follow a basic schedule, but can't continue this schedule, can't come next
+-- a record of a kind that comes within a schedule may not come next if this schedule can't continue with it
 pub bad_line : {K : Type 0} (keeps : Keeps K) (wants : Type 0) (front : Front K) (opened : Opened) (records : Lines) (line : List ℕ)
     (cause : Option fault.FileCause) → HasRecords keeps front records
     → front.stage ≡ InSchedule opened → IsRecord line
@@ -705,33 +703,33 @@ bad_line keeps wants front opened records line (Some cause) has at is follow tol
       is = λ limit under. (fault_of_schedule limit records here.stage here.lines line cause found under is of (told here.lines here.progress_is)).1;
     }
 
--- ---- results
+-- ---- results that are `Ok` or `Err`
 
--- if an `Ok` result promises two facts, it promises whatever follows from both
+-- if two facts are promised for an `Ok` result, so is whatever follows from both
 pub on_ok : {A E P Q R : Type 0} (answer : Result A E) → OnOk answer P → OnOk answer Q → (P → Q → R) → OnOk answer R
 on_ok (Ok value) p q both = both p q
 on_ok (Err error) p q both = p
 
--- if an `Ok` result promises a fact, it promises whatever follows from the fact
+-- if a fact is promised for an `Ok` result, so is whatever follows from it
 pub on_ok_one : {A E P R : Type 0} (answer : Result A E) → OnOk answer P → (P → R) → OnOk answer R
 on_ok_one (Ok value) p one = one p
 on_ok_one (Err error) p one = p
 
--- ---- kinds of the code
+-- ---- kinds of record in the code
 
--- a kind of the code other than `Header` doesn't mean the header's kind
+-- of the code's kinds of record, only `Header` is a header in the definitions
 pub other_kind : (kind : code.Kind) → ¬ (kind ≡ Header) → is_header_kind (Some (meaning kind)) ≡ false
 other_kind Header bad = absurd (bad refl)
 other_kind _ bad = refl
 
--- after the trailer, the records are a file
+-- at the stage after the trailer, the records are a file
 pub file_at_end : {K : Type 0} (keeps : Keeps K) (front : Front K) (records : Lines) → HasRecords keeps front records → front.stage ≡ AfterEnd → IsFile records
 file_at_end keeps front records has at =
     (file_iff_place records).1 (has.at ∙ ap Some (subst (λ p. IsKept keeps p front.keeper has.place records) at has.kept_are).0)
 
--- ---- the file
+-- ---- the whole file
 
--- after the trailer, the records are a file, and what is returned is the file's
+-- at the stage after the trailer, the records are a file, and what the reader returns is right for it
 pub file_ended : {K : Type 0} (keeps : Keeps K) (front : Front K) (records : Lines) (ended : Ended K) → HasRecords keeps front records
     → front.stage ≡ AfterEnd → front.header ≡ Some ended.header → ended.records ≡ length records → ended.keeper ≡ front.keeper
     → IsFile records × IsEnded keeps records ended

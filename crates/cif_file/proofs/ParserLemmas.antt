@@ -1,4 +1,4 @@
--- The lines that a parser has taken, and the faults that it returns.
+-- Which lines a parser has taken after each piece, and which faults it returns.
 use Rattle.std.proofs.Common.{◌≡◌, ℕ, ◌+◌, ◌-◌, ◌≤◌, ◌<◌, inl, inr, Bool, true, false, cond, List, [], ◌∷◌, ◌++◌, length, subst, refl, ap, sym}
 use Rattle.std.proofs.Common.{◌∙◌, Some, None, arith, append_assoc, append-nil, length-append, eqb-true, take, drop, get_or, suc, drop-cons}
 use Rattle.std.specs.Prelude.{⊤, Option, ◌↔◌, ◌==◌, ◌&&◌, nat_le, position, nat_lt}
@@ -60,7 +60,7 @@ above most n many = by (nat_le n most) refl
 
 -- ---- out of memory
 
--- memory may run out at a line if some file begins with the records and that line
+-- memory may run out at a line that is within the limit if some file begins with the records before and this line
 memory_answer : (limit : ℕ) (records : Lines) (line : List ℕ) (number : ℕ) (all : Lines) → length records < limit → GoesOnWith records line
     → number ≡ length records + 1 → all ≡ records ++ line ∷ []
     → WantsMemoryAt limit all number
@@ -73,7 +73,7 @@ memory_answer limit records line number all under goes_on counted whole =
       sound = subst BeginsFile (sym (take_all number all (omega arith))) (subst BeginsFile (sym whole) ((begins_iff_place (records ++ line ∷ [])).1 goes_on));
     }
 
--- if memory ran out at a record, records after it make no difference
+-- whether memory may have run out at a record doesn't depend on the records after it
 memory_more : (limit : ℕ) (records others : Lines) (number : ℕ) → WantsMemoryAt limit records number → WantsMemoryAt limit (records ++ others) number
 memory_more limit records others number told = record {
   some = told.some;
@@ -88,7 +88,7 @@ end_by_test _ h = absurd cc
 
 -- ---- the next record
 
--- a record after the trailer is refused
+-- within the limit, a record after the trailer is refused with the cause `After`
 pub after_cause : {K : Type 0} (keeps : Keeps K) (limit : ℕ) (front : Front K) (records : Lines) (line : List ℕ) → HasRecords keeps front records
     → IsFile records → length records < limit
     → IsCauseNext limit records line after_trailer
@@ -111,14 +111,14 @@ no_next place line bad = by (next_place place line) refl
     by None h = h
     by (Some next) h = absurd (bad (next_by_test place line next h).is)
 
--- a line that is refused has a cause
+-- choosing among three causes gives a cause
 some_cause : (over ended : Bool) (first second third : model.FileCause)
     → cond over (Some first) (cond ended (Some second) (Some third)) ≡ Some (cond over first (cond ended second third))
 some_cause true ended first second third = refl
 some_cause false true first second third = refl
 some_cause false false first second third = refl
 
--- the fault for which a line that isn't a record is refused is the fault of the next line
+-- the fault for which the code refuses a line that isn't a record is a fault of that line
 pub refused_line : (wants : Type 0) (limit : ℕ) (records : Lines) (line : List ℕ) (cause : Option model.FileCause) (fault : FileFault)
     → IsRefusedNext limit records cause fault → ¬ IsRecord line
     → ((place : Place) → cause ≡ Some (length_cause place line)) → IsFaultNext wants limit records line fault
@@ -131,7 +131,7 @@ refused_line wants limit records line cause fault next bad told = record {
       (record { place = next.place; at = next.at; here = inr (no_next next.place line bad); is = refl });
 }
 
--- a line refused for its length has the fault of a line that is too long
+-- the fault for which a line is refused because of its length is the fault of a line of more than 81 bytes
 pub refused_long : (limit : ℕ) (records : Lines) (fault : FileFault) → IsRefusedNext limit records (Some bad_length) fault → IsLongNext limit records fault
 refused_long limit records fault next = record {
   number = next.number;
@@ -140,7 +140,7 @@ refused_long limit records fault next = record {
   cause = next.is ∙ some_cause (nat_le limit (length records)) (is_after_end next.place) too_many after_trailer bad_length;
 }
 
--- within the limit, the cause of a record that can't come next is the cause of the next line
+-- if a record within the limit may not come next, the cause for that is a right cause for refusing its line
 pub front_cause : (wants : Type 0) (limit : ℕ) (records : Lines) (line : List ℕ) (cause : FileCause) → length records < limit
     → IsNoNextCause wants records line (cause_meant cause)
     → IsCauseAfter wants limit records line (cause_meant cause)
@@ -150,10 +150,9 @@ front_cause wants limit records line cause under told = by (cause_meant cause) t
     by None goes_on = (goes_on.0, under, goes_on.1)
     by (Some c) told_no = record { place = told_no.place; at = told_no.at; here = inr told_no.nowhere; is = told_no.is limit under }
 
--- ---- a line that ends
+-- ---- a piece with a line feed, where a line ends
 
--- if the line that ends here was taken with its earlier bytes, the reading has read the text up to
--- here
+-- if the line that ends at a line feed was taken, the parser has read the text up to and including this line feed
 pub ended_read : {K : Type 0} (keeps : Keeps K) (old new : FileReading K) (limit : ℕ) (text front : List ℕ) → IsReading keeps old limit text → HasNoFeed front
     → HasCounted keeps new.records limit (complete_lines text ++ strip_carriage_return (open_line text ++ front) ∷ []) → new.partial.items ≡ []
     → IsReading keeps new limit (text ++ (front ++ 10 ∷ []))
@@ -163,7 +162,7 @@ ended_read keeps old new limit text front reading plain counted none = record {
   short = let size = ap (λ (l : List ℕ). length l) (open_line_ended text front plain) in omega arith;
 }
 
--- the fault of the line that ends here is the fault that is returned for the text
+-- a fault of the line that ends at a line feed is a fault of the text up to this line feed
 pub ended_fault : {K : Type 0} (keeps : Keeps K) (wants : Type 0) (old : FileReading K) (limit : ℕ) (text front : List ℕ) (fault : FileFault)
     → IsReading keeps old limit text → HasNoFeed front
     → IsFaultNext wants limit (complete_lines text) (strip_carriage_return (open_line text ++ front)) fault → IsFaultReported limit (text ++ (front ++ 10 ∷ [])) fault
@@ -178,7 +177,7 @@ ended_fault keeps wants old limit text front fault reading plain next = by (caus
         subst (λ f. IsFaultSoFar limit (text ++ (front ++ 10 ∷ [])) f) (λ i. record { number = sym next.number i; cause = told.is i })
         (fault_at_feed limit text front [] told.place plain told.at reading.counted.within told.here)
 
--- a line that ends here with more than 81 bytes is too long, and that fault is returned
+-- if the line that ends at a line feed has more than 81 bytes, it is too long, which is a fault of the text
 pub ended_long : {K : Type 0} (keeps : Keeps K) (old : FileReading K) (limit : ℕ) (text front : List ℕ) (fault : FileFault) → IsReading keeps old limit text
     → HasNoFeed front
     → 82 ≤ length (open_line text ++ front)
@@ -194,9 +193,9 @@ ended_long keeps old limit text front fault reading plain many next =
     (fault_at_feed limit text front [] next.place plain next.at reading.counted.within
     (inr (no_next_place next.place (strip_carriage_return (open_line text ++ front)) bad))))
 
--- ---- more of a line
+-- ---- further bytes of a line
 
--- more bytes of an open line are kept
+-- if further bytes of a line are kept, the parser has read the text up to and including them
 pub kept_read : {K : Type 0} (keeps : Keeps K) (old new : FileReading K) (limit : ℕ) (text more : List ℕ) → IsReading keeps old limit text → HasNoFeed more
     → length old.partial.items + length more ≤ 81 → new.records ≡ old.records
     → new.partial.items ≡ old.partial.items ++ more → IsReading keeps new limit (text ++ more)
@@ -210,7 +209,7 @@ kept_read keeps old new limit text more reading plain few records kept = record 
       let same = ap (λ (l : List ℕ). length l) reading.partial_is in omega arith;
 }
 
--- if the open line would have more than 81 bytes, it is too long, and that fault is returned
+-- if a line has more than 81 bytes even before its line feed, it is too long, which is a fault of the text
 pub kept_long : {K : Type 0} (keeps : Keeps K) (old : FileReading K) (limit : ℕ) (text more : List ℕ) (fault : FileFault) → IsReading keeps old limit text
     → HasNoFeed more
     → ¬ (length old.partial.items + length more ≤ 81)
@@ -230,9 +229,9 @@ kept_long keeps old limit text more fault reading plain many next =
     (fault_at_long limit (text ++ more) next.place (ap place_at told ∙ next.at) (omega arith)
     (above 81 (length (open_line (text ++ more))) (λ few. many (omega arith)))))
 
--- ---- a fault that was returned stays
+-- ---- a fault stays the fault
 
--- a fault of a text is also a fault of each longer text
+-- a fault of a text is a fault of any longer text that begins with it
 pub told_stays : (limit : ℕ) (text more : List ℕ) (fault : FileFault) → IsFaultReported limit text fault → IsFaultReported limit (text ++ more) fault
 told_stays limit text more fault told = by (cause_meant fault.cause) told
   where
@@ -242,13 +241,13 @@ told_stays limit text more fault told = by (cause_meant fault.cause) told
         (memory_more limit (complete_lines text) stay.0 fault.number here)
     by (Some cause) here = fault_stays limit text more (record { number = fault.number; cause = cause }) here
 
--- ---- the end
+-- ---- the end of the text
 
 counted_open : {K : Type 0} (keeps : Keeps K) (records : Records K) (limit : ℕ) (text : List ℕ) → 0 < length (open_line text)
     → HasCounted keeps records limit (complete_lines text ++ strip_carriage_return (open_line text) ∷ []) → HasCounted keeps records limit (lines_of text)
 counted_open keeps records limit text some counted = subst (HasCounted keeps records limit) (sym (lines_of_open text some)) counted
 
--- if no line is open, all lines are complete
+-- if no line is open at the end, all lines of the text were taken
 pub counted_ended : {K : Type 0} (keeps : Keeps K) (reading : FileReading K) (limit : ℕ) (text : List ℕ) → IsReading keeps reading limit text
     → reading.partial.items ≡ []
     → HasCounted keeps reading.records limit (lines_of text)
@@ -270,14 +269,14 @@ end_fault keeps wants reading limit text fault is some next = by (cause_meant fa
         subst (λ f. IsFileFault limit text f) (λ i. record { number = sym next.number i; cause = told.is i })
         (fault_at_end limit text told.place told.at is.counted.within some told.here)
 
--- if all lines of a text were counted, what is returned belongs to the text
+-- if all lines of a text were taken and the reader returns a file, it is the text's file
 pub file_at_end : {K : Type 0} (keeps : Keeps K) (records : Records K) (limit : ℕ) (text : List ℕ) (ended : Ended K)
     → HasCounted keeps records limit (lines_of text) → EndsCounted keeps records ended → IsEndedText keeps limit text ended
 file_at_end keeps records limit text ended counted told =
     let is = told limit (lines_of text) counted in
     record { records = lines_of text; is_text = record { lines = refl; is = is.0; within = counted.within }; of_records = is.1 }
 
--- if the records aren't a file, the text has a fault after the last record
+-- if all lines of a text were taken and aren't a file, the missing trailer is the text's fault
 pub no_end_at_end : {K : Type 0} (keeps : Keeps K) (records : Records K) (limit : ℕ) (text : List ℕ) (fault : FileFault)
     → HasCounted keeps records limit (lines_of text) → EndsUnended keeps records fault
     → IsRefused limit text fault
@@ -290,13 +289,13 @@ no_end_at_end keeps records limit text fault counted ends =
       cause = refl;
     }))
 
--- no complete record of a text that was read is at fault
+-- if the parser has read a text, none of its complete records is at fault
 pub reading_tells_none : {K : Type 0} (keeps : Keeps K) (reading : FileReading K) (limit : ℕ) (text : List ℕ) → IsReading keeps reading limit text
     → (fault : model.FileFault)
     → ¬ IsFaultSoFar limit text fault
 reading_tells_none keeps reading limit text is = no_fault_told limit text is.counted.has.place is.counted.has.at is.counted.within is.short
 
--- a fault that was returned earlier is the fault of the whole text
+-- a fault that shows before the end is a fault of the whole text
 pub told_refused : (limit : ℕ) (text : List ℕ) (fault : FileFault) → IsFaultReported limit text fault → IsRefused limit text fault
 told_refused limit text fault told = by (cause_meant fault.cause) told
   where
@@ -308,7 +307,7 @@ told_refused limit text fault told = by (cause_meant fault.cause) told
 
 -- ---- a line that isn't a record
 
--- a line that isn't a record is refused if it is above the limit
+-- a line that isn't a record and is above the limit is refused for the limit
 pub refused_over : {K : Type 0} (keeps : Keeps K) (records : Records K) (limit : ℕ) (taken : Lines) (cause : Option model.FileCause) (fault : FileFault)
     → HasCounted keeps records limit taken
     → fault.number ≡ records.next
@@ -323,8 +322,7 @@ refused_over keeps records limit taken cause fault counted number over told = re
       λ i. cond (sym (le-leb limit (length taken) most) i) (Some too_many) (cond (is_after_end counted.has.place) (Some after_trailer) cause));
 }
 
--- a line that isn't a record is refused for its own cause or after the trailer, if it is within the
--- limit
+-- a line within the limit that isn't a record is refused for being after the trailer, or otherwise for its own cause
 pub refused_within : {K : Type 0} (keeps : Keeps K) (records : Records K) (limit : ℕ) (taken : Lines) (cause : Option model.FileCause) (fault : FileFault)
     (ended : Bool) → HasCounted keeps records limit taken
     → fault.number ≡ records.next → records.next ≤ records.limit
@@ -352,9 +350,9 @@ refused_within keeps records limit taken cause fault ended counted number within
             let is = (file_iff_place taken).1 (counted.has.at ∙ ap Some (end_by_test counted.has.place k)) in
             let bad : true ≡ false = sym (iff.1 is) ∙ h in absurd cc
 
--- ---- a line that ends, by the bytes that were taken of it
+-- ---- the bytes of a line that ends
 
--- if the bytes don't fit, the line has more than 81 bytes with its earlier ones
+-- if the bytes before a line feed don't fit after the bytes kept, the line has more than 81 bytes
 pub ended_many : {K : Type 0} (keeps : Keeps K) (old : FileReading K) (limit : ℕ) (text front : List ℕ) → IsReading keeps old limit text
     → ¬ (length old.partial.items + length front ≤ 81)
     → 82 ≤ length (open_line text ++ front)
@@ -363,14 +361,14 @@ ended_many keeps old limit text front reading many =
     let size = length-append (open_line text) front in
     above 81 (length (open_line text ++ front)) (λ few. many (omega arith))
 
--- the line made of the bytes that were taken is the text's line
+-- the bytes kept, followed by the bytes before the line feed, are the line that ends there
 pub taken_is : {K : Type 0} (keeps : Keeps K) (old : FileReading K) (limit : ℕ) (text front raw line : List ℕ) → IsReading keeps old limit text
     → raw ≡ old.partial.items ++ front
     → line ≡ strip_carriage_return raw
     → line ≡ strip_carriage_return (open_line text ++ front)
 taken_is keeps old limit text front raw line reading whole strip = strip ∙ ap strip_carriage_return (whole ∙ ap (λ l. l ++ front) reading.partial_is)
 
--- the line that was taken is the one that ends here
+-- the line that was taken is the line that ends at the line feed
 pub ended_ok : {K : Type 0} (keeps : Keeps K) (old new : FileReading K) (limit : ℕ) (text front line : List ℕ)
     → IsReading keeps old limit text → HasNoFeed front
     → line ≡ strip_carriage_return (open_line text ++ front)
@@ -378,7 +376,7 @@ pub ended_ok : {K : Type 0} (keeps : Keeps K) (old new : FileReading K) (limit :
 ended_ok keeps old new limit text front line reading plain same counted none =
     ended_read keeps old new limit text front reading plain (subst (λ l. HasCounted keeps new.records limit (complete_lines text ++ l ∷ [])) same counted) none
 
--- a fault of the line that ends here is a fault of the text
+-- a fault of the line that was refused is a fault of the text up to the line feed
 pub ended_err : {K : Type 0} (keeps : Keeps K) (wants : Type 0) (old : FileReading K) (limit : ℕ) (text front line : List ℕ) (fault : FileFault)
     → IsReading keeps old limit text → HasNoFeed front
     → line ≡ strip_carriage_return (open_line text ++ front) → FaultsNext keeps wants old.records line fault
@@ -387,7 +385,7 @@ ended_err keeps wants old limit text front line fault reading plain same told =
     ended_fault keeps wants old limit text front fault reading plain
     (subst (λ l. IsFaultNext wants limit (complete_lines text) l fault) same (told limit (complete_lines text) reading.counted))
 
--- if no bytes are kept, the line has no earlier bytes
+-- if the parser keeps no bytes, the list of kept bytes is empty
 pub empty_is : {K : Type 0} (old : FileReading K) → true ≡ (length old.partial.items == 0) → old.partial.items ≡ []
 empty_is old none = by old.partial.items (eqb-true (length old.partial.items) 0 (sym none))
   where
@@ -395,7 +393,7 @@ empty_is old none = by old.partial.items (eqb-true (length old.partial.items) 0 
     by [] h = refl
     by (byte ∷ bytes) h = absurd (omega arith)
 
--- if bytes are kept, a line is open
+-- if the parser keeps some bytes, a line is open
 pub some_is_open : {K : Type 0} (keeps : Keeps K) (old : FileReading K) (limit : ℕ) (text : List ℕ) → IsReading keeps old limit text
     → false ≡ (length old.partial.items == 0)
     → 0 < length (open_line text)
@@ -404,7 +402,7 @@ some_is_open keeps old limit text reading some =
     let not_none = eqb-false (length old.partial.items) 0 (sym some) in
     above 0 (length (open_line text)) (λ none. not_none (omega (arith, size)))
 
--- the last line was taken, although no line feed ends it
+-- at the end of the text, the open line was taken as the last line
 pub counted_last : {K : Type 0} (keeps : Keeps K) (old : FileReading K) (records : Records K) (limit : ℕ) (text raw line : List ℕ)
     → IsReading keeps old limit text
     → false ≡ (length old.partial.items == 0) → raw ≡ old.partial.items
@@ -413,9 +411,9 @@ counted_last keeps old records limit text raw line reading some same strip count
     counted_open keeps records limit text (some_is_open keeps old limit text reading some)
     (subst (λ l. HasCounted keeps records limit (complete_lines text ++ l ∷ [])) (strip ∙ ap strip_carriage_return (same ∙ reading.partial_is)) counted)
 
--- ---- bytes cut at a line feed
+-- ---- cutting bytes at a line feed
 
--- the first line feed is at the first position that passes the test
+-- a search by index and a search with the length as default find the same first line feed
 feed_place : (text : List ℕ) (end : ℕ) → position (λ b. b == 10) text ≡ Some end → position_or_len (λ b. b == 10) text ≡ end
 feed_place text end found =
     let at = position-Some (λ b. b == 10) text end 0 found in
@@ -443,13 +441,13 @@ cut_at text end found =
       plain = plain_front text end at.0 found;
     }
 
--- if no position passes the test, the text has no line feed
+-- if the search finds no line feed, the text has none
 pub no_feed_by : (text : List ℕ) → position (λ b. b == 10) text ≡ None → HasNoFeed text
 no_feed_by text none = λ k d below.
     let past = no_place (position_or_len (λ b. b == 10) text) (length text) _ refl none in
     fails_before_first (λ b. b == 10) text k d (omega arith)
 
--- the front of a piece grows by the bytes that are taken from the rest of the piece
+-- taking bytes from the rest of a piece makes the front of the piece longer by these bytes
 cut_more : (piece rest front behind : List ℕ) → before_rest piece rest ++ rest ≡ piece → rest ≡ front ++ behind
     → (before_rest piece behind ≡ before_rest piece rest ++ front) × (before_rest piece behind ++ behind ≡ piece)
 cut_more piece rest front behind whole cut =
@@ -461,7 +459,7 @@ cut_more piece rest front behind whole cut =
     let same : before_rest piece behind ≡ done = (λ i. take (count i) (sym all i)) ∙ take-append_seam done behind in
     (same, ap (λ l. l ++ behind) same ∙ all)
 
--- at first the front is empty and the rest is the whole piece
+-- at first the front of a piece is empty, and the rest is the whole piece
 cut_first : (piece : List ℕ) → (before_rest piece piece ≡ []) × (before_rest piece piece ++ piece ≡ piece)
 cut_first piece =
     let none : length piece - length piece ≡ 0 = omega arith in
@@ -472,16 +470,16 @@ cut_first piece =
     take_none [] = refl
     take_none (b ∷ l) = refl
 
--- a text is its first line with the line feed, and then the rest
+-- a text consists of its first line with the line feed, and the rest
 pub cut_whole : (rest front behind : List ℕ) → IsCut rest front behind → rest ≡ (front ++ 10 ∷ []) ++ behind
 cut_whole rest front behind cut = cut.whole ∙ sym (append_assoc front (10 ∷ []) behind)
 
--- ---- a text that was taken, except for its rest
+-- ---- a text of which a rest is still to be taken
 
 abbrev Told : Type 1
 Told = ℕ → List ℕ → Type 0
 
--- at first nothing of the text was taken
+-- at first none of the text has been taken
 pub takes_none : (before : Told) (text : List ℕ) → TakesUpTo before text text before
 takes_none before text =
     let first = cut_first text in
@@ -490,7 +488,7 @@ takes_none before text =
       read = λ limit told is. subst (λ l. before limit (told ++ l)) (sym first.0) (subst (before limit) (sym (append-nil told)) is);
     }
 
--- taking more of the rest takes more of the text
+-- taking the first part of the rest leaves the second part to be taken
 pub takes_further : (before middle after : Told) (text rest front behind : List ℕ) → TakesUpTo before text rest middle → rest ≡ front ++ behind
     → GoesOn middle front after → TakesUpTo before text behind after
 takes_further before middle after text rest front behind up_to cut on =
@@ -502,19 +500,19 @@ takes_further before middle after text rest front behind up_to cut on =
           (on limit (told ++ before_rest text rest) (up_to.read limit told is));
     }
 
--- taking one more line of the rest takes more of the text
+-- taking the first line of the rest leaves the bytes after it to be taken
 pub takes_line : (before middle next : Told) (text rest front behind : List ℕ) → TakesUpTo before text rest middle → IsCut rest front behind
     → GoesOn middle (front ++ 10 ∷ []) next → TakesUpTo before text behind next
 takes_line before middle next text rest front behind up_to cut on =
     takes_further before middle next text rest (front ++ 10 ∷ []) behind up_to (cut_whole rest front behind cut) on
 
--- taking a first part of the rest, and then a second part, takes both parts of the text
+-- if the rest is taken in two steps, what is left after both is still to be taken
 pub takes_more : (before middle after : Told) (text rest left : List ℕ) → TakesUpTo before text rest middle → TakesUpTo middle rest left after
     → TakesUpTo before text left after
 takes_more before middle after text rest left up_to more =
     takes_further before middle after text rest (before_rest rest left) left up_to (sym more.whole) more.read
 
--- taking the whole rest takes the whole text
+-- after the whole rest is taken, the whole text is taken
 pub takes_whole : (before middle after : Told) (text rest : List ℕ) → TakesUpTo before text rest middle → GoesOn middle rest after → GoesOn before text after
 takes_whole before middle after text rest up_to on = λ limit told is.
     subst (after limit) (append_assoc told (before_rest text rest) rest ∙ ap (λ l. told ++ l) up_to.whole)
@@ -534,34 +532,34 @@ fault_of_front before text front behind fault cut tells = λ limit told is.
     subst (λ t. IsFaultReported limit t fault) (append_assoc told front behind ∙ ap (λ l. told ++ l) (sym cut))
     (told_stays limit (told ++ front) behind fault (tells limit told is))
 
--- ---- a parser with a fault, and without one
+-- ---- a parser that has returned a fault, or hasn't
 
--- if a parser has returned a fault, it may have been fed any text with that fault
+-- a parser that has returned a fault may have been fed any text that has this fault
 pub read_at_fault : (parser : ParserState) (limit : ℕ) (text : List ℕ) (fault : FileFault) → parser.fault ≡ Some fault → IsFaultReported limit text fault
     → HasRead parser limit text
 read_at_fault parser limit text fault at told = subst (IsReadingOrFault parser.reading limit text) (sym at) told
 
--- if a parser has returned a fault, each text that it may have been fed has the fault
+-- any text that may have been fed to a parser that has returned a fault has this fault
 pub fault_at_read : (parser : ParserState) (limit : ℕ) (text : List ℕ) (fault : FileFault) → parser.fault ≡ Some fault → HasRead parser limit text
     → IsFaultReported limit text fault
 fault_at_read parser limit text fault at has = subst (IsReadingOrFault parser.reading limit text) at has
 
--- if a parser has no fault, its reading has read whatever the parser was fed
+-- a parser that hasn't returned a fault has read any text that it may have been fed
 pub reading_at_none : (parser : ParserState) (limit : ℕ) (text : List ℕ) → parser.fault ≡ None → HasRead parser limit text
     → IsReading KeepsAll parser.reading limit text
 reading_at_none parser limit text at has = subst (IsReadingOrFault parser.reading limit text) at has
 
--- if a parser has no fault, it was fed whatever its reading has read
+-- a parser that hasn't returned a fault may have been fed any text that it has read
 pub none_at_reading : (parser : ParserState) (limit : ℕ) (text : List ℕ) → parser.fault ≡ None → IsReading KeepsAll parser.reading limit text
     → HasRead parser limit text
 none_at_reading parser limit text at is = subst (IsReadingOrFault parser.reading limit text) (sym at) is
 
--- like `reading_at_none`, for a reading that equals the parser's
+-- a parser that hasn't returned a fault has read, in its `reading`, any text that it may have been fed
 pub reading_of : (parser : ParserState) (reading : FileReading FileSoFar) (limit : ℕ) (text : List ℕ) → parser.fault ≡ None → parser.reading ≡ reading
     → HasRead parser limit text → IsReading KeepsAll reading limit text
 reading_of parser reading limit text none same has = subst (λ r. IsReading KeepsAll r limit text) same (reading_at_none parser limit text none has)
 
--- a parser that has returned a fault isn't one that has returned none
+-- a parser that has returned a fault isn't one that hasn't
 pub had_failed : (parser : ParserState) (fault : FileFault) → parser.fault ≡ Some fault → ¬ HasNotFailed parser
 had_failed parser fault at none = none fault at
 
@@ -572,41 +570,41 @@ later_than : {K : Type 0} (keeps : Keeps K) (reading : FileReading K) (limit : �
     → sure_lines text < fault.number
 later_than keeps reading limit text fault is number = let same = sure_lines_short text is.short in omega arith
 
--- if the cause of a fault is `Memory`, the line may need memory
+-- a fault has the cause `Memory` only if `wants` allows it
 wants_of : (wants : Type 0) (limit : ℕ) (records : Lines) (line : List ℕ) (fault : FileFault) → IsFaultNext wants limit records line fault
     → fault.cause ≡ Memory → wants
 wants_of wants limit records line fault next memory = (subst (λ cause. IsCauseAfter wants limit records line (cause_meant cause)) memory next.cause).0
 
--- a fault with another cause isn't out of memory
+-- a fault that the definitions know isn't `Memory`
 no_want : (wants : Type 0) (fault : FileFault) (cause : model.FileCause) → cause_meant fault.cause ≡ Some cause → fault.cause ≡ Memory → wants
 no_want wants fault cause told memory = let bad : ◌≡◌ {A = Option model.FileCause} None (Some cause) = sym (ap cause_meant memory) ∙ told in absurd cc
 
--- the fault of the next line is later than any of the text's complete lines
+-- a fault of the next line comes after all complete lines of the text
 pub later_next : {K : Type 0} (keeps : Keeps K) (wants : Type 0) (reading : FileReading K) (line : List ℕ) (fault : FileFault)
     → FaultsNext keeps wants reading.records line fault → IsLater keeps wants reading fault
 later_next keeps wants reading line fault told = λ limit text is.
     let next = told limit (complete_lines text) is.counted in
     (later_than keeps reading limit text fault is next.number, wants_of wants limit (complete_lines text) line fault next)
 
--- the fault of a line that is too long is later than any of the text's complete lines
+-- the fault of a line that is too long comes after all complete lines of the text
 pub later_long : {K : Type 0} (keeps : Keeps K) (wants : Type 0) (reading : FileReading K) (fault : FileFault)
     → ((limit : ℕ) (text : List ℕ) → IsReading keeps reading limit text → IsLongNext limit (complete_lines text) fault) → IsLater keeps wants reading fault
 later_long keeps wants reading fault told = λ limit text is.
     let next = told limit text is in
     (later_than keeps reading limit text fault is next.number, no_want wants fault (cause_of_long limit (length (complete_lines text)) next.place) next.cause)
 
--- a fault beyond a longer text is also beyond its first part
+-- a fault after all complete lines of a text comes after all complete lines of any text with which it begins
 later_front : (text more : List ℕ) (fault : FileFault) → sure_lines (text ++ more) < fault.number → sure_lines text < fault.number
 later_front text more fault later = let grown = sure_lines_grow text more in omega arith
 
--- a fault beyond all that was read is also beyond what was read earlier
+-- a fault after all complete lines that were read is after those that were read earlier
 pub later_piece : {K : Type 0} (keeps : Keeps K) (wants : Type 0) (old new : FileReading K) (front : List ℕ) (fault : FileFault)
     → GoesOn (IsReading keeps old) front (IsReading keeps new) → IsLater keeps wants new fault
     → IsLater keeps wants old fault
 later_piece keeps wants old new front fault read later = λ limit text is.
     let behind = later limit (text ++ front) (read limit text is) in (later_front text front fault behind.0, behind.1)
 
--- the fault of a text without an end is beyond all its complete lines
+-- a missing trailer comes after all complete lines of the text
 pub later_end : {K : Type 0} (keeps : Keeps K) (wants : Type 0) (reading : FileReading K) (fault : FileFault)
     → ((limit : ℕ) (text : List ℕ) → IsReading keeps reading limit text → IsNoEndOf (lines_of text) fault)
     → IsLater keeps wants reading fault
@@ -616,28 +614,27 @@ later_end keeps wants reading fault told = λ limit text is.
     let number = (told limit text is).0 in
     (omega arith, no_want wants fault no_end (told limit text is).1)
 
--- the fault of a text without an end isn't out of memory
+-- a fault for a missing trailer doesn't have the cause `Memory`
 pub last_end : {K : Type 0} (keeps : Keeps K) (reading : FileReading K) (fault : FileFault)
     → ((limit : ℕ) (text : List ℕ) → IsReading keeps reading limit text → IsNoEndOf (lines_of text) fault)
     → IsLast keeps reading fault
 last_end keeps reading fault told = λ memory limit text is.
     let bad : ◌≡◌ {A = Option model.FileCause} None (Some no_end) = sym (ap cause_meant memory) ∙ (told limit text is).1 in absurd cc
 
--- the open line is the last record of the text
+-- if memory ran out at the line that is open at the end, it ran out at the last record of the text
 pub last_open : {K : Type 0} (keeps : Keeps K) (wants : Type 0) (reading : FileReading K) (line : List ℕ) (fault : FileFault)
     → false ≡ (length reading.partial.items == 0) → FaultsNext keeps wants reading.records line fault
     → IsLast keeps reading fault
 last_open keeps wants reading line fault some told =
     λ _ limit text is. (told limit (complete_lines text) is.counted).number ∙ sym (length_at_end text (some_is_open keeps reading limit text is some))
 
--- a fault beyond what the reading has read is beyond what the parser was fed
+-- a fault after all complete lines that the parser has read is after those that it was fed
 pub names_later : (parser : ParserState) (reading : FileReading FileSoFar) (fault : FileFault) → parser.fault ≡ None → parser.reading ≡ reading
     → IsLater KeepsAll ⊤ reading fault
     → NamesLater parser fault
 names_later parser reading fault none same told = λ _ limit text has. (told limit text (reading_of parser reading limit text none same has)).0
 
--- if a fault is at the last record that the reading has read, it is at the last that the parser was
--- fed
+-- a fault at the last record that the parser has read is at the last record that it was fed
 pub names_last : (parser : ParserState) (reading : FileReading FileSoFar) (fault : FileFault) → parser.fault ≡ None → parser.reading ≡ reading
     → IsLast KeepsAll reading fault
     → NamesLast parser fault
@@ -646,7 +643,7 @@ names_last parser reading fault none same told =
 
 -- ---- a record at the start of a text
 
--- the record at the start of the rest was taken
+-- if the record at the start of the rest was taken, only the bytes after its line end are still to be taken
 pub record_read : {K : Type 0} (keeps : Keeps K) (before : Told) (old new : FileReading K) (text rest front line behind : List ℕ)
     → TakesUpTo before text rest (IsReading keeps old) → BeginsWithEighty rest front behind → line ≡ front → IsRecord front
     → old.partial.items ≡ [] → CountsNext keeps old.records line new.records → new.partial.items ≡ []

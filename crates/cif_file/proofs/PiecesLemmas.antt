@@ -1,4 +1,4 @@
--- Pieces, joined one after the other.
+-- Pieces of a text that are fed one after another.
 use Rattle.std.proofs.Common.{◌≡◌, ℕ, ◌+◌, ◌<◌, ◌≤◌, List, [], ◌∷◌, ◌++◌, length, map, take, drop, get_or, subst, ap, sym, ◌∙◌, append-nil}
 use Rattle.std.specs.List.{concat}
 use Rattle.std.proofs.lemmas.List.{map_more, map-append, take-append-drop, take_all}
@@ -8,7 +8,7 @@ use Rattle.cif_file.specs.ParserRead.{ParserState, HasRead, IsFaultReported, IsR
 use Rattle.cif_file.proofs.ParserLemmas.{told_stays, told_refused}
 
 module _ {X : Type 0} (f : X → List ℕ) where
-  -- one more piece is joined after the pieces before it
+  -- joining one more piece appends it to the text of the pieces before
   pub joined_more : (pieces : List X) (i : ℕ) (d : X) → i < length pieces
       → concat (map f (take (i + 1) pieces)) ≡ concat (map f (take i pieces)) ++ f (get_or pieces i d)
   joined_more pieces i d below =
@@ -16,17 +16,17 @@ module _ {X : Type 0} (f : X → List ℕ) where
       ∙ concat-append (map f (take i pieces)) (f (get_or pieces i d) ∷ [])
       ∙ ap (λ last. concat (map f (take i pieces)) ++ last) (append-nil (f (get_or pieces i d)))
 
-  -- a parser that has read some pieces and the next one has read one piece more
+  -- a parser that has read some pieces followed by the next one has read one piece more
   pub read_more : (parser : ParserState) (limit : ℕ) (pieces : List X) (i : ℕ) (d : X) → i < length pieces
       → HasRead parser limit (concat (map f (take i pieces)) ++ f (get_or pieces i d)) → HasRead parser limit (concat (map f (take (i + 1) pieces)))
   read_more parser limit pieces i d below read = subst (HasRead parser limit) (sym (joined_more pieces i d below)) read
 
-  -- after the last piece the parser has read all pieces
+  -- after the last piece the parser has read the text of all pieces
   pub read_all : (parser : ParserState) (limit : ℕ) (pieces : List X) (i : ℕ) → length pieces ≤ i → HasRead parser limit (concat (map f (take i pieces)))
       → HasRead parser limit (concat (map f pieces))
   read_all parser limit pieces i past read = subst (λ all. HasRead parser limit (concat (map f all))) (take_all i pieces past) read
 
-  -- a fault of the first pieces is a fault of all pieces
+  -- a fault of the text up to one of the pieces is a fault of the text of all pieces
   pub refused_front : (limit : ℕ) (pieces : List X) (i : ℕ) (d : X) (fault : FileFault) → i < length pieces
       → IsFaultReported limit (concat (map f (take i pieces)) ++ f (get_or pieces i d)) fault
       → IsRefused limit (concat (map f pieces)) fault

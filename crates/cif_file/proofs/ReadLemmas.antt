@@ -1,4 +1,4 @@
--- Reading a source: what is fed to the parser is what the source gave.
+-- Reading a source: the text that is fed to the parser is what the source gave.
 use Rattle.std.proofs.Common.{◌≡◌, ℕ, ◌≤◌, ◌≢◌, ◌⊎◌, inl, inr, List, [], ◌++◌, length, Some, None, Err, Result, refl, ◌∙◌, ap, subst, arith, append-nil}
 use Rattle.std.specs.Prelude.{Option, Ok, OnOk, IfOk, IfErr}
 use Rattle.docker_model.specs.file.Text.{lines_of}
@@ -21,18 +21,18 @@ use Rattle.cif_file.proofs.ParserLemmas.{reading_tells_none}
 use Rattle.cif_file.specs.ParserRead.{EndsBy, GoesOn, TellsFault, IsReading, IsLater, IsLast, WantsMemoryAt, IsCauseSoFar, IsFaultReported, IsCauseOf, IsRefused}
 use Rattle.cif_file.specs.SourceRead.{Held, IsFaultOf, ReadsEnded, RefusesText, ReadsNoFurther, WantsMemory, WantsMemoryBy}
 
--- ---- pieces
+-- ---- pieces of a source
 
 -- an empty text has no fault
 sound_at_start : (limit : ℕ) (fault : model.FileFault) → ¬ IsFaultSoFar limit [] fault
 sound_at_start limit fault told = let number = told.is.number in let none : fault.number ≤ 0 = told.told in absurd (omega (arith, number, none))
 
--- at first the reading has taken nothing
+-- at first the parser has taken the empty text
 pub at_start : {K : Type 0} (keeps : Keeps K) (limit : ℕ) (reading : FileReading K) → IsReading keeps reading limit [] → limit ≤ 4294967294
     → TakesFile keeps reading limit []
 at_start keeps limit reading has few = record { read = has; few = few; sound = sound_at_start limit }
 
--- a piece that was read is taken after the text before it
+-- if the parser takes a piece, it has taken the text before followed by the piece
 pub takes_more : {K : Type 0} (keeps : Keeps K) (before after : FileReading K) (piece : List ℕ) {A : Type 0} (result : Result A FileFault)
     → OnOk result (GoesOn (IsReading keeps before) piece (IsReading keeps after))
     → OnOk result (AfterEach (TakesFile keeps) before (λ limit text. TakesFile keeps after limit (text ++ piece)))
@@ -41,7 +41,7 @@ takes_more keeps before after piece (Ok done) read = λ limit text has.
     record { read = more; few = has.few; sound = reading_tells_none keeps after limit (text ++ piece) more }
 takes_more keeps before after piece (Err fault) read = tt
 
--- the fault that is returned for a piece is the fault of the text up to and including the piece
+-- the fault that the parser returns for a piece is a fault of the text before followed by the piece
 pub refuses_more : {K : Type 0} (keeps : Keeps K) (wants : Type 0) (before : FileReading K) (piece : List ℕ) {A : Type 0} (result : Result A FileFault)
     → IfErr result (TellsFault (IsReading keeps before) piece) → IfErr result (IsLater keeps wants before)
     → IfErr result (λ fault. AfterEach (TakesFile keeps) before (λ limit text. RefusesPiece wants limit text piece fault))
@@ -52,13 +52,13 @@ refuses_more keeps wants before piece (Err fault) told later = λ limit text has
 
 -- ---- how far a source is read
 
--- after a text without a fault, the source gives at most one more piece
+-- at most one piece is read after a text without a fault
 pub no_further : {K : Type 0} (keeps : Keeps K) (limit : ℕ) (initial next : Option (List ℕ)) → LosesOnePieceMore (TakesFile keeps) 65536 limit [] initial next
     → ReadsNoFurther 65536 limit initial next
 no_further keeps limit initial next more =
     record { before = more.bytes; piece = more.piece; sound = more.taken.sound; at_once = more.few; read = more.lost }
 
--- a text that was read to the source's end is the text that the source held
+-- a text that was read to the end of a source is what the source held
 held_all : (initial now : Option (List ℕ)) (text : List ℕ) → Reads initial text now → IsEnd now → Held initial text
 held_all None now text lost end = tt
 held_all (Some told) None text lost end = cc
@@ -66,7 +66,7 @@ held_all (Some told) (Some rest) text lost end =
     let same : told ≡ text ++ rest = cc in
     same ∙ ap (λ r. text ++ r) end ∙ append-nil text
 
--- what is returned at the end of the source belongs to the text that the source held
+-- what the parser returns at the end of the source is right for the text that the source held
 pub file_read : {K : Type 0} (keeps : Keeps K) (limit count : ℕ) (initial now : Option (List ℕ)) (reading : FileReading K) (result : Result (Ended K) ReadFault)
     → HasFed (TakesFile keeps) count limit [] initial now reading → IsEnd now → IfOk result (EndsBy keeps reading)
     → IfOk result (ReadsEnded keeps limit initial)
@@ -74,9 +74,9 @@ file_read keeps limit count initial now reading (Ok ended) at end of =
     record { text = at.bytes; held = held_all initial now at.bytes at.lost end; of_text = of limit at.bytes at.taken.read }
 file_read keeps limit count initial now reading (Err fault) at end of = tt
 
--- ---- causes
+-- ---- causes of the code and of the definitions
 
--- out of memory is the only cause that no text has
+-- the only cause of the code that the definitions don't have is `Memory`
 memory_meant : (cause : FileCause) → cause_meant cause ≡ None → cause ≡ Memory
 memory_meant Length none = cc
 memory_meant (Byte at) none = cc
@@ -89,8 +89,7 @@ memory_meant After none = cc
 memory_meant TooMany none = cc
 memory_meant Memory none = refl
 
--- a fault that was returned before the end is the fault of each longer text, unless it is out of
--- memory
+-- a fault that shows before the end is a fault of any longer text that begins with this one, unless its cause is `Memory`
 told_of : (limit : ℕ) (text more : List ℕ) (fault : FileFault) → IsFaultReported limit text fault → fault.cause ≢ Memory → IsFaultOf limit (text ++ more) fault
 told_of limit text more fault told other = by (cause_meant fault.cause) refl told
   where
@@ -106,7 +105,7 @@ refused_of limit text fault refused other = by (cause_meant fault.cause) refl re
     by None h of = absurd (other (memory_meant fault.cause h))
     by (Some cause) h of = record { cause = cause; cause_is = h; is = of }
 
--- if the file's fault is returned, it is the reading's fault, and its cause isn't `Memory`
+-- if reading a source returns a fault of the file, the parser returned this fault, and its cause isn't `Memory`
 told_as_file : {A : Type 0} (fault told : FileFault) (result : ReadFault) → (fault.cause ≡ Memory → result ≡ read.Memory)
     → (fault.cause ≢ Memory → result ≡ read.File fault)
     → ◌≡◌ {A = Result A ReadFault} (Err result) (Err (read.File told)) → (fault ≡ told) × (fault.cause ≢ Memory)
@@ -127,7 +126,7 @@ memory_or_not After = inr (λ same. cc)
 memory_or_not TooMany = inr (λ same. cc)
 memory_or_not Memory = inl refl
 
--- out of memory is returned only if the reading returned it
+-- if reading a source returns `Memory`, the parser returned a fault with the cause `Memory`
 told_as_memory : {A : Type 0} (fault : FileFault) (result : ReadFault) → (fault.cause ≢ Memory → result ≡ read.File fault)
     → ◌≡◌ {A = Result A ReadFault} (Err result) (Err read.Memory) → fault.cause ≡ Memory
 told_as_memory fault result file is = by (memory_or_not fault.cause)
@@ -136,9 +135,9 @@ told_as_memory fault result file is = by (memory_or_not fault.cause)
     by (inl wanting) = wanting
     by (inr other) = absurd (let from : result ≡ read.File fault = file other in cc)
 
--- ---- faults
+-- ---- faults of the text that a source held
 
--- a fault at the end is the fault of the text
+-- a fault of the file that is returned at the end is a fault of the whole text
 pub fault_at_end : {A : Type 0} (limit : ℕ) (text : List ℕ) (fault told : FileFault) (result : ReadFault) → IsRefused limit text fault
     → (fault.cause ≡ Memory → result ≡ read.Memory) → (fault.cause ≢ Memory → result ≡ read.File fault)
     → ◌≡◌ {A = Result A ReadFault} (Err result) (Err (read.File told)) → IsFaultOf limit text told
@@ -146,7 +145,7 @@ fault_at_end limit text fault told result refused memory file is =
     let as_file = told_as_file fault told result memory file is in
     subst (IsFaultOf limit text) as_file.0 (refused_of limit text fault refused as_file.1)
 
--- memory that ran out at the end ran out at the last record
+-- if memory runs out at the end, it does so at the last record
 pub memory_at_end : {K : Type 0} (keeps : Keeps K) (wants : Type 0) {A : Type 0} (limit : ℕ) (text : List ℕ) (reading : FileReading K) (fault : FileFault)
     (result : ReadFault) → IsReading keeps reading limit text
     → IsRefused limit text fault → IsLater keeps wants reading fault → IsLast keeps reading fault → (fault.cause ≢ Memory → result ≡ read.File fault)
@@ -159,25 +158,25 @@ memory_at_end keeps wants limit text reading fault result has refused later last
           (subst (λ cause. IsCauseOf limit text fault.number (cause_meant cause)) wanting refused),
     )
 
--- a fault at the end is the fault of what the source held
+-- a fault of the file at the end of the source is a fault of what the source held
 pub refused_at_end : {K : Type 0} (keeps : Keeps K) (limit count : ℕ) (initial now : Option (List ℕ)) (reading : FileReading K) (fault : FileFault)
     → (at : HasFed (TakesFile keeps) count limit [] initial now reading) → IsEnd now → IsFaultOf limit at.bytes fault → RefusesText limit initial fault
 refused_at_end keeps limit count initial now reading fault at end is =
     record { text = at.bytes; held = held_all initial now at.bytes at.lost end; is = is }
 
--- memory that ran out at the end ran out for a text that the source held
+-- if memory runs out at the end of the source, it does so at the last record of what the source held
 pub wants_at_end : {K : Type 0} (keeps : Keeps K) (wants : Type 0) (limit count : ℕ) (initial now : Option (List ℕ)) (reading : FileReading K)
     → (at : HasFed (TakesFile keeps) count limit [] initial now reading) → IsEnd now
     → wants × WantsMemoryAt limit (lines_of at.bytes) (length (lines_of at.bytes)) → WantsMemoryBy wants 65536 limit initial now
 wants_at_end keeps wants limit count initial now reading at end wanting =
     inr (wanting.0, inr (record { text = at.bytes; held = held_all initial now at.bytes at.lost end; wanting = wanting.1 }))
 
--- a piece of the file was refused
+-- Says that a piece from the source was refused with this fault.
 abbrev HasRefusedFile : {K : Type 0} → Keeps K → Type 0 → ℕ → Option (List ℕ) → Option (List ℕ) → FileReading K → FileFault → Type 0
 HasRefusedFile keeps wants limit initial next reading fault =
     HasRefused (TakesFile keeps) (λ _ n text piece told. RefusesPiece wants n text piece told) 65536 limit [] initial next reading fault
 
--- the fault of a piece is the fault of what the source held
+-- the fault for which a piece was refused is a fault of what the source held
 pub refused_before : {K : Type 0} (keeps : Keeps K) (wants : Type 0) {A : Type 0} (limit : ℕ) (initial next : Option (List ℕ)) (reading : FileReading K)
     (fault told : FileFault) (result : ReadFault) → HasRefusedFile keeps wants limit initial next reading fault
     → (fault.cause ≡ Memory → result ≡ read.Memory) → (fault.cause ≢ Memory → result ≡ read.File fault)
@@ -198,7 +197,7 @@ refused_before keeps wants limit initial next reading fault told result has memo
     by (Some bytes) None lost = cc
     by (Some bytes) (Some rest) lost = record { text = text ++ rest; held = cc; is = of rest }
 
--- memory that ran out before the end ran out at a record that only the last piece completes
+-- if memory runs out before the end, it does so at a record that is complete only with the last piece
 pub wants_before : {K : Type 0} (keeps : Keeps K) (wants : Type 0) {A : Type 0} (limit : ℕ) (initial next : Option (List ℕ)) (reading : FileReading K)
     (fault : FileFault) (result : ReadFault) → HasRefusedFile keeps wants limit initial next reading fault
     → (fault.cause ≢ Memory → result ≡ read.File fault) → ◌≡◌ {A = Result A ReadFault} (Err result) (Err read.Memory)
@@ -222,11 +221,11 @@ wants_before keeps wants limit initial next reading fault result has file is =
 
 -- ---- out of memory
 
--- a fault of a read is the same in a result of another type
+-- if results with two faults are equal, results of another type with these faults are equal too
 same_fault : {A B : Type 0} (fault told : ReadFault) → ◌≡◌ {A = Result A ReadFault} (Err fault) (Err told) → ◌≡◌ {A = Result B ReadFault} (Err fault) (Err told)
 same_fault fault told is = let same : fault ≡ told = cc in ap Err same
 
--- if memory ran out where a record may need it, `WantsMemory` holds
+-- for a keeper that may run out of memory, `WantsMemory` follows from `WantsMemoryBy`
 pub wants_any : {A B : Type 0} (wants : Type 0) (limit : ℕ) (old new : Option (List ℕ)) (fault : ReadFault)
     → (◌≡◌ {A = Result A ReadFault} (Err fault) (Err read.Memory) → WantsMemoryBy wants 65536 limit old new)
     → ◌≡◌ {A = Result B ReadFault} (Err fault) (Err read.Memory) → WantsMemory 65536 limit old new
@@ -236,7 +235,7 @@ wants_any wants limit old new fault told is = by (told (same_fault fault read.Me
     by (inl unread_yet) = inl unread_yet
     by (inr wanting) = inr wanting.1
 
--- if no record needs memory, memory ran out before the first byte was read
+-- if the keeper can't run out of memory, memory ran out before the first byte was read
 pub wants_none : {A B : Type 0} (limit : ℕ) (old new : Option (List ℕ)) (fault : ReadFault)
     → (◌≡◌ {A = Result A ReadFault} (Err fault) (Err read.Memory) → WantsMemoryBy ⊥ 65536 limit old new)
     → ◌≡◌ {A = Result B ReadFault} (Err fault) (Err read.Memory) → Reads old [] new

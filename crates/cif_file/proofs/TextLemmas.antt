@@ -1,4 +1,4 @@
--- A record at the start of a text.
+-- Lemmas on a record at the start of a text, and on its line end.
 use Rattle.std.proofs.Common.{◌≡◌, ℕ, ◌-◌, ◌≤◌, inl, inr, true, false, cond, List, [], ◌∷◌, ◌++◌, length, take}
 use Rattle.std.proofs.Common.{drop, get_or, refl, sym, ap, ◌∙◌, subst, arith, length-append, append_assoc}
 use Rattle.std.proofs.lemmas.Grind.{common_steps}
@@ -19,17 +19,17 @@ no_feed b printable = grind (arith, nat_tests)
 no_return : (b : ℕ) → is_printable b ≡ true → (b == 13) ≡ false
 no_return b printable = grind (arith, nat_tests)
 
--- a record has no line feed
+-- a record contains no line feed
 record_plain : (line : List ℕ) → IsRecord line → HasNoFeed line
 record_plain line is = λ k d below. no_feed (get_or line k d) (is.1 k d below)
 
--- a record doesn't end in a carriage return
+-- a record doesn't end in a carriage return, so stripping one changes nothing
 strip_record : (line : List ℕ) → IsRecord line → strip_carriage_return line ≡ line
 strip_record line is =
     let size = is.0 in
     λ i. cond (no_return (get_or line (length line - 1) 0) (is.1 (length line - 1) 0 (omega (arith, size))) i) (take (length line - 1) line) line
 
--- a carriage return after a line is stripped
+-- stripping the carriage return after a line gives the line
 strip_return : (line : List ℕ) → strip_carriage_return (line ++ 13 ∷ []) ≡ line
 strip_return line =
     let whole = line ++ 13 ∷ [] in
@@ -37,13 +37,13 @@ strip_return line =
     let front : take (length whole - 1) whole ≡ line = grind (arith, common_steps) in
     ap (λ t. cond t (take (length whole - 1) whole) whole) (eq-eqb _ 13 last) ∙ front
 
--- the text is cut at a line feed, and its front is the line, with or without a carriage return
+-- Says that cutting a text at its first line feed gives this line, with or without a carriage return, and this rest.
 pub record CutsRecord (text line rest : List ℕ) : Type 0 where
   pub front : List ℕ
   pub cut : IsCut text front rest
   pub line_is : line ≡ strip_carriage_return front
 
--- a text that starts with a record is cut at the line feed after that record
+-- a text that begins with a record and a line end is cut at this line end
 pub record_cut : (text line rest : List ℕ) → IsRecord line → BeginsWithEighty text line rest → CutsRecord text line rest
 record_cut text line rest is begins = by begins.ended
   where
@@ -62,7 +62,7 @@ record_cut text line rest is begins = by begins.ended
       line_is = sym (strip_return line);
     }
 
--- if a text starts with a line of 80 bytes, a line end comes after its first 80 bytes
+-- if a text begins with a line of 80 bytes, a line end follows its first 80 bytes
 pub begins_at : (text line rest : List ℕ) → BeginsWithEighty text line rest → BeginsWithEnd (drop 80 text) rest × (80 ≤ length text)
 begins_at text line rest begins =
     let size = begins.eighty in
@@ -71,7 +71,7 @@ begins_at text line rest begins =
     let second : drop 80 text ≡ begins.after = (λ i. drop (sym size i) (begins.whole i)) ∙ drop-append_seam line begins.after in
     (subst (λ l. BeginsWithEnd l rest) (sym second) begins.ended, omega arith)
 
--- conversely, if a line end comes after its first 80 bytes, a text starts with a line of 80 bytes
+-- conversely, if a line end follows the first 80 bytes of a text, it begins with a line of 80 bytes
 pub begins_with : (text rest : List ℕ) → 80 ≤ length text → BeginsWithEnd (drop 80 text) rest → BeginsWithEighty text (take 80 text) rest
 begins_with text rest some ended = record {
   eighty = length-take-le 80 text some;

@@ -1,4 +1,4 @@
--- What is returned for a file, if only what a place and a day need was kept.
+-- What is returned at the end of a file of which only what a place and a day need was kept.
 use Rattle.std.proofs.Common.{◌≡◌, ℕ, ◌∙◌, ◌≤◌, List, subst, sym, arith}
 use Rattle.std.specs.Prelude.{Option}
 use Rattle.docker_model.specs.file.File.{most_records}
@@ -14,12 +14,12 @@ use Rattle.cif_file.specs.ThinKept.{KeepsThin}
 use Rattle.cif_file.specs.ThinRead.{AreThinParts}
 
 module _ {P : Type 0} (place : List ℕ) (day : ℕ) where
-  -- the file is made of the records
+  -- the thin file has the header, the number of records and the changes of the records that were read
   file_of : (records : List (List ℕ)) (ended : Ended (ThinSoFar P)) → IsEnded (KeepsThin place day) records ended
       → IsOfRecords (thin_ended ended).file records
   file_of records ended is = record { header_is = is.header_is; count_is = is.count_is; changes_are = is.kept.so_far }
 
-  -- enough of the file's changes was kept
+  -- the changes that were kept are enough for the place and the day
   enough_of : (records : List (List ℕ)) (ended : Ended (ThinSoFar P)) → IsEnded (KeepsThin place day) records ended
       → IsThinning ended.keeper.thinned.place ended.keeper.thinned.day ended.keeper.so_far.changes (thin_ended ended).kept
   enough_of records ended is =
@@ -29,7 +29,7 @@ module _ {P : Type 0} (place : List ℕ) (day : ℕ) where
       (subst (λ (all : List Change). IsThinning place day all (thin_ended ended).kept) (sym is.kept.so_far)
       (subst (IsThinning place day (changes records)) (sym has.made.changes_are) has.thinning)))
 
-  -- what is returned is what was kept of the file whose text the source held
+  -- if the reader returns a thin file for the text that a source held, it is a thin file of that text
   pub reads_thin : (there : List ℕ) (on : ℕ) (limit : ℕ) (left : Option (List ℕ)) (ended : Ended (ThinSoFar P)) → there ≡ place → on ≡ day
       → ReadsEnded (KeepsThin place day) limit left ended → ReadsThin there on limit left (thin_ended ended)
   reads_thin there on limit left ended same_place same_day reads =
@@ -44,7 +44,7 @@ module _ {P : Type 0} (place : List ℕ) (day : ℕ) where
         day_is = is.of_records.kept.thinned.day_is ∙ sym same_day;
       }
 
-  -- the returned parts belong to what was kept
+  -- the parts that the reader returns belong to the thin file
   pub reads_thin_parts : (limit : ℕ) (left : Option (List ℕ)) (ended : Ended (ThinSoFar P)) → limit ≤ most_records
       → ReadsEnded (KeepsThin place day) limit left ended
       → AreThinParts ended.keeper.thinned.place ended.keeper.thinned.day ended.keeper.so_far.changes (thin_parts_ended ended)

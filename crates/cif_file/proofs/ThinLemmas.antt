@@ -1,4 +1,4 @@
--- What is kept of a file's changes for the docker of one place on one day.
+-- Why the changes that are kept are enough for the docker of one place on one day.
 use Rattle.std.proofs.Common.{◌≡◌, ℕ, ◌∙◌, inl, inr, Bool, true, false, cond, List, [], ◌∷◌, ◌++◌}
 use Rattle.std.proofs.Common.{length, subst, refl, ap, sym, Some, None, arith, append_assoc}
 use Rattle.std.specs.Prelude.{Option, Contains, ◌⊎◌, ◌||◌, not}
@@ -33,11 +33,11 @@ use Rattle.cif_file.specs.ThinKept.{has_key, HasKeysOf, HasThinned, Thins, Thins
 abbrev Lines : Type 0
 Lines = List (List ℕ)
 
--- the order of the code's keys
+-- the order of keys, for keys of the code
 abbrev cmp : Key → Key → Ordering
 cmp = on key_meant key_cmp
 
--- the new set has one more key than the old one
+-- Says that the new set is the old one with one key added.
 abbrev pub HasOneMore : BTreeSet Key → Key → BTreeSet Key → Type 0
 HasOneMore old key new = set.Updates cmp old new key true
 
@@ -53,7 +53,7 @@ has_added old new added key more same =
     more.0 key ∙ (λ i. cond (is_eq (key_cmp (key_meant added) (same i))) true (has_key old key))
     ∙ (λ i. cond (is_eq (tied_itself key_total (key_meant added) i)) true (has_key old key))
 
--- after one more change is kept, the set with its key has the keys of all kept changes
+-- after keeping a change and adding its key to the set, the set has the keys of all kept changes
 keys_of_more : (old new : BTreeSet Key) (added : code.Change) (kept : List Change) → HasOneMore old added.key new → HasKeysOf old kept
     → HasKeysOf new (kept ++ change_meant added ∷ [])
 keys_of_more old new added kept more known change among key same = by (Contains-append_cases kept (change_meant added ∷ []) change among)
@@ -63,7 +63,7 @@ keys_of_more old new added kept more known change among key same = by (Contains-
     by (inr last) =
         has_added old new added.key key more (same ∙ sym (ap (λ (c : Change). c.key) (Contains-single (change_meant added) change last)))
 
--- before the first change, nothing is kept
+-- before the first change, keeping nothing is enough
 pub none_thinned : (place : List ℕ) (day : ℕ) (thinned : Thinned) → thinned.place ≡ place → thinned.day ≡ day → HasMade thinned.made []
     → HasThinned place day thinned []
 none_thinned place day thinned there dated made = record {
@@ -76,7 +76,7 @@ none_thinned place day thinned there dated made = record {
 }
 
 module _ (place : List ℕ) (day : ℕ) (old new : Thinned) (whole : Change) where
-  -- a change whose key may matter is kept in its thin form
+  -- a change whose key may matter can be kept after cutting it to what the place and the day need
   pub thin_kept : (change : code.Change) → new.place ≡ old.place → new.day ≡ old.day → HasOneMore old.keys change.key new.keys
       → Makes old.made (change_meant change ∷ []) new.made → may_matter place whole.key ≡ true → thin_change place day whole ≡ change_meant change
       → Thins place day old whole new
@@ -91,7 +91,7 @@ module _ (place : List ℕ) (day : ℕ) (old new : Thinned) (whole : Change) whe
     known = keys_of_more old.keys new.keys change has.kept more has.known;
   }
 
-  -- a change elsewhere is dropped
+  -- a change whose key can't matter at the place can be dropped
   pub elsewhere_dropped : new ≡ old → may_matter old.place whole.key ≡ false → Thins place day old whole new
   elsewhere_dropped same apart all has = subst (λ (t : Thinned). HasThinned place day t (all ++ whole ∷ [])) (sym same) (record {
     place_is = has.place_is;
@@ -102,7 +102,7 @@ module _ (place : List ℕ) (day : ℕ) (old new : Thinned) (whole : Change) whe
     known = has.known;
   })
 
-  -- a change that leaves nothing is dropped, if no change of its key was kept
+  -- a change that is cut to a deletion can be dropped if no change of its key was kept
   pub deletion_dropped : (key : Key) → new ≡ old → has_key old.keys key ≡ false → whole.key ≡ key_meant key → thin_act place day whole.act ≡ delete
       → Thins place day old whole new
   deletion_dropped key same none named deletes all has = subst (λ (t : Thinned). HasThinned place day t (all ++ whole ∷ [])) (sym same) (record {
@@ -117,14 +117,14 @@ module _ (place : List ℕ) (day : ℕ) (old new : Thinned) (whole : Change) whe
       unknown : (kept : List Change) → HasKeysOf old.keys kept → HasNoChangeOf whole.key kept
       unknown kept known change among is = let bad = known change among key (sym named ∙ sym is) in let both : true ≡ false = sym bad ∙ none in cc
 
--- a change that is never thin stays as it is
+-- cutting a change that is never cut leaves it unchanged
 pub never_thin_change : (place : List ℕ) (day : ℕ) (change : Change) → IsNeverThin change → thin_change place day change ≡ change
 never_thin_change place day change never = λ i. record { number = change.number; key = change.key; act = never place day i }
 
 -- ---- the change of a schedule
 
 module _ (place : List ℕ) (day : ℕ) (opened : Opened) (near : Bool) where
-  -- the change of a schedule that is a deletion is a deletion in its thin form
+  -- the change of a schedule that is a deletion is cut to a deletion
   deletes_itself : (lines : Lines) → (progress_meant opened.progress).deletion ≡ true → thin_act place day (change_opened opened lines).act ≡ delete
   deletes_itself lines deletion = λ i. thin_act place day (cond (deletion i) delete (put (schedule_body (with_new_first lines))))
 
@@ -132,15 +132,14 @@ module _ (place : List ℕ) (day : ℕ) (opened : Opened) (near : Bool) where
     abbrev renewed : Lines
     renewed = as_new basic ∷ others
 
-    -- setting the transaction of a schedule that isn't a deletion to N doesn't change whether it
-    -- runs near the day
+    -- unless the schedule is a deletion, setting its transaction to N doesn't change whether it runs near the day
     near_renewed : is_deletion basic ≡ false → runs_near day (as_new basic) ≡ near
     near_renewed stays = near_of_new day basic ∙ sym (is stays)
 
     act_put : (progress_meant opened.progress).deletion ≡ false → (change_opened opened (basic ∷ others)).act ≡ put (schedule_body renewed)
     act_put stays = λ i. cond (stays i) delete (put (schedule_body renewed))
 
-  -- a schedule that is a deletion, or doesn't run near the day, leaves nothing
+  -- the change of a schedule that is a deletion, or doesn't run near the day, is cut to a deletion
   pub opened_deletes : (lines : Lines) → HasLines (progress_meant opened.progress) lines → IsSchedule lines → IsNearBy day lines near
       → ((progress_meant opened.progress).deletion ≡ true) ⊎ (near ≡ false) → thin_act place day (change_opened opened lines).act ≡ delete
   opened_deletes lines read whole is (inl deletion) = deletes_itself lines deletion
@@ -153,8 +152,7 @@ module _ (place : List ℕ) (day : ℕ) (opened : Opened) (near : Bool) where
           ap (thin_act place day) (act_put basic others is h)
           ∙ act_far place day (renewed basic others is) (near_renewed basic others is (sym read.deletion_is ∙ h) ∙ far)
 
-  -- a schedule that isn't a deletion and runs near the day is put with the lines that the place
-  -- needs
+  -- the change of a schedule that isn't a deletion and runs near the day is cut to the lines that the place needs
   pub opened_puts : (lines : Lines) → HasLines (progress_meant opened.progress) lines → IsSchedule lines → IsNearBy day lines near
       → (progress_meant opened.progress).deletion ≡ false → near ≡ true
       → thin_act place day (change_opened opened lines).act ≡ put (schedule_body (lines_for place (with_new_first lines)))
@@ -164,12 +162,12 @@ module _ (place : List ℕ) (day : ℕ) (opened : Opened) (near : Bool) where
       ∙ (λ i. cond ((near_renewed basic others is (sym read.deletion_is ∙ stays) ∙ runs) i)
       (put (schedule_body (lines_for place (as_new basic ∷ others)))) delete)
 
--- the place that is kept is the place that was asked for
+-- a key that may matter at the place that `Thinned` has may matter at the docker's place, which is the same
 pub matters_here : (place : List ℕ) {day : ℕ} (change : Change) {thinned : Thinned} {all : List Change} (has : HasThinned place day thinned all)
     → may_matter thinned.place change.key ≡ true → may_matter place change.key ≡ true
 matters_here place change has matters = ap (λ p. may_matter p change.key) (sym has.place_is) ∙ matters
 
--- a change that leaves nothing is a deletion in its thin form
+-- a change that is cut to a deletion can be kept as a deletion with the same number and key
 pub deletion_kept : (place : List ℕ) (day : ℕ) (whole : Change) (number : ℕ) (key : Key) → whole.number ≡ number → whole.key ≡ key_meant key
     → thin_act place day whole.act ≡ delete → thin_change place day whole ≡ record { number = number; key = key_meant key; act = delete }
 deletion_kept place day whole number key numbered named deletes = λ i. record { number = numbered i; key = named i; act = deletes i }
@@ -177,11 +175,11 @@ deletion_kept place day whole number key numbered named deletes = λ i. record {
 -- ---- the changes of a record that is a unit by itself
 
 module _ (place : List ℕ) (day : ℕ) (old new : Thinned) (first : Option code.Change) (last : Change) where
-  -- if a record makes one change and this was taken, all its changes were taken
+  -- if a record makes one change, receiving this change receives all its changes
   pub one_taken : first ≡ None → Thins place day old last new → ThinsAll place day old (listed_after first last) new
   one_taken none thins = subst (λ f. ThinsAll place day old (listed_after f last) new) (sym none) thins
 
-  -- if a record makes two changes and both were taken, all its changes were taken
+  -- if a record makes two changes, receiving one after the other receives all its changes
   pub two_taken : (change : code.Change) (between : Thinned) → first ≡ Some change → Thins place day old (change_meant change) between
       → Thins place day between last new → ThinsAll place day old (listed_after first last) new
   two_taken change between some takes thins =
@@ -189,7 +187,7 @@ module _ (place : List ℕ) (day : ℕ) (old new : Thinned) (first : Option code
       (λ all has. subst (HasThinned place day new) (append_assoc all (change_meant change ∷ []) (last ∷ []))
       (thins (all ++ change_meant change ∷ []) (takes all has)))
 
--- ---- tests
+-- ---- flags
 
 -- if `a || not b` passes, `a` passes or `b` fails
 pub either : (a b : Bool) → (a || not b) ≡ true → (a ≡ true) ⊎ (b ≡ false)
@@ -203,7 +201,7 @@ neither true b h = absurd cc
 neither false false h = absurd cc
 neither false true h = (refl, refl)
 
--- a schedule that may count is put with the lines that the place needs
+-- the change that is kept for a schedule near the day is the schedule's change cut to what the place and the day need
 pub opened_kept : (place : List ℕ) (day : ℕ) (opened : Opened) (near : Bool) (lines : Lines) → HasLines (progress_meant opened.progress) lines
     → IsSchedule lines → IsNearBy day lines near → (progress_meant opened.progress).deletion ≡ false → near ≡ true
     → (thinned : Thinned) → thinned.place ≡ place → (renewed : Lines) → renewed ≡ with_new_first lines

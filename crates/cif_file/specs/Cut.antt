@@ -2,23 +2,23 @@
 use Rattle.std.specs.Prelude.{◌≡◌, ℕ, ◌-◌, ◌⊎◌, List, ◌∷◌, ◌++◌, length, take}
 use Rattle.cif_laws.specs.CompleteLines.{HasNoFeed}
 
--- the text is a front without a line feed, then a line feed, then the rest
+-- Says that a text consists of a front without a line feed, a line feed, and a rest.
 pub record IsCut (text front rest : List ℕ) : Type 0 where
   pub whole : text ≡ front ++ 10 ∷ rest
   pub plain : HasNoFeed front
 
--- the text is a line end and then the rest. A line end is a line feed, or a carriage return and a
--- line feed
+-- Says that a text consists of a line end and a rest. A line end is a line feed, or a carriage
+-- return and a line feed.
 abbrev pub BeginsWithEnd : List ℕ → List ℕ → Type 0
 BeginsWithEnd text rest = (text ≡ 10 ∷ rest) ⊎ (text ≡ 13 ∷ 10 ∷ rest)
 
--- the text is a line of 80 bytes, then a line end, then the rest
+-- Says that a text consists of a line of 80 bytes, a line end, and a rest.
 pub record BeginsWithEighty (text line rest : List ℕ) : Type 0 where
   pub eighty : length line ≡ 80
   pub after : List ℕ
   pub whole : text ≡ line ++ after
   pub ended : BeginsWithEnd after rest
 
--- the bytes of a text before this rest
+-- the bytes of a text that come before a given rest of it
 abbrev pub before_rest : List ℕ → List ℕ → List ℕ
 before_rest text rest = take (length text - length rest) text

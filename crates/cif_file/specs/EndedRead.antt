@@ -1,4 +1,4 @@
--- What a reader returns for a file whose trailer was read.
+-- What the reader returns for a CIF file that was read to its trailer.
 use Rattle.std.specs.Prelude.{◌≡◌, ℕ, List, [], length, slice_index_or}
 use Rattle.docker_model.specs.file.Change.{changes}
 use Rattle.cif_file.specs.declared.ended.Ended.{Ended}
@@ -11,13 +11,14 @@ use Rattle.cif_file.specs.MadeChanges.{file_of_parts}
 use Rattle.cif_file.specs.FileRead.{FileRead, FileCounted}
 use Rattle.cif_file.specs.ThinRead.{ThinRead, thin_of_parts}
 
--- the header and the number of these records are returned, and their changes were kept
+-- Says that these are the header and the number of the records, and that the keeper has received
+-- all their changes.
 pub record IsEnded {K : Type 0} (keeps : Keeps K) (records : List (List ℕ)) (ended : Ended K) : Type 0 where
   pub header_is : ended.header ≡ slice_index_or records 0 []
   pub count_is : ended.records ≡ length records
   pub kept : keeps ended.keeper [] (changes records)
 
--- the parts of the file, if the changes themselves were kept
+-- the parts of a file whose keeper keeps all changes
 abbrev pub parts_ended : Ended FileSoFar → FileParts
 parts_ended ended = record {
   header = ended.header;
@@ -26,11 +27,11 @@ parts_ended ended = record {
   notes = ended.keeper.made.notes;
 }
 
--- the file that was read, if the changes themselves were kept
+-- a file whose keeper keeps all changes
 abbrev pub file_ended : Ended FileSoFar → FileRead
 file_ended ended = file_of_parts (parts_ended ended)
 
--- the parts of the file, if only what a place and a day need of its changes was kept
+-- the parts of a file whose keeper keeps only what the docker of a place on a day needs
 abbrev pub thin_parts_ended : {P : Type 0} → Ended (ThinSoFar P) → FileParts
 thin_parts_ended ended = record {
   header = ended.header;
@@ -39,10 +40,10 @@ thin_parts_ended ended = record {
   notes = ended.keeper.thinned.made.notes;
 }
 
--- what was kept of the file for the place and the day
+-- the thin file whose keeper keeps only what the docker of a place on a day needs
 abbrev pub thin_ended : {P : Type 0} → Ended (ThinSoFar P) → ThinRead
 thin_ended ended = thin_of_parts ended.keeper.thinned.place ended.keeper.thinned.day ended.keeper.so_far.changes (thin_parts_ended ended)
 
--- the counts of the file, if the changes were counted
+-- the counts of a file whose keeper only counts
 abbrev pub count_ended : Ended Tally → FileCounted
 count_ended ended = record { header_line = ended.header; record_count = ended.records; change_count = ended.keeper.changes }

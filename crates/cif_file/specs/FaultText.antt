@@ -1,4 +1,4 @@
--- The texts of faults.
+-- The printed texts of faults.
 use Rattle.std.specs.Prelude.{ℕ, List, ◌++◌, codes, decimal}
 use Rattle.cif_change.specs.Cause.{cause_text}
 use Rattle.cif_file.specs.declared.fault.FileFault.{FileFault}
@@ -6,11 +6,12 @@ use Rattle.cif_file.specs.declared.fault.ReadFault.{ReadFault}
 use Rattle.cif_file.specs.declared.fault.ReadFault.TheVariants.{Source, File}
 use Rattle.cif_file.specs.declared.fault.ReadFault.TheVariants as read
 
--- the text of a file's fault: its record's number and its cause
+-- the printed text of a file's fault: the record's number and the cause, such as `record 3: Field
+-- 10`
 abbrev pub fault_text : FileFault → List ℕ
 fault_text fault = codes "record " ++ decimal fault.number ++ codes ": " ++ cause_text fault.cause
 
--- why no file was read, as a text. If the file has a fault, it is that fault's text
+-- the printed reason why no file could be read from a source
 abbrev pub read_fault_text : ReadFault → List ℕ
 read_fault_text Source = codes "the source failed"
 read_fault_text (File fault) = fault_text fault

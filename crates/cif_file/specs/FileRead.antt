@@ -1,40 +1,42 @@
--- What a reader returns for a file.
+-- What a reader returns for a CIF file.
 use Rattle.std.specs.Prelude.{◌≡◌, ℕ, ◌≤◌, List, [], length, slice_index_or}
 use Rattle.docker_model.specs.file.Change.{Change, changes}
 use Rattle.docker_model.specs.file.File.{IsFile, most_records}
 
--- a file that was read: the line of its header, the number of its records, and their changes
+-- a CIF file that was read: the line of its header, the number of its records, and the changes that
+-- they make
 pub record FileRead : Type 0 where
   pub header_line : List ℕ
   pub record_count : ℕ
   pub changes_made : List Change
 
--- the header, the number and the changes are right for these records
+-- Says that a file has the header, the number of records and the changes of these records.
 pub record IsOfRecords (file : FileRead) (records : List (List ℕ)) : Type 0 where
   pub header_is : file.header_line ≡ slice_index_or records 0 []
   pub count_is : file.record_count ≡ length records
   pub changes_are : file.changes_made ≡ changes records
 
--- some records, at most `most_records`, are a file, and this is what was read of them
+-- Says that the file was read from some records, at most `most_records`, that are a CIF file.
 pub record IsRead (file : FileRead) : Type 0 where
   pub records : List (List ℕ)
   pub of_records : IsOfRecords file records
   pub is_file : IsFile records
   pub few : length records ≤ most_records
 
--- a file that was counted: the line of its header, and how many records and changes it has
+-- a CIF file that was counted: the line of its header, and the numbers of its records and of its
+-- changes
 pub record FileCounted : Type 0 where
   pub header_line : List ℕ
   pub record_count : ℕ
   pub change_count : ℕ
 
--- the header and the counts are right for these records
+-- Says that a file's header and its two counts are right for these records.
 pub record IsCountOfRecords (count : FileCounted) (records : List (List ℕ)) : Type 0 where
   pub header_is : count.header_line ≡ slice_index_or records 0 []
   pub count_is : count.record_count ≡ length records
   pub changes_are : count.change_count ≡ length (changes records)
 
--- some records, at most `most_records`, are a file, and these are their counts
+-- Says that the counts are of some records, at most `most_records`, that are a CIF file.
 pub record IsCounted (count : FileCounted) : Type 0 where
   pub records : List (List ℕ)
   pub of_records : IsCountOfRecords count records

@@ -1,4 +1,4 @@
--- What a reader keeps of a file's records.
+-- What a keeper has after each of its calls.
 use Rattle.std.specs.Prelude.{◌≡◌, ℕ, ◌<◌, List, [], ◌∷◌, ◌++◌, length, if◌then◌else◌}
 use Rattle.docker_model.specs.records.Field.{as_new}
 use Rattle.docker_model.specs.file.File.{IsSchedule}
@@ -14,16 +14,17 @@ use Rattle.cif_change.specs.Meaning.{key_meant}
 abbrev Lines : Type 0
 Lines = List (List ℕ)
 
--- a relation: the keeper keeps these lines of the schedule that is being read, and these changes
+-- a relation between a keeper, the lines of the schedule that is being read, and the changes
+-- received: it says that the keeper has what it should have of them
 abbrev pub Keeps : Type 0 → Type 1
 Keeps K = K → Lines → List Change → Type 0
 
--- lines with the transaction of the first set to N
+-- some lines, with the transaction of the first set to N
 abbrev pub with_new_first : Lines → Lines
 with_new_first [] = []
 with_new_first (basic ∷ others) = as_new basic ∷ others
 
--- the change of a schedule with these lines, whose first has the transaction N already
+-- the change of a schedule with these lines, in which the first already has the transaction N
 abbrev pub change_renewed : Opened → Lines → Change
 change_renewed opened lines = record {
   number = opened.number;
@@ -31,35 +32,36 @@ change_renewed opened lines = record {
   act = if (progress_meant opened.progress).deletion then delete else put (schedule_body lines);
 }
 
--- the change of a schedule with these lines
+-- the change of a schedule with these lines, as they are in the file
 abbrev pub change_opened : Opened → Lines → Change
 change_opened opened lines = change_renewed opened (with_new_first lines)
 
--- a schedule was begun, with this basic schedule
+-- Says that the keeper has received this basic schedule, with which a schedule begins.
 abbrev pub Begins : {K : Type 0} → Keeps K → K → List ℕ → K → Type 0
 Begins keeps old basic new = (made : List Change) → keeps old [] made → keeps new (basic ∷ []) made
 
--- a line was added after a basic schedule and other lines
+-- Says that the keeper has received a further line of the schedule that is being read.
 abbrev pub AddsLine : {K : Type 0} → Keeps K → K → List ℕ → K → Type 0
 AddsLine keeps old line new =
     (basic : List ℕ) (others : Lines) (made : List Change) → keeps old (basic ∷ others) made → keeps new (basic ∷ others ++ line ∷ []) made
 
--- the change of the schedule was made from the lines that were kept, which are a schedule's
+-- Says that the keeper has made the change of the schedule whose lines it had, and now has no
+-- lines.
 abbrev pub Closes : {K : Type 0} → Keeps K → K → Opened → K → Type 0
 Closes keeps old opened new =
     (lines : Lines) (made : List Change) → HasLines (progress_meant opened.progress) lines → IsSchedule lines → keeps old lines made
     → keeps new [] (made ++ change_opened opened lines ∷ [])
 
--- the changes of a single record were made
+-- Says that the keeper has made the changes of a record that is a unit by itself.
 abbrev pub AddsSingle : {K : Type 0} → Keeps K → K → ℕ → List ℕ → K → Type 0
 AddsSingle keeps old number line new =
     (lines : Lines) (made : List Change) → keeps old lines made → keeps new lines (made ++ changes_of_record number line [])
 
--- the lines are kept, with the transaction of the first set to N. The changes are kept too, and the
--- places that they name are noted, if any are
+-- Says that a `FileSoFar` has exactly these lines, with the transaction of the first set to N, and
+-- exactly these changes. If there are notes, they are right for the changes.
 abbrev pub KeepsAll : FileSoFar → Lines → List Change → Type 0
 KeepsAll kept lines changes = (kept.lines.items ≡ with_new_first lines) × HasMade kept.made changes
 
--- the changes are counted, if their number fits in 64 bits
+-- Says that a `Tally` has the number of these changes, as long as it fits in 64 bits.
 abbrev pub CountsChanges : Tally → Lines → List Change → Type 0
 CountsChanges tally lines made = length made < 18_446_744_073_709_551_616 → tally.changes ≡ length made

@@ -1,4 +1,4 @@
--- What a parser of a file was fed.
+-- What a parser of a CIF file has taken, and what its faults mean.
 use Rattle.std.specs.Prelude.{◌≡◌, ℕ, ◌+◌, ◌<◌, ◌≤◌, ◌⊎◌, List, [], ◌∷◌, ◌++◌, length, take, Option, Some, None, nat_le}
 use Rattle.std.proofs.Common.{cond}
 use Rattle.docker_model.specs.file.Text.{lines_of}
@@ -28,204 +28,213 @@ use Rattle.cif_file.specs.RecordsRead.{HasRecords, GoesOnWith}
 abbrev Lines : Type 0
 Lines = List (List ℕ)
 
--- the reader has taken these records, which are within the limit
+-- Says that the reader has taken exactly these records, which are within the limit.
 pub record HasCounted {K : Type 0} (keeps : Keeps K) (state : Records K) (limit : ℕ) (records : Lines) : Type 0 where
   pub limit_is : state.limit ≡ limit
   pub next_is : state.next ≡ length records + 1
   pub within : length records ≤ limit
   pub has : HasRecords keeps state.front records
 
--- the line after these records is at fault, for this cause
+-- Says that this line can't follow these records under the limit, for this cause.
 pub record IsCauseNext (limit : ℕ) (records : Lines) (line : List ℕ) (cause : model.FileCause) : Type 0 where
   pub place : law.Place
   pub at : IsPlaceOf records place
   pub here : (limit ≤ length records) ⊎ (next_place place line ≡ None)
   pub is : cause_of limit (length records) place line ≡ cause
 
--- the reader has refused the line after these records for this cause. It is None for out of memory:
--- memory ran out only if it may, and at a line that may come next
+-- Says why the reader refused the line that follows these records. Without a cause, memory ran out:
+-- `wants` allows it, and some file within the limit begins with these records and the line.
 abbrev pub IsCauseAfter : Type 0 → ℕ → Lines → List ℕ → Option model.FileCause → Type 0
 IsCauseAfter wants limit records line None = wants × (length records < limit) × GoesOnWith records line
 IsCauseAfter wants limit records line (Some cause) = IsCauseNext limit records line cause
 
--- the reader has returned this fault for the line after these records
+-- Says that this is a fault of the line that follows these records: it has that line's number, and
+-- a right cause.
 pub record IsFaultNext (wants : Type 0) (limit : ℕ) (records : Lines) (line : List ℕ) (fault : FileFault) : Type 0 where
   pub number : fault.number ≡ length records + 1
   pub cause : IsCauseAfter wants limit records line (cause_meant fault.cause)
 
--- the reader has returned this fault for a line of more than 81 bytes after these records
+-- Says that this is the fault of a line of more than 81 bytes that follows these records.
 pub record IsLongNext (limit : ℕ) (records : Lines) (fault : FileFault) : Type 0 where
   pub number : fault.number ≡ length records + 1
   pub place : law.Place
   pub at : IsPlaceOf records place
   pub cause : cause_meant fault.cause ≡ Some (cause_of_long limit (length records) place)
 
--- why a line that isn't a record is refused: the limit is the first cause, then the trailer, and
--- then the line's own cause
+-- the cause for a line that isn't a record: `too_many` if it is above the limit, otherwise
+-- `after_trailer` if it comes after the trailer, and otherwise the line's own cause
 abbrev pub refusal : ℕ → ℕ → law.Place → Option model.FileCause → Option model.FileCause
 refusal limit count place cause = cond (nat_le limit count) (Some too_many) (cond (is_after_end place) (Some after_trailer) cause)
 
--- the reader has returned this fault for a line after these records that isn't a record, for this
--- cause
+-- Says that this is the fault of a line that follows these records and that isn't a record, for
+-- this cause.
 pub record IsRefusedNext (limit : ℕ) (records : Lines) (cause : Option model.FileCause) (fault : FileFault) : Type 0 where
   pub number : fault.number ≡ length records + 1
   pub place : law.Place
   pub at : IsPlaceOf records place
   pub is : cause_meant fault.cause ≡ refusal limit (length records) place cause
 
--- the text ends after these records, which aren't a file
+-- Says that the fault is a missing trailer: the text ends after these records, which aren't a file.
 abbrev pub IsNoEndOf : Lines → FileFault → Type 0
 IsNoEndOf records fault = (fault.number ≡ length records + 1) × (cause_meant fault.cause ≡ Some no_end) × (¬ IsFile records)
 
--- the reader has refused a line within the limit, for this cause
+-- Says that this is a right cause for refusing the line after any records that the reader may have
+-- taken, if the limit allows one more.
 abbrev pub RefusesWithin : {K : Type 0} → Keeps K → Type 0 → Front K → List ℕ → FileCause → Type 0
 RefusesWithin keeps wants front line cause =
     (limit : ℕ) (records : Lines) → HasRecords keeps front records → length records < limit → IsCauseAfter wants limit records line (cause_meant cause)
 
--- the reader has taken and counted the line
+-- Says that the reader has taken the line, after any records that it may have taken before.
 abbrev pub CountsNext : {K : Type 0} → Keeps K → Records K → List ℕ → Records K → Type 0
 CountsNext keeps old line new = (limit : ℕ) (records : Lines) → HasCounted keeps old limit records → HasCounted keeps new limit (records ++ line ∷ [])
 
--- the reader has returned this fault for the line
+-- Says that this is a fault of the line, after any records that the reader may have taken.
 abbrev pub FaultsNext : {K : Type 0} → Keeps K → Type 0 → Records K → List ℕ → FileFault → Type 0
 FaultsNext keeps wants state line fault = (limit : ℕ) (records : Lines) → HasCounted keeps state limit records → IsFaultNext wants limit records line fault
 
--- the records that were counted are a file, and this is returned for them
+-- Says that the records that the reader has taken are a file, and that the result is that file.
 abbrev pub EndsCounted : {K : Type 0} → Keeps K → Records K → Ended K → Type 0
 EndsCounted keeps state ended = (limit : ℕ) (records : Lines) → HasCounted keeps state limit records → IsFile records × IsEnded keeps records ended
 
--- the records that were counted aren't a file, and this fault is returned after them
+-- Says that the records that the reader has taken aren't a file, and that the result is their
+-- fault.
 abbrev pub EndsUnended : {K : Type 0} → Keeps K → Records K → FileFault → Type 0
 EndsUnended keeps state fault = (limit : ℕ) (records : Lines) → HasCounted keeps state limit records → IsNoEndOf records fault
 
--- without a fault: all complete lines of the text were taken, and the bytes after them are kept as
--- an open line
+-- Says that the parser has taken exactly this text and found no fault: all complete lines were
+-- taken as records, and the bytes after the last line feed are kept.
 pub record IsReading {K : Type 0} (keeps : Keeps K) (reading : FileReading K) (limit : ℕ) (text : List ℕ) : Type 0 where
   pub counted : HasCounted keeps reading.records limit (complete_lines text)
   pub partial_is : reading.partial.items ≡ open_line text
   pub short : length (open_line text) ≤ 81
 
--- the text is the text of a file within the limit on records, and this is returned for it
+-- Says that the text is a CIF file within the limit on records, and that this is what the reader
+-- returns for it.
 pub record IsEndedText {K : Type 0} (keeps : Keeps K) (limit : ℕ) (text : List ℕ) (ended : Ended K) : Type 0 where
   pub records : Lines
   pub is_text : IsFileText limit text records
   pub of_records : IsEnded keeps records ended
 
--- whatever text was read is the text of a file, and this is returned for it
+-- Says that any text that the parser may have taken is a CIF file, and that this is what it returns
+-- for it.
 abbrev pub EndsBy : {K : Type 0} → Keeps K → FileReading K → Ended K → Type 0
 EndsBy keeps reading ended = (limit : ℕ) (text : List ℕ) → IsReading keeps reading limit text → IsEndedText keeps limit text ended
 
--- memory ran out at one of these records, the one with this number. It is within the limit, and
--- some file begins with the records up to it
+-- Says that memory may have run out at the record with this number. It is one of these records and
+-- within the limit, and some file begins with the records up to it.
 pub record WantsMemoryAt (limit : ℕ) (records : Lines) (number : ℕ) : Type 0 where
   pub some : 0 < number
   pub one : number ≤ length records
   pub within : number ≤ limit
   pub sound : BeginsFile (take number records)
 
--- this is the cause of the first complete record at fault, and that record's number. If the cause
--- is None, memory ran out at a complete record, and no record up to it is at fault
+-- Says that the first fault among a text's complete lines is at the record with this number, for
+-- this cause. Without a cause, memory ran out at that record, which is complete, and no record up
+-- to it is at fault.
 abbrev pub IsCauseSoFar : ℕ → List ℕ → ℕ → Option model.FileCause → Type 0
 IsCauseSoFar limit text number None = WantsMemoryAt limit (complete_lines text) number
 IsCauseSoFar limit text number (Some cause) = IsFaultSoFar limit text (record { number = number; cause = cause })
 
--- like `IsCauseSoFar`, for a fault that a call returns
+-- Like `IsCauseSoFar`, for a fault as the code returns it.
 abbrev pub IsFaultReported : ℕ → List ℕ → FileFault → Type 0
 IsFaultReported limit text fault = IsCauseSoFar limit text fault.number (cause_meant fault.cause)
 
--- this is the cause of the text's fault, and its record's number. If the cause is None, memory ran
--- out at one of its records, and no record up to it is at fault
+-- Says that a whole text's fault is at the record with this number, for this cause. Without a
+-- cause, memory ran out at that record, and no record up to it is at fault.
 abbrev pub IsCauseOf : ℕ → List ℕ → ℕ → Option model.FileCause → Type 0
 IsCauseOf limit text number None = WantsMemoryAt limit (lines_of text) number
 IsCauseOf limit text number (Some cause) = IsFileFault limit text (record { number = number; cause = cause })
 
--- like `IsCauseOf`, for a fault that a call returns
+-- Like `IsCauseOf`, for a fault as the code returns it.
 abbrev pub IsRefused : ℕ → List ℕ → FileFault → Type 0
 IsRefused limit text fault = IsCauseOf limit text fault.number (cause_meant fault.cause)
 
--- a parser as clauses see it: what it has read, and the fault that it has returned, if any
+-- the value of a parser in clauses: what it has taken, and the fault that it has returned, if any
 pub record ParserState : Type 0 where
   pub reading : FileReading FileSoFar
   pub fault : Option FileFault
 
--- the reading has read this text, or has returned this fault of it
+-- Says that the parser has taken this text without a fault, or that it has returned this fault of
+-- the text.
 abbrev pub IsReadingOrFault : FileReading FileSoFar → ℕ → List ℕ → Option FileFault → Type 0
 IsReadingOrFault reading limit text None = IsReading KeepsAll reading limit text
 IsReadingOrFault reading limit text (Some fault) = IsFaultReported limit text fault
 
--- the parser may have been fed this text, under this limit on records
+-- Says that the parser may have been fed this text, under this limit on records.
 abbrev pub HasRead : ParserState → ℕ → List ℕ → Type 0
 HasRead parser limit text = IsReadingOrFault parser.reading limit text parser.fault
 
--- there is a text that the parser may have been fed, under some limit
+-- Says that the parser may have been fed some text, under some limit on records.
 pub record WasFed (parser : ParserState) : Type 0 where
   pub limit : ℕ
   pub text : List ℕ
   pub read : HasRead parser limit text
 
--- the text is the text of a file within the limit on records, and this is that file
+-- Says that the text is a CIF file within the limit on records, and that this is the file.
 pub record IsOfFileText (file : FileRead) (limit : ℕ) (text : List ℕ) : Type 0 where
   pub records : List (List ℕ)
   pub is_text : IsFileText limit text records
   pub of_records : IsOfRecords file records
 
--- the text is the text of a file within the limit on records, and these are that file's counts
+-- Says that the text is a CIF file within the limit on records, and that these are its counts.
 pub record IsCountOfFileText (count : FileCounted) (limit : ℕ) (text : List ℕ) : Type 0 where
   pub records : List (List ℕ)
   pub is_text : IsFileText limit text records
   pub of_records : IsCountOfRecords count records
 
--- the parser has returned this fault
+-- Says that the parser has returned this fault.
 abbrev pub HasFailed : ParserState → FileFault → Type 0
 HasFailed parser fault = parser.fault ≡ Some fault
 
--- the parser has returned no fault
+-- Says that the parser hasn't returned a fault.
 abbrev pub HasNotFailed : ParserState → Type 0
 HasNotFailed parser = (fault : FileFault) → ¬ HasFailed parser fault
 
--- no text that was read before completes the record at fault. Memory ran out only if it may
+-- Says that the record at fault isn't complete in any text that the parser may have taken before.
+-- If memory ran out, `wants` allows it.
 abbrev pub IsLater : {K : Type 0} → Keeps K → Type 0 → FileReading K → FileFault → Type 0
 IsLater keeps wants reading fault =
     (limit : ℕ) (text : List ℕ) → IsReading keeps reading limit text → (sure_lines text < fault.number) × (fault.cause ≡ Memory → wants)
 
--- for a parser that has returned no fault: no text that it was fed before this call completes the
--- record at fault
+-- Says of a parser that hasn't returned a fault: the record at fault isn't complete in any text
+-- that it may have been fed before this call.
 abbrev pub NamesLater : ParserState → FileFault → Type 0
 NamesLater parser fault = HasNotFailed parser → (limit : ℕ) (text : List ℕ) → HasRead parser limit text → sure_lines text < fault.number
 
--- if memory ran out, it was at the last record of the text that was read
+-- Says that if memory ran out, it did so at the last record of the text that was taken.
 abbrev pub IsLast : {K : Type 0} → Keeps K → FileReading K → FileFault → Type 0
 IsLast keeps reading fault = fault.cause ≡ Memory → (limit : ℕ) (text : List ℕ) → IsReading keeps reading limit text → fault.number ≡ length (lines_of text)
 
--- like `IsLast`, for a parser that has returned no fault
+-- Says of a parser that hasn't returned a fault: if memory ran out, it did so at the last record of
+-- the text that was fed.
 abbrev pub NamesLast : ParserState → FileFault → Type 0
 NamesLast parser fault =
     HasNotFailed parser → fault.cause ≡ Memory → (limit : ℕ) (text : List ℕ) → HasRead parser limit text → fault.number ≡ length (lines_of text)
 
--- ---- for each text that may have been read, and each limit on records
+-- ---- for any text that may have been taken, under any limit on records
 
--- if a text was read before, then afterwards that text and these bytes were read
+-- Says that after these bytes, what was taken is the text before followed by these bytes.
 abbrev pub GoesOn : (ℕ → List ℕ → Type 0) → List ℕ → (ℕ → List ℕ → Type 0) → Type 0
 GoesOn before bytes after = (limit : ℕ) (text : List ℕ) → before limit text → after limit (text ++ bytes)
 
--- the text ends in the rest, and all bytes before the rest were taken
+-- Says that the text ends in this rest, and that all bytes before the rest were taken.
 pub record TakesUpTo (before : ℕ → List ℕ → Type 0) (text rest : List ℕ) (after : ℕ → List ℕ → Type 0) : Type 0 where
   pub whole : before_rest text rest ++ rest ≡ text
   pub read : GoesOn before (before_rest text rest) after
 
--- the text that was read before, followed by these bytes, has this fault
+-- Says that this is the fault of the text before followed by these bytes.
 abbrev pub TellsFault : (ℕ → List ℕ → Type 0) → List ℕ → FileFault → Type 0
 TellsFault before bytes fault = (limit : ℕ) (text : List ℕ) → before limit text → IsFaultReported limit (text ++ bytes) fault
 
--- the text that was read before, followed by these bytes, has no fault
+-- Says that the text before followed by these bytes has no fault.
 abbrev pub TellsNoFault : (ℕ → List ℕ → Type 0) → List ℕ → Type 0
 TellsNoFault before bytes =
     (limit : ℕ) (text : List ℕ) → before limit text → (fault : model.FileFault) → ¬ IsFaultSoFar limit (text ++ bytes) fault
 
--- the text that was read is the text of a file, and this is that file
+-- Says that the text that was taken is a CIF file, and that this is the file.
 abbrev pub EndsAs : (ℕ → List ℕ → Type 0) → FileRead → Type 0
 EndsAs read file = (limit : ℕ) (text : List ℕ) → read limit text → IsOfFileText file limit text
 
--- the text that was read has this fault
+-- Says that this is the fault of the text that was taken.
 abbrev pub EndsInFault : (ℕ → List ℕ → Type 0) → FileFault → Type 0
 EndsInFault read fault = (limit : ℕ) (text : List ℕ) → read limit text → IsRefused limit text fault

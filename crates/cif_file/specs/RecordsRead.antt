@@ -1,4 +1,4 @@
--- What the reader of a file's records has read.
+-- What the reader of a CIF file's records has taken, and what it does with the next record.
 use Rattle.std.specs.Prelude.{◌≡◌, ℕ, ◌+◌, ◌<◌, true, false, List, [], ◌∷◌, ◌++◌, length, Option, Some, None}
 use Rattle.docker_model.specs.records.Record.{IsRecord, kind_of}
 use Rattle.docker_model.specs.file.File.{first_record, follows_basic, IsFile, IsSchedule, BeginsSchedule}
@@ -22,12 +22,13 @@ use Rattle.cif_file.specs.KeeperRead.{Keeps}
 abbrev Lines : Type 0
 Lines = List (List ℕ)
 
--- the first record, if there is one
+-- the first of some records, which is the header; none if there are no records
 abbrev pub header_of : Lines → Option (List ℕ)
 header_of [] = None
 header_of (first ∷ records) = Some first
 
--- a schedule is being read; its lines are kept, and the changes of the records before it were made
+-- Says that the reader is in this schedule: the records end in its lines, which the keeper has, and
+-- the changes of the records before it were made.
 pub record IsOpen {K : Type 0} (keeps : Keeps K) (opened : Opened) (keeper : K) (place : law.Place) (records : Lines) : Type 0 where
   pub stage : Stage
   pub lines : Lines
@@ -40,21 +41,23 @@ pub record IsOpen {K : Type 0} (keeps : Keeps K) (opened : Opened) (keeper : K) 
   pub progress_is : HasLines (progress_meant opened.progress) lines
   pub kept : keeps keeper lines (changes before)
 
--- the stage of the code is the place of the records, and their changes were made
+-- Says that the stage of the code is the place that the records lead to, and that their changes
+-- were made.
 abbrev pub IsKept : {K : Type 0} → Keeps K → FileStage → K → law.Place → Lines → Type 0
 IsKept keeps BeforeHeader keeper place records = (place ≡ before_header) × keeps keeper [] (changes records)
 IsKept keeps BetweenUnits keeper place records = (place ≡ between_units) × keeps keeper [] (changes records)
 IsKept keeps (InSchedule opened) keeper place records = IsOpen keeps opened keeper place records
 IsKept keeps AfterEnd keeper place records = (place ≡ after_end) × keeps keeper [] (changes records)
 
--- the reader has taken these records, and some file begins with them
+-- Says that the reader has taken exactly these records, and that some file begins with them.
 pub record HasRecords {K : Type 0} (keeps : Keeps K) (front : Front K) (records : Lines) : Type 0 where
   pub place : law.Place
   pub at : IsPlaceOf records place
   pub header_is : front.header ≡ header_of records
   pub kept_are : IsKept keeps front.stage front.keeper place records
 
--- all units of the records are whole, and their changes were made: a new unit may follow
+-- Says that all units among the records are whole and their changes made, so that another unit may
+-- follow.
 pub record IsOver {K : Type 0} (keeps : Keeps K) (front : Front K) (records : Lines) : Type 0 where
   pub place : law.Place
   pub at : IsPlaceOf records place
@@ -63,29 +66,30 @@ pub record IsOver {K : Type 0} (keeps : Keeps K) (front : Front K) (records : Li
   pub kept : keeps front.keeper [] (changes records)
   pub anew : (line : List ℕ) → follows_basic (kind_of line) ≡ false → next_place place line ≡ next_place between_units line
 
--- no file begins with the records and then this line, for this cause
+-- Says that no file begins with these records followed by this line, for this cause.
 pub record IsNoNext (records : Lines) (line : List ℕ) (cause : fault.FileCause) : Type 0 where
   pub place : law.Place
   pub at : IsPlaceOf records place
   pub nowhere : next_place place line ≡ None
   pub is : (limit : ℕ) → length records < limit → cause_of limit (length records) place line ≡ cause
 
--- some file begins with the records and then this line
+-- Says that some file begins with these records followed by this line.
 abbrev pub GoesOnWith : Lines → List ℕ → Type 0
 GoesOnWith records line = (next : law.Place) × IsPlaceOf (records ++ line ∷ []) next
 
--- why a line was refused after these records. `None` is out of memory: memory may run out then, and
--- some file goes on with the line. Any other cause is why no file goes on with it
+-- Says why the line that follows these records was refused. Without a cause, memory ran out:
+-- `wants` allows it, and some file begins with the records and the line. Any other cause is why no
+-- file does.
 abbrev pub IsNoNextCause : Type 0 → Lines → List ℕ → Option fault.FileCause → Type 0
 IsNoNextCause wants records line None = wants × GoesOnWith records line
 IsNoNextCause wants records line (Some cause) = IsNoNext records line cause
 
--- the lines are a whole schedule, by its progress
+-- Says that any lines that the reader of this schedule may have taken are a whole schedule.
 abbrev pub IsWholeBy : Opened → Type 0
 IsWholeBy opened = (lines : Lines) → HasLines (progress_meant opened.progress) lines → IsSchedule lines
 
--- the records end in lines of a schedule, and the schedule goes on with this line; `opened` is the
--- schedule with this line
+-- Says that the records end in lines of a schedule, and that the schedule may continue with this
+-- line. `opened` is the schedule after it.
 pub record StandsBefore {K : Type 0} (keeps : Keeps K) (front : Front K) (opened : Opened) (line : List ℕ) (records : Lines) : Type 0 where
   pub is : IsRecord line
   pub follows : follows_basic (kind_of line) ≡ true
@@ -102,34 +106,38 @@ pub record StandsBefore {K : Type 0} (keeps : Keeps K) (front : Front K) (opened
   pub goes_on : BeginsSchedule (lines ++ line ∷ [])
   pub kept : keeps front.keeper lines (changes before)
 
--- the schedule that is being read has the line after its earlier ones
+-- Says that the reader is still in the same schedule, with the line after its earlier lines.
 abbrev pub GoesOnTo : Opened → List ℕ → FileStage → Type 0
 GoesOnTo old line BeforeHeader = ⊥
 GoesOnTo old line BetweenUnits = ⊥
 GoesOnTo old line (InSchedule new) = (new.number ≡ old.number) × (new.key ≡ old.key) × Advances old.progress line new.progress
 GoesOnTo old line AfterEnd = ⊥
 
--- ---- what the reader does with a line
+-- ---- what the reader does with the next line
 
--- the reader has the line after its earlier records
+-- Says that the reader has taken the line, after any records that it may have taken before.
 abbrev pub TakesLine : {K : Type 0} → Keeps K → Front K → List ℕ → Front K → Type 0
 TakesLine keeps old line new = (records : Lines) → HasRecords keeps old records → HasRecords keeps new (records ++ line ∷ [])
 
--- like `TakesLine`, if the line's number is one more than the number of the earlier records
+-- Says that the reader has taken the line, after any records before, if its number is right: one
+-- more than the number of these records.
 abbrev pub TakesNext : {K : Type 0} → Keeps K → Front K → ℕ → List ℕ → Front K → Type 0
 TakesNext keeps old number line new =
     (records : Lines) → HasRecords keeps old records → number ≡ length records + 1 → HasRecords keeps new (records ++ line ∷ [])
 
--- like `TakesNext`, for a line that begins a unit after whole units
+-- Says that the reader has taken a line that begins a unit, after any whole units before, if its
+-- number is right: one more than the number of their records.
 abbrev pub BeginsAnew : {K : Type 0} → Keeps K → Front K → ℕ → List ℕ → Front K → Type 0
 BeginsAnew keeps old number line new =
     (records : Lines) → IsOver keeps old records → number ≡ length records + 1 → HasRecords keeps new (records ++ line ∷ [])
 
--- the reader returned this cause for a line: it is why the line can't follow the records so far
+-- Says that this is a right cause for refusing the line after any records that the reader may have
+-- taken.
 abbrev pub RefusesLine : {K : Type 0} → Keeps K → Type 0 → Front K → List ℕ → FileCause → Type 0
 RefusesLine keeps wants front line cause = (records : Lines) → HasRecords keeps front records → IsNoNextCause wants records line (cause_meant cause)
 
--- like `RefusesLine`, if the records so far are no file
+-- Says that this is a right cause for refusing the line after any records that the reader may have
+-- taken, unless they are a whole file.
 abbrev pub RefusesUnended : {K : Type 0} → Keeps K → Type 0 → Front K → List ℕ → FileCause → Type 0
 RefusesUnended keeps wants front line cause =
     (records : Lines) → HasRecords keeps front records → ¬ IsFile records → IsNoNextCause wants records line (cause_meant cause)

@@ -1,4 +1,4 @@
--- The changes of a record that is a unit by itself.
+-- The changes of a record that is a unit by itself: a TIPLOC record or an association.
 use Rattle.std.specs.Prelude.{◌≡◌, ℕ, List, [], ◌∷◌, Option, Some, None, IfSome}
 use Rattle.docker_model.specs.file.Change.{Change}
 use Rattle.docker_laws.specs.Thinning.{thin_act}
@@ -6,19 +6,20 @@ use Rattle.cif_change.specs.declared.change.Change as code
 use Rattle.cif_change.specs.Meaning.{change_meant}
 use Rattle.cif_file.specs.declared.single.SingleChanges.{SingleChanges}
 
--- a change, after another one if there is one
+-- a list of a change and, before it, the optional first one
 abbrev pub listed_after : Option code.Change → Change → List Change
 listed_after None last = last ∷ []
 listed_after (Some first) last = change_meant first ∷ last ∷ []
 
--- the changes, in their order
+-- the one or two changes, in the order in which they are made
 abbrev pub listed : SingleChanges → List Change
 listed changes = listed_after changes.first (change_meant changes.last)
 
--- the change is never thin: every place and day need it as it is
+-- Says that a change is never cut: whatever the place and the day, thinning leaves what it does
+-- unchanged.
 abbrev pub IsNeverThin : Change → Type 0
 IsNeverThin change = (place : List ℕ) (day : ℕ) → thin_act place day change.act ≡ change.act
 
--- each of the changes is never thin
+-- Says that neither of the changes is ever cut.
 abbrev pub AreNeverThin : SingleChanges → Type 0
 AreNeverThin changes = IfSome changes.first (λ first. IsNeverThin (change_meant first)) × IsNeverThin (change_meant changes.last)

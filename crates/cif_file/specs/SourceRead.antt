@@ -1,4 +1,4 @@
--- What a source held.
+-- What a source's text is, if it was read as a CIF file.
 use Rattle.std.specs.Prelude.{◌≡◌, ℕ, ◌<◌, ◌≤◌, ◌⊎◌, List, [], ◌++◌, length, Option, Some, None, ⊤}
 use Rattle.docker_model.specs.file.Text.{lines_of}
 use Rattle.docker_model.specs.file.FaultSoFar.{IsFaultSoFar, sure_lines}
@@ -14,50 +14,53 @@ use Rattle.cif_file.specs.KeeperRead.{Keeps}
 use Rattle.cif_file.specs.ThinRead.{ThinRead}
 use Rattle.cif_file.specs.ParserRead.{IsOfFileText, IsCountOfFileText, IsEndedText, WantsMemoryAt}
 
--- the source held this text, if it can name its bytes
+-- Says that a source held this text. A source that can't name its bytes, such as an endless one,
+-- may have held any text.
 abbrev pub Held : Option (List ℕ) → List ℕ → Type 0
 Held None text = ⊤
 Held (Some left) text = left ≡ text
 
--- the source held the text of this file, which is within the limit on records
+-- Says that the source held the text of this file, which is within the limit on records.
 pub record ReadsText (limit : ℕ) (left : Option (List ℕ)) (file : FileRead) : Type 0 where
   pub text : List ℕ
   pub held : Held left text
   pub of_text : IsOfFileText file limit text
 
--- the source held the text of a file within the limit on records, of which this was kept for the
--- place and the day
+-- Says that the source held the text of a file within the limit on records, and that this is what
+-- was kept of it for the place and the day.
 pub record ReadsThin (place : List ℕ) (day limit : ℕ) (left : Option (List ℕ)) (thin : ThinRead) : Type 0 where
   pub reads : ReadsText limit left thin.file
   pub place_is : thin.place ≡ place
   pub day_is : thin.day ≡ day
 
--- the source held the text of a file within the limit on records, and these are its counts
+-- Says that the source held the text of a file within the limit on records, and that these are its
+-- counts.
 pub record CountsText (limit : ℕ) (left : Option (List ℕ)) (count : FileCounted) : Type 0 where
   pub text : List ℕ
   pub held : Held left text
   pub of_text : IsCountOfFileText count limit text
 
--- the source held the text of a file within the limit on records, and a reader returns this for it
+-- Says that the source held the text of a file within the limit on records, and that the reader
+-- returns this for it.
 pub record ReadsEnded {K : Type 0} (keeps : Keeps K) (limit : ℕ) (left : Option (List ℕ)) (ended : Ended K) : Type 0 where
   pub text : List ℕ
   pub held : Held left text
   pub of_text : IsEndedText keeps limit text ended
 
--- the fault is this text's, and its cause isn't out of memory
+-- Says that this is the text's fault, and that its cause isn't that memory ran out.
 pub record IsFaultOf (limit : ℕ) (text : List ℕ) (fault : FileFault) : Type 0 where
   pub cause : FileCause
   pub cause_is : cause_meant fault.cause ≡ Some cause
   pub is : IsFileFault limit text (record { number = fault.number; cause = cause })
 
--- the fault belongs to a text that the source held
+-- Says that the source held a text with this fault.
 pub record RefusesText (limit : ℕ) (left : Option (List ℕ)) (fault : FileFault) : Type 0 where
   pub text : List ℕ
   pub held : Held left text
   pub is : IsFaultOf limit text fault
 
--- what was read before its last piece has no record at fault so far, and that piece has at most
--- this many bytes
+-- Says that reading didn't go beyond a fault: what was read before the last piece has no fault yet,
+-- and that piece has at most this many bytes.
 pub record ReadsNoFurther (most limit : ℕ) (old new : Option (List ℕ)) : Type 0 where
   pub before : List ℕ
   pub piece : List ℕ
@@ -65,8 +68,8 @@ pub record ReadsNoFurther (most limit : ℕ) (old new : Option (List ℕ)) : Typ
   pub at_once : length piece ≤ most
   pub read : Reads old (before ++ piece) new
 
--- memory ran out at a record that only the last piece completes, no record up to it is at fault,
--- and the piece has at most this many bytes
+-- Says that memory ran out at a record that is complete only with the last piece. No record up to
+-- it is at fault, and the piece has at most this many bytes.
 pub record WantsRecord (most limit : ℕ) (old new : Option (List ℕ)) : Type 0 where
   pub before : List ℕ
   pub piece : List ℕ
@@ -76,20 +79,20 @@ pub record WantsRecord (most limit : ℕ) (old new : Option (List ℕ)) : Type 0
   pub first : sure_lines before < number
   pub wanting : WantsMemoryAt limit (complete_lines (before ++ piece)) number
 
--- memory ran out for the last record of a text that the source held, and no record of the text is
--- at fault
+-- Says that memory ran out at the last record of the text that the source held, and that no record
+-- of the text is at fault.
 pub record WantsLast (limit : ℕ) (left : Option (List ℕ)) : Type 0 where
   pub text : List ℕ
   pub held : Held left text
   pub wanting : WantsMemoryAt limit (lines_of text) (length (lines_of text))
 
--- memory ran out before a byte was read. If `wants` holds, it may also have run out at a record,
--- and no record up to that one is at fault. Either the last piece completes the record, or it is
--- the text's last one
+-- Says that memory ran out before a byte was read or, if `wants` holds, at a record. No record up
+-- to that record is at fault. It is complete only with the last piece, or it is the last record of
+-- the text.
 abbrev pub WantsMemoryBy : Type 0 → ℕ → ℕ → Option (List ℕ) → Option (List ℕ) → Type 0
 WantsMemoryBy wants most limit old new = Reads old [] new ⊎ (wants × (WantsRecord most limit old new ⊎ WantsLast limit old))
 
--- memory ran out before a byte was read, or at a record, and no record up to that one is at fault.
--- Either the last piece completes the record, or it is the text's last one
+-- Says that memory ran out before a byte was read, or at a record. No record up to that record is
+-- at fault. It is complete only with the last piece, or it is the last record of the text.
 abbrev pub WantsMemory : ℕ → ℕ → Option (List ℕ) → Option (List ℕ) → Type 0
 WantsMemory most limit old new = Reads old [] new ⊎ WantsRecord most limit old new ⊎ WantsLast limit old

@@ -1,4 +1,4 @@
--- What is kept of a file's changes for the docker of one place on one day.
+-- What a reader keeps of a file's changes for the docker of one place on one day.
 use Rattle.std.specs.Prelude.{◌≡◌, ℕ, Bool, true, false, ⊤, List, [], ◌∷◌, ◌++◌, Contains}
 use Rattle.std.specs.Ordering.{on}
 use Rattle.std.specs.BTreeSet as set
@@ -21,16 +21,16 @@ use Rattle.cif_file.specs.MadeChanges.{HasMade}
 abbrev Lines : Type 0
 Lines = List (List ℕ)
 
--- the set has this key
+-- whether a set has a key
 abbrev pub has_key : BTreeSet Key → Key → Bool
 has_key keys key = set.contains (on key_meant key_cmp) keys key
 
--- the set has the key of each of these changes
+-- Says that a set has the key of each of these changes.
 abbrev pub HasKeysOf : BTreeSet Key → List Change → Type 0
 HasKeysOf keys kept = (change : Change) → Contains kept change → (key : Key) → key_meant key ≡ change.key → has_key keys key ≡ true
 
--- enough of these changes was kept for the place and the day, and the keys of the kept changes are
--- known
+-- Says that enough of these changes was kept for the place and the day, and that the keys of all
+-- kept changes are in the set.
 pub record HasThinned (place : List ℕ) (day : ℕ) (thinned : Thinned) (all : List Change) : Type 0 where
   pub place_is : thinned.place ≡ place
   pub day_is : thinned.day ≡ day
@@ -39,27 +39,27 @@ pub record HasThinned (place : List ℕ) (day : ℕ) (thinned : Thinned) (all : 
   pub thinning : IsThinning place day all kept
   pub known : HasKeysOf thinned.keys kept
 
--- these changes were taken after the earlier ones
+-- Says that what was kept is enough for the changes before followed by these changes.
 abbrev pub ThinsAll : List ℕ → ℕ → Thinned → List Change → Thinned → Type 0
 ThinsAll place day old more new = (all : List Change) → HasThinned place day old all → HasThinned place day new (all ++ more)
 
--- this change was taken after the earlier ones
+-- Says that what was kept is enough for the changes before followed by this one.
 abbrev pub Thins : List ℕ → ℕ → Thinned → Change → Thinned → Type 0
 Thins place day old change new = ThinsAll place day old (change ∷ []) new
 
--- the flag says whether a schedule with these lines runs near the day, if it is no deletion
+-- Says that, unless the schedule is a deletion, the flag says whether it runs near the day.
 abbrev pub IsNearBy : ℕ → Lines → Bool → Type 0
 IsNearBy day [] near = ⊤
 IsNearBy day (basic ∷ others) near = is_deletion basic ≡ false → near ≡ runs_near day basic
 
--- the change of a schedule was taken after the earlier ones
+-- Says that what was kept is enough for the changes before followed by the change of this schedule.
 abbrev pub ThinsOpened : List ℕ → ℕ → Thinned → Opened → Bool → Lines → Thinned → Type 0
 ThinsOpened place day old opened near renewed new =
     (lines : Lines) → renewed ≡ with_new_first lines → HasLines (progress_meant opened.progress) lines → IsSchedule lines → IsNearBy day lines near
     → Thins place day old (change_opened opened lines) new
 
--- the lines are kept, with the transaction of the first set to N. So are the changes that the place
--- and the day need. In proofs all changes are known
+-- Says that the keeper has these lines, with the transaction of the first set to N, and enough of
+-- the changes for the place and the day. In proofs it knows all changes.
 pub record KeepsThin {P : Type 0} (place : List ℕ) (day : ℕ) (keeper : ThinSoFar P) (lines : Lines) (all : List Change) : Type 0 where
   pub lines_are : keeper.open.lines.items ≡ with_new_first lines
   pub near_is : IsNearBy day lines keeper.near

@@ -1,4 +1,5 @@
--- What a reader returns for a file of which it kept what the docker of one place on one day needs.
+-- What a reader returns for a CIF file of which it kept only what the docker of one place on one
+-- day needs.
 use Rattle.std.specs.Prelude.{ℕ, List, map}
 use Rattle.docker_model.specs.file.Change.{Change}
 use Rattle.docker_laws.specs.Thinning.{IsThinning}
@@ -7,20 +8,20 @@ use Rattle.cif_file.specs.declared.parts.FileParts.{FileParts}
 use Rattle.cif_file.specs.FileRead.{FileRead, IsRead}
 use Rattle.cif_file.specs.MadeChanges.{AreNotesOf}
 
--- a file that was read, the place and the day for which something of it was kept, and the kept
--- changes
+-- a file that was read, the place and the day of the docker, and the changes kept for it
 pub record ThinRead : Type 0 where
   pub place : List ℕ
   pub day : ℕ
   pub file : FileRead
   pub kept : List Change
 
--- the file was read from some records, and enough of their changes was kept
+-- Says that the file was read from some records, and that the kept changes are enough for the place
+-- and the day.
 pub record IsThinRead (thin : ThinRead) : Type 0 where
   pub read : IsRead thin.file
   pub thinning : IsThinning thin.place thin.day thin.file.changes_made thin.kept
 
--- what was read, if these are the parts that are kept, and these changes were made
+-- the thin file that consists of these parts, for a file that makes all these changes
 abbrev pub thin_of_parts : List ℕ → ℕ → List Change → FileParts → ThinRead
 thin_of_parts place day all parts = record {
   place = place;
@@ -29,8 +30,8 @@ thin_of_parts place day all parts = record {
   kept = map change_meant parts.changes.items;
 }
 
--- the parts are kept of a file that was read, and the places that the kept changes name are noted, if
--- there are notes
+-- Says that these are the parts of a thin file and, if there are notes, that they are right for the
+-- kept changes.
 pub record AreThinParts (place : List ℕ) (day : ℕ) (all : List Change) (parts : FileParts) : Type 0 where
   pub read : IsThinRead (thin_of_parts place day all parts)
   pub noted : AreNotesOf (map change_meant parts.changes.items) parts.notes

@@ -1,5 +1,5 @@
--- Records that begin a unit, after the header or after a whole unit. Some are a whole unit by
--- themselves, and make their changes at once.
+-- Records that begin a unit, after the header or after a whole unit. TIPLOC records and
+-- associations are whole units by themselves, and make their changes at once.
 use Rattle.std.specs.Prelude.{◌≡◌, ℕ, List}
 use Rattle.docker_model.specs.records.Record.{Kind, HasKind, IsRecord, tiploc_insert, tiploc_amend, tiploc_delete, association, basic_schedule, trailer}
 use Rattle.docker_model.specs.records.Field.{HasGoodFields}
@@ -22,19 +22,19 @@ line_of_single (TiplocAmend line) = line
 line_of_single (TiplocDelete line) = line
 line_of_single (Association line) = line
 
--- the line begins this unit, by its kind
+-- Says that the line, by its kind, begins this unit.
 abbrev pub IsUnitByKind : List ℕ → Unit → Type 0
 IsUnitByKind line (unit.Single single) = (line_of_single single ≡ line) × HasKind (kind_of_single single) line
 IsUnitByKind line (unit.Schedule view) = (view ≡ line) × HasKind basic_schedule line
 IsUnitByKind line unit.Trailer = HasKind trailer line
 
--- the line begins this unit, and is a record with good checked fields
+-- Says that the line is a record with good checked fields, and begins this unit.
 pub record IsUnitOf (line : List ℕ) (unit : Unit) : Type 0 where
   pub is : IsRecord line
   pub good_fields : HasGoodFields line
   pub by_kind : IsUnitByKind line unit
 
--- some line begins this unit, and is a record with good checked fields
+-- Says that some line is a record with good checked fields, and begins this unit.
 pub record IsOfSome (unit : Unit) : Type 0 where
   pub line : List ℕ
   pub of : IsUnitOf line unit

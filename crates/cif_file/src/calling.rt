@@ -1,4 +1,4 @@
-//! What a place needs of the lines of a schedule.
+//! Which lines of a schedule the docker of one place needs.
 ghost use Rattle.std.specs.Prelude.{◌≡◌, ◌&&◌, IfOk};
 ghost use Rattle.docker_model.specs.file.Journey.{calls_at};
 ghost use Rattle.docker_model.specs.records.Record.{kind_of, columns, is_location};
@@ -11,19 +11,19 @@ use cif_change::{Key, Lines};
 use cif_line::{Kind, Line, Tiploc, kind};
 use std::alloc::{AllocError, Global};
 
-/// Whether a schedule with these lines calls at a place, in an LO, an LI or an LT.
+/// Whether a schedule with these lines calls at a place: an LO, LI or LT record has its TIPLOC.
 pub fn calls_at(place: &Tiploc, lines: &[Line]) -> bool
     ensures { result ≡ calls_at place.now lines.now }
 {
     lines.iter().any(|line| is_call_line(place, line))
 }
 
-/// Whether a line is a location record of a place.
+/// Whether a line is a location record (LO, LI or LT) with the TIPLOC of a place.
 fn is_call_line(place: &Tiploc, line: &Line) -> bool
     ensures { result
         ≡ (is_location (kind_of line.now) && bytes_eq (columns 3 9 line.now) place.now) }
 {
-    // Few lines name the place, so the kind of only a few is looked at.
+    // The TIPLOC is compared first, since few lines have it. Only for these is the kind looked up.
     if line.bytes()[2..9] != place.bytes()[..] {
         return false;
     }
@@ -33,7 +33,7 @@ fn is_call_line(place: &Tiploc, line: &Line) -> bool
     )
 }
 
-/// Whether a line is an origin or a terminus.
+/// Whether a line is an origin (LO) or a terminus (LT).
 fn is_end(line: &Line) -> bool
     ensures { result ≡ is_end (kind_of line.now) }
 {
@@ -43,8 +43,8 @@ fn is_end(line: &Line) -> bool
     )
 }
 
-/// Whether a key may matter at a place: it is the place's TIPLOC, an association there, or any
-/// schedule.
+/// Whether what is under a key may matter for the docker of a place. That is so for the place's
+/// TIPLOC, for an association there, and for any schedule.
 pub(crate) fn may_matter(place: &Tiploc, key: &Key) -> bool
     ensures { result ≡ may_matter place.now (key_meant key.now) }
 {
@@ -55,8 +55,8 @@ pub(crate) fn may_matter(place: &Tiploc, key: &Key) -> bool
     }
 }
 
-/// The lines of a schedule that a place needs: all if it calls there, and otherwise its basic
-/// schedule and its ends. Only these are copied.
+/// Copies the lines of a schedule that a place needs. If the schedule calls there these are all
+/// lines, and otherwise its basic schedule, its origin and its terminus.
 pub(crate) fn lines_for(alloc: Global, place: &Tiploc, lines: &[Line]) -> Result<Lines, AllocError>
     ensures { IfOk result (λ body. body ≡ lines_for place.now lines.now) }
 {
@@ -66,7 +66,7 @@ pub(crate) fn lines_for(alloc: Global, place: &Tiploc, lines: &[Line]) -> Result
     thin_body(alloc, lines)
 }
 
-/// The basic schedule and the ends of a schedule with these lines.
+/// Copies only the basic schedule, the origin and the terminus of a schedule.
 fn thin_body(alloc: Global, lines: &[Line]) -> Result<Lines, AllocError>
     ensures { IfOk result (λ body. body ≡ thin_lines lines.now) }
 {

@@ -1,5 +1,5 @@
-//! The changes that a file's records have made so far, whether they are kept or not. They are only
-//! for proofs: they take no memory, and their methods do nothing when they run.
+//! All changes that the records read until now have made, whether they are kept or dropped. These
+//! values exist only for proofs: they take no memory, and their methods do nothing at run time.
 ghost use Rattle.std.specs.Prelude.{◌≡◌, List};
 ghost use Rattle.std.specs.Borrow.{ftrue};
 ghost use Rattle.docker_model.specs.file.Change as model;
@@ -10,7 +10,7 @@ use cif_line::Line;
 use std::fmt;
 use std::marker::Model;
 
-/// The changes that the records read so far have made.
+/// All changes that the records read until now have made.
 #[derive(Drop)]
 pub(crate) struct ChangesSoFar {
     pub ghost changes: { List model.Change },
@@ -20,7 +20,7 @@ impl Model for ChangesSoFar {
     ghost also_owns = { λ _. ftrue };
 }
 
-/// The lines of the schedule that is being read, the first as new.
+/// The lines of the schedule that is being read, with the transaction of the first set to `N`.
 #[derive(Debug, Drop)]
 pub(crate) struct OpenLines {
     pub lines: Vec<Line>,
@@ -37,21 +37,21 @@ impl ChangesSoFar {
     ghost use Rattle.cif_file.specs.KeeperRead.{change_renewed};
     ghost use Rattle.cif_file.specs.SingleChanges.{listed};
 
-    /// No change.
+    /// No change yet.
     pub(crate) fn new() -> ChangesSoFar
         ensures { result.changes ≡ [] }
     {
         ChangesSoFar {}
     }
 
-    /// Adds the changes of a record that is a unit by itself.
+    /// The changes before, followed by the changes of a record that is a unit by itself.
     pub(crate) fn with_single(_before: &ChangesSoFar, _changes: &SingleChanges) -> ChangesSoFar
         ensures { result.changes ≡ _before.now.changes ++ listed _changes.now }
     {
         ChangesSoFar {}
     }
 
-    /// Adds the change of a schedule with these lines.
+    /// The changes before, followed by the change of a schedule with these lines.
     pub(crate) fn with_opened(
         _before: &ChangesSoFar,
         _opened: &Opened,

@@ -1,4 +1,4 @@
-//! The counts of a file that was judged but not kept.
+//! The counts of a CIF file that was checked but not kept.
 ghost use Rattle.std.specs.Prelude.{◌≡◌};
 ghost use Rattle.cif_file.specs.FileRead.{IsCounted};
 
@@ -6,7 +6,7 @@ use crate::header_line::HeaderLine;
 use cif_line::Header;
 use std::marker::Model;
 
-/// The header of a CIF file, and how many records and changes it has.
+/// The header of a CIF file, with the numbers of its records and of its changes.
 #[derive(Debug, Drop)]
 pub struct FileCount {
     header: HeaderLine,
@@ -33,7 +33,7 @@ impl Model for FileCount {
 }
 
 impl FileCount {
-    /// The counts of a file with this header.
+    /// Makes the counts of a file with this header.
     pub(crate) fn of(header: HeaderLine, records: u32, changes: u64) -> FileCount
         requires counted { IsCounted (record {
           header_line = header;
@@ -68,7 +68,7 @@ impl FileCount {
         self.records
     }
 
-    /// How many changes its records make.
+    /// How many changes the records make.
     pub fn changes(&self) -> u64
         ensures changes { result ≡ self.now.change_count }
         ensures counted { IsCounted self.now }

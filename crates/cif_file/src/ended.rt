@@ -1,4 +1,4 @@
-//! A file whose trailer was read.
+//! A CIF file that was read to its trailer.
 ghost use Rattle.cif_file.specs.FileRead.{IsCounted};
 ghost use Rattle.cif_file.specs.MadeChanges.{ArePartsOfFile};
 ghost use Rattle.cif_file.specs.EndedRead.{file_ended, parts_ended, thin_parts_ended, thin_ended, count_ended};
@@ -16,7 +16,8 @@ use crate::thin_file::ThinFile;
 use crate::thin_kept::ThinSoFar;
 use crate::thinned::Thinned;
 
-/// A file whose trailer was read: its header, the number of its records, and what was kept of them.
+/// A CIF file that was read to its trailer: its header, how many records it has, and what the
+/// keeper kept of them.
 #[derive(Debug, Drop)]
 pub(crate) struct Ended<K> {
     pub(crate) header: HeaderLine,
@@ -27,7 +28,7 @@ pub(crate) struct Ended<K> {
 impl Ended<FileSoFar> {
     ghost use Rattle.std.specs.Prelude.{◌≡◌};
 
-    /// The file with the changes that were kept.
+    /// Makes the file, with all of its changes, which the keeper has kept.
     pub(crate) fn into_file(self) -> CifFile
         requires { ArePartsOfFile (parts_ended self) }
         ensures { result ≡ file_ended self }
@@ -51,7 +52,7 @@ impl Ended<FileSoFar> {
 impl<P: PlaceDay> Ended<ThinSoFar<P>> {
     ghost use Rattle.std.specs.Prelude.{◌≡◌};
 
-    /// What was kept of the file.
+    /// Makes a thin file of what the keeper kept.
     pub(crate) fn into_thin(self) -> ThinFile
         requires { AreThinParts self.keeper.thinned.place self.keeper.thinned.day
             self.keeper.so_far.changes (thin_parts_ended self) }
@@ -83,7 +84,7 @@ impl<P: PlaceDay> Ended<ThinSoFar<P>> {
 impl Ended<Tally> {
     ghost use Rattle.std.specs.Prelude.{◌≡◌};
 
-    /// The counts of the file.
+    /// Makes the counts of the file.
     pub(crate) fn into_count(self) -> FileCount
         requires { IsCounted (count_ended self) }
         ensures { result ≡ count_ended self }

@@ -1,4 +1,4 @@
-//! Why a text isn't a file's, and why no file was read from a source.
+//! Faults: why a text isn't a CIF file, and why no file could be read from a source.
 ghost use Rattle.std.specs.Prelude.{Some};
 ghost use Rattle.cif_file.specs.FaultText.{fault_text, read_fault_text};
 
@@ -6,12 +6,13 @@ use cif_change::FileCause;
 use std::error::Error;
 use std::fmt;
 
-/// The record that shows that a text isn't a file's, or the one at which memory ran out.
+/// Why a text isn't a CIF file, or that memory ran out: a record and a cause.
 #[derive(Clone, Copy, PartialEq, Eq, Debug)]
 pub struct FileFault {
-    /// The number of the record, from 1.
+    /// The number of the record at fault, from 1; if memory ran out, of the record at which that
+    /// happened.
     pub number: u32,
-    /// What is wrong there.
+    /// What is wrong with this record.
     pub cause: FileCause,
 }
 
@@ -25,14 +26,14 @@ impl fmt::Display for FileFault {
 
 impl Error for FileFault {}
 
-/// Why no file was read from a source.
+/// Why no file could be read from a source.
 #[derive(Clone, Copy, PartialEq, Eq, Debug)]
 pub enum ReadFault {
     /// The source failed.
     Source,
-    /// The source's text isn't a file's. The cause is never `Memory`.
+    /// The text in the source isn't a CIF file. The cause is never `Memory`.
     File(FileFault),
-    /// Out of memory. None of the records that were judged before is at fault.
+    /// Memory ran out. None of the records checked until then is at fault.
     Memory,
 }
 

@@ -1,4 +1,4 @@
-//! A file that was read.
+//! A CIF file that was read, with its changes.
 ghost use Rattle.std.specs.Prelude.{◌≡◌, map};
 ghost use Rattle.cif_change.specs.Meaning.{change_meant};
 ghost use Rattle.cif_file.specs.FileRead.{IsRead};
@@ -9,7 +9,7 @@ use cif_change::Change;
 use cif_line::Header;
 use std::marker::Model;
 
-/// A CIF file: its header and the changes that its records make.
+/// A CIF file: its header, and the changes that its records make.
 #[derive(Debug, Drop)]
 pub struct CifFile {
     parts: FileParts,
@@ -58,7 +58,7 @@ impl CifFile {
         changes
     }
 
-    /// Takes the file apart.
+    /// Takes the file apart into its header, its counts, its changes and its notes.
     pub fn into_parts(self) -> FileParts
         ensures file { file_of_parts result ≡ self }
         ensures parts { ArePartsOfFile result }
@@ -69,7 +69,7 @@ impl CifFile {
 }
 
 impl FileParts {
-    /// The file that these parts make up.
+    /// Makes a file of its parts again.
     pub fn into_file(self) -> CifFile
         requires { ArePartsOfFile self }
         ensures { result ≡ file_of_parts self }

@@ -1,4 +1,5 @@
-//! The records of a file so far.
+//! The reader of records: it takes one record after another and refuses the first that no CIF file
+//! continues with.
 ghost use Rattle.std.specs.Prelude.{◌≡◌, ℕ, ◌+◌, ◌↔◌, List, [], ◌∷◌, ◌++◌, length, IsOk, IfErr, OnOk, OnErr, MatchOption, Some, true, false, IsTrue};
 ghost use Rattle.docker_model.specs.records.Record.{HasKind, IsRecord};
 ghost use Rattle.docker_model.specs.file.File.{follows_basic, IsFile};
@@ -18,21 +19,22 @@ use cif_change::FileCause;
 use cif_line::{Basic, Kind, Line, header, kind};
 use std::alloc::AllocError;
 
-/// Where in a file the next record stands.
+/// Which records may come next in a file.
 #[derive(Clone, Copy, PartialEq, Eq, Debug)]
 pub(crate) enum FileStage {
-    /// Before its header.
+    /// Nothing was read: the header must come next.
     BeforeHeader,
-    /// After its header, or after a whole unit.
+    /// The header or a whole unit was read: another unit or the trailer may come next.
     BetweenUnits,
-    /// After these lines of a schedule.
+    /// Some lines of this schedule were read, and it may continue.
     InSchedule(Opened),
-    /// After its trailer.
+    /// The trailer was read: nothing may come next.
     AfterEnd,
 }
 
 impl FileStage {
-    /// Advances past one more line of the schedule that is being read.
+    /// Adds one more line to the schedule that is being read. Returns the cause if the schedule
+    /// can't continue with it.
     fn advance(&mut self, kind: Kind, line: &Line) -> Result<(), FileCause>
         requires record { IsRecord line.now }
         requires kind { HasKind (meaning kind) line.now }
@@ -49,8 +51,8 @@ impl FileStage {
         }
     }
 
-    /// The schedule that is being read, if its journey is whole: no schedule has more lines after
-    /// these.
+    /// The schedule that is being read, if its terminus was read. No schedule has further lines
+    /// then.
     fn over(&self) -> Option<Opened>
         ensures { (opened : Opened) → self.now ≡ FileStage.InSchedule opened →
             MatchOption result (is_over_by (progress_meant opened.progress).stage ≡ false)
@@ -64,7 +66,7 @@ impl FileStage {
     }
 }
 
-/// What a reader has of a file's records so far.
+/// The reader's state after some records: the stage, the header, and what the keeper has kept.
 #[derive(Debug, Drop)]
 pub(crate) struct Front<K> {
     header: Option<HeaderLine>,
@@ -72,7 +74,7 @@ pub(crate) struct Front<K> {
     keeper: K,
 }
 
-/// Whether a record of this kind stands in a schedule, after its basic schedule.
+/// Whether records of this kind come within a schedule, after its basic schedule.
 fn follows_basic(kind: Kind) -> bool
     ensures { result ≡ follows_basic (Some (meaning kind)) }
 {
@@ -87,7 +89,7 @@ fn follows_basic(kind: Kind) -> bool
 }
 
 impl<K: Keeper> Front<K> {
-    /// The front before the first record.
+    /// The state before the first record.
     pub(crate) fn new(keeper: K) -> Front<K>
         requires { K.keeps keeper [] [] }
         ensures { HasRecords K.keeps result [] }
@@ -99,7 +101,7 @@ impl<K: Keeper> Front<K> {
         }
     }
 
-    /// Whether the trailer was read.
+    /// Whether the trailer was read, so that the records are a whole file.
     pub(crate) fn is_ended(&self) -> bool
         ensures { (records : List (List ℕ)) → HasRecords K.keeps self.now records →
             IsTrue result ↔ IsFile records }
@@ -112,8 +114,7 @@ impl<K: Keeper> Front<K> {
         }
     }
 
-    /// The file that the records make up, if the trailer was read. `count` is the number of
-    /// records.
+    /// The whole file, if the trailer was read. `count` must be the number of records taken.
     pub(crate) fn into_ended(self, count: u32) -> Option<Ended<K>>
         ensures { (records : List (List ℕ)) → HasRecords K.keeps self records →
             count ≡ length records → MatchOption result (¬ IsFile records)
@@ -139,7 +140,8 @@ impl<K: Keeper> Front<K> {
         }
     }
 
-    /// Takes the next record, whose number is `number`.
+    /// Takes the next record, which has the given number. Returns the cause if no file continues
+    /// with it, or if memory runs out.
     pub(crate) fn take(&mut self, number: u32, line: &Line) -> Result<(), FileCause>
         ensures read { OnOk result (TakesNext K.keeps self.old number line.now self.new) }
         ensures err { IfErr result (RefusesUnended K.keeps K.wants self.old line.now) }
@@ -156,7 +158,7 @@ impl<K: Keeper> Front<K> {
         }
     }
 
-    /// Takes the header.
+    /// Takes the first record, which must be a header with good fields.
     fn take_header(&mut self, kind: Kind, line: &Line) -> Result<(), FileCause>
         requires stage { self.old.stage ≡ FileStage.BeforeHeader }
         requires record { IsRecord line.now }
@@ -173,7 +175,7 @@ impl<K: Keeper> Front<K> {
         Ok(())
     }
 
-    /// Takes a record after the header or a whole unit.
+    /// Takes a record that follows the header or a whole unit.
     fn take_unit(&mut self, number: u32, kind: Kind, line: &Line) -> Result<(), FileCause>
         requires stage { self.old.stage ≡ FileStage.BetweenUnits }
         requires record { IsRecord line.now }
@@ -186,7 +188,7 @@ impl<K: Keeper> Front<K> {
         Ok(())
     }
 
-    /// Takes a record after lines of a schedule.
+    /// Takes a record that follows some lines of a schedule.
     fn take_after(
         &mut self,
         number: u32,
@@ -211,7 +213,7 @@ impl<K: Keeper> Front<K> {
         Ok(())
     }
 
-    /// Takes a line that may continue the schedule.
+    /// Takes a record of a kind that comes within a schedule.
     fn follow(&mut self, kind: Kind, line: &Line) -> Result<(), FileCause>
         requires record { IsRecord line.now }
         requires kind { HasKind (meaning kind) line.now }
@@ -230,7 +232,7 @@ impl<K: Keeper> Front<K> {
         }
     }
 
-    /// Adds the next line of the schedule.
+    /// Passes the next line of the schedule to the keeper.
     fn add_line(&mut self, line: &Line) -> Result<(), AllocError>
         ensures read { (opened : Opened) → self.old.stage ≡ FileStage.InSchedule opened →
             (records : List (List ℕ)) →
@@ -245,7 +247,7 @@ impl<K: Keeper> Front<K> {
         }
     }
 
-    /// Makes the change of a schedule whose lines are whole.
+    /// Ends a schedule whose lines are complete: the keeper makes its change.
     fn close(&mut self, opened: Opened) -> Result<(), AllocError>
         ensures kept { OnOk result (Closes K.keeps self.old.keeper opened self.new.keeper) }
         ensures wants { OnErr result K.wants }
@@ -257,7 +259,8 @@ impl<K: Keeper> Front<K> {
         Ok(())
     }
 
-    /// Takes a record that begins a unit after a whole schedule.
+    /// Ends a schedule whose lines are complete, and then takes the record after it, which begins
+    /// another unit.
     fn begin_anew(&mut self, number: u32, opened: Opened, unit: Unit<'_>) -> Result<(), AllocError>
         requires stage { self.old.stage ≡ FileStage.InSchedule opened }
         requires unit { IsOfSome unit }
@@ -269,7 +272,7 @@ impl<K: Keeper> Front<K> {
         self.add_unit(number, unit)
     }
 
-    /// Adds a record that begins a unit, or the trailer.
+    /// Takes a record that begins a unit, or the trailer.
     fn add_unit(&mut self, number: u32, unit: Unit<'_>) -> Result<(), AllocError>
         requires { IsOfSome unit }
         ensures read { (line : List ℕ) → IsUnitOf line unit.entry →
@@ -289,7 +292,7 @@ impl<K: Keeper> Front<K> {
         }
     }
 
-    /// Adds a basic schedule.
+    /// Takes a basic schedule, with which a schedule begins.
     fn open(&mut self, number: u32, view: &Basic<'_>) -> Result<(), AllocError>
         requires { IsUnitOf view.now (Unit.Schedule view.now) }
         ensures read { OnOk result (BeginsAnew K.keeps self.old number view.now self.new) }

@@ -1,10 +1,10 @@
-//! The header of a file.
+//! The header of a CIF file, kept with its line.
 ghost use Rattle.std.specs.Prelude.{◌≡◌};
 
 use cif_line::{Header, Line};
 use std::marker::Model;
 
-/// The line of a header with good checked fields.
+/// The line of a header whose checked fields are good.
 #[derive(Debug, Drop)]
 pub(crate) struct HeaderLine {
     line: Line,
@@ -23,7 +23,7 @@ impl Model for HeaderLine {
 }
 
 impl HeaderLine {
-    /// The line of this header.
+    /// Copies the line of this header.
     pub(crate) fn of(view: &Header<'_>) -> HeaderLine
         ensures { result ≡ view.now }
     {

@@ -1,4 +1,4 @@
-//! Reads the file that a source holds, and only counts it.
+//! Checks whether a source holds a CIF file, and counts its records and changes.
 ghost use Rattle.std.specs.Prelude.{◌≡◌, ◌-◌, ◌^◌, ◌<◌, ◌≤◌, [], IfOk, IsOk, Err};
 ghost use Rattle.cif_device.specs.Device.{CountsFailure, IsEnd, Reads};
 ghost use Rattle.cif_file.specs.SourceRead.{CountsText, RefusesText, ReadsNoFurther};
@@ -11,9 +11,9 @@ use crate::tally::Tally;
 use cif_line::{PIECE, Source};
 use std::alloc::Global;
 
-/// Reads a source to its end, as [`read_file`](crate::read_file) does. Returns how many records and
-/// changes the source's file has. It keeps none of them, so memory can run out only before it
-/// reads.
+/// Reads a source to its end, as [`read_file`](crate::read_file) does, and returns how many records
+/// and changes its file has. None of them are kept, so memory can run out only before the first
+/// byte is read.
 pub fn judge_file<S: Source>(
     alloc: Global,
     source: &mut S,

@@ -1,4 +1,4 @@
-//! The changes of a file's records, kept, with the places that they name, if these are noted.
+//! The keeper that keeps all changes of a file.
 ghost use Rattle.std.specs.Prelude.{◌≡◌, []};
 ghost use Rattle.cif_file.specs.KeeperRead.{KeepsAll};
 
@@ -9,7 +9,8 @@ use crate::single::{Single, changes_of};
 use cif_line::{Basic, Line};
 use std::alloc::{AllocError, Global};
 
-/// What the records of a file so far have made, and the lines of the schedule that is being read.
+/// Keeps all changes that the records have made until now, and the lines of the schedule that is
+/// being read.
 #[derive(Debug, Drop)]
 pub(crate) struct FileSoFar {
     alloc: Global,
@@ -18,7 +19,8 @@ pub(crate) struct FileSoFar {
 }
 
 impl FileSoFar {
-    /// No line and no change. `noted` says whether the places that changes name are to be noted.
+    /// A keeper that has kept nothing yet. If `noted` is true, it will note the places that changes
+    /// name.
     pub(crate) fn new(alloc: Global, noted: bool) -> FileSoFar
         ensures { KeepsAll result [] [] }
     {
@@ -29,7 +31,7 @@ impl FileSoFar {
         }
     }
 
-    /// What was made.
+    /// The changes, and the notes on their places if there are any.
     pub(crate) fn into_made(self) -> Made
         ensures { result ≡ self.made }
     {

@@ -1,5 +1,5 @@
-//! The reader of CIF files. It reads the whole grammar, in any pieces, and finds the exact fault of
-//! every other text. Re-exports changes and the reader of a schedule's lines from the crates below.
+//! The reader of CIF files. It reads the whole grammar, from a source or in pieces of any length.
+//! Of any text that isn't a CIF file it finds the one fault. The crate re-exports `cif_change`.
 #![tactic(auto)]
 
 mod calling;

@@ -1,4 +1,4 @@
-//! The changes that a file's records make, with the places that they name, if these are noted.
+//! The changes of a file, with notes of the places that they name.
 ghost use Rattle.std.specs.Prelude.{List, [], ◌∷◌, ◌++◌, OnOk};
 ghost use Rattle.docker_model.specs.file.Change as model;
 ghost use Rattle.cif_change.specs.Meaning.{change_meant};
@@ -9,7 +9,8 @@ use crate::single::SingleChanges;
 use cif_change::{Change, Notes};
 use std::alloc::{AllocError, Global};
 
-/// The changes that were made, and the notes of the places that they name, if these are noted.
+/// Changes, in the order in which they were made. If places are noted, also the notes of the places
+/// that the changes name.
 #[derive(Debug, Drop)]
 pub(crate) struct Made {
     pub(crate) changes: Vec<Change>,
@@ -17,7 +18,7 @@ pub(crate) struct Made {
 }
 
 impl Made {
-    /// No change. `noted` says whether places are to be noted.
+    /// A `Made` without changes. If `noted` is true, the places of all changes will be noted.
     pub(crate) fn new(alloc: Global, noted: bool) -> Made
         ensures { HasMade result [] }
     {
@@ -27,7 +28,8 @@ impl Made {
         }
     }
 
-    /// Appends a change, and notes its places while its lines are at hand, if places are noted.
+    /// Appends a change. If places are noted, it notes the change's places at once, while its lines
+    /// are still in the cache.
     pub(crate) fn push(&mut self, change: Change) -> Result<(), AllocError>
         ensures { OnOk result (Makes self.old (change_meant change ∷ []) self.new) }
     {
@@ -36,7 +38,7 @@ impl Made {
         Ok(())
     }
 
-    /// Appends the changes of a record that is a unit by itself.
+    /// Appends the one or two changes of a record that is a unit by itself.
     pub(crate) fn push_all(&mut self, changes: SingleChanges) -> Result<(), AllocError>
         ensures { OnOk result (Makes self.old (listed changes) self.new) }
     {
@@ -48,14 +50,14 @@ impl Made {
     }
 }
 
-/// The notes of no change, if places are to be noted.
+/// Notes of no change if places are to be noted, and otherwise None.
 fn first_notes(alloc: Global, noted: bool) -> Option<Notes>
     ensures { AreNotesOf [] result }
 {
     if noted { Some(Notes::new(alloc)) } else { None }
 }
 
-/// Notes the places of the next change, if places are noted.
+/// If places are noted, notes the places of the next change.
 fn note(notes: &mut Option<Notes>, change: &Change) -> Result<(), AllocError>
     ensures { OnOk result ((before : List model.Change) → AreNotesOf before notes.old
         → AreNotesOf (before ++ change_meant change.now ∷ []) notes.new) }

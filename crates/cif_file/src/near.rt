@@ -1,4 +1,4 @@
-//! Whether a schedule may count in the dockers of a day.
+//! Whether a schedule may count in a docker of a given day.
 ghost use Rattle.std.specs.Prelude.{◌≡◌, ◌&&◌, nat_le, false};
 ghost use Rattle.docker_model.specs.records.Record.{HasKind, basic_schedule};
 ghost use Rattle.docker_model.specs.records.Field.{HasGoodFields, is_deletion};
@@ -7,8 +7,8 @@ ghost use Rattle.docker_laws.specs.NearDay.{near_starts, runs_near};
 
 use cif_line::{Basic, Day, Line};
 
-/// Whether a basic schedule runs on one of the start days near a day: from three days before it to
-/// the day after.
+/// Whether a basic schedule runs on a start day that is near a day: from three days before it to
+/// the day after it.
 #[tactic(auto, using(crate::proofs::NearFields::schedule_fields))]
 pub fn runs_near(line: &Line, day: Day) -> bool
     requires kind { HasKind basic_schedule line.now }
@@ -28,7 +28,8 @@ pub fn runs_near(line: &Line, day: Day) -> bool
         .any(|start| runs_within(first, last, flags, *start))
 }
 
-/// The start days near a day: the day after it, the day, and the three days before it.
+/// The start days near a day, as day numbers: the day after it, the day itself, and the three days
+/// before it.
 fn near_starts(day: Day) -> [u16; 5]
     ensures { result ≡ near_starts day }
 {
@@ -42,8 +43,8 @@ fn near_starts(day: Day) -> [u16; 5]
     ]
 }
 
-/// Whether a start day is not before the first day and not after the last, and its weekday is
-/// marked.
+/// Whether a schedule with these first and last days runs on a start day: the day is within them,
+/// and its weekday is marked in the days run.
 fn runs_within(first: u16, last: u16, flags: &[u8; 7], start: u16) -> bool
     ensures { result ≡ (nat_le first start && nat_le start last
         && runs_on_weekday flags.now (weekday_of start)) }
@@ -51,7 +52,8 @@ fn runs_within(first: u16, last: u16, flags: &[u8; 7], start: u16) -> bool
     (first <= start) && (start <= last) && flags[((start as u32 + 4) % 7) as usize] == b'1'
 }
 
-/// Whether a basic schedule that is no deletion runs near a day.
+/// Whether a basic schedule runs on a start day near a day. For a deletion the result means
+/// nothing.
 pub(crate) fn is_near(basic: &Basic<'_>, day: Day) -> bool
     ensures { is_deletion basic.now ≡ false → result ≡ runs_near day basic.now }
 {

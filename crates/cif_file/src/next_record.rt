@@ -1,4 +1,4 @@
-//! The next line of a file.
+//! From the bytes of a line to the next record of a file.
 ghost use Rattle.std.specs.Prelude.{◌≡◌, ◌<◌, IsErr, IfOk, IfErr, OnOk, Some};
 ghost use Rattle.docker_model.specs.records.Record.{IsRecord};
 ghost use Rattle.cif_laws.specs.FileStage.{Place};
@@ -12,7 +12,8 @@ use crate::keeper::Keeper;
 use cif_change::FileCause;
 use cif_line::{Line, LineFault};
 
-/// These bytes as a line, or why they aren't a record.
+/// Makes a line of these bytes. Otherwise returns the cause: its length, or a byte that isn't
+/// printable.
 pub(crate) fn line_of(bytes: &[u8]) -> Result<Line, FileCause>
     ensures ok { IfOk result (λ line. (line ≡ bytes.now) × IsRecord bytes.now) }
     ensures err { (place : Place) →
@@ -26,7 +27,7 @@ pub(crate) fn line_of(bytes: &[u8]) -> Result<Line, FileCause>
     }
 }
 
-/// Takes the next line, which is number `number` and within the limit.
+/// Takes the next line, given its number, which must be within the limit on records.
 pub(crate) fn take_within<K: Keeper>(
     front: &mut Front<K>,
     number: u32,

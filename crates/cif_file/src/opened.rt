@@ -13,8 +13,8 @@ use cif_change::{
 use cif_line::{Basic, Kind, Line};
 use std::alloc::{AllocError, Global};
 
-/// A schedule whose lines are being read: the number of its basic schedule, its key, and how far it
-/// was read.
+/// A schedule whose lines are being read: the record number of its basic schedule, its key, and the
+/// progress of its reader.
 #[derive(Clone, Copy, PartialEq, Eq, Debug)]
 pub(crate) struct Opened {
     pub number: u32,
@@ -23,7 +23,7 @@ pub(crate) struct Opened {
 }
 
 impl Opened {
-    /// Advances past one more line. A refused line changes nothing.
+    /// Adds one more line to the schedule. A line that is refused changes nothing.
     pub(crate) fn advance(&mut self, kind: Kind, line: &Line) -> Result<(), FileCause>
         requires record { IsRecord line.now }
         requires kind { HasKind (meaning kind) line.now }
@@ -37,7 +37,7 @@ impl Opened {
         self.progress.advance(kind, line)
     }
 
-    /// The schedule, if its journey is whole.
+    /// This schedule, if its terminus was read, so that its journey is complete.
     pub(crate) fn over(&self) -> Option<Opened>
         ensures { MatchOption result (is_over_by (progress_meant self.now.progress).stage ≡ false)
             (λ over. (over ≡ self.now) ×
@@ -50,7 +50,7 @@ impl Opened {
         }
     }
 
-    /// The change that the schedule makes with these lines.
+    /// Makes the change of the schedule: it puts these lines under its key, or deletes the key.
     pub(crate) fn change(self, alloc: Global, lines: &[Line]) -> Result<Change, AllocError>
         ensures { IfOk result (λ change. change_meant change ≡ record {
           number = self.number;
@@ -71,7 +71,7 @@ impl Opened {
     }
 }
 
-/// A copy of the lines, in memory of just their size.
+/// Copies the lines, and allocates no more than they need.
 pub(crate) fn body_of(alloc: Global, lines: &[Line]) -> Result<Lines, AllocError>
     ensures { IfOk result (λ body. body ≡ lines.now) }
 {
@@ -80,7 +80,7 @@ pub(crate) fn body_of(alloc: Global, lines: &[Line]) -> Result<Lines, AllocError
     Ok(Lines::of(body))
 }
 
-/// The schedule that this basic schedule begins. `number` is the number of its record.
+/// The schedule that begins with this basic schedule, whose record number is given.
 pub(crate) fn opened_schedule(number: u32, view: &Basic<'_>) -> Opened
     requires { is_first_line view.now ≡ true }
     ensures number { result.number ≡ number }
@@ -94,7 +94,7 @@ pub(crate) fn opened_schedule(number: u32, view: &Basic<'_>) -> Opened
     }
 }
 
-/// The key of the schedule that this basic schedule begins.
+/// The key of the schedule that begins with this basic schedule.
 fn schedule_key(view: &Basic<'_>) -> ScheduleKey
     ensures { key_meant (Key.Schedule result) ≡ schedule_named view.now }
 {

@@ -1,4 +1,4 @@
-//! A parser that is fed a file piece by piece.
+//! The parser of a CIF file that arrives in pieces.
 ghost use Rattle.std.specs.Prelude.{◌≡◌, ◌+◌, ◌≤◌, ◌↔◌, length, IsTrue, [], ◌∷◌, ◌++◌, IsOk, IfOk, IfErr, OnOk, Err};
 ghost use Rattle.cif_laws.specs.CompleteLines.{HasNoFeed};
 ghost use Rattle.cif_file.specs.ParserRead.{HasRead, HasFailed, HasNotFailed, IsReading, EndsBy, IsLater, NamesLater, IsLast};
@@ -16,17 +16,18 @@ use cif_line::Line;
 use std::alloc::Global;
 use std::marker::Model;
 
-/// The most bytes of an open line that are kept: a record and a carriage return.
+/// How many bytes of a line are kept until its line feed arrives: a record and a carriage return.
 const MOST_PARTIAL: usize = 81;
 
-/// The records that were read, and the bytes of a line that hasn't ended yet.
+/// What was read of a file: its complete records, and the bytes of a line that hasn't ended yet.
 #[derive(Debug, Drop)]
 pub(crate) struct FileReading<K> {
     records: Records<K>,
     partial: ArrayVec<u8, MOST_PARTIAL>,
 }
 
-/// Appends bytes to an open line, unless they don't fit. Returns whether they fit.
+/// Appends bytes to a line that hasn't ended yet. Returns false, and appends nothing, if they don't
+/// fit.
 fn extend(partial: &mut ArrayVec<u8, MOST_PARTIAL>, more: &[u8]) -> bool
     ensures fits { IsTrue result ↔ (length partial.old.items + length more.now ≤ 81) }
     ensures items { IsTrue result → partial.new.items ≡ partial.old.items ++ more.now }
@@ -35,7 +36,7 @@ fn extend(partial: &mut ArrayVec<u8, MOST_PARTIAL>, more: &[u8]) -> bool
 }
 
 impl<K: Keeper> FileReading<K> {
-    /// A reading before the first byte, of a file with at most `limit` records.
+    /// The state before the first byte. The file may have at most `limit` records.
     pub(crate) fn new(keeper: K, limit: u32) -> FileReading<K>
         requires limit { limit ≤ MOST_RECORDS }
         requires none { K.keeps keeper [] [] }
@@ -47,7 +48,7 @@ impl<K: Keeper> FileReading<K> {
         }
     }
 
-    /// Takes the last bytes of a line, up to its line feed.
+    /// Takes the last bytes of a line, which are followed by its line feed.
     fn end_line(&mut self, front: &[u8]) -> Result<(), FileFault>
         requires { HasNoFeed front.now }
         ensures read { OnOk result
@@ -68,7 +69,7 @@ impl<K: Keeper> FileReading<K> {
         taken
     }
 
-    /// Takes more bytes of a line.
+    /// Takes further bytes of a line that hasn't ended yet.
     fn keep(&mut self, more: &[u8]) -> Result<(), FileFault>
         requires { HasNoFeed more.now }
         ensures read { OnOk result
@@ -82,8 +83,9 @@ impl<K: Keeper> FileReading<K> {
         Ok(())
     }
 
-    /// Takes the whole records at the start of the text, each with its line end, and returns the
-    /// rest. Takes none if a line is open, because the text then continues that line.
+    /// Takes all records that are complete at the start of the text, each with its line end, and
+    /// returns the rest of the text. Takes none if an earlier line hasn't ended yet, since the text
+    /// then continues that line.
     fn take_records<'a>(&mut self, text: &'a [u8]) -> Result<&'a [u8], FileFault>
         ensures read { IfOk result (λ rest. TakesUpTo
             (IsReading K.keeps self.old) text.now rest.now (IsReading K.keeps self.new)) }
@@ -104,7 +106,7 @@ impl<K: Keeper> FileReading<K> {
         Ok(rest)
     }
 
-    /// Takes the next bytes of the file.
+    /// Takes the next piece of the file.
     pub(crate) fn feed(&mut self, piece: &[u8]) -> Result<(), FileFault>
         ensures read { OnOk result
             (GoesOn (IsReading K.keeps self.old) piece.now (IsReading K.keeps self.new)) }
@@ -119,7 +121,7 @@ impl<K: Keeper> FileReading<K> {
         self.keep(rest)
     }
 
-    /// The file that the bytes form.
+    /// Ends the input. Returns the file, or the fault of the bytes that were read.
     pub(crate) fn end(self) -> Result<Ended<K>, FileFault>
         ensures ok { IfOk result (EndsBy K.keeps self) }
         ensures err { IfErr result (EndsInFault (IsReading K.keeps self)) }
@@ -140,8 +142,8 @@ impl<K: Keeper> FileReading<K> {
     }
 }
 
-/// A parser of one file, which comes in pieces of any length. It keeps the changes of the records
-/// that were read, and the bytes of a line that hasn't ended yet.
+/// A parser of one file, which arrives in pieces of any length. It keeps the changes of the records
+/// read until now, and the bytes of a line that hasn't ended yet.
 #[derive(Debug, Drop)]
 pub struct FileParser {
     reading: FileReading<FileSoFar>,
@@ -160,7 +162,8 @@ impl Model for FileParser {
 }
 
 impl FileParser {
-    /// A parser of a file with at most `limit` records. The limit is at most [`MOST_RECORDS`].
+    /// A parser before the first byte of a file with at most `limit` records. The limit is at most
+    /// [`MOST_RECORDS`].
     pub fn new(alloc: Global, limit: u32) -> FileParser
         requires { limit ≤ MOST_RECORDS }
         ensures { HasRead result limit [] }
@@ -171,10 +174,11 @@ impl FileParser {
         }
     }
 
-    /// Takes the next bytes of the file. Fails with a bad record's fault once its line feed or its
-    /// 82nd byte has arrived. Also fails if memory runs out, at the record that needs it; no record
-    /// up to it is at fault. In both cases no earlier call completes that record. Each later call
-    /// returns the same fault and takes nothing.
+    /// Takes the next piece of the file. Returns the fault of a bad record once its line feed or
+    /// its 82nd byte has arrived. If memory runs out, returns `Memory` at the record that needed
+    /// it, and no record up to this one is at fault. In both cases the earlier pieces don't
+    /// complete the record. After a fault, each later call returns the same fault and takes
+    /// nothing.
     pub fn feed(&mut self, piece: &[u8]) -> Result<(), FileFault>
         ensures read { GoesOn (HasRead self.old) piece.now (HasRead self.new) }
         ensures ok { OnOk result (TellsNoFault (HasRead self.old) piece.now) }
@@ -197,8 +201,9 @@ impl FileParser {
         }
     }
 
-    /// The file that the bytes form, or their fault. If no record is at fault, memory may still run
-    /// out at the last record. If `feed` has returned a fault, it is returned again.
+    /// Ends the input. Returns the file that the pieces form, or their fault. If no record is at
+    /// fault, memory may still run out at the last record. A fault that `feed` has returned is
+    /// returned again.
     pub fn finish(self) -> Result<CifFile, FileFault>
         ensures ok { IfOk result (EndsAs (HasRead self)) }
         ensures err { IfErr result (EndsInFault (HasRead self)) }

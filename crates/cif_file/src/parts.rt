@@ -1,14 +1,15 @@
-//! The parts of a file that was read.
+//! The parts of a CIF file that was read.
 use crate::header_line::HeaderLine;
 use cif_change::{Change, Notes};
 
-/// A CIF file, taken apart.
+/// The parts of a CIF file: its header, the number of its records, its changes, and the notes of
+/// places.
 #[derive(Debug, Drop)]
 pub struct FileParts {
     pub(crate) header: HeaderLine,
     pub(crate) records: u32,
-    /// The changes that its records make, in their order.
+    /// The changes that the records make, in the order of the records.
     pub changes: Vec<Change>,
-    /// The places that the changes name, if they were noted as the records were read.
+    /// Notes of the places that the changes name. None if places weren't noted.
     pub notes: Option<Notes>,
 }

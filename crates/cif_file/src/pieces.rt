@@ -1,4 +1,4 @@
-//! A file in pieces.
+//! Reads a CIF file that is given in pieces.
 ghost use Rattle.std.specs.Prelude.{◌≤◌, map, IfOk, IfErr};
 ghost use Rattle.std.specs.List.{concat};
 ghost use Rattle.cif_file.specs.ParserRead.{IsOfFileText, IsRefused};
@@ -9,7 +9,8 @@ use crate::parser::FileParser;
 use crate::records::MOST_RECORDS;
 use std::alloc::Global;
 
-/// The file that the joined pieces form, if it has at most `limit` records.
+/// Reads the file that the pieces form when they are joined. It may have at most `limit` records.
+/// The result doesn't depend on where the text is cut into pieces.
 pub fn read_pieces(alloc: Global, pieces: &[&[u8]], limit: u32) -> Result<CifFile, FileFault>
     requires { limit ≤ MOST_RECORDS }
     ensures ok { IfOk result (λ file.

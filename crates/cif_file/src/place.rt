@@ -1,15 +1,15 @@
-//! A place and a day, for which a reader keeps what may count.
+//! The place and the day of a docker, as a type.
 ghost use Rattle.std.specs.Prelude.{ℕ, List};
 
 use std::marker::Brand;
 
-/// A type that stands for a place and a day, in proofs only. It is part of a keeper's type, since
-/// the reader of records doesn't know for which docker its keeper keeps changes.
+/// A type that names a place and a day, for proofs only. A thin keeper has it as a parameter, since
+/// the reader of records must work for any keeper and doesn't know the place and the day.
 pub trait PlaceDay {
-    // the place
+    // The TIPLOC of the place.
     ghost place: { List ℕ };
 
-    // the day
+    // The day number.
     ghost day: { ℕ };
 }
 

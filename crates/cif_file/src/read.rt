@@ -1,4 +1,4 @@
-//! The file that a source holds.
+//! Reads the CIF file that a source holds.
 ghost use Rattle.std.specs.Prelude.{◌≡◌, ◌≢◌, ℕ, ◌-◌, ◌^◌, ◌<◌, ◌≤◌, List, [], length, IfOk, IsOk, Err};
 ghost use Rattle.docker_model.specs.file.Text.{lines_of};
 ghost use Rattle.cif_device.specs.Device.{CountsFailure, IsEnd};
@@ -20,9 +20,9 @@ use cif_line::{Day, FeedFault, PIECE, Source, Taker, Tiploc, feed_all};
 use std::alloc::Global;
 use std::marker::Brand;
 
-/// Reads a source to its end, and returns the file whose text it held, of at most `limit` records.
-/// Reading stops after the piece that has the first fault. A piece has at most 65,536 bytes, so an
-/// endless source is read at most to the piece with the record above the limit.
+/// Reads a source to its end and returns the file that it holds, of at most `limit` records.
+/// Reading stops after the piece in which the first fault shows. A piece has at most 65,536 bytes,
+/// so an endless source isn't read beyond the piece with the first record above the limit.
 pub fn read_file<S: Source>(alloc: Global, source: &mut S, limit: u32) -> Result<CifFile, ReadFault>
     requires failures { S.failures source.old < 2 ^ 64 - 1 }
     requires limit { limit ≤ MOST_RECORDS }
@@ -39,8 +39,9 @@ pub fn read_file<S: Source>(alloc: Global, source: &mut S, limit: u32) -> Result
     read_file_noting(alloc, source, limit, true)
 }
 
-/// Like `read_file`. Only if `noted` is true, it notes the places that the changes name. Without
-/// these notes the state of the file has no index, and is made with less time and memory.
+/// Reads a source like `read_file`, and notes the places that the changes name only if `noted` is
+/// true. Without notes the state of the file has no index, and making it takes less time and
+/// memory.
 pub fn read_file_noting<S: Source>(
     alloc: Global,
     source: &mut S,
@@ -65,8 +66,8 @@ pub fn read_file_noting<S: Source>(
     }
 }
 
-/// Reads a source to its end, as `read_file` does. Of the file it keeps only what the docker of
-/// this place on this day needs. Every record is judged, whether it is kept or not.
+/// Reads a source to its end, like `read_file`, but keeps only what the docker of this place on
+/// this day needs. Every record is checked, whether it is kept or not.
 pub fn read_thin<S: Source>(
     alloc: Global,
     source: &mut S,
@@ -89,7 +90,7 @@ pub fn read_thin<S: Source>(
     thin_at::<Brand, S>(alloc, source, place, day, limit)
 }
 
-/// Like `read_thin`, for the place and the day that the type stands for.
+/// Does what `read_thin` promises. The type `P` names the place and the day in the proofs.
 fn thin_at<P: PlaceDay, S: Source>(
     alloc: Global,
     source: &mut S,
@@ -137,8 +138,8 @@ impl<K: Keeper> Taker for FileReading<K> {
     ghost bounded = { taken_is_bounded K.keeps };
 }
 
-/// Reads a source to its end, or to the piece that has the first fault. Returns what was kept of
-/// the file whose text the source held.
+/// Reads a source to its end, or to the piece in which the first fault shows. Returns what the
+/// keeper kept of the source's file.
 pub(crate) fn read_source<S: Source, K: Keeper>(
     alloc: Global,
     source: &mut S,
@@ -167,7 +168,7 @@ pub(crate) fn read_source<S: Source, K: Keeper>(
     }
 }
 
-/// What was kept of the file that was read.
+/// Ends the input. Returns what the keeper kept of the file, or the fault.
 fn ended_of<K: Keeper>(reading: FileReading<K>) -> Result<Ended<K>, ReadFault>
     ensures ok { IfOk result (EndsBy K.keeps reading) }
     ensures file { (limit : ℕ) (text : List ℕ) → IsReading K.keeps reading limit text →
@@ -183,7 +184,8 @@ fn ended_of<K: Keeper>(reading: FileReading<K>) -> Result<Ended<K>, ReadFault>
     }
 }
 
-/// `Memory` if the cause is out of memory. A fault with any other cause is the file's.
+/// The fault as one of reading a source: `Memory` if memory ran out, and otherwise the file's
+/// fault.
 fn fault_of(fault: FileFault) -> ReadFault
     ensures memory { fault.cause ≡ FileCause.Memory → result ≡ ReadFault.Memory }
     ensures file { fault.cause ≢ FileCause.Memory → result ≡ ReadFault.File fault }

@@ -1,4 +1,4 @@
-//! The numbered records of a file.
+//! Numbers the records of a file and checks their limit.
 ghost use Rattle.std.specs.Prelude.{◌≤◌};
 
 use crate::ended::Ended;
@@ -9,10 +9,10 @@ use crate::next_record::{line_of, take_within};
 use cif_change::FileCause;
 use cif_line::Line;
 
-/// The most records that a file may have.
+/// The most records that a file may have. A caller's limit can't be higher.
 pub const MOST_RECORDS: u32 = 4_294_967_294;
 
-/// The records that were read, the number of the next one, and the limit.
+/// The records read until now, with the number of the next record and the limit on records.
 #[derive(Debug, Drop)]
 pub(crate) struct Records<K> {
     limit: u32,
@@ -27,7 +27,7 @@ impl<K: Keeper> Records<K> {
     ghost use Rattle.cif_change.specs.Cause.{cause_meant};
     ghost use Rattle.cif_file.specs.ParserRead.{HasCounted, CountsNext, FaultsNext, IsLongNext, IsRefusedNext, EndsCounted, EndsUnended};
 
-    /// No record yet, of at most `limit`.
+    /// The state before the first record. The file may have at most `limit` records.
     pub(crate) fn new(keeper: K, limit: u32) -> Records<K>
         requires limit { limit ≤ MOST_RECORDS }
         requires none { K.keeps keeper [] [] }
@@ -40,7 +40,7 @@ impl<K: Keeper> Records<K> {
         }
     }
 
-    /// Takes the next line, without its line end.
+    /// Takes the next line, given without its line end.
     pub(crate) fn take(&mut self, bytes: &[u8]) -> Result<(), FileFault>
         ensures read { OnOk result (CountsNext K.keeps self.old bytes.now self.new) }
         ensures err { IfErr result (FaultsNext K.keeps K.wants self.old bytes.now) }
@@ -51,7 +51,7 @@ impl<K: Keeper> Records<K> {
         }
     }
 
-    /// Takes the next line, whose bytes are already judged.
+    /// Takes the next line, whose length and bytes have already been checked.
     pub(crate) fn take_line(&mut self, line: &Line) -> Result<(), FileFault>
         ensures read { OnOk result (CountsNext K.keeps self.old line.now self.new) }
         ensures err { IfErr result (FaultsNext K.keeps K.wants self.old line.now) }
@@ -72,7 +72,7 @@ impl<K: Keeper> Records<K> {
         }
     }
 
-    /// The fault of a next line that has more than 81 bytes.
+    /// The fault of the next line, if it has more than 81 bytes.
     pub(crate) fn too_long(&self) -> FileFault
         ensures { (limit : ℕ) (records : List (List ℕ)) →
             HasCounted K.keeps self.now limit records →
@@ -81,8 +81,8 @@ impl<K: Keeper> Records<K> {
         self.refused(FileCause::Length)
     }
 
-    /// The fault of a next line that isn't a record. Before this cause come the limit and the
-    /// trailer.
+    /// The fault of the next line, if it isn't a record for this cause. If it is also above the
+    /// limit or after the trailer, that comes first and is the cause instead.
     fn refused(&self, cause: FileCause) -> FileFault
         ensures { (limit : ℕ) (records : List (List ℕ)) →
             HasCounted K.keeps self.now limit records →
@@ -101,7 +101,7 @@ impl<K: Keeper> Records<K> {
         }
     }
 
-    /// The file that the records form, if they end in a trailer.
+    /// Ends the input. Returns the file, or the fault that there is no trailer.
     pub(crate) fn finish(self) -> Result<Ended<K>, FileFault>
         ensures ok { IfOk result (EndsCounted K.keeps self) }
         ensures err { IfErr result (EndsUnended K.keeps self) }

@@ -1,4 +1,5 @@
-//! Records that are units by themselves, and the changes that they make.
+//! Records that are units by themselves, TIPLOC records and associations, and the changes that they
+//! make.
 ghost use Rattle.std.specs.Prelude.{◌≡◌, ℕ, length, [], None, true, false, MatchOption, if◌then◌else◌};
 ghost use Rattle.docker_model.specs.records.Record.{HasKind, columns, tiploc_amend};
 ghost use Rattle.docker_model.specs.records.Field.{is_deletion, as_new};
@@ -11,7 +12,7 @@ ghost use Rattle.cif_file.specs.UnitRead.{kind_of_single, line_of_single};
 use cif_change::{Act, AssocKey, Body, Change, Key};
 use cif_line::{Assoc, Tiploc, TiplocRecord, Transaction};
 
-/// A record that is a unit by itself. Its checked fields are good.
+/// A record that is a unit by itself and whose checked fields are good.
 #[derive(Debug, Drop)]
 pub(crate) enum Single<'a> {
     /// A TIPLOC insert (TI).
@@ -24,16 +25,17 @@ pub(crate) enum Single<'a> {
     Association(Assoc<'a>),
 }
 
-/// The changes of a record that is a unit by itself.
+/// The one or two changes of a record that is a unit by itself.
 #[derive(Debug, Drop)]
 pub(crate) struct SingleChanges {
-    /// The deletion of a TIPLOC's old code, if the record gives it another one.
+    /// The deletion of a TIPLOC's old code, if an amendment gives it another code.
     pub first: Option<Change>,
-    /// The only other change.
+    /// The other change, which every such record makes.
     pub last: Change,
 }
 
-/// The changes that the record makes. Each is kept as it is, if it is kept for a place and a day.
+/// The changes that the record makes. A thin file keeps such a change either unchanged or not at
+/// all.
 pub(crate) fn changes_of(number: u32, single: &Single<'_>) -> SingleChanges
     requires { HasKind (kind_of_single single.now) (line_of_single single.now) }
     ensures changes { listed result ≡ changes_of_record number (line_of_single single.now) [] }
@@ -47,7 +49,7 @@ pub(crate) fn changes_of(number: u32, single: &Single<'_>) -> SingleChanges
     }
 }
 
-/// One change.
+/// The changes of a record that makes only one.
 fn by_itself(change: Change) -> SingleChanges
     ensures { result ≡ record { first = None; last = change } }
 {
@@ -57,8 +59,8 @@ fn by_itself(change: Change) -> SingleChanges
     }
 }
 
-/// The changes that a TIPLOC amendment makes. If it changes the code, the old code is deleted
-/// first.
+/// The changes of a TIPLOC amendment. If it gives the TIPLOC another code, first the old code is
+/// deleted, and then the new one is put.
 fn changes_amended(number: u32, view: &TiplocRecord<'_>) -> SingleChanges
     requires { HasKind tiploc_amend view.now }
     ensures changes { listed result ≡ changes_of_record number view.now [] }
@@ -98,7 +100,7 @@ fn count_amended(view: &TiplocRecord<'_>) -> u64
     }
 }
 
-/// The code that a TIPLOC amendment changes to, if it is a different one.
+/// The new code of a TIPLOC amendment. None if the record keeps the old code.
 fn other_code(view: &TiplocRecord<'_>) -> Option<Tiploc>
     requires { HasKind tiploc_amend view.now }
     ensures { MatchOption result (keeps_code view.now ≡ true)
@@ -112,7 +114,7 @@ fn other_code(view: &TiplocRecord<'_>) -> Option<Tiploc>
     }
 }
 
-/// The change that deletes the TIPLOC of a record.
+/// The change that deletes the TIPLOC with the record's code.
 fn tiploc_deleted(number: u32, view: &TiplocRecord<'_>) -> Change
     ensures change { change_meant result ≡
         record { number = number; key = tiploc_named view.now; act = delete } }
@@ -125,7 +127,7 @@ fn tiploc_deleted(number: u32, view: &TiplocRecord<'_>) -> Change
     }
 }
 
-/// The change that puts the TIPLOC of a record at this code.
+/// The change that puts the TIPLOC's details under this code.
 fn tiploc_put(number: u32, code: Tiploc, view: &TiplocRecord<'_>) -> Change
     ensures change { change_meant result ≡ record {
       number = number;
@@ -141,7 +143,7 @@ fn tiploc_put(number: u32, code: Tiploc, view: &TiplocRecord<'_>) -> Change
     }
 }
 
-/// The change of an association.
+/// The change that an association makes: it is put, or deleted.
 fn association_change(number: u32, view: &Assoc<'_>) -> Change
     ensures change { change_meant result ≡ record {
       number = number;
@@ -162,7 +164,7 @@ fn association_change(number: u32, view: &Assoc<'_>) -> Change
     }
 }
 
-/// The key of an association.
+/// The key of this association.
 fn association_key(view: &Assoc<'_>) -> AssocKey
     ensures { key_meant (Key.Assoc result) ≡ association_named view.now }
 {

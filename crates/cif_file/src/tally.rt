@@ -1,4 +1,4 @@
-//! The changes of a file's records, counted.
+//! The keeper that only counts the changes of a file.
 ghost use Rattle.std.specs.Prelude.{◌≡◌, []};
 ghost use Rattle.cif_file.specs.KeeperRead.{CountsChanges};
 
@@ -8,15 +8,15 @@ use crate::single::{Single, count_changes};
 use cif_line::{Basic, Line};
 use std::alloc::AllocError;
 
-/// How many changes a file's records have made so far. The count never overflows, because a record
-/// makes at most two.
+/// Counts the changes that the records have made until now. A record makes at most two changes, so
+/// the 64-bit count never overflows.
 #[derive(Debug, Drop)]
 pub(crate) struct Tally {
     changes: u64,
 }
 
 impl Tally {
-    /// No change.
+    /// A `Tally` that has counted no change yet.
     pub(crate) fn new() -> Tally
         ensures { CountsChanges result [] [] }
     {

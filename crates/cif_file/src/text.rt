@@ -1,13 +1,13 @@
-//! Line ends.
+//! Finds line ends, and cuts a text there.
 ghost use Rattle.std.specs.Prelude.{◌≡◌, ◌==◌, ◌<◌, IfSome, List, ℕ, length, position, MatchOption};
 ghost use Rattle.cif_laws.specs.CompleteLines.{HasNoFeed};
 ghost use Rattle.cif_file.specs.Cut.{IsCut, BeginsWithEnd, BeginsWithEighty};
 ghost use Rattle.std.specs.Str.Lines.{strip_carriage_return};
 
-/// How many bytes a record has.
+/// How many bytes a record has without its line end.
 const RECORD: usize = 80;
 
-/// The piece without the carriage return at its end, if there is one. Only one is removed.
+/// The line without a carriage return at its end. At most one is removed.
 pub(crate) fn without_return(piece: &[u8]) -> &[u8]
     ensures line { result.now ≡ strip_carriage_return piece.now }
 {
@@ -17,7 +17,7 @@ pub(crate) fn without_return(piece: &[u8]) -> &[u8]
     }
 }
 
-/// The position of the first line feed. Searches byte by byte.
+/// The index of the first line feed. It is searched byte by byte.
 fn line_feed(text: &[u8]) -> Option<usize>
     ensures place { result ≡ position (λ byte. byte == 10) text.now }
     ensures within { IfSome result (λ at. at < length text.now) }
@@ -25,7 +25,7 @@ fn line_feed(text: &[u8]) -> Option<usize>
     text.iter().position(|byte| *byte == b'\n')
 }
 
-/// The text before the first line feed, and the text after it. None if there is no line feed.
+/// The bytes before the first line feed, and the bytes after it. None if there is no line feed.
 pub(crate) fn split_line(text: &[u8]) -> Option<(&[u8], &[u8])>
     ensures { MatchOption result (HasNoFeed text.now)
         (λ parts. IsCut text.now parts.0.now parts.1.now) }
@@ -34,8 +34,8 @@ pub(crate) fn split_line(text: &[u8]) -> Option<(&[u8], &[u8])>
     Some((&text[..end], &text[end + 1..]))
 }
 
-/// The text after its first line end, which is a line feed, or a carriage return and a line feed.
-/// None if the text doesn't start with one.
+/// The bytes after the line end with which a text begins: a line feed, or a carriage return and a
+/// line feed. None if the text doesn't begin with a line end.
 fn after_line_end(text: &[u8]) -> Option<&[u8]>
     ensures { MatchOption result ((rest : List ℕ) → ¬ BeginsWithEnd text.now rest)
         (λ rest. BeginsWithEnd text.now rest.now) }
@@ -47,8 +47,8 @@ fn after_line_end(text: &[u8]) -> Option<&[u8]>
     }
 }
 
-/// The first 80 bytes of the text, and the text after their line end. None if no line end comes
-/// after 80 bytes. It doesn't search for the line feed.
+/// The first 80 bytes of a text, and the bytes after the line end that follows them. None if no
+/// line end follows the first 80 bytes. No byte has to be searched for.
 pub(crate) fn split_eighty(text: &[u8]) -> Option<(&[u8], &[u8])>
     ensures { MatchOption result
         ((line rest : List ℕ) → ¬ BeginsWithEighty text.now line rest)

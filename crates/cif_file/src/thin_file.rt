@@ -1,4 +1,4 @@
-//! What was kept of a file for the docker of one place on one day.
+//! What was kept of a CIF file for the docker of one place on one day.
 ghost use Rattle.std.specs.Prelude.{◌≡◌};
 ghost use Rattle.cif_file.specs.ThinRead.{AreThinParts, IsThinRead, thin_of_parts};
 
@@ -7,9 +7,9 @@ use crate::parts::FileParts;
 use cif_line::{Day, Header, Tiploc};
 use std::marker::Model;
 
-/// What was kept of a CIF file for the docker of one place on one day: its header, and enough of
-/// its changes for that docker. It serves for nothing else. In proofs its value also has the whole
-/// file.
+/// What was kept of a CIF file for the docker of one place on one day: the header, and those
+/// changes that this docker needs. It is of no use for any other docker. For proofs, its value also
+/// has all changes of the file.
 #[derive(Debug, Drop)]
 pub struct ThinFile {
     place: Tiploc,
@@ -30,7 +30,8 @@ impl Model for ThinFile {
 }
 
 impl ThinFile {
-    /// What was kept for this place and day, of these parts. `so_far` has all changes of the file.
+    /// Makes a thin file of these parts, kept for this place and day. `so_far` has all changes of
+    /// the file, for proofs.
     pub(crate) fn of(place: Tiploc, day: Day, parts: FileParts, so_far: ChangesSoFar) -> ThinFile
         requires { AreThinParts place day so_far.changes parts }
         ensures { result ≡ thin_of_parts place day so_far.changes parts }
@@ -51,7 +52,7 @@ impl ThinFile {
         self.parts.header.view()
     }
 
-    /// Takes apart what was kept. The changes of the parts are the kept ones.
+    /// Takes the thin file apart. The parts have only the changes that were kept.
     pub fn into_parts(self) -> FileParts
         ensures thin { thin_of_parts self.place self.day self.file.changes_made result ≡ self }
         ensures parts { AreThinParts self.place self.day self.file.changes_made result }

@@ -1,4 +1,4 @@
-//! What a reader keeps of a file's records for the docker of one place on one day.
+//! The keeper that keeps only what the docker of one place on one day needs.
 ghost use Rattle.std.specs.Prelude.{◌≡◌, []};
 ghost use Rattle.cif_file.specs.ThinKept.{KeepsThin};
 
@@ -13,8 +13,9 @@ use cif_line::{Basic, Day, Line, Tiploc};
 use std::alloc::{AllocError, Global};
 use std::marker::PhantomData;
 
-/// What was kept of a file's records so far for the place and the day that the type names. Also the
-/// lines of the schedule that is being read, and whether it runs near that day.
+/// Keeps of the records read until now what the docker of one place on one day needs. It also has
+/// the lines of the schedule that is being read, and whether this schedule runs near the day. The
+/// type `P` names the place and the day.
 #[derive(Debug, Drop)]
 pub(crate) struct ThinSoFar<P> {
     open: OpenLines,
@@ -25,7 +26,7 @@ pub(crate) struct ThinSoFar<P> {
 }
 
 impl<P: PlaceDay> ThinSoFar<P> {
-    /// No line and no change.
+    /// A keeper that has kept nothing yet.
     pub(crate) fn new(alloc: Global, place: Tiploc, day: Day) -> ThinSoFar<P>
         requires place { place ≡ P.place }
         requires day { day ≡ P.day }
@@ -42,7 +43,7 @@ impl<P: PlaceDay> ThinSoFar<P> {
         }
     }
 
-    /// The changes that were kept, and all changes.
+    /// The changes that were kept and, for proofs, all changes.
     pub(crate) fn into_kept(self) -> (Thinned, ChangesSoFar)
         ensures thinned { result.0 ≡ self.thinned }
         ensures so_far { result.1 ≡ self.so_far }

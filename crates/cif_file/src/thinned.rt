@@ -1,4 +1,4 @@
-//! The changes of a file's records that are kept for a place and a day.
+//! The changes of a file that are kept for the docker of one place on one day.
 ghost use Rattle.std.specs.Prelude.{◌≡◌, ℕ, [], List, true, OnOk};
 ghost use Rattle.docker_model.specs.file.Change as model;
 ghost use Rattle.docker_model.specs.file.Change.{delete};
@@ -16,8 +16,7 @@ use cif_line::{Day, Line, Tiploc};
 use std::alloc::{AllocError, Global};
 use std::collections::BTreeSet;
 
-/// What is kept of a file's changes for the docker of a place on a day, and the keys that the kept
-/// changes have.
+/// The changes kept for the docker of one place on one day, and the set of their keys.
 #[derive(Debug, Drop)]
 pub(crate) struct Thinned {
     alloc: Global,
@@ -28,7 +27,8 @@ pub(crate) struct Thinned {
 }
 
 impl Thinned {
-    /// No change. Places aren't noted: the docker is found by a walk over what is kept.
+    /// A `Thinned` that has kept nothing yet. Places are never noted: the docker is made by a walk
+    /// over the few changes that are kept.
     pub(crate) fn new(alloc: Global, place: Tiploc, day: Day) -> Thinned
         ensures { HasThinned place day result [] }
     {
@@ -41,14 +41,15 @@ impl Thinned {
         }
     }
 
-    /// The day.
+    /// The day of the docker.
     pub(crate) fn day(&self) -> Day
         ensures { result ≡ self.now.day }
     {
         self.day
     }
 
-    /// Appends what is kept of a change.
+    /// Appends a change that is to be kept, already cut to what the docker needs, and adds its key
+    /// to the set.
     fn keep(&mut self, change: Change) -> Result<(), AllocError>
         ensures { OnOk result ((place : List ℕ) (day : ℕ) (whole : model.Change)
             → may_matter place whole.key ≡ true
@@ -61,7 +62,8 @@ impl Thinned {
         }
     }
 
-    /// Takes a change that is never thin. It is dropped if its key can't matter at the place.
+    /// Keeps a TIPLOC's or an association's change if its key may matter at the place, and
+    /// otherwise drops it. Such a change is never cut.
     fn add(&mut self, change: Change) -> Result<(), AllocError>
         ensures { OnOk result (IsNeverThin (change_meant change)
             → (place : List ℕ) (day : ℕ) → Thins place day self.old (change_meant change) self.new) }
@@ -72,7 +74,7 @@ impl Thinned {
         self.keep(change)
     }
 
-    /// Takes the changes of a record that is a unit by itself.
+    /// Keeps or drops the one or two changes of a record that is a unit by itself.
     pub(crate) fn add_single(&mut self, changes: SingleChanges) -> Result<(), AllocError>
         requires { AreNeverThin changes }
         ensures { OnOk result ((place : List ℕ) (day : ℕ)
@@ -88,8 +90,8 @@ impl Thinned {
         }
     }
 
-    /// Takes a change that leaves nothing at a schedule's key that may count. Only if a change of
-    /// that key was kept, it is kept as a deletion.
+    /// Receives a change after which the schedule's key has nothing that the docker needs. If a
+    /// change of the same key was kept before, a deletion is kept; otherwise nothing is.
     fn delete(&mut self, number: u32, key: Key) -> Result<(), AllocError>
         ensures { OnOk result ((place : List ℕ) (day : ℕ) (whole : model.Change)
             → whole.number ≡ number → whole.key ≡ key_meant key
@@ -106,8 +108,8 @@ impl Thinned {
         })
     }
 
-    /// Takes the change of a schedule with these lines. `near` says whether it runs near the day,
-    /// if it is no deletion.
+    /// Receives the change of a schedule with these lines. Unless it is a deletion, `near` says
+    /// whether it runs near the day.
     pub(crate) fn add_opened(
         &mut self,
         opened: Opened,

@@ -1,4 +1,4 @@
-//! Records that begin a unit, after the header or after a whole unit. They are read in place.
+//! Records that come after the header or after a whole unit. Each is read in place.
 ghost use Rattle.std.specs.Prelude.{◌≡◌, true, is_some, Some, IsErr, IfOk, IfErr};
 ghost use Rattle.docker_model.specs.records.Record.{HasKind, IsRecord, kind_of};
 ghost use Rattle.docker_model.specs.records.Field.{HasGoodFields};
@@ -17,14 +17,14 @@ use cif_line::{Basic, Kind, Line, assoc, basic, tiploc};
 pub(crate) enum Unit<'a> {
     /// A record that is a unit by itself.
     Single(Single<'a>),
-    /// The basic schedule that begins a schedule.
+    /// The basic schedule, with which a schedule begins.
     Schedule(Basic<'a>),
-    /// The trailer, which ends the file.
+    /// The trailer, with which the file ends.
     Trailer,
 }
 
-/// The unit that the record begins. Otherwise why it can't stand there: its place, or its leftmost
-/// bad field.
+/// Reads a record as the beginning of a unit, or as the trailer. The cause is `Place` if no unit
+/// begins with a record of this kind, and otherwise the leftmost bad field.
 pub(crate) fn unit_of(kind: Kind, line: &Line) -> Result<Unit<'_>, FileCause>
     requires record { IsRecord line.now }
     requires kind { HasKind (meaning kind) line.now }

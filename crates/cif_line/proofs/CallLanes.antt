@@ -1,5 +1,5 @@
--- The times of an intermediate location, each in a lane of a vector. Each lane is judged and read
--- as the definitions say.
+-- The five times of an intermediate location, each computed in its own lane of a vector. The lemmas
+-- show that each lane is tested and read as the definitions say.
 use Rattle.std.proofs.Common.{◌≡◌, ℕ, zero, suc, ◌+◌, ◌-◌, ◌*◌, ◌%◌, ◌^◌, ◌<◌, ◌≤◌, nat_eq, nat_lt, Bool, true, false, cond, ◌&&◌, List}
 use Rattle.std.proofs.Common.{[], ◌∷◌, ◌++◌, length, get_or, replicate, bit_and, bit_or, Fits, w8, refl, sym, ap, subst, ◌∙◌, arith}
 use Rattle.std.specs.Prelude.{◌==◌, ◌||◌, nat_le}
@@ -13,7 +13,7 @@ use Rattle.cif_line.specs.CallRead.{half_minutes_or_none}
 
 -- ---- masks
 
--- the lane of a mask: all bits set, or none
+-- a 16-bit lane of a mask: all its bits are set if the test passes, and none if it fails
 abbrev mask : Bool → ℕ
 mask b = cond b 65535 0
 
@@ -35,15 +35,16 @@ mask_set false = refl
 
 -- ---- one lane, from its five bytes
 
--- how far a byte is above the code of `0`, in 16 bits
+-- a byte minus the code of `0`, modulo 2^16: a digit gives 0 to 9, any other byte gives more
 abbrev above : ℕ → ℕ
 above b = (b + 65488) % 65536
 
--- the number that two bytes spell, in 16 bits
+-- the number that two bytes spell if both are digits, computed modulo 2^16
 abbrev spells : ℕ → ℕ → ℕ
 spells a b = ((above a * 10) % 65536 + above b) % 65536
 
--- the tests of one lane, computed from its bytes
+-- whether five bytes are a time, tested as a lane does it: four digits, an hour below 24, a minute
+-- below 60, then `H` or a space
 abbrev time_test : ℕ → ℕ → ℕ → ℕ → ℕ → Bool
 time_test a b c d e =
     (((((nat_le (above a) 9 && nat_le (above b) 9) && nat_le (above c) 9) && nat_le (above d) 9) && nat_lt (spells a b) 24) && nat_lt (spells c d) 60)
@@ -53,7 +54,7 @@ abbrev blank_test : ℕ → ℕ → ℕ → ℕ → ℕ → Bool
 blank_test a b c d e =
     (((nat_eq (above a) 65520 && nat_eq (above b) 65520) && nat_eq (above c) 65520) && nat_eq (above d) 65520) && nat_eq e 32
 
--- the tests of one lane, as masks
+-- the test whether five bytes are a time, as a mask: the bitwise AND of the masks of its single tests
 abbrev time_mask : ℕ → ℕ → ℕ → ℕ → ℕ → ℕ
 time_mask a b c d e =
     bit_and
@@ -70,7 +71,8 @@ blank_mask a b c d e =
     (mask (nat_eq (above d) 65520)))
     (mask (nat_eq e 32))
 
--- the half minutes of one lane, in 16 bits
+-- the half minutes that a lane computes from its five bytes, modulo 2^16; they mean something only
+-- if the bytes are a time
 abbrev lane_half_minutes : ℕ → ℕ → ℕ → ℕ → ℕ → ℕ
 lane_half_minutes a b c d e = (((spells a b * 120) % 65536 + (spells c d * 2) % 65536) % 65536 + cond (top 15 (mask (e == 72))) 1 0) % 65536
 
@@ -117,14 +119,15 @@ digit_high b is = leb-true b 57 (both (nat_le 48 b) (nat_le b 57) is).1
 above_is : (b : ℕ) → is_ascii_digit b ≡ true → above b ≡ b - 48
 above_is b is = omega (arith, digit_low b is, digit_high b is)
 
--- the number that two digits spell
+-- the number that two digits spell is ten times the first digit plus the second
 spells_is : (a b : ℕ) → is_ascii_digit a ≡ true → is_ascii_digit b ≡ true → spells a b ≡ 10 * (a - 48) + (b - 48)
 spells_is a b ha hb =
     (λ i. ((above_is a ha i * 10) % 65536 + above_is b hb i) % 65536)
     ∙ omega (arith, digit_low a ha, digit_high a ha, digit_low b hb, digit_high b hb)
 
--- the lanes make the tests of a time in another order than the definition. Whether the hour and the
--- minute are in range matters only for digits
+-- a lane joins the tests of a time in another order than the definition, with the same result. The
+-- tests of the hour and of the minute agree with the definition only if their bytes are digits, so
+-- they are compared only then
 in_order : (a b c d h m : Bool) (x y z : Bool) → (a ≡ true → b ≡ true → h ≡ x) → (c ≡ true → d ≡ true → m ≡ y)
     → ((((((a && b) && c) && d) && h) && m) && z) ≡ ((((a && (b && (c && (d && true)))) && x) && y) && z)
 in_order true true true true h m x y z hour minute = λ i. (hour refl refl i && minute refl refl i) && z
@@ -157,7 +160,7 @@ module _ (a b c d e : ℕ) (la : a < 256) (lb : b < 256) (lc : c < 256) (ld : d 
   or_swapped false true = refl
   or_swapped false false = refl
 
-  -- a lane is set if and only if its field is blank or a time
+  -- the top bit of a lane is set if and only if the lane's field is blank or a time
   pub lane_good : top 15 (bit_or (time_mask a b c d e) (blank_mask a b c d e)) ≡ is_scheduled_time (a ∷ b ∷ c ∷ d ∷ e ∷ [])
   lane_good =
       (λ i. top 15 (bit_or (time_masked a b c d e i) (blank_masked a b c d e i)))
@@ -197,7 +200,7 @@ module _ (a b c d e : ℕ) (la : a < 256) (lb : b < 256) (lc : c < 256) (ld : d 
       summed hour minute true lh lm = omega arith
       summed hour minute false lh lm = omega arith
 
-  -- a lane gives the half minutes of its field
+  -- a lane reads the half minutes of its field, or 65535 if the field has no time
   pub lane_told : cond (top 15 (time_mask a b c d e)) (lane_half_minutes a b c d e) 65535 ≡ half_minutes_or_none (a ∷ b ∷ c ∷ d ∷ e ∷ [])
   lane_told =
       (λ i. cond ((ap (top 15) (time_masked a b c d e) ∙ mask_set (time_test a b c d e) ∙ time_is) i) (lane_half_minutes a b c d e) 65535)
@@ -208,7 +211,8 @@ module _ (a b c d e : ℕ) (la : a < 256) (lb : b < 256) (lc : c < 256) (ld : d 
       by true is = (λ i. cond (is_present_time (a ∷ b ∷ c ∷ d ∷ e ∷ [])) (value_is is i) 65535)
       by false is = (λ i. cond (is i) (lane_half_minutes a b c d e) 65535) ∙ (λ i. cond (sym is i) (half_minutes (a ∷ b ∷ c ∷ d ∷ e ∷ [])) 65535)
 
--- a public time and a space after it are a scheduled time
+-- a field is a public time, HHMM or blank, if and only if the field followed by a space is a
+-- scheduled time or blank
 public_lane : (a b c d : ℕ) → is_scheduled_time (a ∷ b ∷ c ∷ d ∷ 32 ∷ []) ≡ is_public_time (a ∷ b ∷ c ∷ d ∷ [])
 public_lane a b c d = by (a == 32) (b == 32) (c == 32) (d == 32) (is_clock (a ∷ b ∷ c ∷ d ∷ []))
   where
@@ -224,9 +228,10 @@ public_lane a b c d = by (a == 32) (b == 32) (c == 32) (d == 32) (is_clock (a �
     by false q r s true = refl
     by false q r s false = refl
 
--- ---- eight lanes
+-- ---- eight lanes at once
 
--- eight lanes, of which the last three repeat the first
+-- the top bits of all eight lanes are set if and only if the five tests pass, since the last three
+-- lanes repeat the first
 pub eight : (a d p m n : Bool) → nat_eq (mask_l (a ∷ d ∷ p ∷ m ∷ n ∷ a ∷ a ∷ a ∷ []) % 2 ^ 64) 255 ≡ ((((a && d) && p) && m) && n)
 eight true true true true true = refl
 eight true true true true false = refl
@@ -263,7 +268,8 @@ eight false false false false false = refl
 
 -- ---- the lanes of a line
 
--- a list of known length, written out element by element
+-- `cells n xs` writes out a list of `n` elements, one by one; `head_of` gives the first element, or
+-- 0 if there is none, and `tail_of` the other elements
 abbrev head_of : List ℕ → ℕ
 head_of [] = 0
 head_of (x ∷ xs) = x
@@ -282,28 +288,29 @@ cells_are zero (x ∷ xs) size = absurd (omega arith)
 cells_are (suc n) [] size = absurd (omega arith)
 cells_are (suc n) (x ∷ xs) size = ap (λ rest. x ∷ rest) (cells_are n xs (omega arith))
 
--- the bytes from which lanes are picked: scheduled times and public ones, or scheduled times and
--- spaces
+-- the byte at an index of the bytes that a vector loads from a line: columns 11 to 26 and then
+-- columns 26 to 41. `end_picked` has spaces in place of the second sixteen
 abbrev pub picked : List ℕ → ℕ → ℕ
 picked line k = get_or (chunk 10 16 line ++ chunk 25 16 line) k 0
 
 abbrev pub end_picked : List ℕ → ℕ → ℕ
 end_picked line k = get_or (chunk 10 16 line ++ replicate 16 32) k 0
 
--- what a lane gives, from the indexes of its bytes
+-- the half minutes that a lane reads from the loaded bytes at five indexes, or 65535 if they are no
+-- time
 abbrev pub tells : List ℕ → ℕ → ℕ → ℕ → ℕ → ℕ → ℕ
 tells line a b c d e =
     cond (top 15 (time_mask (picked line a) (picked line b) (picked line c) (picked line d) (end_picked line e)))
     (lane_half_minutes (picked line a) (picked line b) (picked line c) (picked line d) (end_picked line e)) 65535
 
--- whether a lane is set, from the indexes of its bytes
+-- whether a lane is set: the loaded bytes at its five indexes are blank or a time
 abbrev pub set_lane : List ℕ → ℕ → ℕ → ℕ → ℕ → ℕ → Bool
 set_lane line a b c d e =
     top 15
     (bit_or (time_mask (picked line a) (picked line b) (picked line c) (picked line d) (end_picked line e))
     (blank_mask (picked line a) (picked line b) (picked line c) (picked line d) (end_picked line e)))
 
--- each number of the line fits in a byte
+-- Says that each element of a line fits in a byte.
 abbrev pub AreBytes : List ℕ → Type 0
 AreBytes line = (k : ℕ) → Fits w8 (get_or line k 0)
 
@@ -355,7 +362,7 @@ module _ (line : List ℕ) (size : length line ≡ 80) (bytes : AreBytes line) w
       (in_cells 29).fits (in_cells 30).fits (in_cells 31).fits (in_cells 32).fits (omega arith)
       ∙ public_lane (get_or (cells 80 line) 29 0) (get_or (cells 80 line) 30 0) (get_or (cells 80 line) 31 0) (get_or (cells 80 line) 32 0))
 
-  -- all lanes are set if and only if the five fields are good
+  -- all eight lanes are set if and only if the five time fields are good
   pub all_set :
       nat_eq
       (mask_l

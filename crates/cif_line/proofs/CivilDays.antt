@@ -1,4 +1,4 @@
--- Each day number up to the last belongs to one day of the calendar.
+-- Each day number up to the last one is the number of exactly one day of the calendar.
 use Rattle.std.proofs.Common.{◌≡◌, ℕ, ℤ, zero, suc, ◌+◌, ◌<◌, ◌≤◌, ◌⊎◌, refl, subst, pos, negsuc, ◌+ℤ◌, ◌<ℤ◌, arith, inl, inr}
 use Rattle.std.specs.Prelude.{unsigned_abs}
 use Rattle.std.proofs.lemmas.Bool.{cases_order}
@@ -21,7 +21,7 @@ pub record IsDayOf (number year month day : ℕ) : Type 0 where
   pub is_civil : IsCivilDate (pos year) month day
   pub count : day_count (pos year) month day ≡ number + 4_368_300
 
--- the calendar's counts of days for 1 January 1960 and 31 December 2059
+-- the calendar's day counts of 1 January 1960 and 31 December 2059
 start_of_1960 : day_count (pos 1960) 1 1 ≡ 4_368_300
 unfolding day_count days_of_years days_of_months
 start_of_1960 = refl
@@ -30,7 +30,7 @@ end_of_2059 : day_count (pos 2059) 12 31 ≡ 4_404_824
 unfolding day_count days_of_years days_of_months
 end_of_2059 = refl
 
--- the day number of a day is the number that `IsDayOf` gives
+-- the day number computed from a date is the one in its `IsDayOf`
 pub number_is : (number year month day : ℕ) → IsDayOf number year month day → day_number year month day ≡ number
 number_is number year month day h =
     let there = day_number-day_count year month day h.low (omega (arith, h.high)) h.is_civil.1.0 h.is_civil.2.0 in

@@ -1,4 +1,4 @@
--- The digits of a day's text are read back as that day.
+-- The digits YYMMDD in a day's text YYYY-MM-DD read back as the same day.
 use Rattle.std.proofs.Common.{◌≡◌, ℕ, ◌+◌, ◌-◌, ◌*◌, ◌/◌, ◌%◌, ◌<◌, ◌≤◌, List, [], ◌∷◌, ◌++◌, true, ◌&&◌, ap, sym, subst, slice_index, ◌∙◌, pos, arith}
 use Rattle.std.specs.List.{list_all}
 use Rattle.std.specs.Char.{is_ascii_digit}
@@ -11,29 +11,29 @@ use Rattle.docker_model.specs.records.PrintedTime.{two_digit_text, day_text}
 use Rattle.cif_laws.proofs.records.Dates.{is_calendar_day-IsDate}
 use Rattle.cif_line.proofs.CivilDays.{IsDayOf, number_is, text_is, day_at}
 
--- 48 and a number below 10 make an ASCII digit
+-- 48 plus a number below 10 is the code of a digit
 is_digit : (n : ℕ) → n < 10 → is_ascii_digit (48 + n) ≡ true
 is_digit n low = grind (arith, nat_tests)
 
--- 48 and six numbers below 10 make six ASCII digits
+-- six numbers below 10, each plus 48, are the codes of six digits
 are_digits : (a b c d e f : ℕ) → a < 10 → b < 10 → c < 10 → d < 10 → e < 10 → f < 10
     → list_all is_ascii_digit ((48 + a) ∷ (48 + b) ∷ (48 + c) ∷ (48 + d) ∷ (48 + e) ∷ (48 + f) ∷ []) ≡ true
 are_digits a b c d e f ha hb hc hd he hf =
     λ i. is_digit a ha i && (is_digit b hb i && (is_digit c hc i && (is_digit d hd i && (is_digit e he i && (is_digit f hf i && true)))))
 
--- the last two digits of a year from 1960 to 2059 mean that year
+-- the last two digits of a year from 1960 to 2059 are read as that year
 year_is : (year : ℕ) → 1960 ≤ year → year ≤ 2059 → full_year (year % 100) ≡ year
 year_is year low high = grind (arith, nat_tests)
 
--- the two digits of a number spell the number
+-- the two digits of a number below 100 spell that number
 digits_are : (n : ℕ) → 10 * ((48 + n / 10) - 48) + ((48 + n % 10) - 48) ≡ n
 digits_are n = omega arith
 
--- the digits YYMMDD of a day
+-- a date's digits YYMMDD
 abbrev pub six_digits : ℕ → ℕ → ℕ → List ℕ
 six_digits year month day = two_digit_text (year % 100) ++ two_digit_text month ++ two_digit_text day
 
--- the digits YYMMDD of a day are a date with the day's number
+-- the digits YYMMDD of a day pass as a date, and the date they give has the day's number
 module _ (number year month day : ℕ) (h : IsDayOf number year month day) where
   on_calendar : is_calendar_day year month day ≡ true
   on_calendar =
@@ -47,7 +47,7 @@ module _ (number year month day : ℕ) (h : IsDayOf number year month day) where
   year_read : full_year (two_digits (six_digits year month day) 0) ≡ year
   year_read = ap full_year (digits_are (year % 100)) ∙ year_is year h.low h.high
 
-  -- the digits YYMMDD of a day pass the test of being a date
+  -- the digits YYMMDD of a day pass the test for a date
   pub six_digits-is_date : is_date (six_digits year month day) ≡ true
   six_digits-is_date =
       let digits : list_all is_ascii_digit (six_digits year month day) ≡ true =
@@ -55,15 +55,15 @@ module _ (number year month day : ℕ) (h : IsDayOf number year month day) where
       (omega (arith, h.is_civil.1.1)) (omega arith) (omega (arith, h.is_civil.2.1, days_in_month_bounds (pos year) month)) (omega arith) in
       (λ i. digits i && is_calendar_day (year_read i) (digits_are month i) (digits_are day i)) ∙ on_calendar
 
-  -- the date with the digits YYMMDD of a day has the day's number
+  -- the date that the digits YYMMDD of a day give has the day's number
   pub six_digits-date_number : date_number (six_digits year month day) ≡ number
   six_digits-date_number = (λ i. day_number (year_read i) (digits_are month i) (digits_are day i)) ∙ number_is number year month day h
 
--- the digits YYMMDD in a text YYYY-MM-DD
+-- the digits YYMMDD of a text YYYY-MM-DD
 abbrev pub digits_in : List ℕ → List ℕ
 digits_in text = slice_index text 2 ∷ slice_index text 3 ∷ slice_index text 5 ∷ slice_index text 6 ∷ slice_index text 8 ∷ slice_index text 9 ∷ []
 
--- in a day's text the digits YYMMDD are a date with the day's number
+-- in the text YYYY-MM-DD of a day number, the digits YYMMDD are a date with this day number
 pub digits_in-day_text : (number : ℕ) → number ≤ last_day → (text : List ℕ) → text ≡ day_text number
     → (is_date (digits_in text) ≡ true) × (date_number (digits_in text) ≡ number)
 digits_in-day_text number low text same = let at = day_at number low in by at.0 at.1 at.2 at.3

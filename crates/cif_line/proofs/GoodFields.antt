@@ -1,4 +1,4 @@
--- The checked fields of each kind of record, one by one.
+-- What is known of each checked field in a good record, kind by kind.
 use Rattle.std.proofs.Common.{◌≡◌, ℕ, List, true, false, cond, [], ◌∷◌, ◌++◌, Bool, Option, Some, None, refl, sym, subst, ◌∙◌, inl, inr, arith}
 use Rattle.std.specs.List.{AllByRecursion}
 use Rattle.docker_model.specs.records.Record.{Kind, header, tiploc_insert, tiploc_amend, tiploc_delete, association}
@@ -11,76 +11,77 @@ use Rattle.docker_model.specs.records.Field.{is_update_indicator, is_transaction
 use Rattle.cif_laws.proofs.records.Columns.{good_fields, IsGoodIn, one_column}
 use Rattle.cif_line.specs.View.{IsGood, IsGoodTiploc, IsTiplocRecord, new_code_of}
 
--- in a record with good fields, each checked field is good
+-- in a good record of a kind, each of the kind's checked fields is good
 each_good : (kind : Kind) (line : List ℕ) → IsGood kind line → AllByRecursion (IsGoodIn line) (checked_fields kind line)
 each_good kind line good = good_fields kind line good.has_kind good.good_fields
 
--- the date of extract, columns 23 to 28, is a date
+-- columns 23 to 28 of a good header, the date of extract, are a date
 pub header_day : (line : List ℕ) → IsGood header line → is_date_day_first (columns 23 28 line) ≡ true
 header_day line good = (each_good header line good).0
 
--- the time of extract, columns 29 to 32, is HHMM
+-- columns 29 to 32 of a good header, the time of extract, are HHMM
 pub header_minute : (line : List ℕ) → IsGood header line → is_clock (columns 29 32 line) ≡ true
 header_minute line good = (each_good header line good).1.0
 
--- the update indicator, column 47, is F or U
+-- column 47 of a good header, the update indicator, is F or U
 pub header_extract : (line : List ℕ) → IsGood header line → is_update_indicator (column 47 line ∷ []) ≡ true
 header_extract line good = subst (λ b. is_update_indicator (b ∷ []) ≡ true) (one_column line 47 (omega arith)) (each_good header line good).1.1.0
 
--- all checked fields of a header
+-- the lemmas on the checked fields of a good header
 pub ruleset header_fields = (header_day, header_minute, header_extract)
 
--- the TIPLOC, columns 3 to 9, is a TIPLOC
+-- columns 3 to 9 of a good origin are a TIPLOC
 pub origin_tiploc : (line : List ℕ) → IsGood origin_location line → is_tiploc (columns 3 9 line) ≡ true
 origin_tiploc line good = (each_good origin_location line good).0
 
--- the public departure, columns 16 to 19, is HHMM or blank
+-- columns 16 to 19 of a good origin, the public departure, are HHMM or blank
 pub origin_public : (line : List ℕ) → IsGood origin_location line → is_public_time (columns 16 19 line) ≡ true
 origin_public line good = (each_good origin_location line good).1.1.0
 
--- all checked fields of an origin
+-- the lemmas on the checked fields of a good origin
 pub ruleset origin_fields = (origin_tiploc, origin_public)
 
--- the TIPLOC, columns 3 to 9, is a TIPLOC
+-- columns 3 to 9 of a good terminus are a TIPLOC
 pub terminus_tiploc : (line : List ℕ) → IsGood terminating_location line → is_tiploc (columns 3 9 line) ≡ true
 terminus_tiploc line good = (each_good terminating_location line good).0
 
--- the public arrival, columns 16 to 19, is HHMM or blank
+-- columns 16 to 19 of a good terminus, the public arrival, are HHMM or blank
 pub terminus_public : (line : List ℕ) → IsGood terminating_location line → is_public_time (columns 16 19 line) ≡ true
 terminus_public line good = (each_good terminating_location line good).1.1.0
 
--- all checked fields of a terminus
+-- the lemmas on the checked fields of a good terminus
 pub ruleset terminus_fields = (terminus_tiploc, terminus_public)
 
--- the transaction, column 3, is N, D or R
+-- column 3 of a good basic schedule, the transaction, is N, D or R
 pub basic_transaction : (line : List ℕ) → IsGood basic_schedule line → is_transaction (column 3 line ∷ []) ≡ true
 basic_transaction line good = subst (λ b. is_transaction (b ∷ []) ≡ true) (one_column line 3 (omega arith)) (each_good basic_schedule line good).0
 
--- the first day, columns 10 to 15, is a date
+-- columns 10 to 15 of a good basic schedule, the runs-from date, are a date
 pub basic_runs_from : (line : List ℕ) → IsGood basic_schedule line → is_date (columns 10 15 line) ≡ true
 basic_runs_from line good = (each_good basic_schedule line good).1.0
 
--- the checked fields of a basic schedule after its first date
+-- the checked fields of a basic schedule to the right of its runs-from date, by whether it is a
+-- deletion
 later_fields : Bool → List CheckedField
 later_fields deletion = cond deletion [] (checked 16 21 is_end_date ∷ checked 22 28 is_days ∷ []) ++ checked 80 80 is_stp_indicator ∷ []
 
--- in a good basic schedule the fields after the first date are good
+-- in a good basic schedule the checked fields to the right of the runs-from date are good
 later_good : (line : List ℕ) → IsGood basic_schedule line → (deletion : Bool) → is_deletion line ≡ deletion
     → AllByRecursion (IsGoodIn line) (later_fields deletion)
 unfolding later_fields
 later_good line good deletion is = subst (λ b. AllByRecursion (IsGoodIn line) (later_fields b)) is (each_good basic_schedule line good).1.1
 
--- the end date, columns 16 to 21, is an end date unless the schedule is a deletion
+-- columns 16 to 21 of a good basic schedule, the runs-to date, are an end date unless the record is a deletion
 pub basic_runs_to : (line : List ℕ) → IsGood basic_schedule line → is_deletion line ≡ false → is_end_date (columns 16 21 line) ≡ true
 unfolding later_fields
 basic_runs_to line good kept = (later_good line good false kept).0
 
--- the days run, columns 22 to 28, are flags unless the schedule is a deletion
+-- columns 22 to 28 of a good basic schedule, the days run, are digits 0 or 1 unless the record is a deletion
 pub basic_days : (line : List ℕ) → IsGood basic_schedule line → is_deletion line ≡ false → is_days (columns 22 28 line) ≡ true
 unfolding later_fields
 basic_days line good kept = (later_good line good false kept).1.0
 
--- the STP indicator, column 80, is P, N, O or C
+-- column 80 of a good basic schedule, the STP indicator, is P, N, O or C
 pub basic_stp : (line : List ℕ) → IsGood basic_schedule line → is_stp_letter (column 80 line) ≡ true
 unfolding later_fields
 basic_stp line good = subst (λ b. is_stp_letter b ≡ true) (one_column line 80 (omega arith)) (by (is_deletion line) (later_good line good))
@@ -89,39 +90,39 @@ basic_stp line good = subst (λ b. is_stp_letter b ≡ true) (one_column line 80
     by true all = (all true refl).0
     by false all = (all false refl).1.1.0
 
--- all checked fields of a basic schedule
+-- the lemmas on the checked fields of a good basic schedule
 pub ruleset basic_fields = (basic_transaction, basic_runs_from, basic_runs_to, basic_days, basic_stp)
 
--- the transaction, column 3, is N, D or R
+-- column 3 of a good association, the transaction, is N, D or R
 pub assoc_transaction : (line : List ℕ) → IsGood association line → is_transaction (column 3 line ∷ []) ≡ true
 assoc_transaction line good = subst (λ b. is_transaction (b ∷ []) ≡ true) (one_column line 3 (omega arith)) (each_good association line good).0
 
--- the first day, columns 16 to 21, is a date
+-- columns 16 to 21 of a good association, its first date, are a date
 pub assoc_start : (line : List ℕ) → IsGood association line → is_date (columns 16 21 line) ≡ true
 assoc_start line good = (each_good association line good).1.0
 
--- the checked fields of an association after its first date
+-- the checked fields of an association to the right of its first date, by whether it is a deletion
 assoc_fields_behind : Bool → List CheckedField
 assoc_fields_behind deletion =
     cond deletion [] (checked 22 27 is_end_date ∷ checked 28 34 is_days ∷ []) ++ checked 38 44 is_tiploc ∷ checked 80 80 is_stp_indicator ∷ []
 
--- in a good association the fields after the first date are good
+-- in a good association the checked fields to the right of the first date are good
 assoc_behind_good : (line : List ℕ) → IsGood association line → (deletion : Bool) → is_deletion line ≡ deletion
     → AllByRecursion (IsGoodIn line) (assoc_fields_behind deletion)
 unfolding assoc_fields_behind
 assoc_behind_good line good deletion is = subst (λ b. AllByRecursion (IsGoodIn line) (assoc_fields_behind b)) is (each_good association line good).1.1
 
--- the end date, columns 22 to 27, is an end date unless the association is a deletion
+-- columns 22 to 27 of a good association are an end date unless the record is a deletion
 pub assoc_end : (line : List ℕ) → IsGood association line → is_deletion line ≡ false → is_end_date (columns 22 27 line) ≡ true
 unfolding assoc_fields_behind
 assoc_end line good kept = (assoc_behind_good line good false kept).0
 
--- the days run, columns 28 to 34, are flags unless the association is a deletion
+-- columns 28 to 34 of a good association, the days run, are digits 0 or 1 unless the record is a deletion
 pub assoc_days : (line : List ℕ) → IsGood association line → is_deletion line ≡ false → is_days (columns 28 34 line) ≡ true
 unfolding assoc_fields_behind
 assoc_days line good kept = (assoc_behind_good line good false kept).1.0
 
--- the location and the STP indicator of an association are good, also in a deletion
+-- the TIPLOC and the STP indicator of a good association are good, even in a deletion
 assoc_last : (line : List ℕ) → IsGood association line → (is_tiploc (columns 38 44 line) ≡ true) × (is_stp_indicator (columns 80 80 line) ≡ true)
 unfolding assoc_fields_behind
 assoc_last line good = by (is_deletion line) (assoc_behind_good line good)
@@ -131,41 +132,41 @@ assoc_last line good = by (is_deletion line) (assoc_behind_good line good)
     by true all = ((all true refl).0, (all true refl).1.0)
     by false all = ((all false refl).1.1.0, (all false refl).1.1.1.0)
 
--- the TIPLOC, columns 38 to 44, is a TIPLOC
+-- columns 38 to 44 of a good association are a TIPLOC
 pub assoc_location : (line : List ℕ) → IsGood association line → is_tiploc (columns 38 44 line) ≡ true
 assoc_location line good = (assoc_last line good).0
 
--- the STP indicator, column 80, is P, N, O or C
+-- column 80 of a good association, the STP indicator, is P, N, O or C
 pub assoc_stp : (line : List ℕ) → IsGood association line → is_stp_letter (column 80 line) ≡ true
 assoc_stp line good = subst (λ b. is_stp_letter b ≡ true) (one_column line 80 (omega arith)) (assoc_last line good).1
 
--- all checked fields of an association
+-- the lemmas on the checked fields of a good association
 pub ruleset assoc_fields = (assoc_transaction, assoc_start, assoc_end, assoc_days, assoc_location, assoc_stp)
 
--- the TIPLOC, columns 3 to 9, is a TIPLOC
+-- columns 3 to 9 of a good intermediate location are a TIPLOC
 pub call_tiploc : (line : List ℕ) → IsGood intermediate_location line → is_tiploc (columns 3 9 line) ≡ true
 call_tiploc line good = (each_good intermediate_location line good).0
 
--- the public arrival, columns 26 to 29, is HHMM or blank
+-- columns 26 to 29 of a good intermediate location, the public arrival, are HHMM or blank
 pub call_public_arrival : (line : List ℕ) → IsGood intermediate_location line → is_public_time (columns 26 29 line) ≡ true
 call_public_arrival line good = (each_good intermediate_location line good).1.1.1.1.0
 
--- the public departure, columns 30 to 33, is HHMM or blank
+-- columns 30 to 33 of a good intermediate location, the public departure, are HHMM or blank
 pub call_public_departure : (line : List ℕ) → IsGood intermediate_location line → is_public_time (columns 30 33 line) ≡ true
 call_public_departure line good = (each_good intermediate_location line good).1.1.1.1.1.0
 
--- all checked fields of an intermediate location
+-- the lemmas on the checked fields of a good intermediate location
 pub ruleset call_fields = (call_tiploc, call_public_arrival, call_public_departure)
 
--- the code, columns 3 to 9, is a TIPLOC
+-- columns 3 to 9 of a good TIPLOC record, its code, are a TIPLOC
 pub tiploc_code : (line : List ℕ) → IsGoodTiploc line → is_tiploc (columns 3 9 line) ≡ true
 tiploc_code line good = good.code
 
--- the new code of an amendment, columns 73 to 79, is a TIPLOC or blank
+-- columns 73 to 79 of a good amendment, its new code, are a TIPLOC or blank
 pub tiploc_new_code : (line : List ℕ) → IsGoodTiploc line → HasKind tiploc_amend line → is_new_tiploc (columns 73 79 line) ≡ true
 tiploc_new_code line good amends = good.new_code amends
 
--- a record that isn't an amendment has no new code
+-- a TIPLOC record that isn't an amendment has no new code
 pub no_new_code : (line : List ℕ) → ¬ HasKind tiploc_amend line → new_code_of (kind_of line) line ≡ None
 no_new_code line never = by (kind_of line) never
   where
@@ -184,10 +185,11 @@ no_new_code line never = by (kind_of line) never
     by (Some change_en_route) other = refl
     by (Some trailer) other = refl
 
--- all checked fields of a TIPLOC record
+-- the lemmas on the checked fields of a good TIPLOC record
 pub ruleset tiploc_fields = (tiploc_code, tiploc_new_code, no_new_code)
 
--- in a TIPLOC record with good fields, the code and the new code are good
+-- if the checked fields of a TIPLOC record are good, so are its code and, in an amendment, its new
+-- code
 pub is_good_tiploc : (line : List ℕ) → IsTiplocRecord line → HasGoodFields line → IsGoodTiploc line
 is_good_tiploc line (inl inserts) good = record {
   code = (good_fields tiploc_insert line inserts good).0;
@@ -202,5 +204,5 @@ is_good_tiploc line (inr (inr deletes)) good = record {
   new_code = λ amends. let both : Some tiploc_delete ≡ Some tiploc_amend = sym deletes ∙ amends in cc;
 }
 
--- what a view of a TIPLOC record needs
+-- the lemma that lets a reader make a view of a TIPLOC record
 pub ruleset tiploc_views = (is_good_tiploc)

@@ -1,4 +1,4 @@
--- The tests of a record's checked fields, joined.
+-- The tests of a record's checked fields, joined by AND into a single test.
 use Rattle.std.proofs.Common.{◌≡◌, ℕ, List, Bool, true, false, cond, [], ◌∷◌, Some, None, refl, sym, ◌∙◌, ◌&&◌}
 use Rattle.std.specs.Prelude.{not, option_map, find, Option, ◌↔◌}
 use Rattle.docker_model.specs.records.Record.{columns, origin_location, intermediate_location}
@@ -8,20 +8,20 @@ use Rattle.cif_laws.proofs.lists.BoolsAndOptions.{both, and_true}
 use Rattle.cif_line.specs.View.{bad_field_of}
 use Rattle.cif_line.proofs.Leftmost.{first_bad, behind_good}
 
--- whether the field is good in the line
+-- whether a checked field is good in a line
 abbrev pub is_good_in : List ℕ → CheckedField → Bool
 is_good_in line field = field.is_good (columns field.first field.last line)
 
--- one test and the tests of these fields, joined in order
+-- a first test and the tests of a list of fields, joined by AND from the left
 abbrev pub joined : List ℕ → Bool → List CheckedField → Bool
 joined line before [] = before
 joined line before (field ∷ fields) = joined line (before && is_good_in line field) fields
 
--- the first column of the first field that isn't good
+-- the first column of the first field in a list that isn't good in the line; none if all are good
 abbrev pub first_bad_of : List ℕ → List CheckedField → Option ℕ
 first_bad_of line fields = option_map (λ (field : CheckedField). field.first) (find (λ field. not (is_good_in line field)) fields)
 
--- if the joined tests pass, no field is bad
+-- if the joined test passes, so does the first test, and no field of the list is bad
 pub none_if_joined : (line : List ℕ) (before : Bool) (fields : List CheckedField) → joined line before fields ≡ true
     → (before ≡ true) × (first_bad_of line fields ≡ None)
 none_if_joined line before [] pass = (pass, refl)
@@ -33,7 +33,7 @@ none_if_joined line before (field ∷ fields) pass =
       (λ i. option_map (λ (f : CheckedField). f.first) (cond (not (two.1 i)) (Some field) (find (λ f. not (is_good_in line f)) fields))) ∙ rest.1,
     )
 
--- if no field is bad, the joined tests pass
+-- if no field of the list is bad and the first test passes, the joined test passes
 pub joined_if_none : (line : List ℕ) (before : Bool) (fields : List CheckedField) → first_bad_of line fields ≡ None → before ≡ true
     → joined line before fields ≡ true
 joined_if_none line before [] none there = there
@@ -54,19 +54,19 @@ joined_if_none line before (field ∷ fields) none there =
         (cond (not (sym is i)) (Some field) (find (λ f. not (is_good_in line f)) fields))) ∙ none in
         cc
 
--- the joined tests of all fields pass if and only if no field is bad
+-- the joined test of a list of fields passes if and only if no field is bad
 passes_if_none : (line : List ℕ) (fields : List CheckedField) (test : Bool) → test ≡ joined line true fields
     → test ≡ true ↔ (first_bad_of line fields ≡ None)
 passes_if_none line fields test is = (λ pass. (none_if_joined line true fields (sym is ∙ pass)).1, λ none. is ∙ joined_if_none line true fields none refl)
 
--- the joined tests of an intermediate location's five times
+-- whether all five times of an intermediate location are good, joined by AND from the left
 abbrev pub times_joined : List ℕ → Bool
 times_joined line =
     (((is_scheduled_time (columns 11 15 line) && is_scheduled_time (columns 16 20 line)) && is_scheduled_time (columns 21 25 line))
     && is_public_time (columns 26 29 line))
     && is_public_time (columns 30 33 line)
 
--- the joined tests of an intermediate location pass if and only if no field is bad
+-- the joined test of an intermediate location passes if and only if no field is bad
 pub call_tests : (line : List ℕ) (tiploc times test : Bool) → (tiploc && times) ≡ test → tiploc ≡ is_tiploc (columns 3 9 line)
     → times ≡ times_joined line → test ≡ true ↔ (bad_field_of intermediate_location line ≡ None)
 call_tests line t s test joins tiploc times =
@@ -79,15 +79,15 @@ call_tests line t s test joins tiploc times =
     regrouped true a d p m n = refl
     regrouped false a d p m n = refl
 
--- the joined tests of an origin or a terminus pass if and only if no field is bad
+-- the joined test of an origin or a terminus passes if and only if no field is bad
 pub end_tests : (line : List ℕ) (tiploc time public test : Bool) → ((tiploc && time) && public) ≡ test → tiploc ≡ is_tiploc (columns 3 9 line)
     → time ≡ is_present_time (columns 11 15 line) → public ≡ is_public_time (columns 16 19 line)
     → test ≡ true ↔ (bad_field_of origin_location line ≡ None)
 end_tests line t d p test joins tiploc time public =
     passes_if_none line (checked_fields origin_location line) test (sym joins ∙ (λ i. (tiploc i && time i) && public i))
 
--- if all checked fields of an intermediate location but the last are good, and one is bad, the last
--- is bad
+-- if an intermediate location has a bad field, and all its checked fields except the last are good,
+-- the leftmost bad field is at column 30
 pub call_last_bad : (line : List ℕ) → ¬ (bad_field_of intermediate_location line ≡ None) → is_tiploc (columns 3 9 line) ≡ true
     → is_scheduled_time (columns 11 15 line) ≡ true → is_scheduled_time (columns 16 20 line) ≡ true → is_scheduled_time (columns 21 25 line) ≡ true
     → is_public_time (columns 26 29 line) ≡ true → bad_field_of intermediate_location line ≡ Some 30
@@ -104,7 +104,7 @@ call_last_bad line bad tiploc arrival departure pass public_arrival = by (is_pub
         ∷ checked 26 29 is_public_time ∷ []) (checked 30 33 is_public_time) []
         (tiploc, (arrival, (departure, (pass, (public_arrival, tt))))) last
 
--- if the joined tests of an intermediate location pass, its scheduled times are good
+-- if the joined test of an intermediate location passes, its three scheduled times are good
 pub times_good : (line : List ℕ) (tiploc times : Bool) → (tiploc && times) ≡ true → times ≡ times_joined line
     → (is_scheduled_time (columns 11 15 line) ≡ true) × (is_scheduled_time (columns 16 20 line) ≡ true)
     × (is_scheduled_time (columns 21 25 line) ≡ true)

@@ -1,4 +1,5 @@
--- From the lanes of a block of bytes to the test of each byte.
+-- A block of bytes is tested at once, with one lane for each byte. The lemmas show that this equals
+-- a test of each byte.
 use Rattle.std.proofs.Common.{◌≡◌, ℕ, ◌+◌, ◌*◌, ◌%◌, ◌^◌, ◌≤◌, nat_eq, Bool, true, false, cond, not, ◌&&◌, List}
 use Rattle.std.proofs.Common.{[], ◌∷◌, map, length, take, drop, replicate, Fits, w8, refl, sym, ap, ◌∙◌, arith}
 use Rattle.std.proofs.lemmas.Bool.{agree_below, agree_below_at}
@@ -9,7 +10,7 @@ use Rattle.std.proofs.lemmas.List.{length-map, drop_all}
 use Rattle.std.proofs.lemmas.List.Folds.{list_all-append}
 use lib.Lanes.{Each1, mask_l, top, zip2}
 
--- a number whose lowest bit is set is not 0
+-- a binary number whose lowest digit is 1 isn't 0
 one_set : (m : ℕ) → nat_eq (1 + 2 * m) 0 ≡ false
 one_set m = grind (arith, nat_tests)
 
@@ -17,7 +18,7 @@ one_set m = grind (arith, nat_tests)
 twice : (m : ℕ) → nat_eq (0 + 2 * m) 0 ≡ nat_eq m 0
 twice m = grind (arith, nat_tests)
 
--- a mask is 0 if and only if no lane is set
+-- a mask of lanes is 0 if and only if no lane is set
 mask_zero : (p : ℕ → Bool) (xs : List ℕ) → nat_eq (mask_l (map p xs)) 0 ≡ list_all (λ x. not (p x)) xs
 mask_zero p [] = refl
 mask_zero p (x ∷ xs) = by (p x) (mask_zero p xs)
@@ -27,13 +28,13 @@ mask_zero p (x ∷ xs) = by (p x) (mask_zero p xs)
     by true rest = one_set (mask_l (map p xs))
     by false rest = twice (mask_l (map p xs)) ∙ rest
 
--- if two tests agree on each byte, they agree on lists of bytes
+-- two tests that agree on each number below 256 agree on each list of bytes
 agree_all : (f g : ℕ → Bool) → agree_below f g 256 ≡ true → (xs : List ℕ) → Each1 (Fits w8) xs → list_all f xs ≡ list_all g xs
 agree_all f g agree [] fits = refl
 agree_all f g agree (x ∷ xs) fits = λ i. agree_below_at f g 256 x agree fits.0.fits i && agree_all f g agree xs fits.1 i
 
--- No lane is set if and only if each byte passes the test. For that, a byte's lane has to be clear
--- if and only if the byte passes. A lane is made from its byte by two operations with constants.
+-- A lane is made from its byte by two operations, each with a constant, and is clear if and only if
+-- the byte passes a test. Then no lane is set if and only if all bytes pass the test.
 pub no_lane_set : (q : ℕ → Bool) (bytes : List ℕ) (n : ℕ) (f g : ℕ → ℕ → ℕ) (a b : ℕ) → length bytes ≡ n → n ≤ 64 → Each1 (Fits w8) bytes
     → agree_below (λ x. not (top 7 (f a (g x b)))) q 256 ≡ true
     → nat_eq (mask_l (map (top 7) (zip2 f (replicate n a) (zip2 g bytes (replicate n b)))) % 2 ^ 64) 0 ≡ list_all q bytes
@@ -48,7 +49,7 @@ no_lane_set q bytes n f g a b long few fits agree =
 
 -- ---- a line of 80 bytes, in five blocks
 
--- five tests, grouped from the left or from the right
+-- five tests joined by AND give the same whether they are grouped from the left or from the right
 five : (a b c d e : Bool) → ((((a && b) && c) && d) && e) ≡ (a && (b && (c && (d && (e && true)))))
 five true true true true true = refl
 five true true true true false = refl
@@ -57,19 +58,20 @@ five true true false d e = refl
 five true false c d e = refl
 five false b c d e = refl
 
--- whether the sixteen bytes from this index on pass the test
+-- whether the sixteen bytes that begin at an index pass the test
 abbrev pub block_passes : (ℕ → Bool) → List ℕ → ℕ → Bool
 block_passes q bytes at = list_all q (take 16 (drop at bytes))
 
--- the bytes from an index on pass if and only if the next sixteen and all bytes after them pass
+-- the bytes from an index on pass the test if and only if the next sixteen do and all later bytes
+-- do
 block_and_rest : (q : ℕ → Bool) (bytes : List ℕ) (at : ℕ) → list_all q (drop at bytes) ≡ (block_passes q bytes at && list_all q (drop (at + 16) bytes))
 block_and_rest q bytes at = ap (list_all q) (chunk-drop at 16 bytes) ∙ list_all-append q (take 16 (drop at bytes)) (drop (at + 16) bytes)
 
--- after 80 bytes nothing is left
+-- a line has no byte after its eightieth, so all bytes after it pass the test
 nothing_left : (q : ℕ → Bool) (bytes : List ℕ) → length bytes ≡ 80 → list_all q (drop 80 bytes) ≡ true
 nothing_left q bytes size = ap (list_all q) (drop_all 80 bytes (let long : length bytes ≤ 80 = omega arith in long))
 
--- the line passes if and only if all five blocks pass
+-- a line passes the test if and only if its five blocks of sixteen bytes do
 pub five_blocks : (q : ℕ → Bool) (bytes : List ℕ) → length bytes ≡ 80 →
     ((((block_passes q bytes 0 && block_passes q bytes 16) && block_passes q bytes 32) && block_passes q bytes 48) && block_passes q bytes 64)
     ≡ list_all q bytes

@@ -1,5 +1,6 @@
--- The leftmost bad field of a header, a TIPLOC record, an association or a basic schedule: the
--- field is bad, and all checked fields to its left are good.
+-- The leftmost bad field of a header, a TIPLOC record, an association or a basic schedule. To show
+-- which field it is, it is enough that this field is bad and that all checked fields to its left
+-- are good.
 use Rattle.std.proofs.Common.{◌≡◌, ℕ, List, true, false, cond, [], ◌∷◌, ◌++◌, Bool, Some, None, ap, ◌∙◌, inl, inr}
 use Rattle.std.specs.Prelude.{not, option_map, find, Option}
 use Rattle.std.specs.List.{AllByRecursion}
@@ -11,16 +12,16 @@ use Rattle.docker_model.specs.records.Field.{is_new_tiploc, is_update_indicator,
 use Rattle.cif_laws.proofs.records.Columns.{IsGoodIn, fields_good}
 use Rattle.cif_line.specs.View.{IsTiplocRecord}
 
--- the first column of the first field that isn't good
+-- the first column of the first field in a list that isn't good in the line; none if all are good
 unfoldable pub first_bad : List ℕ → List CheckedField → Option ℕ
 first_bad line fields = option_map (λ (field : CheckedField). field.first) (find (λ field. not (field.is_good (columns field.first field.last line))) fields)
 
--- the leftmost bad field is the first bad one of the kind's checked fields
+-- the leftmost bad field of a line is the first bad one among the checked fields of its kind
 by_kind : (kind : Kind) (line : List ℕ) → HasKind kind line → leftmost_bad_field line ≡ first_bad line (checked_fields kind line)
 unfolding first_bad
 by_kind kind line is = ap (λ k. first_bad line (fields_of k line)) is
 
--- if a bad field follows only good ones, it is the first bad field
+-- if one field is bad, and all fields before it in the list are good, it is the first bad field
 pub behind_good : (line : List ℕ) (before : List CheckedField) (field : CheckedField) (after : List CheckedField)
     → AllByRecursion (IsGoodIn line) before → field.is_good (columns field.first field.last line) ≡ false
     → first_bad line (before ++ field ∷ after) ≡ Some field.first
@@ -41,29 +42,31 @@ pub header_bad_minute : (line : List ℕ) → HasKind header line → is_date_da
     → leftmost_bad_field line ≡ Some 29
 header_bad_minute line is day bad = by_kind header line is ∙ behind_good line (checked 23 28 is_date_day_first ∷ []) (checked 29 32 is_clock) _ (day, tt) bad
 
--- if only a header's update indicator is bad, the leftmost bad field is at column 47
+-- if a header's date and time of extract are good and its update indicator is bad, the leftmost bad
+-- field is at column 47
 pub header_bad_indicator : (line : List ℕ) → HasKind header line → is_date_day_first (columns 23 28 line) ≡ true → is_clock (columns 29 32 line) ≡ true
     → is_update_indicator (columns 47 47 line) ≡ false → leftmost_bad_field line ≡ Some 47
 header_bad_indicator line is day minute bad = by_kind header line is
     ∙ behind_good line (checked 23 28 is_date_day_first ∷ checked 29 32 is_clock ∷ []) (checked 47 47 is_update_indicator) [] (day, (minute, tt)) bad
 
--- the leftmost bad field of a header
+-- the lemmas on the leftmost bad field of a header
 pub ruleset header_faults = (header_bad_day, header_bad_minute, header_bad_indicator)
 
--- the checked fields of a basic schedule, whether or not it is a deletion
+-- the checked fields of a basic schedule, by whether it is a deletion
 basic_checked : Bool → List CheckedField
 basic_checked deletion =
     checked 3 3 is_transaction ∷ checked 10 15 is_date
     ∷ cond deletion [] (checked 16 21 is_end_date ∷ checked 22 28 is_days ∷ [])
     ++ checked 80 80 is_stp_indicator ∷ []
 
--- the first bad field of a basic schedule, whether or not it is a deletion
+-- the leftmost bad field of a basic schedule is the first bad one of its checked fields
 of_basic : (line : List ℕ) (deletion : Bool) → HasKind basic_schedule line → is_deletion line ≡ deletion
     → leftmost_bad_field line ≡ first_bad line (basic_checked deletion)
 unfolding basic_checked
 of_basic line deletion is deletes = by_kind basic_schedule line is ∙ ap (λ b. first_bad line (basic_checked b)) deletes
 
--- in a schedule that isn't a deletion, the end date is the first bad field: column 16
+-- if the runs-to date of a basic schedule that isn't a deletion is bad, and the fields to its left
+-- are good, the leftmost bad field is at column 16
 pub basic_bad_end : (line : List ℕ) → HasKind basic_schedule line → is_transaction (columns 3 3 line) ≡ true → is_date (columns 10 15 line) ≡ true
     → is_deletion line ≡ false → is_end_date (columns 16 21 line) ≡ false → leftmost_bad_field line ≡ Some 16
 unfolding basic_checked
@@ -71,7 +74,8 @@ basic_bad_end line is transaction day kept bad = of_basic line false is kept
     ∙ behind_good line (checked 3 3 is_transaction ∷ checked 10 15 is_date ∷ []) (checked 16 21 is_end_date)
     (checked 22 28 is_days ∷ checked 80 80 is_stp_indicator ∷ []) (transaction, (day, tt)) bad
 
--- in a schedule that isn't a deletion, the days run are the first bad field: column 22
+-- if the days run of a basic schedule that isn't a deletion are bad, and the fields to their left
+-- are good, the leftmost bad field is at column 22
 pub basic_bad_days : (line : List ℕ) → HasKind basic_schedule line → is_transaction (columns 3 3 line) ≡ true → is_date (columns 10 15 line) ≡ true
     → is_deletion line ≡ false → is_end_date (columns 16 21 line) ≡ true → is_days (columns 22 28 line) ≡ false → leftmost_bad_field line ≡ Some 22
 unfolding basic_checked
@@ -79,7 +83,8 @@ basic_bad_days line is transaction day kept end bad = of_basic line false is kep
     ∙ behind_good line (checked 3 3 is_transaction ∷ checked 10 15 is_date ∷ checked 16 21 is_end_date ∷ []) (checked 22 28 is_days)
     (checked 80 80 is_stp_indicator ∷ []) (transaction, (day, (end, tt))) bad
 
--- in a schedule that isn't a deletion, the STP indicator is the first bad field: column 80
+-- if the STP indicator of a basic schedule that isn't a deletion is bad, and the fields to its left
+-- are good, the leftmost bad field is at column 80
 pub basic_bad_stp_kept : (line : List ℕ) → HasKind basic_schedule line → is_transaction (columns 3 3 line) ≡ true → is_date (columns 10 15 line) ≡ true
     → is_deletion line ≡ false → is_end_date (columns 16 21 line) ≡ true → is_days (columns 22 28 line) ≡ true
     → is_stp_indicator (columns 80 80 line) ≡ false → leftmost_bad_field line ≡ Some 80
@@ -88,30 +93,32 @@ basic_bad_stp_kept line is transaction day kept end days bad = of_basic line fal
     ∙ behind_good line (checked 3 3 is_transaction ∷ checked 10 15 is_date ∷ checked 16 21 is_end_date ∷ checked 22 28 is_days ∷ [])
     (checked 80 80 is_stp_indicator) [] (transaction, (day, (end, (days, tt)))) bad
 
--- in a deletion, whose end date and days run aren't checked, the STP indicator is bad: column 80
+-- if the STP indicator of a deletion of a schedule is bad, and the transaction and the runs-from
+-- date are good, the leftmost bad field is at column 80
 pub basic_bad_stp_deleted : (line : List ℕ) → HasKind basic_schedule line → is_transaction (columns 3 3 line) ≡ true → is_date (columns 10 15 line) ≡ true
     → is_deletion line ≡ true → is_stp_indicator (columns 80 80 line) ≡ false → leftmost_bad_field line ≡ Some 80
 unfolding basic_checked
 basic_bad_stp_deleted line is transaction day deleted bad = of_basic line true is deleted
     ∙ behind_good line (checked 3 3 is_transaction ∷ checked 10 15 is_date ∷ []) (checked 80 80 is_stp_indicator) [] (transaction, (day, tt)) bad
 
--- the leftmost bad field of a basic schedule
+-- the lemmas on the leftmost bad field of a basic schedule
 pub ruleset basic_faults = (basic_bad_end, basic_bad_days, basic_bad_stp_kept, basic_bad_stp_deleted)
 
--- the checked fields of an association, whether or not it is a deletion
+-- the checked fields of an association, by whether it is a deletion
 assoc_checked : Bool → List CheckedField
 assoc_checked deletion =
     checked 3 3 is_transaction ∷ checked 16 21 is_date
     ∷ cond deletion [] (checked 22 27 is_end_date ∷ checked 28 34 is_days ∷ [])
     ++ checked 38 44 is_tiploc ∷ checked 80 80 is_stp_indicator ∷ []
 
--- the first bad field of an association, whether or not it is a deletion
+-- the leftmost bad field of an association is the first bad one of its checked fields
 of_assoc : (line : List ℕ) (deletion : Bool) → HasKind association line → is_deletion line ≡ deletion
     → leftmost_bad_field line ≡ first_bad line (assoc_checked deletion)
 unfolding assoc_checked
 of_assoc line deletion is deletes = by_kind association line is ∙ ap (λ b. first_bad line (assoc_checked b)) deletes
 
--- in an association that isn't a deletion, the end date is the first bad field: column 22
+-- if the end date of an association that isn't a deletion is bad, and the fields to its left are
+-- good, the leftmost bad field is at column 22
 pub assoc_bad_end : (line : List ℕ) → HasKind association line → is_transaction (columns 3 3 line) ≡ true → is_date (columns 16 21 line) ≡ true
     → is_deletion line ≡ false → is_end_date (columns 22 27 line) ≡ false → leftmost_bad_field line ≡ Some 22
 unfolding assoc_checked
@@ -119,7 +126,8 @@ assoc_bad_end line is transaction day kept bad = of_assoc line false is kept
     ∙ behind_good line (checked 3 3 is_transaction ∷ checked 16 21 is_date ∷ []) (checked 22 27 is_end_date)
     (checked 28 34 is_days ∷ checked 38 44 is_tiploc ∷ checked 80 80 is_stp_indicator ∷ []) (transaction, (day, tt)) bad
 
--- in an association that isn't a deletion, the days run are the first bad field: column 28
+-- if the days run of an association that isn't a deletion are bad, and the fields to their left are
+-- good, the leftmost bad field is at column 28
 pub assoc_bad_days : (line : List ℕ) → HasKind association line → is_transaction (columns 3 3 line) ≡ true → is_date (columns 16 21 line) ≡ true
     → is_deletion line ≡ false → is_end_date (columns 22 27 line) ≡ true → is_days (columns 28 34 line) ≡ false → leftmost_bad_field line ≡ Some 28
 unfolding assoc_checked
@@ -127,7 +135,8 @@ assoc_bad_days line is transaction day kept end bad = of_assoc line false is kep
     ∙ behind_good line (checked 3 3 is_transaction ∷ checked 16 21 is_date ∷ checked 22 27 is_end_date ∷ []) (checked 28 34 is_days)
     (checked 38 44 is_tiploc ∷ checked 80 80 is_stp_indicator ∷ []) (transaction, (day, (end, tt))) bad
 
--- in an association that isn't a deletion, the TIPLOC is the first bad field: column 38
+-- if the TIPLOC of an association that isn't a deletion is bad, and the fields to its left are
+-- good, the leftmost bad field is at column 38
 pub assoc_bad_place_kept : (line : List ℕ) → HasKind association line → is_transaction (columns 3 3 line) ≡ true → is_date (columns 16 21 line) ≡ true
     → is_deletion line ≡ false → is_end_date (columns 22 27 line) ≡ true → is_days (columns 28 34 line) ≡ true → is_tiploc (columns 38 44 line) ≡ false
     → leftmost_bad_field line ≡ Some 38
@@ -136,7 +145,8 @@ assoc_bad_place_kept line is transaction day kept end days bad = of_assoc line f
     ∙ behind_good line (checked 3 3 is_transaction ∷ checked 16 21 is_date ∷ checked 22 27 is_end_date ∷ checked 28 34 is_days ∷ [])
     (checked 38 44 is_tiploc) (checked 80 80 is_stp_indicator ∷ []) (transaction, (day, (end, (days, tt)))) bad
 
--- in a deletion, whose end date and days run aren't checked, the TIPLOC is bad: column 38
+-- if the TIPLOC of a deletion of an association is bad, and the transaction and the first date are
+-- good, the leftmost bad field is at column 38
 pub assoc_bad_place_deleted : (line : List ℕ) → HasKind association line → is_transaction (columns 3 3 line) ≡ true → is_date (columns 16 21 line) ≡ true
     → is_deletion line ≡ true → is_tiploc (columns 38 44 line) ≡ false → leftmost_bad_field line ≡ Some 38
 unfolding assoc_checked
@@ -144,7 +154,8 @@ assoc_bad_place_deleted line is transaction day deleted bad = of_assoc line true
     ∙ behind_good line (checked 3 3 is_transaction ∷ checked 16 21 is_date ∷ []) (checked 38 44 is_tiploc) (checked 80 80 is_stp_indicator ∷ [])
     (transaction, (day, tt)) bad
 
--- in an association that isn't a deletion, the STP indicator is the first bad field: column 80
+-- if the STP indicator of an association that isn't a deletion is bad, and the fields to its left
+-- are good, the leftmost bad field is at column 80
 pub assoc_bad_stp_kept : (line : List ℕ) → HasKind association line → is_transaction (columns 3 3 line) ≡ true → is_date (columns 16 21 line) ≡ true
     → is_deletion line ≡ false → is_end_date (columns 22 27 line) ≡ true → is_days (columns 28 34 line) ≡ true → is_tiploc (columns 38 44 line) ≡ true
     → is_stp_indicator (columns 80 80 line) ≡ false → leftmost_bad_field line ≡ Some 80
@@ -154,7 +165,8 @@ assoc_bad_stp_kept line is transaction day kept end days place bad = of_assoc li
     (checked 3 3 is_transaction ∷ checked 16 21 is_date ∷ checked 22 27 is_end_date ∷ checked 28 34 is_days ∷ checked 38 44 is_tiploc ∷ [])
     (checked 80 80 is_stp_indicator) [] (transaction, (day, (end, (days, (place, tt))))) bad
 
--- in a deletion, the STP indicator is the first bad field: column 80
+-- if the STP indicator of a deletion of an association is bad, and the checked fields to its left
+-- are good, it is the leftmost bad field, at column 80
 pub assoc_bad_stp_deleted : (line : List ℕ) → HasKind association line → is_transaction (columns 3 3 line) ≡ true → is_date (columns 16 21 line) ≡ true
     → is_deletion line ≡ true → is_tiploc (columns 38 44 line) ≡ true → is_stp_indicator (columns 80 80 line) ≡ false → leftmost_bad_field line ≡ Some 80
 unfolding assoc_checked
@@ -162,17 +174,17 @@ assoc_bad_stp_deleted line is transaction day deleted place bad = of_assoc line 
     ∙ behind_good line (checked 3 3 is_transaction ∷ checked 16 21 is_date ∷ checked 38 44 is_tiploc ∷ []) (checked 80 80 is_stp_indicator) []
     (transaction, (day, (place, tt))) bad
 
--- the leftmost bad field of an association
+-- the lemmas on the leftmost bad field of an association
 pub ruleset assoc_faults = (assoc_bad_end, assoc_bad_days, assoc_bad_place_kept, assoc_bad_place_deleted, assoc_bad_stp_kept, assoc_bad_stp_deleted)
 
--- the code of a TIPLOC record is bad: column 3
+-- if the code of a TIPLOC record is bad, the leftmost bad field is at column 3
 pub tiploc_bad_code : (line : List ℕ) → IsTiplocRecord line → is_tiploc (columns 3 9 line) ≡ false → leftmost_bad_field line ≡ Some 3
 tiploc_bad_code line (inl inserts) bad = by_kind tiploc_insert line inserts ∙ behind_good line [] (checked 3 9 is_tiploc) [] tt bad
 tiploc_bad_code line (inr (inl amends)) bad = by_kind tiploc_amend line amends
     ∙ behind_good line [] (checked 3 9 is_tiploc) (checked 73 79 is_new_tiploc ∷ []) tt bad
 tiploc_bad_code line (inr (inr deletes)) bad = by_kind tiploc_delete line deletes ∙ behind_good line [] (checked 3 9 is_tiploc) [] tt bad
 
--- the new code of an amendment is bad, and the code is good: column 73
+-- if an amendment's code is good and its new code is bad, the leftmost bad field is at column 73
 pub tiploc_bad_new_code : (line : List ℕ) → HasKind tiploc_amend line → is_tiploc (columns 3 9 line) ≡ true → is_new_tiploc (columns 73 79 line) ≡ false
     → leftmost_bad_field line ≡ Some 73
 tiploc_bad_new_code line amends code bad = by_kind tiploc_amend line amends
@@ -190,5 +202,5 @@ tiploc_not_amended line (inl inserts) never code = fields_good tiploc_insert lin
 tiploc_not_amended line (inr (inl amends)) never code = absurd (never amends)
 tiploc_not_amended line (inr (inr deletes)) never code = fields_good tiploc_delete line deletes (code, tt)
 
--- the leftmost bad field of a TIPLOC record
+-- the lemmas on the leftmost bad field of a TIPLOC record
 pub ruleset tiploc_faults = (tiploc_bad_code, tiploc_bad_new_code, tiploc_amended, tiploc_not_amended)

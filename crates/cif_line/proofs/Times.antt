@@ -1,4 +1,4 @@
--- Times of day, read from their fields.
+-- Lemmas on times of day and the fields that they are read from.
 use Rattle.std.proofs.Common.{◌≡◌, ℕ, ◌+◌, ◌*◌, List, [], ◌∷◌, true, false, cond, Bool, ◌&&◌, Some}
 use Rattle.std.proofs.Common.{None, Option, ap, refl, sym, ◌∙◌, subst, take, length, ◌<◌, arith}
 use Rattle.std.specs.Prelude.{codes, ◌==◌, ◌||◌, nat_lt, slice_index, IfSome}
@@ -33,35 +33,35 @@ five_spaces (a ∷ b ∷ c ∷ d ∷ []) size = absurd (omega arith)
 five_spaces (a ∷ b ∷ c ∷ d ∷ e ∷ []) size = refl
 five_spaces (a ∷ b ∷ c ∷ d ∷ e ∷ f ∷ field) size = absurd (omega arith)
 
--- the hour of a good HHMM is below 24
+-- the hour of a time HHMM is below 24
 pub hour_bound : (field : List ℕ) → is_clock field ≡ true → two_digits field 0 < 24
 hour_bound field clock =
     ltb-true (two_digits field 0) 24
     (both (list_all is_ascii_digit (take 4 field)) (nat_lt (two_digits field 0) 24)
     (both (list_all is_ascii_digit (take 4 field) && nat_lt (two_digits field 0) 24) (nat_lt (two_digits field 2) 60) clock).0).1
 
--- the minute of a good HHMM is below 60
+-- the minute of a time HHMM is below 60
 pub minute_bound : (field : List ℕ) → is_clock field ≡ true → two_digits field 2 < 60
 minute_bound field clock =
     ltb-true (two_digits field 2) 60
     (both (list_all is_ascii_digit (take 4 field) && nat_lt (two_digits field 0) 24) (nat_lt (two_digits field 2) 60) clock).1
 
--- a scheduled time that is present begins with a good HHMM
+-- a scheduled time that isn't blank begins with a time HHMM
 pub clock_of_present : (field : List ℕ) → is_present_time field ≡ true → is_clock field ≡ true
 clock_of_present field there = (both (is_clock field) ((slice_index field 4 == 72) || (slice_index field 4 == 32)) there).0
 
--- the bounds of a good HHMM's hour and minute
+-- the lemmas on the bounds of a time's hour and minute
 pub ruleset clock_bounds = (hour_bound, minute_bound, clock_of_present)
 
--- a scheduled time that is present isn't blank
+-- the lemma that a scheduled time that is present isn't blank
 pub ruleset scheduled_times = (present_not_blank)
 
--- if one of two tests passes and the second fails, the first passes
+-- if at least one of two tests passes, and the second fails, the first passes
 blank_if : (blank present : Bool) → (blank || present) ≡ true → present ≡ false → blank ≡ true
 blank_if true present one absent = refl
 blank_if false present one absent = cc
 
--- a time has fewer half minutes than a day, 2880
+-- a time is below 2880, the number of half minutes in a day
 half_minutes_bound : (field : List ℕ) → is_present_time field ≡ true → half_minutes field < 2880
 half_minutes_bound field is = by (slice_index field 4 == 72) (hour_bound field clock) (minute_bound field clock)
   where
@@ -72,7 +72,8 @@ half_minutes_bound field is = by (slice_index field 4 == 72) (hour_bound field c
     by true hour minute = omega arith
     by false hour minute = omega arith
 
--- the time that is read from a good field is the field's scheduled time
+-- a good field gives half minutes, or 65535 if it is blank; the time made from that number is the
+-- field's scheduled time
 pub told_read : (field : List ℕ) (told : ℕ) (time : Option ℕ) → is_scheduled_time field ≡ true → told ≡ half_minutes_or_none field
     → time ≡ cond (nat_lt told 2880) (Some told) None → time ≡ scheduled_time field
 told_read field told time good is read = read ∙ by (is_present_time field) refl
@@ -87,7 +88,8 @@ told_read field told time good is read = read ∙ by (is_present_time field) ref
         let blank : is_blank field ≡ true = blank_if (is_blank field) (is_present_time field) good absent in
         (λ i. cond (nat_lt (same i) 2880) (Some told) None) ∙ (λ i. cond (sym blank i) None (Some (half_minutes field)))
 
--- a time that is read from a field is the field's half minutes
+-- if a time is read from a field, its half minutes are the ones that the definition gives for the
+-- field
 pub present_read : (field shown : List ℕ) (read : TimeField) (time : Option ℕ) → ReadsTime field read → field ≡ shown
     → time ≡ cond read.is_time (Some read.half_minutes) None → IfSome time (λ t. t ≡ half_minutes shown)
 present_read field shown read time reads same is = subst (λ o. IfSome o (λ t. t ≡ half_minutes shown)) (sym is) (by read.is_time refl)

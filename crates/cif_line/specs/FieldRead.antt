@@ -1,4 +1,4 @@
--- What is read from the fields of a line, each named by its first column and its width.
+-- Fields of a line, each given by its first column and its width.
 use Rattle.std.specs.Prelude.{ℕ, ◌+◌, ◌-◌, ◌*◌, List, take, Option, Some, None, option_map, if◌then◌else◌}
 use Rattle.std.specs.Option.{option_map_or}
 use Rattle.docker_model.specs.records.Record.{columns}
@@ -6,16 +6,17 @@ use Rattle.docker_model.specs.records.Clock.{public_time}
 use Rattle.docker_model.specs.records.Field.{is_deletion}
 use Rattle.docker_model.specs.records.PrintedTime.{spaces, time_text}
 
--- this many columns of a line, from this first column on: `field_at 4 6` gives columns 4 to 9
+-- the columns of a line that begin at a given column, with a given width: `field_at 4 6` gives
+-- columns 4 to 9
 abbrev pub field_at : ℕ → ℕ → List ℕ → List ℕ
 field_at first width line = columns first (first - 1 + width) line
 
--- a field that is read only if the transaction of the association or basic schedule isn't a
--- deletion
+-- a field that counts only if the record isn't a deletion: none if the transaction of the
+-- association or basic schedule is `D`
 abbrev pub unless_deleted : {A : Type 0} → List ℕ → A → Option A
 unless_deleted line told = if is_deletion line then None else Some told
 
--- a public time of four bytes, in half minutes; none if it is 0000 or blank
+-- a public time HHMM in half minutes since midnight; none if the field is `0000` or blank
 abbrev pub public_half_minutes : List ℕ → Option ℕ
 public_half_minutes field = option_map (λ minute. 2 * minute) (public_time field)
 

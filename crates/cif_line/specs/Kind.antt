@@ -6,7 +6,7 @@ use Rattle.cif_line.specs.declared.kind_of_record.Kind.{Kind}
 use Rattle.cif_line.specs.declared.kind_of_record.Kind.TheVariants.{Header, TiplocInsert, TiplocAmend, TiplocDelete, Association, BasicSchedule, ExtraDetails}
 use Rattle.cif_line.specs.declared.kind_of_record.Kind.TheVariants.{OriginLocation, IntermediateLocation, TerminatingLocation, ChangeEnRoute, Trailer}
 
--- the kind's name in the definitions
+-- a kind of record of the code, translated into a kind of the definitions
 abbrev pub meaning : Kind → model.Kind
 meaning Header = header
 meaning TiplocInsert = tiploc_insert

@@ -1,9 +1,10 @@
--- What is read from the field of a scheduled time, whether or not it is good.
+-- What the code reads from the field of a scheduled time, whether or not the field is good.
 use Rattle.std.specs.Prelude.{◌≡◌, ℕ, List, true}
 use Rattle.docker_model.specs.records.Clock.{is_blank, is_present_time, half_minutes}
 use Rattle.cif_line.specs.declared.time_field.TimeField.{TimeField}
 
--- this is read from the field. Its half minutes count only if the field is a time
+-- Says that a `TimeField` is what reading this field gives. Its half minutes mean nothing unless
+-- the field is a time.
 pub record ReadsTime (field : List ℕ) (read : TimeField) : Type 0 where
   pub blank : read.is_blank ≡ is_blank field
   pub time : read.is_time ≡ is_present_time field

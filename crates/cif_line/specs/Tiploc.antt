@@ -2,11 +2,11 @@
 use Rattle.std.specs.Prelude.{ℕ, ◌<◌, ◌≤◌, Bool, ◌&&◌, nat_le, List, length}
 use Rattle.std.specs.List.{AllPass}
 
--- a byte that a TIPLOC's text may hold: printable, and not a space
+-- whether a TIPLOC's text may contain this byte: a printable byte that isn't a space
 abbrev pub is_graphic : ℕ → Bool
 is_graphic b = nat_le 0x21 b && nat_le b 0x7E
 
--- a text that names a TIPLOC: one to seven such bytes
+-- Says that a text names a TIPLOC: it has one to seven bytes, each printable and not a space.
 pub record IsTiplocText (text : List ℕ) : Type 0 where
   pub some : 0 < length text
   pub few : length text ≤ 7

@@ -1,4 +1,4 @@
-//! An association of two trains: a record AA.
+//! An association between two trains: a record AA.
 ghost use Rattle.std.specs.Prelude.{◌≡◌};
 ghost use Rattle.docker_model.specs.records.Record.{association, columns, column, IsTextOfLength};
 ghost use Rattle.docker_model.specs.records.Date.{date_number, end_number};
@@ -15,8 +15,8 @@ use crate::uid::Uid;
 use crate::until::Until;
 use std::marker::Model;
 
-/// A view of an association (AA) whose checked fields are good. A deletion's end date and days run
-/// aren't checked.
+/// A view of an association (AA) whose checked fields are good. In a deletion the end date and the
+/// days run aren't checked.
 #[derive(Debug, Drop)]
 pub struct Assoc<'a> {
     line: &'a Line,
@@ -36,7 +36,7 @@ impl<'a> Model for Assoc<'a> {
 
 #[tactic(auto, using(crate::proofs::GoodFields::assoc_fields))]
 impl<'a> Assoc<'a> {
-    /// A view of a line whose fields have been checked.
+    /// Makes a view of a line whose fields have already been checked.
     pub(crate) fn of(line: &'a Line) -> Assoc<'a>
         requires good { IsGood association line.now }
         ensures line { result ≡ line.entry.now }
@@ -73,22 +73,22 @@ impl<'a> Assoc<'a> {
         self.line.uid(10)
     }
 
-    /// The first start day of the base train on which the association holds: columns 16 to 21.
+    /// The first of the base train's start days on which the association holds: columns 16 to 21.
     pub fn start(&self) -> Day
         ensures { result ≡ date_number (columns 16 21 self.now) }
     {
         self.line.day(16)
     }
 
-    /// The last start day of the base train on which the association holds: columns 22 to 27. None
-    /// in a deletion.
+    /// The last of the base train's start days on which the association holds: columns 22 to 27.
+    /// None in a deletion.
     pub fn end(&self) -> Option<Until>
         ensures { result ≡ unless_deleted self.now (end_number (columns 22 27 self.now)) }
     {
         self.line.end_unless_deleted(22)
     }
 
-    /// The weekdays of the base train's start days on which the association holds: columns 28 to
+    /// The weekdays on which the base train must start for the association to hold: columns 28 to
     /// 34. None in a deletion.
     pub fn days(&self) -> Option<Days>
         ensures { result ≡ unless_deleted self.now (columns 28 34 self.now) }
@@ -118,14 +118,14 @@ impl<'a> Assoc<'a> {
         self.line.tiploc(38)
     }
 
-    /// The suffix of the base train's call there: column 45.
+    /// The suffix of the base train's call at that TIPLOC: column 45.
     pub fn base_suffix(&self) -> u8
         ensures { result ≡ column 45 self.now }
     {
         self.line.column(45)
     }
 
-    /// The suffix of the associated train's call there: column 46.
+    /// The suffix of the associated train's call at that TIPLOC: column 46.
     pub fn associated_suffix(&self) -> u8
         ensures { result ≡ column 46 self.now }
     {

@@ -1,4 +1,4 @@
-//! A basic schedule: a record BS.
+//! A basic schedule: a record BS, the first of a schedule's records.
 ghost use Rattle.std.specs.Prelude.{◌≡◌};
 ghost use Rattle.docker_model.specs.records.Record.{basic_schedule, columns, column, IsTextOfLength};
 ghost use Rattle.docker_model.specs.records.Date.{date_number, end_number};
@@ -14,8 +14,8 @@ use crate::uid::Uid;
 use crate::until::Until;
 use std::marker::Model;
 
-/// A view of a basic schedule (BS) whose checked fields are good. A deletion's end date and days
-/// run aren't checked.
+/// A view of a basic schedule (BS) whose checked fields are good. In a deletion the runs-to date
+/// and the days run aren't checked.
 #[derive(Debug, Drop)]
 pub struct Basic<'a> {
     line: &'a Line,
@@ -35,7 +35,7 @@ impl<'a> Model for Basic<'a> {
 
 #[tactic(auto, using(crate::proofs::GoodFields::basic_fields))]
 impl<'a> Basic<'a> {
-    /// A view of a line whose fields have been checked.
+    /// Makes a view of a line whose fields have already been checked.
     pub(crate) fn of(line: &'a Line) -> Basic<'a>
         requires good { IsGood basic_schedule line.now }
         ensures line { result ≡ line.entry.now }
@@ -65,21 +65,22 @@ impl<'a> Basic<'a> {
         self.line.uid(4)
     }
 
-    /// The runs-from date, the first day on which it runs: columns 10 to 15.
+    /// The runs-from date, the first day on which the schedule runs: columns 10 to 15.
     pub fn runs_from(&self) -> Day
         ensures { result ≡ date_number (columns 10 15 self.now) }
     {
         self.line.day(10)
     }
 
-    /// The runs-to date, the last day on which it runs: columns 16 to 21. None in a deletion.
+    /// The runs-to date, the last day on which the schedule runs: columns 16 to 21. None in a
+    /// deletion.
     pub fn runs_to(&self) -> Option<Until>
         ensures { result ≡ unless_deleted self.now (end_number (columns 16 21 self.now)) }
     {
         self.line.end_unless_deleted(16)
     }
 
-    /// The days run, as weekdays: columns 22 to 28. None in a deletion.
+    /// The days run, the weekdays on which the schedule runs: columns 22 to 28. None in a deletion.
     pub fn days(&self) -> Option<Days>
         ensures { result ≡ unless_deleted self.now (columns 22 28 self.now) }
     {

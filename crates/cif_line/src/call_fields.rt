@@ -1,5 +1,5 @@
-//! The five times of an intermediate location (LI), judged and read at once, each in a lane of a
-//! vector.
+//! The five times of an intermediate location (LI). They are checked and read all at once, each in
+//! its own lane of a vector.
 ghost use Rattle.std.specs.Prelude.{◌≡◌, ◌&&◌, length};
 ghost use Rattle.docker_model.specs.records.Record.{columns};
 ghost use Rattle.docker_model.specs.records.Clock.{is_scheduled_time, is_public_time};
@@ -7,19 +7,19 @@ ghost use Rattle.cif_line.specs.CallRead.{half_minutes_or_none};
 
 use std::simd::prelude::*;
 
-/// The code of the character `0`.
+/// The character code of `0`.
 const ZERO: u16 = 48;
 
-/// The code of a space, which ends a whole minute.
+/// The character code of a space, the last character of a time on the whole minute.
 const SPACE: u16 = 32;
 
-/// The code of `H`, which ends half a minute.
+/// The character code of `H`, the last character of a time on the half minute.
 const HALF: u16 = 72;
 
-/// The value that stands for no time, instead of half minutes.
+/// Stored instead of half minutes if a field has no time.
 const NO_TIME: u16 = 65535;
 
-/// What is read from the five times of an intermediate location.
+/// The result of reading the five times of an intermediate location.
 #[derive(Clone, Copy, PartialEq, Eq, Debug)]
 pub(crate) struct CallFields {
     /// Whether all five times are good.
@@ -33,9 +33,9 @@ pub(crate) struct CallFields {
 }
 
 impl CallFields {
-    /// Reads the fields of a line. Lanes 0 to 4 have the scheduled arrival, departure and pass, and
-    /// the public arrival and departure; the other lanes repeat the first. A public time is read as
-    /// if a space followed it, like a whole minute.
+    /// Reads the five time fields of a line. Lanes 0 to 4 hold the scheduled arrival, departure and
+    /// pass, then the public arrival and departure. The three remaining lanes repeat lane 0. A
+    /// public time has only four characters, so it is read as if a space followed.
     pub(crate) fn read(line: &[u8]) -> CallFields
         requires { length line.now ≡ 80 }
         ensures good { result.are_good ≡ ((((is_scheduled_time (columns 11 15 line.now)

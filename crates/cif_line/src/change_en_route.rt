@@ -1,4 +1,4 @@
-//! A change en route of a schedule: a record CR.
+//! A change en route: a record CR of a schedule.
 ghost use Rattle.std.specs.Prelude.{◌≡◌};
 ghost use Rattle.docker_model.specs.records.Record.{change_en_route, columns, IsTextOfLength};
 ghost use Rattle.cif_line.specs.View.{IsGood};
@@ -6,7 +6,7 @@ ghost use Rattle.cif_line.specs.View.{IsGood};
 use crate::line::Line;
 use std::marker::Model;
 
-/// A view of a change en route (CR). It has no checked field.
+/// A view of a change en route (CR). A CR record has no checked field.
 #[derive(Debug, Drop)]
 pub struct ChangeEnRoute<'a> {
     line: &'a Line,
@@ -33,7 +33,7 @@ impl<'a> ChangeEnRoute<'a> {
         ChangeEnRoute { line }
     }
 
-    /// The train identity from the next location on: columns 13 to 16.
+    /// The train's identity from the next location onwards: columns 13 to 16.
     pub fn identity(&self) -> &'a [u8; 4]
         ensures value { result.now ≡ columns 13 16 self.now }
         ensures text { IsTextOfLength 4 result.now }

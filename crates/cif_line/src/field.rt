@@ -1,5 +1,5 @@
-//! Fields that several kinds of record share. Each is read in one place, from a line whose bytes in
-//! these columns are good.
+//! Readers of fields that several kinds of record share. Each needs a line that is known to have a
+//! good field in the columns to be read.
 ghost use Rattle.std.specs.Prelude.{◌≡◌, ◌<◌, ◌≤◌, [], ◌∷◌, true, false};
 ghost use Rattle.docker_model.specs.records.Record.{column};
 ghost use Rattle.docker_model.specs.records.Date.{is_date, date_number, is_end_date, end_number, is_days};
@@ -19,7 +19,7 @@ use crate::uid::Uid;
 use crate::until::Until;
 
 impl Line {
-    /// The TIPLOC in seven columns, from this one on.
+    /// The TIPLOC in the seven columns that begin at `first`.
     pub fn tiploc(&self, first: usize) -> Tiploc
         requires from { 0 < first }
         requires within { first ≤ 74 }
@@ -32,7 +32,7 @@ impl Line {
         }
     }
 
-    /// The scheduled time in five columns, from this one on.
+    /// The scheduled time in the five columns that begin at `first`, which aren't blank.
     pub fn present_time(&self, first: usize) -> Time
         requires from { 0 < first }
         requires within { first ≤ 76 }
@@ -42,7 +42,7 @@ impl Line {
         Time::from_present(self.field(first))
     }
 
-    /// The scheduled time in five columns, from this one on. None if they are blank.
+    /// The scheduled time in the five columns that begin at `first`. None if they are blank.
     pub fn scheduled_time(&self, first: usize) -> Option<Time>
         requires from { 0 < first }
         requires within { first ≤ 76 }
@@ -52,8 +52,8 @@ impl Line {
         Time::from_scheduled(self.field(first))
     }
 
-    /// The public time in four columns, from this one on: a whole minute. None if they are blank or
-    /// `0000`.
+    /// The public time, a whole minute, in the four columns that begin at `first`. None if they are
+    /// blank or `0000`.
     pub fn public_time(&self, first: usize) -> Option<Time>
         requires from { 0 < first }
         requires within { first ≤ 77 }
@@ -64,7 +64,7 @@ impl Line {
         Time::from_public(self.field(first))
     }
 
-    /// The UID in six columns, from this one on.
+    /// The UID in the six columns that begin at `first`.
     pub fn uid(&self, first: usize) -> Uid
         requires from { 0 < first }
         requires within { first ≤ 75 }
@@ -76,7 +76,7 @@ impl Line {
         }
     }
 
-    /// The day in six columns, from this one on, with the year first.
+    /// The day in the six columns that begin at `first`, written YYMMDD.
     pub fn day(&self, first: usize) -> Day
         requires from { 0 < first }
         requires within { first ≤ 75 }
@@ -86,7 +86,8 @@ impl Line {
         Day::of_date(self.field(first))
     }
 
-    /// The end date in six columns, from this one on. None if the transaction is a deletion.
+    /// The end date in the six columns that begin at `first`. None if the transaction is a
+    /// deletion.
     pub fn end_unless_deleted(&self, first: usize) -> Option<Until>
         requires from { 0 < first }
         requires within { first ≤ 75 }
@@ -100,7 +101,8 @@ impl Line {
         Some(Until::of_end_date(self.field(first)))
     }
 
-    /// The days run in seven columns, from this one on. None if the transaction is a deletion.
+    /// The days run in the seven columns that begin at `first`. None if the transaction is a
+    /// deletion.
     pub fn days_unless_deleted(&self, first: usize) -> Option<Days>
         requires from { 0 < first }
         requires within { first ≤ 74 }

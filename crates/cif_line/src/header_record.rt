@@ -1,4 +1,4 @@
-//! The header of a file: a record HD.
+//! The header of an extract: a record HD.
 ghost use Rattle.std.specs.Prelude.{◌≡◌, ◌<◌};
 ghost use Rattle.docker_model.specs.records.Record.{header, columns, column, IsTextOfLength};
 ghost use Rattle.docker_model.specs.records.Date.{date_number_day_first};
@@ -32,7 +32,7 @@ impl<'a> Model for Header<'a> {
 
 #[tactic(auto, using(crate::proofs::GoodFields::header_fields))]
 impl<'a> Header<'a> {
-    /// A view of a line whose fields have been checked.
+    /// Makes a view of a line whose fields have already been checked.
     pub fn of(line: &'a Line) -> Header<'a>
         requires good { IsGood header line.now }
         ensures line { result ≡ line.entry.now }
@@ -55,7 +55,7 @@ impl<'a> Header<'a> {
         Day::of_date_day_first(self.line.field(23))
     }
 
-    /// The time of extract, as the minute of the day from 0 to 1439: columns 29 to 32.
+    /// The time of extract: columns 29 to 32, as a minute of the day from 0 to 1439.
     pub fn minute(&self) -> u16
         ensures value { result ≡ minute_of (columns 29 32 self.now) }
         ensures bound { result < 1440 }
@@ -67,7 +67,7 @@ impl<'a> Header<'a> {
         }
     }
 
-    /// The current file reference: columns 33 to 39.
+    /// The current file reference, which names this extract: columns 33 to 39.
     pub fn reference(&self) -> &'a [u8; 7]
         ensures value { result.now ≡ columns 33 39 self.now }
         ensures text { IsTextOfLength 7 result.now }
@@ -75,7 +75,7 @@ impl<'a> Header<'a> {
         self.line.field(33)
     }
 
-    /// The last file reference: columns 40 to 46.
+    /// The last file reference, which names the extract before this one: columns 40 to 46.
     pub fn last_reference(&self) -> &'a [u8; 7]
         ensures value { result.now ≡ columns 40 46 self.now }
         ensures text { IsTextOfLength 7 result.now }
@@ -83,7 +83,7 @@ impl<'a> Header<'a> {
         self.line.field(40)
     }
 
-    /// The update indicator: column 47.
+    /// The update indicator, which says whether this is a full extract or an update: column 47.
     pub fn extract(&self) -> Extract
         ensures { extract_letter result ≡ column 47 self.now }
     {

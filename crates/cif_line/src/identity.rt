@@ -6,13 +6,14 @@ ghost use Rattle.cif_line.specs.Kind.{meaning};
 use crate::kind_of_record::Kind;
 use crate::line::Line;
 
-/// The kind of a record, by its identity in columns 1 and 2. None if no kind has that identity;
-/// `LN` is an example.
+/// The kind of a record, by its identity in columns 1 and 2. None if no kind has that identity, for
+/// example `LN`.
 pub fn kind(line: &Line) -> Option<Kind>
     ensures { option_map meaning result ≡ kind_of line.now }
 {
     match line.field(1) {
-        // In the order of how often an extract has them: most records are intermediate locations.
+        // The most frequent kinds come first: most records of an extract are intermediate
+        // locations.
         b"LI" => Some(Kind::IntermediateLocation),
         b"LO" => Some(Kind::OriginLocation),
         b"LT" => Some(Kind::TerminatingLocation),

@@ -11,7 +11,7 @@ use crate::time::Time;
 use crate::tiploc_code::Tiploc;
 use std::marker::Model;
 
-/// The scheduled times of an intermediate location. A time whose field is blank is None.
+/// The three scheduled times of an intermediate location. A time is None if its field is blank.
 #[derive(Clone, Copy, PartialEq, Eq, Debug)]
 pub(crate) struct CallTimes {
     pub arrival: Option<Time>,
@@ -19,8 +19,8 @@ pub(crate) struct CallTimes {
     pub pass: Option<Time>,
 }
 
-/// A view of an intermediate location (LI) whose checked fields are good. Its scheduled times are
-/// read while they are checked.
+/// A view of an intermediate location (LI) whose checked fields are good. It keeps the scheduled
+/// times, which were read when the fields were checked.
 #[derive(Debug, Drop)]
 pub struct Call<'a> {
     line: &'a Line,
@@ -45,7 +45,7 @@ impl<'a> Model for Call<'a> {
 impl<'a> Call<'a> {
     ghost use Rattle.cif_line.specs.CallRead.{AreTimesOf};
 
-    /// A view of a line whose fields have been checked, with its scheduled times.
+    /// Makes a view of a line whose fields have already been checked, with its scheduled times.
     pub(crate) fn of(line: &'a Line, times: CallTimes) -> Call<'a>
         requires good { IsGood intermediate_location line.now }
         requires times { AreTimesOf line.now times }
@@ -61,7 +61,7 @@ impl<'a> Call<'a> {
         self.line.tiploc(3)
     }
 
-    /// The suffix that distinguishes several calls at one timing point: column 10.
+    /// The suffix, which distinguishes several calls of one train at a timing point: column 10.
     pub fn suffix(&self) -> u8
         ensures { result ≡ column 10 self.now }
     {

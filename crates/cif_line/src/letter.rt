@@ -3,17 +3,17 @@ ghost use Rattle.std.specs.Prelude.{◌≡◌, ◌↔◌, IsSome, IfSome, IsTrue
 ghost use Rattle.docker_model.specs.records.Field.{is_update_indicator, is_transaction, is_stp_letter};
 ghost use Rattle.cif_line.specs.Letter.{extract_letter, transaction_letter, stp_letter};
 
-/// What an extract holds, by the update indicator of its header (HD).
+/// What an extract contains, given by the update indicator of its header (HD).
 #[derive(Clone, Copy, PartialEq, Eq, Debug)]
 pub enum Extract {
-    /// F, a full extract.
+    /// F, a full extract: everything.
     Full,
-    /// U, an update.
+    /// U, an update: what changed since an earlier extract.
     Update,
 }
 
 impl Extract {
-    /// The extract for `F` or `U`. None for any other byte.
+    /// The kind of extract that `F` or `U` means. None for any other byte.
     pub fn from_letter(letter: u8) -> Option<Extract>
         ensures some { IsSome result ↔ IsTrue (is_update_indicator (letter ∷ [])) }
         ensures value { IfSome result (λ extract. extract_letter extract ≡ letter) }
@@ -36,8 +36,8 @@ impl Extract {
     }
 }
 
-/// The transaction of a basic schedule (BS) or an association (AA): what the record does with its
-/// key.
+/// The transaction of a basic schedule (BS) or an association (AA): whether the record adds,
+/// deletes or revises what is under its key.
 #[derive(Clone, Copy, PartialEq, Eq, Debug)]
 pub enum Transaction {
     /// N, new.
@@ -49,7 +49,7 @@ pub enum Transaction {
 }
 
 impl Transaction {
-    /// The transaction for `N`, `D` or `R`. None for any other byte.
+    /// The transaction that `N`, `D` or `R` means. None for any other byte.
     pub fn from_letter(letter: u8) -> Option<Transaction>
         ensures some { IsSome result ↔ IsTrue (is_transaction (letter ∷ [])) }
         ensures value { IfSome result (λ transaction. transaction_letter transaction ≡ letter) }
@@ -74,22 +74,23 @@ impl Transaction {
     }
 }
 
-/// The STP indicator (short term plan) of a basic schedule (BS) or an association (AA), in the
-/// order of the letters. If several run on a day, the lowest is chosen.
+/// The STP (short term plan) indicator of a basic schedule (BS) or an association (AA). Indicators
+/// are ordered by letter. If several schedules of a train run on a day, the one with the lowest
+/// indicator is chosen. The same is true of associations between two trains.
 #[derive(Clone, Copy, PartialEq, Eq, PartialOrd, Ord, Debug)]
 pub enum Stp {
     /// C, a cancellation.
     Cancellation,
-    /// N, a schedule that is new in the short term plan.
+    /// N, new: only in the short term plan.
     New,
-    /// O, an overlay.
+    /// O, an overlay, which replaces the permanent one on its days.
     Overlay,
     /// P, permanent.
     Permanent,
 }
 
 impl Stp {
-    /// The STP indicator for `C`, `N`, `O` or `P`. None for any other byte.
+    /// The STP indicator that `C`, `N`, `O` or `P` means. None for any other byte.
     pub fn from_letter(letter: u8) -> Option<Stp>
         ensures some { IsSome result ↔ IsTrue (is_stp_letter letter) }
         ensures value { IfSome result (λ stp. stp_letter stp ≡ letter) }

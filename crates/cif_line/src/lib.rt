@@ -1,6 +1,6 @@
-//! Lines of a CIF extract, the fields in their columns, and views of their records, as the CIF End
-//! User Specification describes them. The crate re-exports the devices that bytes come from and go
-//! to.
+//! The lines of a CIF extract, the fields in their columns, and views of their records, as
+//! described in the CIF End User Specification. The crate re-exports `cif_device`, the devices that
+//! bytes come from and go to.
 #![tactic(auto)]
 
 mod association;

@@ -28,20 +28,20 @@ impl Model for Line {
     ghost inverse = { λ bytes. record { bytes = bytes } };
 }
 
-/// Why bytes aren't a line. The length is checked first.
+/// Why some bytes aren't a line. The length is checked first.
 #[derive(Clone, Copy, PartialEq, Eq, Debug, Error)]
 pub enum LineFault {
-    /// There aren't 80 bytes.
+    /// The number of bytes isn't 80.
     #[error("Length")]
     Length,
-    /// A byte isn't printable: the column, from 1, of the leftmost such byte.
+    /// A byte isn't printable. The number is the column, from 1, of the leftmost such byte.
     #[error("Byte {0}")]
     Byte(u8),
 }
 
 impl Line {
-    /// The line with these bytes. `Length` if there aren't 80, and otherwise `Byte` if one isn't
-    /// printable.
+    /// Makes a line of these bytes. Returns `Length` if there aren't 80 of them, and otherwise
+    /// `Byte` if one isn't printable.
     pub fn new(bytes: &[u8]) -> Result<Line, LineFault>
         ensures ok { IsOk result ↔ IsRecord bytes.now }
         ensures value { IfOk result (λ line. line ≡ bytes.now) }
@@ -58,7 +58,7 @@ impl Line {
         }
     }
 
-    /// `N` bytes of the line, from this column on, counted from 1.
+    /// The `N` bytes of the line that begin at column `first`. Columns count from 1.
     pub fn field<const N: usize>(&self, first: usize) -> &[u8; N]
         requires from { 0 < first }
         requires within { first - 1 + N ≤ 80 }
@@ -71,7 +71,7 @@ impl Line {
         }
     }
 
-    /// The byte in a column, counted from 1.
+    /// The byte in column `n`. Columns count from 1.
     pub fn column(&self, n: usize) -> u8
         requires from { 0 < n }
         requires within { n ≤ 80 }
@@ -81,8 +81,8 @@ impl Line {
         self.bytes[n - 1]
     }
 
-    /// The line with its transaction, in column 3, set to `N`. For a basic schedule (BS) or an
-    /// association (AA).
+    /// This line with column 3, the transaction of a basic schedule (BS) or an association (AA),
+    /// set to `N`.
     pub fn as_new(mut self) -> Line
         ensures { result ≡ as_new self }
     {
@@ -99,14 +99,14 @@ impl Line {
     }
 }
 
-/// Whether a line may hold the byte: from a space to a tilde.
+/// Whether a line may contain this byte: any from a space (0x20) to a tilde (0x7E).
 pub fn is_printable(byte: u8) -> bool
     ensures { result ≡ is_printable byte }
 {
     b' ' <= byte && byte <= b'~'
 }
 
-/// The index of the leftmost byte that isn't printable.
+/// The index, from 0, of the leftmost byte that isn't printable.
 fn first_bad_index(bytes: &[u8]) -> Option<usize>
     ensures value { result ≡ position (λ b. not (is_printable b)) bytes.now }
     ensures within { IfSome result (λ index. index < length bytes.now) }
@@ -115,8 +115,8 @@ fn first_bad_index(bytes: &[u8]) -> Option<usize>
     bytes.iter().position(|byte| !is_printable(*byte))
 }
 
-/// The column, from 1, of the leftmost byte that isn't printable. A search for it starts only if
-/// there is one.
+/// The column, from 1, of the leftmost byte that isn't printable. The search for it starts only
+/// after a fast test has found that there is one.
 #[tactic(auto, using(cif_laws::proofs::records::RecordTests::no_bad_byte))]
 fn bad_column(bytes: &[u8; 80]) -> Option<u8>
     ensures value { result ≡ leftmost_bad_byte bytes.now }
@@ -137,7 +137,7 @@ fn first_bad_column(bytes: &[u8; 80]) -> Option<u8>
     Some(index as u8 + 1)
 }
 
-/// Whether a line may hold each of the bytes.
+/// Whether a line may contain all of these bytes.
 pub(crate) fn are_printable(bytes: &[u8]) -> bool
     ensures { IsTrue result ↔ AllPass is_printable bytes.now }
 {

@@ -11,8 +11,8 @@ use crate::time::Time;
 use crate::tiploc_code::Tiploc;
 use std::marker::Model;
 
-/// A view of an origin (LO) whose checked fields are good. Its scheduled time is read while it is
-/// checked.
+/// A view of an origin (LO) whose checked fields are good. It keeps the scheduled departure, which
+/// was read when the fields were checked.
 #[derive(Debug, Drop)]
 pub struct Origin<'a> {
     line: &'a Line,
@@ -35,7 +35,7 @@ impl<'a> Model for Origin<'a> {
 
 #[tactic(auto, using(crate::proofs::GoodFields::origin_fields))]
 impl<'a> Origin<'a> {
-    /// A view of a line whose fields have been checked, with its scheduled time.
+    /// Makes a view of a line whose fields have already been checked, with its scheduled departure.
     pub(crate) fn of(line: &'a Line, departure: Time) -> Origin<'a>
         requires good { IsGood origin_location line.now }
         requires time { departure ≡ half_minutes (columns 11 15 line.now) }
@@ -51,7 +51,7 @@ impl<'a> Origin<'a> {
         self.line.tiploc(3)
     }
 
-    /// The suffix that distinguishes several calls at one timing point: column 10.
+    /// The suffix, which distinguishes several calls of one train at a timing point: column 10.
     pub fn suffix(&self) -> u8
         ensures { result ≡ column 10 self.now }
     {

@@ -1,14 +1,14 @@
-//! Tests of bytes that a line may hold, sixteen at a time.
+//! Tests whether a line may contain given bytes, sixteen bytes at a time.
 ghost use Rattle.std.specs.Prelude.{◌≡◌, ◌↔◌, ◌+◌, ◌≤◌, IsTrue, length, take, drop};
 ghost use Rattle.std.specs.List.{AllPass, list_all};
 ghost use Rattle.docker_model.specs.records.Record.{is_printable};
 
 use std::simd::prelude::*;
 
-/// How many bytes are judged at once.
+/// How many bytes are tested at once.
 const BLOCK: usize = 16;
 
-/// Whether a line may hold each of the sixteen bytes from this index on.
+/// Whether a line may contain all of the sixteen bytes that begin at index `at`.
 #[inline(always)]
 fn is_printable_block(bytes: &[u8], at: usize) -> bool
     requires { at + BLOCK ≤ length bytes.now }
@@ -18,7 +18,7 @@ fn is_printable_block(bytes: &[u8], at: usize) -> bool
     above_space.simd_gt(u8x16::splat(b'~' - b' ')).to_bitmask() == 0
 }
 
-/// Whether a line may hold each of the 80 bytes, without a branch per byte.
+/// Whether a line may contain all of the 80 bytes. There is no branch for each byte.
 pub(crate) fn is_printable_line(bytes: &[u8; 80]) -> bool
     ensures { IsTrue result ↔ AllPass is_printable bytes.now }
 {

@@ -1,5 +1,5 @@
-//! Readers of records. Each returns a view of a line whose checked fields are good, and otherwise
-//! names the leftmost bad one.
+//! Readers of records. A reader returns a view of the line if its checked fields are good.
+//! Otherwise it returns the first column of the leftmost bad field.
 ghost use Rattle.std.specs.Prelude.{◌≡◌, ◌↔◌, IsOk, IfOk, IfErr, IsSome, IfSome, Some, None};
 ghost use Rattle.docker_model.specs.records.Clock.{half_minutes};
 ghost use Rattle.docker_model.specs.records.Record.{HasKind, columns, header, association, basic_schedule, origin_location};
@@ -29,7 +29,7 @@ use crate::time_field::TimeField;
 use crate::tiploc_record::TiplocRecord;
 use crate::until::is_end_date;
 
-/// A view of a header (HD), or the first column of its leftmost bad field: 23 for the date of
+/// Reads a header (HD). The fault is the first column of the leftmost bad field: 23 for the date of
 /// extract, 29 for its time, 47 for the update indicator.
 pub fn header(line: &Line) -> Result<Header<'_>, FieldFault>
     requires kind { HasKind header line.now }
@@ -41,7 +41,7 @@ pub fn header(line: &Line) -> Result<Header<'_>, FieldFault>
     }
 }
 
-/// The first column of a header's leftmost bad field. None if all are good.
+/// The first column of the leftmost bad field in a header. None if all are good.
 fn header_fault(line: &Line) -> Option<u8>
     requires kind { HasKind header line.now }
     ensures { result ≡ leftmost_bad_field line.now }
@@ -58,9 +58,8 @@ fn header_fault(line: &Line) -> Option<u8>
     None
 }
 
-/// A view of a TIPLOC insert (TI), amendment (TA) or deletion (TD), or the first column of its
-/// leftmost bad field. It is 3 for the code. In an amendment it may also be 73 for the new code,
-/// which may be blank.
+/// Reads a TIPLOC insert (TI), amendment (TA) or deletion (TD). The fault is the first column of
+/// the leftmost bad field: 3 for the code, or 73 for an amendment's new code, which may be blank.
 #[tactic(auto, using(crate::proofs::GoodFields::tiploc_views))]
 pub fn tiploc(line: &Line) -> Result<TiplocRecord<'_>, FieldFault>
     requires kind { IsTiplocRecord line.now }
@@ -72,7 +71,7 @@ pub fn tiploc(line: &Line) -> Result<TiplocRecord<'_>, FieldFault>
     }
 }
 
-/// The first column of a TIPLOC record's leftmost bad field. None if all are good.
+/// The first column of the leftmost bad field in a TIPLOC record. None if all are good.
 fn tiploc_fault(line: &Line) -> Option<u8>
     requires kind { IsTiplocRecord line.now }
     ensures { result ≡ leftmost_bad_field line.now }
@@ -86,9 +85,9 @@ fn tiploc_fault(line: &Line) -> Option<u8>
     None
 }
 
-/// A view of an association (AA), or the first column of its leftmost bad field. It is 3 for the
-/// transaction, 16 for the first date, 38 for the TIPLOC and 80 for the STP indicator. Unless the
-/// record is a deletion, it may also be 22 for the end date or 28 for the days run.
+/// Reads an association (AA). The fault is the first column of the leftmost bad field: 3 for the
+/// transaction, 16 for the first date, 38 for the TIPLOC, 80 for the STP indicator. It may also be
+/// 22 for the end date or 28 for the days run, which a deletion doesn't have checked.
 pub fn assoc(line: &Line) -> Result<Assoc<'_>, FieldFault>
     requires kind { HasKind association line.now }
     ensures { ReadsAs line.now result }
@@ -99,8 +98,8 @@ pub fn assoc(line: &Line) -> Result<Assoc<'_>, FieldFault>
     }
 }
 
-/// The first column of an association's leftmost bad field. None if all are good. A deletion's end
-/// date and days run aren't checked.
+/// The first column of the leftmost bad field in an association. None if all are good. In a
+/// deletion the end date and the days run aren't checked.
 fn assoc_fault(line: &Line) -> Option<u8>
     requires kind { HasKind association line.now }
     ensures { result ≡ leftmost_bad_field line.now }
@@ -128,9 +127,9 @@ fn assoc_fault(line: &Line) -> Option<u8>
     None
 }
 
-/// A view of a basic schedule (BS), or the first column of its leftmost bad field. It is 3 for the
-/// transaction, 10 for the runs-from date and 80 for the STP indicator. Unless the record is a
-/// deletion, it may also be 16 for the runs-to date or 22 for the days run.
+/// Reads a basic schedule (BS). The fault is the first column of the leftmost bad field: 3 for the
+/// transaction, 10 for the runs-from date, 80 for the STP indicator. It may also be 16 for the
+/// runs-to date or 22 for the days run, which aren't checked in a deletion.
 pub fn basic(line: &Line) -> Result<Basic<'_>, FieldFault>
     requires kind { HasKind basic_schedule line.now }
     ensures { ReadsAs line.now result }
@@ -141,8 +140,8 @@ pub fn basic(line: &Line) -> Result<Basic<'_>, FieldFault>
     }
 }
 
-/// The first column of a basic schedule's leftmost bad field. None if all are good. A deletion's
-/// runs-to date and days run aren't checked.
+/// The first column of the leftmost bad field in a basic schedule. None if all are good. In a
+/// deletion the runs-to date and the days run aren't checked.
 fn basic_fault(line: &Line) -> Option<u8>
     requires kind { HasKind basic_schedule line.now }
     ensures { result ≡ leftmost_bad_field line.now }
@@ -167,8 +166,8 @@ fn basic_fault(line: &Line) -> Option<u8>
     None
 }
 
-/// A view of an origin (LO), or the first column of its leftmost bad field. It is 3 for the TIPLOC,
-/// 11 for the departure and 16 for the public departure. Only the public departure may be blank.
+/// Reads an origin (LO). The fault is the first column of the leftmost bad field: 3 for the TIPLOC,
+/// 11 for the departure, 16 for the public departure. Only the public departure may be blank.
 pub fn origin(line: &Line) -> Result<Origin<'_>, FieldFault>
     requires kind { HasKind origin_location line.now }
     ensures { ReadsAs line.now result }
@@ -179,8 +178,8 @@ pub fn origin(line: &Line) -> Result<Origin<'_>, FieldFault>
     }
 }
 
-/// A view of a terminus (LT), or the first column of its leftmost bad field. It is 3 for the
-/// TIPLOC, 11 for the arrival and 16 for the public arrival. Only the public arrival may be blank.
+/// Reads a terminus (LT). The fault is the first column of the leftmost bad field: 3 for the
+/// TIPLOC, 11 for the arrival, 16 for the public arrival. Only the public arrival may be blank.
 pub fn terminus(line: &Line) -> Result<Terminus<'_>, FieldFault>
     requires kind { HasKind terminating_location line.now }
     ensures { ReadsAs line.now result }
@@ -191,8 +190,8 @@ pub fn terminus(line: &Line) -> Result<Terminus<'_>, FieldFault>
     }
 }
 
-/// The scheduled time of an origin or a terminus, or the first column of its leftmost bad field.
-/// Both kinds have their checked fields in the same columns.
+/// The scheduled time of an origin or a terminus. The error is the first column of the leftmost bad
+/// field. Both kinds of record have their checked fields in the same columns.
 fn end_time(line: &Line) -> Result<Time, u8>
     ensures origin { IfOk result (λ time. bad_field_of origin_location line.now ≡ None) }
     ensures terminus { IfOk result (λ time. bad_field_of terminating_location line.now ≡ None) }
@@ -209,7 +208,7 @@ fn end_time(line: &Line) -> Result<Time, u8>
 }
 
 /// The scheduled time of an origin or a terminus. None if a checked field is bad. All fields are
-/// tested without a branch for each.
+/// tested together, without a branch for each field.
 fn good_end_time(line: &Line) -> Option<Time>
     ensures origin { IsSome result ↔ (bad_field_of origin_location line.now ≡ None) }
     ensures terminus { IsSome result ↔ (bad_field_of terminating_location line.now ≡ None) }
@@ -223,7 +222,8 @@ fn good_end_time(line: &Line) -> Option<Time>
     }
 }
 
-/// The first column of the leftmost bad field, in an origin or a terminus that has a bad field.
+/// The first column of the leftmost bad field in an origin or a terminus, for a line that has a bad
+/// field.
 #[cold]
 fn end_fault(line: &Line) -> u8
     requires bad { ¬ (bad_field_of origin_location line.now ≡ None) }
@@ -239,9 +239,9 @@ fn end_fault(line: &Line) -> u8
     16
 }
 
-/// A view of an intermediate location (LI), or the first column of its leftmost bad field. It is 3
-/// for the TIPLOC, 11 for the arrival, 16 for the departure and 21 for the pass. It is 26 for the
-/// public arrival and 30 for the public departure. Any of these times may be blank.
+/// Reads an intermediate location (LI). The fault is the first column of the leftmost bad field. It
+/// is 3 for the TIPLOC, 11 for the arrival, 16 for the departure and 21 for the pass. It is 26 for
+/// the public arrival and 30 for the public departure. Any of these times may be blank.
 pub fn call(line: &Line) -> Result<Call<'_>, FieldFault>
     requires kind { HasKind intermediate_location line.now }
     ensures { ReadsAs line.now result }
@@ -253,7 +253,7 @@ pub fn call(line: &Line) -> Result<Call<'_>, FieldFault>
 }
 
 /// The scheduled times of an intermediate location. None if a checked field is bad. All fields are
-/// tested without a branch for each.
+/// tested together, without a branch for each field.
 fn good_call_times(line: &Line) -> Option<CallTimes>
     ensures some { IsSome result ↔ (bad_field_of intermediate_location line.now ≡ None) }
     ensures times { IfSome result (AreTimesOf line.now) }
@@ -270,7 +270,8 @@ fn good_call_times(line: &Line) -> Option<CallTimes>
     })
 }
 
-/// The first column of the leftmost bad field, in an intermediate location that has a bad field.
+/// The first column of the leftmost bad field in an intermediate location, for a line that has a
+/// bad field.
 #[cold]
 fn call_fault(line: &Line) -> u8
     requires bad { ¬ (bad_field_of intermediate_location line.now ≡ None) }
@@ -294,7 +295,7 @@ fn call_fault(line: &Line) -> u8
     30
 }
 
-/// A view of a change en route (CR). It has no checked field, so there always is a view.
+/// Reads a change en route (CR). It has no checked field, so reading never fails.
 pub fn change(line: &Line) -> Result<ChangeEnRoute<'_>, FieldFault>
     requires kind { HasKind change_en_route line.now }
     ensures always { IsOk result }

@@ -11,8 +11,8 @@ use crate::time::Time;
 use crate::tiploc_code::Tiploc;
 use std::marker::Model;
 
-/// A view of a terminus (LT) whose checked fields are good. Its scheduled time is read while it is
-/// checked.
+/// A view of a terminus (LT) whose checked fields are good. It keeps the scheduled arrival, which
+/// was read when the fields were checked.
 #[derive(Debug, Drop)]
 pub struct Terminus<'a> {
     line: &'a Line,
@@ -35,7 +35,7 @@ impl<'a> Model for Terminus<'a> {
 
 #[tactic(auto, using(crate::proofs::GoodFields::terminus_fields))]
 impl<'a> Terminus<'a> {
-    /// A view of a line whose fields have been checked, with its scheduled time.
+    /// Makes a view of a line whose fields have already been checked, with its scheduled arrival.
     pub(crate) fn of(line: &'a Line, arrival: Time) -> Terminus<'a>
         requires good { IsGood terminating_location line.now }
         requires time { arrival ≡ half_minutes (columns 11 15 line.now) }
@@ -51,7 +51,7 @@ impl<'a> Terminus<'a> {
         self.line.tiploc(3)
     }
 
-    /// The suffix that distinguishes several calls at one timing point: column 10.
+    /// The suffix, which distinguishes several calls of one train at a timing point: column 10.
     pub fn suffix(&self) -> u8
         ensures { result ≡ column 10 self.now }
     {

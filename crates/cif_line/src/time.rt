@@ -28,7 +28,7 @@ impl Model for Time {
 }
 
 impl Time {
-    /// The time that is this many half minutes after midnight. None from 2880 on.
+    /// The time that is this many half minutes after midnight. None if the number is 2880 or more.
     pub(crate) fn from_half_minutes(half_minutes: u16) -> Option<Time>
         ensures { result ≡ (if nat_lt half_minutes 2880 then Some half_minutes else None) }
     {
@@ -39,8 +39,8 @@ impl Time {
         }
     }
 
-    /// The scheduled time in a field HHMM from `0000` to `2359`, followed by `H` for half a minute
-    /// or by a space. None for any other field, including a blank one.
+    /// Reads a scheduled time: HHMM from `0000` to `2359`, then `H` for half a minute or a space.
+    /// None for any other field, including a blank one.
     pub fn from_field(field: &[u8; 5]) -> Option<Time>
         ensures some { IsSome result ↔ IsTrue (is_present_time field.now) }
         ensures value { IfSome result (λ time. time ≡ half_minutes field.now) }
@@ -48,8 +48,8 @@ impl Time {
         TimeField::read(field).time()
     }
 
-    /// The scheduled time in a field: `Some(None)` if it is blank, and None if it is neither blank
-    /// nor a time.
+    /// Reads a scheduled time that may be blank. `Some(None)` for a blank field; None for a field
+    /// that is neither blank nor a time.
     #[tactic(auto, using(crate::proofs::Times::scheduled_times))]
     pub fn scheduled(field: &[u8; 5]) -> Option<Option<Time>>
         ensures some { is_some result ≡ is_scheduled_time field.now }
@@ -63,7 +63,7 @@ impl Time {
         }
     }
 
-    /// The scheduled time in a field. None if it is blank.
+    /// The scheduled time in a field that is known to be blank or a time. None if it is blank.
     #[tactic(auto, using(crate::proofs::Times::scheduled_times))]
     pub(crate) fn from_scheduled(field: &[u8; 5]) -> Option<Time>
         requires good { is_scheduled_time field.now ≡ true }
@@ -75,7 +75,7 @@ impl Time {
         Some(Time::from_present(field))
     }
 
-    /// The scheduled time in a field that is known to have one.
+    /// The scheduled time in a field that is known to be a time.
     #[tactic(auto, using(crate::proofs::Times::clock_bounds))]
     pub(crate) fn from_present(field: &[u8; 5]) -> Time
         requires good { is_present_time field.now ≡ true }
@@ -87,7 +87,8 @@ impl Time {
         }
     }
 
-    /// The public time in a field HHMM, a whole minute. None if it is blank or `0000`.
+    /// The public time, a whole minute, in a field that is known to be HHMM or blank. None if it is
+    /// blank or `0000`.
     pub(crate) fn from_public(field: &[u8; 4]) -> Option<Time>
         requires good { is_public_time field.now ≡ true }
         ensures value { result ≡ public_half_minutes field.now }
@@ -110,7 +111,7 @@ impl Time {
         self.half_minutes
     }
 
-    /// The time as HHMM, then `H` for half a minute or a space.
+    /// The time as HHMM, then `H` if it is on the half minute, or a space if it isn't.
     pub fn text(&self) -> [u8; 5]
         ensures { result ≡ time_text self.now }
     {
@@ -132,8 +133,8 @@ impl Time {
     }
 }
 
-/// The minute of the day, from 0 to 1439, in a field that begins HHMM. None if its first four bytes
-/// aren't a time from `0000` to `2359`.
+/// The minute of the day, from 0 to 1439, in a field that begins with HHMM. None if the first four
+/// bytes aren't a time from `0000` to `2359`.
 pub fn clock(field: &[u8]) -> Option<u16>
     requires { 4 ≤ length field.now }
     ensures some { IsSome result ↔ IsTrue (is_clock field.now) }
@@ -148,7 +149,7 @@ pub fn clock(field: &[u8]) -> Option<u16>
     }
 }
 
-/// The minute of the day, in a field that begins with a good HHMM.
+/// The minute of the day in a field that is known to begin with a time HHMM.
 #[tactic(auto, using(crate::proofs::Times::clock_bounds))]
 fn minute_in(field: &[u8; 5]) -> u16
     requires good { is_clock field.now ≡ true }
@@ -158,14 +159,14 @@ fn minute_in(field: &[u8; 5]) -> u16
     60 * two_digits(field, 0) + two_digits(field, 2)
 }
 
-/// Whether a field is HHMM, from `0000` to `2359`.
+/// Whether a field is a time HHMM from `0000` to `2359`.
 pub fn is_clock(field: &[u8; 4]) -> bool
     ensures { result ≡ is_clock field.now }
 {
     ClockField::read(field).is_good
 }
 
-/// Whether a field is a public time: HHMM or blank.
+/// Whether a field is a public time: HHMM from `0000` to `2359`, or blank.
 pub fn is_public_time(field: &[u8; 4]) -> bool
     ensures { result ≡ is_public_time field.now }
 {

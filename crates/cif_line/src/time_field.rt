@@ -1,5 +1,5 @@
-//! Fields of times, read whether or not they are good. A field is read without a branch per byte,
-//! so that all tests of a record can be joined.
+//! Time fields, read whether or not they are good. Reading has no branch for each byte, and gives
+//! flags that a caller joins with the tests of the record's other fields.
 ghost use Rattle.std.specs.Prelude.{◌≡◌, ◌≤◌, ◌<◌, ◌||◌, length, true, Some, None, if◌then◌else◌};
 ghost use Rattle.docker_model.specs.records.Clock.{is_blank, is_clock, minute_of};
 

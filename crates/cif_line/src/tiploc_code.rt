@@ -1,4 +1,4 @@
-//! Codes of timing points, as in TIPLOC records (TI, TA and TD) and location records.
+//! TIPLOCs: codes of timing points, in TIPLOC records (TI, TA and TD) and in location records.
 ghost use Rattle.std.specs.Prelude.{◌≡◌, ◌↔◌, ◌-◌, ◌++◌, length, IsSome, IfSome};
 ghost use Rattle.docker_model.specs.records.Field.{IsTiploc};
 ghost use Rattle.docker_model.specs.records.PrintedTime.{spaces};
@@ -28,8 +28,8 @@ impl Model for Tiploc {
 }
 
 impl Tiploc {
-    /// The TIPLOC of a text of one to seven bytes, each printable and not a space. It is padded
-    /// with spaces to seven bytes. None for any other text.
+    /// Makes a TIPLOC of a text of one to seven bytes, each printable and not a space. Pads it with
+    /// spaces to seven bytes. None for any other text.
     pub fn from_text(text: &str) -> Option<Tiploc>
         ensures some { IsSome result ↔ IsTiplocText text.now }
         ensures value { IfSome result (λ tiploc.
@@ -44,7 +44,7 @@ impl Tiploc {
         Some(Tiploc { bytes })
     }
 
-    /// The TIPLOC in a field. None if its first byte is a space or a byte isn't printable.
+    /// The TIPLOC in a field. None if the first byte is a space or any byte isn't printable.
     pub fn from_field(field: &[u8; 7]) -> Option<Tiploc>
         ensures some { IsSome result ↔ IsTiploc field.now }
         ensures value { IfSome result (λ tiploc. tiploc ≡ field.now) }
@@ -55,7 +55,7 @@ impl Tiploc {
         Some(Tiploc { bytes: *field })
     }
 
-    /// The seven bytes of the code, with any spaces at its end.
+    /// The seven bytes of the code, including the spaces that pad it.
     pub fn bytes(&self) -> &[u8; 7]
         ensures bytes { result.now ≡ self.now }
         ensures tiploc { IsTiploc self.now }

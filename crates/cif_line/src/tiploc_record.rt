@@ -1,4 +1,4 @@
-//! A record of a timing point: TI, TA or TD.
+//! A TIPLOC record, TI, TA or TD, which describes a timing point.
 ghost use Rattle.std.specs.Prelude.{◌≡◌};
 ghost use Rattle.docker_model.specs.records.Record.{kind_of, columns, IsTextOfLength};
 ghost use Rattle.cif_line.specs.View.{IsGoodTiploc, new_code_of};
@@ -27,7 +27,7 @@ impl<'a> Model for TiplocRecord<'a> {
 
 #[tactic(auto, using(crate::proofs::GoodFields::tiploc_fields))]
 impl<'a> TiplocRecord<'a> {
-    /// A view of a line whose fields have been checked.
+    /// Makes a view of a line whose fields have already been checked.
     pub(crate) fn of(line: &'a Line) -> TiplocRecord<'a>
         requires good { IsGoodTiploc line.now }
         ensures line { result ≡ line.entry.now }
@@ -50,7 +50,7 @@ impl<'a> TiplocRecord<'a> {
         self.line.field(10)
     }
 
-    /// The TPS description: columns 19 to 44.
+    /// The TPS description, the name of the timing point: columns 19 to 44.
     pub fn description(&self) -> &'a [u8; 26]
         ensures value { result.now ≡ columns 19 44 self.now }
         ensures text { IsTextOfLength 26 result.now }
@@ -58,8 +58,8 @@ impl<'a> TiplocRecord<'a> {
         self.line.field(19)
     }
 
-    /// The new code in an amendment (TA): columns 73 to 79. None if it is blank, and None in any
-    /// other record.
+    /// The new code in an amendment (TA): columns 73 to 79. None if these are blank or the record
+    /// isn't an amendment.
     pub fn new_code(&self) -> Option<Tiploc>
         ensures { result ≡ new_code_of (kind_of self.now) self.now }
     {

@@ -1,11 +1,11 @@
-//! Train UIDs, as in a basic schedule (BS) and an association (AA).
+//! UIDs, the identities of trains' schedules, in basic schedules (BS) and associations (AA).
 ghost use Rattle.std.specs.Prelude.{◌≡◌, ◌↔◌, IsSome, IfSome};
 ghost use Rattle.docker_model.specs.records.Record.{IsTextOfLength};
 
 use crate::line::are_printable;
 use std::marker::Model;
 
-/// The UID of a train: six printable bytes.
+/// A UID, the identity of a train's schedules: six printable bytes.
 #[derive(Clone, Copy, PartialEq, Eq, PartialOrd, Ord, Debug)]
 pub struct Uid {
     bytes: [u8; 6],

@@ -1,4 +1,4 @@
--- Rows lapse one by one, from the first to the last.
+-- Applying a horizon to rows one by one, from the first to the last.
 use Rattle.std.proofs.Common.{◌≡◌, ℕ, ◌+◌, ◌<◌, ◌≤◌, List, [], ◌∷◌, ◌++◌, map, length, get_or, take, drop, set, ap, sym, ◌∙◌, subst, append_assoc, arith}
 use Rattle.std.specs.declared.cmp.Ordering.{Ordering}
 use Rattle.std.proofs.lemmas.List.{map-append, drop_more, take_more_set, drop-set-lt, take_all, drop_all, append-nil}
@@ -18,11 +18,11 @@ use Rattle.docker_join.proofs.MeantOrder.{ascending_meant, meant_ascending}
 abbrev Row : Type 0
 Row = Key × Entry
 
--- rows of which the first `i` have lapsed, once the others lapse too
+-- what the rows will be: the first `i` as they are, since the horizon was applied to them, and the others with the horizon applied
 abbrev pub lapsed_from : ℕ → ℕ → List (Key × Entry) → List (model.Key × ops.Entry)
 lapsed_from horizon i rows = map row_meant (take i rows) ++ lapse_entries horizon (map row_meant (drop i rows))
 
--- after one more row lapses, the rows are still on the way to the same lapsed rows
+-- applying the horizon to row `i` doesn't change what the rows will be
 pub one_more : (horizon : ℕ) (all : List (model.Key × ops.Entry)) (rows : List Row) (i : ℕ) (d : Row) (after : Entry) → i < length rows
     → entry_meant after ≡ lapse_entry horizon (entry_meant (get_or rows i d).1)
     → lapsed_from horizon i rows ≡ all → lapsed_from horizon (i + 1) (set rows i ((get_or rows i d).0, after)) ≡ all
@@ -37,19 +37,19 @@ one_more horizon all rows i d after within is same =
     ∙ sym (ap (λ xs. map row_meant (take i rows) ++ lapse_entries horizon (map row_meant xs)) (drop_more rows i d within))
     ∙ same
 
--- at the end all rows have lapsed
+-- if `i` is past the last row, the horizon has been applied to all rows
 pub all_lapsed : (horizon : ℕ) (all : List (model.Key × ops.Entry)) (rows : List Row) (i : ℕ) → length rows ≤ i → lapsed_from horizon i rows ≡ all
     → map row_meant rows ≡ all
 all_lapsed horizon all rows i over same =
     sym (ap (map row_meant) (take_all i rows over)) ∙ sym (append-nil (map row_meant (take i rows)))
     ∙ sym (ap (λ xs. map row_meant (take i rows) ++ lapse_entries horizon (map row_meant xs)) (drop_all i rows over)) ∙ same
 
--- if as many new rows are written over old ones, the new rows are there
+-- writing new rows over equally many old ones gives the new rows
 pub written_back : (new old : List Row) (n : ℕ) → length new ≡ n → length old ≡ n → take n (new ++ drop (length new) old) ≡ new
 written_back new old n size same =
     ap (take n) (ap (λ xs. new ++ xs) (drop_all (length new) old (omega arith)) ∙ append-nil new) ∙ take_all n new (omega arith)
 
--- ascending rows still ascend after they lapse
+-- rows that ascend still ascend after a horizon was applied: their keys are unchanged
 pub lapsed_ascend : (horizon : ℕ) (rows after : List Row) → map row_meant after ≡ lapse_entries horizon (map row_meant rows) → AreAscending rows
     → AreAscending after
 lapsed_ascend horizon rows after same up =

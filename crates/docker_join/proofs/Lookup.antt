@@ -1,4 +1,4 @@
--- What a binary search over the rows of a table finds.
+-- What a binary search in the rows of a table finds.
 use Rattle.std.proofs.Common.{◌≡◌, ℕ, zero, suc, ◌<◌, ◌≤◌, List, [], ◌∷◌, length, get_or, refl, ap, sym, ◌∙◌, subst, Some, None, inl, inr, ◌⊎◌, arith}
 use Rattle.std.proofs.lemmas.Bool.{cases_lt}
 use Rattle.std.specs.Prelude.{Option}
@@ -17,7 +17,7 @@ use Rattle.cif_change.specs.Meaning.{key_meant}
 use Rattle.docker_join.specs.Rows.{row_cmp, AreAscending, value_at}
 use Rattle.docker_join.specs.RowLaws.{value_of, row_of}
 
--- how the key of a row compares with this key
+-- how the key of a row compares with a given key
 abbrev pub by_key : {E : Type 0} → model.Key → Key × E → Ordering
 by_key key row = key_cmp (key_meant row.0) key
 
@@ -28,14 +28,14 @@ module _ {E : Type 0} where
   above_at low (row ∷ rows) zero d above within = above.0
   above_at low (row ∷ rows) (suc j) d above within = above_at low rows j d above.1 (omega arith)
 
-  -- each row is below the rows after it
+  -- in ascending rows, each row is below any later row
   below_at : (rows : List (Key × E)) (i j : ℕ) (d : Key × E) → AreAscending rows → i < j → j < length rows → row_cmp (get_or rows i d) (get_or rows j d) ≡ Less
   below_at [] i j d up before within = absurd (let none : j < length {A = ℕ} [] = within in omega arith)
   below_at (row ∷ rows) i zero d up before within = absurd (omega arith)
   below_at (row ∷ rows) zero (suc j) d up before within = above_at row rows j d up.0 (omega arith)
   below_at (row ∷ rows) (suc i) (suc j) d up before within = below_at rows i j d up.1 (omega arith) (omega arith)
 
-  -- if one row is below another, it doesn't compare higher with a key
+  -- if one row is below another, it isn't higher than the other in comparison with any key
   rises : (key : model.Key) (x y : Key × E) → row_cmp x y ≡ Less → ordering_index (by_key key x) ≤ ordering_index (by_key key y)
   rises key x y below = by (by_key key x) refl (by_key key y) refl
     where
@@ -52,7 +52,7 @@ module _ {E : Type 0} where
           let turned = key_total.antisymm (key_meant y.0) (key_meant x.0) in let r = ap ordering_reverse below in cc)
       by Greater at_x Greater at_y = omega arith
 
-  -- from row to row, the comparison with a key doesn't go down
+  -- in ascending rows, the comparison with a key never decreases from one row to the next
   pub rows_rise : (rows : List (Key × E)) (key : model.Key) → AreAscending rows → IsNonDecreasingBy (λ row. ordering_index (by_key key row)) rows
   rows_rise rows key up = λ i j d before within. by i j d before within (cases_lt i j)
     where
@@ -63,14 +63,14 @@ module _ {E : Type 0} where
           let same : i ≡ j = omega arith in
           subst (λ k. ordering_index (by_key key (get_or rows i d)) ≤ ordering_index (by_key key (get_or rows k d))) same (omega arith)
 
-  -- at the key, the rows have the value of the row that was found
+  -- if the search finds a row with the key, the value in this row is the value at the key
   pub row_found : (rows : List (Key × E)) (key : model.Key) (at : ℕ) (row : Key × E) → AreAscending rows → at < length rows → row ≡ get_or rows at row
       → ((d : Key × E) → by_key key (get_or rows at d) ≡ Equal) → Some row.1 ≡ value_at rows key
   row_found rows key at row up within is tied =
       let here : by_key key row ≡ Equal = ap (by_key key) is ∙ tied row in
       sym (subst (λ k. value_at rows k ≡ Some row.1) (exact_key (key_meant row.0) key here) (value_of rows row up (at, within, sym is)))
 
-  -- rows below the key, and then rows above it, don't have the key
+  -- if each row is either below or above the key, the rows don't have the key
   pub row_missing : (rows : List (Key × E)) (key : model.Key) (at : ℕ) → AreAscending rows
       → IsPartitionPoint (λ row. by_key key row ≡ Less) (λ row. by_key key row ≡ Greater) rows at → None ≡ value_at rows key
   row_missing rows key at up parts = by (value_at rows key) refl

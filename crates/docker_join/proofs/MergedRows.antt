@@ -1,4 +1,4 @@
--- A walk over the rows of two tables, first to last, gives their join.
+-- A walk over the rows of two tables at once, from their first rows to their last, gives the join of the tables.
 use Rattle.std.proofs.Common.{◌≡◌, List, [], ◌∷◌, refl, ap, sym, ◌∙◌, subst, None}
 use Rattle.std.specs.Prelude.{Option}
 use Rattle.std.specs.List.{AllByRecursion}
@@ -14,14 +14,13 @@ use Rattle.cif_change.specs.Meaning.{key_meant}
 use Rattle.docker_join.specs.Rows.{row_cmp, AreAscending, value_at, picked_value, IsJoinOfRows}
 use Rattle.docker_join.specs.RowLaws.{value_here, value_behind, value_above}
 
--- one step of the walk: it puts out the lower of the two first rows, or the pick of both if their
--- keys are equal
+-- one step of the walk: the lower of two rows, or the pick of both if their keys are equal, followed by the rest of the walk
 abbrev pub row_out : {E : Type 0} → (E → E → E) → Ordering → Key × E → Key × E → List (Key × E) → List (Key × E) → List (Key × E) → List (Key × E)
 row_out picked Less x y less equal greater = x ∷ less
 row_out picked Equal x y less equal greater = (x.0, picked x.1 y.1) ∷ equal
 row_out picked Greater x y less equal greater = y ∷ greater
 
--- the walk from one row of the first table on, given the walk over the rows after it
+-- the walk over a second table and the first table from row `x` on, made of the walk over the rows after `x`
 abbrev pub walk_from : {E : Type 0} → (E → E → E) → Key × E → (List (Key × E) → List (Key × E)) → List (Key × E) → List (Key × E)
 walk_from picked x rest [] = x ∷ rest []
 walk_from picked x rest (y ∷ ys) = row_out picked (row_cmp x y) x y (rest (y ∷ ys)) (rest ys) (walk_from picked x rest ys)
@@ -32,17 +31,17 @@ walk picked [] ys = ys
 walk picked (x ∷ xs) ys = walk_from picked x (walk picked xs) ys
 
 module _ {E : Type 0} where
-  -- the rows are above this row
+  -- Says that all these rows are above a row.
   abbrev pub Above : Key × E → List (Key × E) → Type 0
   Above low rows = AllByRecursion (IsBelow row_cmp low) rows
 
-  -- rows above a row are above each lower row
+  -- rows that are above one row are above any lower row
   pub above_lower : (low high : Key × E) (rows : List (Key × E)) → row_cmp low high ≡ Less → Above high rows → Above low rows
   above_lower low high [] below above = tt
   above_lower low high (row ∷ rows) below above =
       (key_total.trans (key_meant low.0) (key_meant high.0) (key_meant row.0) below above.0, above_lower low high rows below above.1)
 
-  -- rows above a row are above each row with the same key
+  -- rows that are above one row are above any row with the same key
   above_level : (low high : Key × E) (rows : List (Key × E)) → row_cmp low high ≡ Equal → Above high rows → Above low rows
   above_level low high [] tied above = tt
   above_level low high (row ∷ rows) tied above =
@@ -52,7 +51,7 @@ module _ {E : Type 0} where
   row_cmp_turned x y greater = key_total.antisymm (key_meant y.0) (key_meant x.0) ∙ ap ordering_reverse greater
 
 module _ {E : Type 0} (picked : E → E → E) where
-  -- if the rows of both tables are above a row, so are the rows of the walk
+  -- if the remaining rows of both tables are above a row, so are the rows that the walk gives
   from_above : (low x : Key × E) (rest : List (Key × E) → List (Key × E)) → row_cmp low x ≡ Less → ((ys : List (Key × E)) → Above low ys → Above low (rest ys))
       → (ys : List (Key × E)) → Above low ys → Above low (walk_from picked x rest ys)
   from_above low x rest below behind [] above = (below, behind [] tt)
@@ -67,7 +66,7 @@ module _ {E : Type 0} (picked : E → E → E) where
   walk_above low [] ys above_x above_y = above_y
   walk_above low (x ∷ xs) ys above_x above_y = from_above low x (walk picked xs) above_x.0 (λ zs. walk_above low xs zs above_x.1) ys above_y
 
-  -- the walk ascends
+  -- the rows that the walk gives ascend
   from_ascends : (x : Key × E) (xs : List (Key × E)) → AreAscending (x ∷ xs) → ((ys : List (Key × E)) → AreAscending ys → AreAscending (walk picked xs ys))
       → (ys : List (Key × E)) → AreAscending ys → AreAscending (walk_from picked x (walk picked xs) ys)
   from_ascends x xs up_x behind [] up_y = (walk_above x xs [] up_x.0 tt, behind [] tt)
@@ -83,11 +82,11 @@ module _ {E : Type 0} (picked : E → E → E) where
   walk_ascends [] ys up_x up_y = up_y
   walk_ascends (x ∷ xs) ys up_x up_y = from_ascends x xs up_x (λ zs up. walk_ascends xs zs up_x.1 up) ys up_y
 
-  -- the join of the values that two tables have at a key
+  -- the values of two tables at a key, joined
   abbrev Both : List (Key × E) → List (Key × E) → model.Key → Option E
   Both xs ys key = picked_value picked (value_at xs key) (value_at ys key)
 
-  -- putting out a row that only the first table has keeps the values of the join
+  -- if only the first table has a row's key, taking the row gives the joined values at each key
   first_out : (x : Key × E) (xs ys tail : List (Key × E)) (key : model.Key) → Above x ys → value_at tail key ≡ Both xs ys key
       → value_at (x ∷ tail) key ≡ Both (x ∷ xs) ys key
   first_out x xs ys tail key above later = by (key_cmp (key_meant x.0) key) refl
@@ -102,7 +101,7 @@ module _ {E : Type 0} (picked : E → E → E) where
           let none : value_at ys key ≡ None = subst (λ k. value_at ys k ≡ None) (exact_key (key_meant x.0) key is) (value_above (key_meant x.0) ys above) in
           value_here x tail key is ∙ sym (λ i. picked_value picked (value_here x xs key is i) (none i))
 
-  -- putting out a row that only the second table has keeps the values of the join
+  -- if only the second table has a row's key, taking the row gives the joined values at each key
   second_out : (y : Key × E) (xs ys tail : List (Key × E)) (key : model.Key) → Above y xs → value_at tail key ≡ Both xs ys key
       → value_at (y ∷ tail) key ≡ Both xs (y ∷ ys) key
   second_out y xs ys tail key above later = by (key_cmp (key_meant y.0) key) refl
@@ -117,7 +116,7 @@ module _ {E : Type 0} (picked : E → E → E) where
           let none : value_at xs key ≡ None = subst (λ k. value_at xs k ≡ None) (exact_key (key_meant y.0) key is) (value_above (key_meant y.0) xs above) in
           value_here y tail key is ∙ sym (λ i. picked_value picked (none i) (value_here y ys key is i))
 
-  -- putting out the pick of two rows with one key keeps the values of the join
+  -- if two rows have the same key, taking the pick of both gives the joined values at each key
   both_out : (x y : Key × E) (xs ys tail : List (Key × E)) (key : model.Key) → row_cmp x y ≡ Equal → value_at tail key ≡ Both xs ys key
       → value_at ((x.0, picked x.1 y.1) ∷ tail) key ≡ Both (x ∷ xs) (y ∷ ys) key
   both_out x y xs ys tail key level later = by (key_cmp (key_meant x.0) key) refl
@@ -137,7 +136,7 @@ module _ {E : Type 0} (picked : E → E → E) where
           value_here (x.0, picked x.1 y.1) tail key is
           ∙ sym (λ i. picked_value picked (value_here x xs key is i) (value_here y ys key (sym there ∙ is) i))
 
-  -- at each key the walk has what the two tables have there, joined
+  -- at each key, the walk gives the joined values of the two tables
   from_values : (x : Key × E) (xs : List (Key × E)) → AreAscending (x ∷ xs)
       → ((ys : List (Key × E)) → AreAscending ys → (key : model.Key) → value_at (walk picked xs ys) key ≡ Both xs ys key)
       → (ys : List (Key × E)) → AreAscending ys → (key : model.Key) → value_at (walk_from picked x (walk picked xs) ys) key ≡ Both (x ∷ xs) ys key
@@ -156,6 +155,6 @@ module _ {E : Type 0} (picked : E → E → E) where
   walk_values [] ys up_x up_y key = refl
   walk_values (x ∷ xs) ys up_x up_y key = from_values x xs up_x (λ zs up. walk_values xs zs up_x.1 up) ys up_y key
 
-  -- the walk gives the join
+  -- the walk over two tables gives their join
   pub walk_joins : (xs ys : List (Key × E)) → AreAscending xs → AreAscending ys → IsJoinOfRows picked xs ys (walk picked xs ys)
   walk_joins xs ys up_x up_y = record { ascends = walk_ascends xs ys up_x up_y; values = walk_values xs ys up_x up_y }

@@ -1,4 +1,4 @@
--- The rows of a join, placed from the greatest on.
+-- Joining two tables by placing rows from the greatest key to the smallest gives the same as the walk of `MergedRows`.
 use Rattle.std.proofs.Common.{◌≡◌, ℕ, zero, suc, ◌+◌, ◌-◌, ◌<◌, ◌≤◌, List, [], ◌∷◌, ◌++◌, length, get_or, take, drop, refl, ap, sym}
 use Rattle.std.proofs.Common.{◌∙◌, subst, append_assoc, length-append, length-drop, arith, true, false, Some, None, MatchOption}
 use Rattle.std.specs.Prelude.{Option}
@@ -19,27 +19,27 @@ use Rattle.docker_join.specs.RowLaws.{same_rows}
 use Rattle.docker_join.specs.Placing.{left_rows, is_level_at, IsRunAbove, IsJoinWith, IsPlaced}
 use Rattle.docker_join.proofs.MergedRows.{row_out, walk_from, walk, walk_joins, Above, above_lower}
 
--- each row of the first list is below each row of the second
+-- Says that each row of the first list is below each row of the second.
 abbrev AllBelow : {E : Type 0} → List (Key × E) → List (Key × E) → Type 0
 AllBelow lows highs = AllByRecursion (λ low. Above low highs) lows
 
--- the join, if these rows of the second table are left: first the walk over what is left, then the
--- placed rows
+-- what the join will be, if these rows of the second table remain: the walk over what remains of
+-- both tables, followed by the placed rows
 abbrev joined_with : {E : Type 0} → (E → E → E) → ℕ → List (Key × E) → List (Key × E) → List (Key × E)
 joined_with picked left rows rest = walk picked (left_rows left rows) rest ++ take (length rows - left) rows
 
--- `IsPlaced`, stated with the walk
+-- Says that a row was placed, as `IsPlaced` does, but in terms of the walk instead of the join.
 record WalksOn {E : Type 0} (picked : E → E → E) (old : List (Key × E)) (left : ℕ) (row : Key × E) (new : List (Key × E)) (later : ℕ) : Type 0 where
   ascends : AreAscending (left_rows left old) → AreAscending (left_rows later new)
   joined : AreAscending (left_rows left old) → (rest : List (Key × E)) → AreAscending (rest ++ row ∷ [])
       → joined_with picked later new rest ≡ joined_with picked left old (rest ++ row ∷ [])
 
--- if a row is below another, the other compares as greater
+-- if one row compares as less than another, the other compares as greater than it
 above_turned : {E : Type 0} (a b : Key × E) → row_cmp b a ≡ Less → row_cmp a b ≡ Greater
 above_turned a b below = key_total.antisymm (key_meant a.0) (key_meant b.0) ∙ ap ordering_reverse below
 
 module _ {E : Type 0} (picked : E → E → E) where
-  -- the walk over a table and an empty one is the table
+  -- the walk over a table and an empty table gives the table
   pub walk_none : (xs : List (Key × E)) → walk picked xs [] ≡ xs
   walk_none [] = refl
   walk_none (x ∷ xs) = ap (λ rest. x ∷ rest) (walk_none xs)
@@ -50,7 +50,7 @@ module _ {E : Type 0} (picked : E → E → E) where
   out_first Equal a b less equal greater behind = refl
   out_first Greater a b less equal greater behind = refl
 
-  -- rows below all others come first
+  -- if some rows of the second table are below all rows of the first, the walk gives these rows first
   lower_first : (x b y : List (Key × E)) → AllBelow b x → walk picked x (b ++ y) ≡ b ++ walk picked x y
   lower_first x [] y below = refl
   lower_first [] (b ∷ others) y below = refl
@@ -59,8 +59,9 @@ module _ {E : Type 0} (picked : E → E → E) where
       (walk picked xs (b ∷ others ++ y)) (walk picked xs (others ++ y)) (walk_from picked x (walk picked xs) (others ++ y)))
       ∙ ap (λ rest. b ∷ rest) (lower_first (x ∷ xs) others y below.1)
 
-  -- two tables in two parts, where each first part is below the other table's second part: the walk
-  -- goes over the first parts, and then over the second
+  -- Let both tables consist of two parts, and let each first part be below the other table's second
+  -- part. Then the walk over the tables is the walk over the first parts, followed by the walk over
+  -- the second parts.
   from_split : (a : Key × E) (rows x : List (Key × E))
       → ((b y : List (Key × E)) → AllBelow rows y → AllBelow b x → walk picked (rows ++ x) (b ++ y) ≡ walk picked rows b ++ walk picked x y)
       → (b y : List (Key × E)) → Above a y → AllBelow rows y → AllBelow b x
@@ -80,34 +81,34 @@ module _ {E : Type 0} (picked : E → E → E) where
       from_split a rows x (λ others ys low high. walk_split rows x others ys low high) b y below.0 below.1 below_x
 
 module _ {E : Type 0} where
-  -- if two lists of rows ascend together, so does the first
+  -- if a list of rows ascends, so does its first part
   pub front_ascends : (xs ys : List (Key × E)) → AreAscending (xs ++ ys) → AreAscending xs
   front_ascends [] ys up = tt
   front_ascends (x ∷ xs) ys up = (all_front (IsBelow row_cmp x) xs ys up.0, front_ascends xs ys up.1)
 
-  -- if two lists of rows ascend together, so does the second
+  -- if a list of rows ascends, so does its second part
   behind_ascends : (xs ys : List (Key × E)) → AreAscending (xs ++ ys) → AreAscending ys
   behind_ascends [] ys up = up
   behind_ascends (x ∷ xs) ys up = behind_ascends xs ys up.1
 
-  -- if two lists of rows ascend together, each row of the first is below each of the second
+  -- if a list of rows ascends, each row of its first part is below each row of its second part
   first_below : (xs ys : List (Key × E)) → AreAscending (xs ++ ys) → AllBelow xs ys
   first_below [] ys up = tt
   first_below (x ∷ xs) ys up = (all_behind (IsBelow row_cmp x) xs ys up.0, first_below xs ys up.1)
 
-  -- rows below a row are below the rows above it
+  -- rows below a row are below all rows that are above it
   below_higher : (lows highs : List (Key × E)) (row : Key × E) → AllBelow lows (row ∷ []) → Above row highs → AllBelow lows highs
   below_higher [] highs row below above = tt
   below_higher (low ∷ lows) highs row below above = (above_lower low row highs below.0.0 above, below_higher lows highs row below.1 above)
 
-  -- ascending rows are above a row if their first is
+  -- ascending rows are all above a row if the first of them is
   above_row : (rows : List (Key × E)) (row d : Key × E) → AreAscending rows → (0 < length rows → row_cmp (get_or rows 0 d) row ≡ Greater) → Above row rows
   above_row [] row d up over = tt
   above_row (x ∷ rows) row d up over =
       let below : row_cmp row x ≡ Less = key_total.antisymm (key_meant row.0) (key_meant x.0) ∙ ap ordering_reverse (over (omega arith)) in
       (below, above_lower row x rows below up.0)
 
-  -- ascending rows are below a row if their last is
+  -- ascending rows are all below a row if the last of them is
   below_row : (rows : List (Key × E)) (last : ℕ) (row d : Key × E) → AreAscending rows
       → (0 < length rows → (last + 1 ≡ length rows) × (row_cmp (get_or rows last d) row ≡ Less)) → AllBelow rows (row ∷ [])
   below_row [] last row d up under = tt
@@ -120,7 +121,7 @@ module _ {E : Type 0} where
       let rest = below_row (y ∷ rows) last row d up.1 (λ _. (omega arith, known.1)) in
       ((key_total.trans (key_meant x.0) (key_meant y.0) (key_meant row.0) up.0.0 rest.0.0, tt), rest)
 
-  -- two lists of rows that were concatenated are found again by the length of the second
+  -- cutting two concatenated lists at the length of the second gives the two lists again
   parts : (front back : List (Key × E)) (m : ℕ) → m ≡ length back
       → (drop (length (front ++ back) - m) (front ++ back) ≡ back) × (take (length (front ++ back) - m) (front ++ back) ≡ front)
   parts front back m size =
@@ -129,18 +130,20 @@ module _ {E : Type 0} where
       (ap (λ n. drop n (front ++ back)) at ∙ drop-append_seam front back, ap (λ n. take n (front ++ back)) at ∙ take-append_seam front back)
 
 module _ {E : Type 0} (picked : E → E → E) where
-  -- the walk over rows and a lower row puts out the lower row, and then the rows
+  -- the walk over some rows and a single lower row gives the lower row, followed by the others
   walk_row : (rows : List (Key × E)) (row : Key × E) → Above row rows → walk picked rows (row ∷ []) ≡ row ∷ rows
   walk_row rows row above = lower_first picked rows (row ∷ []) [] (above, tt) ∙ ap (λ rest. row ∷ rest) (walk_none picked rows)
 
-  -- a row of the second table comes last, before what is above it in the first
+  -- if a row of the second table is its last, and the first table doesn't have its key, the walk
+  -- gives it just before the greater rows
   none_out : (a r rest : List (Key × E)) (row : Key × E) → AllBelow a (row ∷ []) → Above row r → AllBelow rest (row ∷ [])
       → walk picked (a ++ r) (rest ++ row ∷ []) ≡ walk picked a rest ++ (row ∷ r)
   none_out a r rest row below above rest_below =
       walk_split picked a r rest (row ∷ []) below (below_higher rest r row rest_below above)
       ∙ ap (λ out. walk picked a rest ++ out) (walk_row r row above)
 
-  -- the pick of two rows with one key comes last, before what is above it in the first table
+  -- if a row of the second table is its last, and the first table has its key, the walk gives the
+  -- pick of both just before the greater rows
   level_out : (b r rest : List (Key × E)) (own row : Key × E) → row_cmp own row ≡ Equal → AllBelow b (own ∷ []) → Above own r → AllBelow rest (row ∷ [])
       → walk picked (b ++ (own ∷ r)) (rest ++ row ∷ []) ≡ walk picked b rest ++ ((own.0, picked own.1 row.1) ∷ r)
   level_out b r rest own row level below above rest_below =
@@ -165,7 +168,7 @@ module _ {E : Type 0} (picked : E → E → E) where
           subst (λ k. key_cmp (key_meant x.0) k ≡ Less) (sym (exact_key (key_meant own.0) (key_meant row.0) level)) low.0.0 in
           ((under, above_lower x own r under above), rest_under xs low.1)
 
-  -- if rows are a front and a back, and as many are left as the back has, the back is left
+  -- if the rows are a front followed by a back, and as many rows remain as the back has, the back remains
   left_is : (rows front back : List (Key × E)) (m : ℕ) → rows ≡ front ++ back → m ≡ length back → left_rows m rows ≡ back
   left_is rows front back m is size = ap (λ xs. drop (length xs - m) xs) is ∙ (parts front back m size).0
 
@@ -174,7 +177,7 @@ module _ {E : Type 0} (picked : E → E → E) where
   joined_is rows front back rest m is size =
       ap (λ xs. joined_with picked m xs rest) is ∙ (λ i. walk picked ((parts front back m size).0 i) rest ++ (parts front back m size).1 i)
 
-  -- since there is only one join, the walk is that join
+  -- what is proved of the walk holds of the join, since two tables have only one join
   placed_of : (old : List (Key × E)) (left : ℕ) (row : Key × E) (new : List (Key × E)) (later : ℕ) → WalksOn picked old left row new later
       → IsPlaced picked old left row new later
   placed_of old left row new later on = record {
@@ -190,7 +193,7 @@ module _ {E : Type 0} (picked : E → E → E) where
     };
   }
 
-  -- a row that only the second table has is placed
+  -- placing a row whose key the first table doesn't have doesn't change what the join will be
   none_placed : (p a r : List (Key × E)) (row : Key × E) (old new : List (Key × E)) (left later : ℕ)
       → old ≡ p ++ (a ++ r) → left ≡ length (a ++ r) → new ≡ row ∷ (r ++ (p ++ a)) → later ≡ length a
       → (AreAscending (a ++ r) → AllBelow a (row ∷ []) × Above row r) → WalksOn picked old left row new later
@@ -208,7 +211,7 @@ module _ {E : Type 0} (picked : E → E → E) where
             ∙ sym (joined_is old p (a ++ r) (rest ++ row ∷ []) left old_is left_size);
       }
 
-  -- the pick of two rows with one key is placed
+  -- placing the pick of two rows with one key doesn't change what the join will be
   level_placed : (p b r : List (Key × E)) (own row : Key × E) (old new : List (Key × E)) (left later : ℕ)
       → old ≡ p ++ (b ++ (own ∷ r)) → left ≡ length (b ++ (own ∷ r)) → new ≡ (own.0, picked own.1 row.1) ∷ (r ++ (p ++ b)) → later ≡ length b
       → row_cmp own row ≡ Equal → WalksOn picked old left row new later
@@ -229,7 +232,7 @@ module _ {E : Type 0} (picked : E → E → E) where
             ∙ sym (joined_is old p (b ++ (own ∷ r)) (rest ++ row ∷ []) left old_is left_size);
       }
 
--- if two lists with one more element are equal, so are the lists and the elements
+-- two equal lists with one element appended to each were equal before, and the appended elements are equal
 same_last : {A : Type 0} (xs ys : List A) (x y : A) → xs ++ x ∷ [] ≡ ys ++ y ∷ [] → (xs ≡ ys) × (x ≡ y)
 same_last [] [] x y same = (refl, cc)
 same_last [] (b ∷ ys) x y same = let sizes = ap length same in let both = length-append ys (y ∷ []) in absurd (omega arith)
@@ -250,7 +253,7 @@ below_is Less under other = refl
 below_is Equal under other = cc
 below_is Greater under other = cc
 
--- the last `run` rows of the ring come to its front, and then one more row is placed
+-- the lemmas on one step, in which the last `run` rows of the ring are moved to its front and then one more row is placed
 module _ {E : Type 0} (picked : E → E → E) (old : List (Key × E)) (n left run later : ℕ) (size : n ≡ length old) (left_in : left ≤ n) (row : Key × E)
     (is_run : IsRunAbove (key_meant row.0) old n left run) (turned_rows : List (Key × E)) (turned_is : turned_rows ≡ drop (n - run) old ++ take (n - run) old)
     (later_is : later ≡ left - run) where
@@ -301,7 +304,7 @@ module _ {E : Type 0} (picked : E → E → E) (old : List (Key × E)) (n left r
       ∙ ap (λ k. get_or old k row) (let plain : n - run + 0 ≡ n - run = omega arith in plain) in
       ap (λ x. row_cmp x row) first ∙ above_is (row_cmp (get_or old (n - run) row) row) (is_run.above row (let from = run_size in omega arith)))
 
-  -- the last row that is left then is the row before the run
+  -- after the move, the last row that remains is the row before the moved ones
   last_at : (d : Key × E) → 0 < later → get_or a (later - 1) d ≡ get_or old (n - (run + 1)) d
   last_at d some =
       let run_in = is_run.within in
@@ -356,7 +359,7 @@ module _ {E : Type 0} (picked : E → E → E) (old : List (Key × E)) (n left r
       (new_is ∙ ap (λ xs. (top.0, picked top.1 row.1) ∷ xs) both.0)
       (sym (length-take-le (later - 1) a (omega arith))) level)
 
--- once no row of the second table is left, what is left of the first comes before the placed rows
+-- when no row of the second table remains, the remaining rows of the first followed by the placed rows are the join
 pub all_placed : {E : Type 0} (picked : E → E → E) (first second rows rest turned out : List (Key × E)) (n left : ℕ) → n ≡ length rows → rest ≡ []
     → AreAscending (left_rows left rows) → IsJoinWith picked first second left rows rest → out ≡ turned
     → turned ≡ drop (n - left) rows ++ take (n - left) rows → IsJoinOfRows picked first second out
@@ -367,7 +370,7 @@ all_placed {E = E} picked first second rows rest turned out n left size none up 
     subst (IsJoinOfRows picked first second) (sym whole)
     (before.joins own (subst (λ (xs : List (Key × E)). IsJoinOfRows picked own xs own) (sym none) alone))
 
--- at the start all rows of the first table are left, and none is placed
+-- at first all rows of the first table remain, and no row is placed
 pub none_yet : {E : Type 0} (picked : E → E → E) (first second rows : List (Key × E)) (left : ℕ) → rows ≡ first → left ≡ length first
     → (left_rows left rows ≡ first) × IsJoinWith picked first second left rows second
 none_yet {E = E} picked first second rows left same size =
@@ -380,7 +383,7 @@ none_yet {E = E} picked first second rows left same size =
       },
     )
 
--- if no row could be popped, no row of the second table is left
+-- if no row could be popped from the second table, none remains
 pub none_popped : {A : Type 0} (P Q : Type 0) (popped : Option A) (rows : List A) (n : ℕ) → ((x : A) → popped ≡ Some x → ⊥) → n ≡ length rows
     → MatchOption popped ((n ≡ 0) × P) (λ _. Q) → rows ≡ []
 none_popped P Q None [] n never size done = refl

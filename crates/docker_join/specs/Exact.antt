@@ -1,4 +1,4 @@
--- Stamps that tie are equal. Entries that tie are equal if the lines of their bodies are records.
+-- Stamps that compare as equal are equal. So are entries, if the lines of their bodies are records.
 use Rattle.std.proofs.Common.{◌≡◌, ℕ, List, [], ◌∷◌, length, All, refl, ap, sym, ◌∙◌, arith, length-append}
 use Rattle.std.specs.Prelude.{⊤}
 use Rattle.std.specs.List.{concat}
@@ -23,23 +23,24 @@ use Rattle.docker_join.specs.declared.entry.Entry.{Entry}
 use Rattle.docker_join.specs.Meaning.{file_stamp_meant, stamp_meant, op_meant, entry_meant}
 use Rattle.docker_join.specs.Records.{IsOfRecords, HasRecords}
 
--- file stamps with equal meanings are equal
+-- file stamps of the code are equal if they are translated into equal file stamps of the
+-- definitions
 pub same_file_stamp : (a b : FileStamp) → file_stamp_meant a ≡ file_stamp_meant b → a ≡ b
 same_file_stamp a b same = λ i. record { day = (same i).moment.day; minute = (same i).moment.minute; reference = (same i).reference }
 
--- stamps with equal meanings are equal
+-- stamps of the code are equal if they are translated into equal stamps of the definitions
 pub same_stamp : (a b : Stamp) → stamp_meant a ≡ stamp_meant b → a ≡ b
 same_stamp a b same = λ i. record { file = same_file_stamp a.file b.file (λ j. (same j).file) i; number = (same i).number }
 
--- file stamps that tie are equal
+-- file stamps that compare as equal are equal
 pub exact_file_stamp : (a b : FileStamp) → ⊤ → ⊤ → on file_stamp_meant file_stamp_cmp a b ≡ Equal → a ≡ b
 exact_file_stamp a b _ _ tied = same_file_stamp a b (laws.exact_file_stamp (file_stamp_meant a) (file_stamp_meant b) tied)
 
--- stamps that tie are equal
+-- stamps that compare as equal are equal
 pub exact_stamp : (a b : Stamp) → ⊤ → ⊤ → on stamp_meant stamp_cmp a b ≡ Equal → a ≡ b
 exact_stamp a b _ _ tied = same_stamp a b (laws.exact_stamp (stamp_meant a) (stamp_meant b) tied)
 
--- lists of records that concatenate to the same bytes are equal
+-- two lists of records whose joined bytes are equal are equal: all records have the same length
 same_lines : (xs ys : List (List ℕ)) → All IsRecord xs → All IsRecord ys → concat xs ≡ concat ys → xs ≡ ys
 same_lines [] [] good_x good_y same = refl
 same_lines [] (y ∷ ys) good_x good_y same =
@@ -53,7 +54,7 @@ same_lines (x ∷ xs) (y ∷ ys) good_x good_y same =
     let rest = same_lines xs ys (All-tail IsRecord x xs good_x) (All-tail IsRecord y ys good_y) parts.1 in
     λ i. parts.0 i ∷ rest i
 
--- bodies that tie are equal, if their lines are records
+-- bodies that compare as equal are equal, if their lines are records
 exact_body : (a b : Body) → IsOfRecords (body_meant a) → IsOfRecords (body_meant b) → body_cmp (body_meant a) (body_meant b) ≡ Equal → a ≡ b
 exact_body a b good_a good_b tied =
     let after_end = laws.then_equal (nat_cmp (body_end (body_meant a)) (body_end (body_meant b))) _ tied in
@@ -74,7 +75,7 @@ exact_body a b good_a good_b tied =
     by (body.Schedule x) (body.Assoc y) good_x good_y same tag = absurd (omega arith)
     by (body.Schedule x) (body.Schedule y) good_x good_y same tag = ap body.Schedule (same_lines x y good_x good_y same)
 
--- ops that tie are equal, if their lines are records
+-- ops that compare as equal are equal, if the lines of their bodies are records
 exact_op : (a b : Op) → HasRecords (op_meant a) → HasRecords (op_meant b) → op_cmp (op_meant a) (op_meant b) ≡ Equal → a ≡ b
 exact_op op.Deleted op.Deleted good_a good_b tied = refl
 exact_op op.Deleted op.Lapsed good_a good_b tied = cc
@@ -86,7 +87,7 @@ exact_op (op.Put a) op.Deleted good_a good_b tied = cc
 exact_op (op.Put a) op.Lapsed good_a good_b tied = cc
 exact_op (op.Put a) (op.Put b) good_a good_b tied = ap op.Put (exact_body a b good_a good_b tied)
 
--- entries that tie are equal, if their lines are records
+-- entries that compare as equal are equal, if the lines of their bodies are records
 pub exact_entry : (a b : Entry) → HasRecords (op_meant a.op) → HasRecords (op_meant b.op) → on entry_meant entry_cmp a b ≡ Equal → a ≡ b
 exact_entry a b good_a good_b tied =
     let parts = laws.then_equal (stamp_cmp (stamp_meant a.stamp) (stamp_meant b.stamp)) (op_cmp (op_meant a.op) (op_meant b.op)) tied in

@@ -1,4 +1,4 @@
--- The laws of the greater of two values. In the order, valid values that tie are equal.
+-- The laws of the greater of two values, if valid values that compare as equal are equal.
 use Rattle.std.proofs.Common.{◌≡◌, cond, refl, sym, subst, inl, inr, ◌⊎◌}
 use Rattle.std.specs.declared.cmp.Ordering.{Ordering}
 use Rattle.std.specs.declared.cmp.Ordering.TheVariants.{Less, Equal, Greater}
@@ -8,7 +8,7 @@ use Rattle.docker_model.specs.state.Order.{IsAtMost}
 use Rattle.cif_laws.proofs.orders.AtMost.{level, at_most_trans, at_most_itself, at_most_below}
 use Rattle.docker_join.specs.Greater.{IsGreater}
 
--- valid values that tie are equal
+-- Says that valid values that compare as equal are equal.
 abbrev pub IsExact : {A : Type 0} → (A → Type 0) → (A → A → Ordering) → Type 0
 IsExact {A} valid cmp = (a b : A) → valid a → valid b → cmp a b ≡ Equal → a ≡ b
 
@@ -21,7 +21,8 @@ module _ {A : Type 0} (valid : A → Type 0) {cmp : A → A → Ordering} (total
       by (inl same) = subst valid (sym same) good_a
       by (inr same) = subst valid (sym same) good_b
 
-  -- a value that is at least each of two is at least the greater of them
+  -- if a value is at least as great as each of two values, it is at least as great as the greater
+  -- of them
   pub greater_least : (a b c d : A) → IsGreater cmp a b c → IsAtMost cmp a d → IsAtMost cmp b d → IsAtMost cmp c d
   greater_least a b c d is over_a over_b = by is.among
     where
@@ -29,7 +30,7 @@ module _ {A : Type 0} (valid : A → Type 0) {cmp : A → A → Ordering} (total
       by (inl same) = subst (λ x. IsAtMost cmp x d) (sym same) over_a
       by (inr same) = subst (λ x. IsAtMost cmp x d) (sym same) over_b
 
-  -- the greater of two values is also the greater of them in the other order
+  -- the greater of two values doesn't depend on their order
   pub greater_commutes : (a b c : A) → valid a → valid b → IsGreater cmp a b c → IsGreater cmp b a c
   greater_commutes a b c good_a good_b is = record { among = by is.among; first = is.second; second = is.first }
     where
@@ -37,17 +38,17 @@ module _ {A : Type 0} (valid : A → Type 0) {cmp : A → A → Ordering} (total
       by (inl same) = inr same
       by (inr same) = inl same
 
-  -- the greater of a value and itself is the value
+  -- the greater of a value and itself is this value
   pub greater_itself : (a : A) → valid a → IsGreater cmp a a a
   greater_itself a good = record { among = inl refl; first = at_most_itself total a; second = at_most_itself total a }
 
-  -- the greater of two valid values is one value
+  -- the greater of two valid values is unique
   pub greater_one : IsExact valid cmp → (a b c d : A) → valid a → valid b → IsGreater cmp a b c → IsGreater cmp a b d → c ≡ d
   greater_one exact a b c d good_a good_b is_c is_d =
       exact c d (greater_closed a b c good_a good_b is_c) (greater_closed a b d good_a good_b is_d)
       (level total c d (greater_least a b c d is_c is_d.first is_d.second) (greater_least a b d c is_d is_c.first is_c.second))
 
-  -- the greatest of three valid values is one value, whichever two are compared first
+  -- the greatest of three valid values is the same whichever two are compared first
   pub greater_associates : IsExact valid cmp → (a b c ab bc left right : A) → valid a → valid b → valid c
       → IsGreater cmp a b ab → IsGreater cmp ab c left → IsGreater cmp b c bc → IsGreater cmp a bc right → left ≡ right
   greater_associates exact a b c ab bc left right good_a good_b good_c is_ab is_left is_bc is_right =
@@ -62,7 +63,7 @@ module _ {A : Type 0} (valid : A → Type 0) {cmp : A → A → Ordering} (total
       (at_most_trans total a ab left is_ab.first is_left.first)
       (greater_least b c bc left is_bc (at_most_trans total b ab left is_ab.second is_left.first) is_left.second)))
 
-  -- the maximum of two values is the greater of them
+  -- `ord_max` of two values is the greater of them
   pub greater_max : (a b : A) → IsGreater cmp a b (ord_max cmp a b)
   greater_max a b = by (cmp b a) refl
     where

@@ -1,4 +1,4 @@
--- Stamps, ops and entries of the code, as the definitions have them.
+-- Stamps, ops and entries of the code, translated into those that the definitions use.
 use Rattle.docker_model.specs.file.Change as changes
 use Rattle.docker_model.specs.state.Stamp as model
 use Rattle.docker_model.specs.state.Op as ops
@@ -11,27 +11,27 @@ use Rattle.docker_join.specs.declared.entry.Op.{Op}
 use Rattle.docker_join.specs.declared.entry.Op.TheVariants as op
 use Rattle.docker_join.specs.declared.entry.Entry.{Entry}
 
--- a file stamp of the code, as the definitions have it
+-- a file stamp of the code, translated into a file stamp of the definitions
 abbrev pub file_stamp_meant : FileStamp → model.FileStamp
 file_stamp_meant stamp = record {
   moment = record { day = stamp.day; minute = stamp.minute };
   reference = stamp.reference;
 }
 
--- a stamp of the code, as the definitions have it
+-- a stamp of the code, translated into a stamp of the definitions
 abbrev pub stamp_meant : Stamp → model.Stamp
 stamp_meant stamp = record { file = file_stamp_meant stamp.file; number = stamp.number }
 
--- an op of the code, as the definitions have it
+-- an op of the code, translated into an op of the definitions
 abbrev pub op_meant : Op → ops.Op
 op_meant op.Deleted = deleted
 op_meant op.Lapsed = lapsed
 op_meant (op.Put body) = put_with (body_meant body)
 
--- an entry of the code, as the definitions have it
+-- an entry of the code, translated into an entry of the definitions
 abbrev pub entry_meant : Entry → ops.Entry
 entry_meant entry = record { stamp = stamp_meant entry.stamp; op = op_meant entry.op }
 
--- a key of the code with its entry, as the definitions have them
+-- a row of the code, a key with its entry, translated into a row of the definitions
 abbrev pub row_meant : Key × Entry → changes.Key × ops.Entry
 row_meant row = (key_meant row.0, entry_meant row.1)

@@ -1,5 +1,5 @@
--- The rows of a join, placed from the greatest on. They are in a ring, whose last rows aren't
--- placed yet.
+-- The steps of joining two tables: rows are placed from the greatest key to the smallest. In the
+-- ring the placed rows come first, and the rows still to be placed last.
 use Rattle.std.specs.Prelude.{◌≡◌, ℕ, ◌+◌, ◌-◌, ◌<◌, ◌≤◌, Bool, true, false, List, Option, Some, None, [], ◌∷◌, ◌++◌, length, take, drop, slice_index_or}
 use Rattle.std.specs.declared.cmp.Ordering.TheVariants.{Equal}
 use Rattle.std.specs.Ordering.{is_eq, is_gt}
@@ -9,7 +9,8 @@ use Rattle.cif_change.specs.declared.key.Key.{Key}
 use Rattle.cif_change.specs.Meaning.{key_meant}
 use Rattle.docker_join.specs.Rows.{AreAscending, IsJoinOfRows}
 
--- whether the row at this distance from the end of `n` rows, 1 for the last, is above the key
+-- whether a row is above the key, given its distance from the end of `n` rows, which is 1 for the
+-- last row
 abbrev pub is_above_at : {E : Type 0} → model.Key → List (Key × E) → ℕ → ℕ → Key × E → Bool
 is_above_at key rows n back d = is_gt (key_cmp (key_meant (slice_index_or rows (n - back) d).0) key)
 
@@ -17,30 +18,32 @@ is_above_at key rows n back d = is_gt (key_cmp (key_meant (slice_index_or rows (
 abbrev pub is_level_at : {E : Type 0} → model.Key → List (Key × E) → ℕ → Key × E → Bool
 is_level_at key rows n d = is_eq (key_cmp (key_meant (slice_index_or rows (n - 1) d).0) key)
 
--- of the last `left` of `n` rows, the last `run` are above the key, and the row before them isn't.
--- If three rows have the keys 1, 5 and 7, the run above 3 has two rows
+-- Says of ascending rows that among the last `left` of `n` rows exactly the last `run` are above
+-- the key. For example, if three rows have the keys 1, 5 and 7, the run above the key 3 has two
+-- rows.
 pub record IsRunAbove {E : Type 0} (key : model.Key) (rows : List (Key × E)) (n left run : ℕ) : Type 0 where
   pub within : run ≤ left
   pub above : (d : Key × E) → 0 < run → is_above_at key rows n run d ≡ true
   pub below : (d : Key × E) → run < left → is_above_at key rows n (run + 1) d ≡ false
 
--- the last row was taken, if a row is left and the last one has the key. Otherwise the rows stay as
--- they were
+-- Says what taking the last row of a ring does: if a row is left and has the key, it was removed.
+-- Otherwise no row was taken, and the ring is unchanged.
 abbrev pub IsTaken : {E : Type 0} → model.Key → ℕ → ℕ → List (Key × E) → List (Key × E) → Option (Key × E) → Type 0
 IsTaken key n left old new None = (new ≡ old) × ((d : _) → 0 < left → is_level_at key old n d ≡ false)
 IsTaken key n left old new (Some own) = (old ≡ new ++ own ∷ []) × ((key_cmp (key_meant own.0) key ≡ Equal) × (0 < left))
 
--- the rows of the first table that aren't placed yet: the last rows of the ring
+-- the rows of the first table that aren't placed yet, which are the last rows of the ring
 abbrev pub left_rows : {E : Type 0} → ℕ → List (Key × E) → List (Key × E)
 left_rows left rows = drop (length rows - left) rows
 
--- if what is left of both tables is joined, and the placed rows follow, this is the join of the two
--- tables
+-- Says that the placed rows are right: if what remains of both tables is joined, and the placed
+-- rows follow, the result is the join of the two tables.
 pub record IsJoinWith {E : Type 0} (picked : E → E → E) (first second : List (Key × E)) (left : ℕ) (rows rest : List (Key × E)) : Type 0 where
   pub joins : (lower : List (Key × E)) → IsJoinOfRows picked (left_rows left rows) rest lower
       → IsJoinOfRows picked first second (lower ++ take (length rows - left) rows)
 
--- one row of the second table is placed, after the rows of the first table that are above it
+-- Says that a row of the second table was placed: if the placed rows were right before, they are
+-- right with this row, which no longer remains.
 pub record IsPlaced {E : Type 0} (picked : E → E → E) (old : List (Key × E)) (left : ℕ) (row : Key × E) (new : List (Key × E)) (later : ℕ) : Type 0 where
   pub ascends : AreAscending (left_rows left old) → AreAscending (left_rows later new)
   pub joined : AreAscending (left_rows left old) → (first second rest : List (Key × E)) → AreAscending (rest ++ row ∷ [])

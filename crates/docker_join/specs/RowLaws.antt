@@ -1,4 +1,4 @@
--- The laws of the join of rows.
+-- The laws of the join of tables: it is commutative, associative and idempotent.
 use Rattle.std.proofs.Common.{◌≡◌, cond, List, [], ◌∷◌, refl, ap, sym, ◌∙◌, subst, Contains, inl, inr, ◌⊎◌, arith, Option, Some, None}
 use Rattle.std.specs.Prelude.{find, ⊤}
 use Rattle.std.specs.List.{AllByRecursion}
@@ -72,7 +72,7 @@ same_schedule a b same = λ i. record {
   stp = same_stp a.stp b.stp (λ j. (same j).indicator) i;
 }
 
--- keys with equal meanings are equal
+-- keys of the code are equal if they are translated into equal keys of the definitions
 pub same_key : (a b : Key) → key_meant a ≡ key_meant b → a ≡ b
 same_key (key.Tiploc a) (key.Tiploc b) same = ap key.Tiploc (let codes : a ≡ b = cc in codes)
 same_key (key.Tiploc a) (key.Assoc b) same = cc
@@ -88,12 +88,12 @@ module _ {E : Type 0} where
   row_total : IsTotalOrder (row_cmp {E = E})
   row_total = on_total (λ (row : Key × E). key_meant row.0) key_total
 
-  -- at the first row's key, rows have the first row's value
+  -- at the key of the first row, the value is the first row's
   pub value_here : (row : Key × E) (rows : List (Key × E)) (key : model.Key) → key_cmp (key_meant row.0) key ≡ Equal → value_at (row ∷ rows) key ≡ Some row.1
   value_here row rows key tied =
       λ i. option_map (λ (r : Key × E). r.1) (cond (is_eq (tied i)) (Some row) (find (λ (r : Key × E). is_eq (key_cmp (key_meant r.0) key)) rows))
 
-  -- at any other key, they have what the other rows have
+  -- at any other key, the value is the one in the other rows
   pub value_behind : (row : Key × E) (rows : List (Key × E)) (key : model.Key) → ¬ (key_cmp (key_meant row.0) key ≡ Equal)
       → value_at (row ∷ rows) key ≡ value_at rows key
   value_behind row rows key other = by (key_cmp (key_meant row.0) key) refl
@@ -103,14 +103,14 @@ module _ {E : Type 0} where
       by Equal is = absurd (other is)
       by Greater is = λ i. option_map (λ (r : Key × E). r.1) (cond (is_eq (is i)) (Some row) (find (λ (r : Key × E). is_eq (key_cmp (key_meant r.0) key)) rows))
 
-  -- rows above a key don't have the key
+  -- if all rows are above a key, they don't have this key
   pub value_above : (key : model.Key) (rows : List (Key × E)) → AllByRecursion (λ row. key_cmp key (key_meant row.0) ≡ Less) rows → value_at rows key ≡ None
   value_above key [] above = refl
   value_above key (row ∷ rows) above =
       value_behind row rows key (λ tied. let turned = key_total.antisymm key (key_meant row.0) in let below = above.0 in cc)
       ∙ value_above key rows above.1
 
-  -- at the key of each row, ascending rows have that row's value
+  -- in ascending rows, the value at the key of any row is that row's
   pub value_of : (rows : List (Key × E)) (row : Key × E) → AreAscending rows → Contains rows row → value_at rows (key_meant row.0) ≡ Some row.1
   value_of [] row up among = absurd (nil-Contains row among)
   value_of (first ∷ rows) row up among = by (value_of rows row up.1) (Contains-cons first rows row among)
@@ -124,11 +124,11 @@ module _ {E : Type 0} where
           (λ tied. let below : row_cmp first row ≡ Less = below_by_recursion (IsBelow row_cmp first) rows row up.0 inside in cc)
           ∙ rest inside
 
-  -- some row has this key and this value
+  -- Says that some row has this key and this value.
   abbrev RowWith : List (Key × E) → model.Key → E → Type 0
   RowWith rows key value = (row : Key × E) × Contains rows row × (key_meant row.0 ≡ key) × (row.1 ≡ value)
 
-  -- if rows have a value at a key, one of them has both
+  -- if rows have a value at a key, some row has this key and this value
   pub row_of : (rows : List (Key × E)) (key : model.Key) (value : E) → value_at rows key ≡ Some value → RowWith rows key value
   row_of [] key value found = cc
   row_of (row ∷ rows) key value found = by (key_cmp (key_meant row.0) key) refl (row_of rows key value)
@@ -144,7 +144,7 @@ module _ {E : Type 0} where
           let later = rest (sym (value_behind row rows key (λ tied. cc)) ∙ found) in
           (later.0, cons-Contains row rows later.0 later.1, later.2, later.3)
 
-  -- ascending rows are determined by what they have at each key
+  -- two lists of ascending rows with the same value at each key are equal
   pub same_rows : (a b : List (Key × E)) → AreAscending a → AreAscending b → ((key : model.Key) → value_at a key ≡ value_at b key) → a ≡ b
   same_rows a b up_a up_b same = same_list row_total a b up_a up_b (λ row. (into a b up_a same row, into b a up_b (λ key. sym (same key)) row))
     where
@@ -154,19 +154,20 @@ module _ {E : Type 0} where
           let whole : there.0 ≡ row = (λ i. (same_key there.0.0 row.0 there.2 i, there.3 i)) in
           subst (Contains y) whole there.1
 
--- the value at a key is valid, if there is one
+-- Says that a value is valid, or that there is none.
 abbrev IsValidValue : {E : Type 0} → (E → Type 0) → Option E → Type 0
 IsValidValue valid None = ⊤
 IsValidValue valid (Some value) = valid value
 
--- the laws of a function that picks one of two values, or joins them
+-- The laws of a function that joins two values: it is commutative, associative and idempotent, and
+-- the result is valid.
 pub record ArePickLaws {E : Type 0} (valid : E → Type 0) (picked : E → E → E) : Type 0 where
   pub closed : (a b : E) → valid a → valid b → valid (picked a b)
   pub commutes : (a b : E) → valid a → valid b → picked a b ≡ picked b a
   pub associates : (a b c : E) → valid a → valid b → valid c → picked (picked a b) c ≡ picked a (picked b c)
   pub itself : (a : E) → valid a → picked a a ≡ a
 
--- if what it picks is a join, a function has these laws
+-- a function whose result is always a join, as a `Merge` type defines it, has these laws
 pub pick_laws : {E : Type 0} (valid : E → Type 0) (is_join : E → E → E → Type 0) (picked : E → E → E)
     → ((a b c : E) → valid a → valid b → is_join a b c → valid c)
     → ((a b c d : E) → valid a → valid b → is_join a b c → is_join a b d → c ≡ d)
@@ -191,7 +192,7 @@ joins_one valid picked a b c d good_a good_b is_c is_d =
     same_rows c d is_c.ascends is_d.ascends (λ key. is_c.values key ∙ sym (is_d.values key))
 
 module _ {E : Type 0} (valid : E → Type 0) (picked : E → E → E) (laws : ArePickLaws valid picked) where
-  -- if all rows are valid, so is the value at any key
+  -- if all values are valid, so is the value at any key that the rows have
   valid_at : (rows : List (Key × E)) (key : model.Key) → AreValidRows valid rows → IsValidValue valid (value_at rows key)
   valid_at rows key good = by (value_at rows key) refl
     where
@@ -234,14 +235,14 @@ module _ {E : Type 0} (valid : E → Type 0) (picked : E → E → E) (laws : Ar
         (valid_at b (key_meant row.0) good_b))),
   )
 
-  -- the join of two valid tables is also their join in the other order
+  -- the join of two valid tables doesn't depend on their order
   pub joins_commute : (a b c : List (Key × E)) → AreValidRows valid a → AreValidRows valid b → IsJoinOfRows picked a b c → IsJoinOfRows picked b a c
   joins_commute a b c good_a good_b is = record {
     ascends = is.ascends;
     values = λ key. is.values key ∙ values_commute (value_at a key) (value_at b key) (valid_at a key good_a) (valid_at b key good_b);
   }
 
-  -- three valid tables have one join, whichever two are joined first
+  -- the join of three valid tables is the same whichever two are joined first
   pub joins_associate : (a b c ab bc left right : List (Key × E)) → AreValidRows valid a → AreValidRows valid b → AreValidRows valid c
       → IsJoinOfRows picked a b ab → IsJoinOfRows picked ab c left → IsJoinOfRows picked b c bc → IsJoinOfRows picked a bc right → left ≡ right
   joins_associate a b c ab bc left right good_a good_b good_c is_ab is_left is_bc is_right =
@@ -252,6 +253,6 @@ module _ {E : Type 0} (valid : E → Type 0) (picked : E → E → E) (laws : Ar
       ∙ sym (ap (λ value. picked_value picked (value_at a key) value) (is_bc.values key))
       ∙ sym (is_right.values key))
 
-  -- a valid table joined with itself stays as it is
+  -- the join of a valid table with itself is this table
   pub joins_itself : (a : List (Key × E)) → AreValidRows valid a → IsJoinOfRows picked a a a
   joins_itself a good = record { ascends = good.0; values = λ key. values_itself (value_at a key) (valid_at a key good) }

@@ -1,4 +1,4 @@
--- The rows of a table: keys, each with what the table has at it.
+-- The rows of a table: each is a key with a value, such as an entry.
 use Rattle.std.specs.Prelude.{◌≡◌, List, Option, Some, None, find, All}
 use Rattle.std.specs.Option.{option_map}
 use Rattle.std.specs.declared.cmp.Ordering.{Ordering}
@@ -13,25 +13,26 @@ use Rattle.cif_change.specs.Meaning.{key_meant}
 abbrev pub row_cmp : {E : Type 0} → Key × E → Key × E → Ordering
 row_cmp a b = key_cmp (key_meant a.0) (key_meant b.0)
 
--- the keys of the rows ascend
+-- Says that the keys of the rows ascend strictly.
 abbrev pub AreAscending : {E : Type 0} → List (Key × E) → Type 0
 AreAscending rows = IsStrictlyAscending row_cmp rows
 
--- what the rows have at a key; none if they don't have the key
+-- the value of the first row with this key; none if no row has it
 abbrev pub value_at : {E : Type 0} → List (Key × E) → model.Key → Option E
 value_at rows key = option_map (λ row. row.1) (find (λ row. is_eq (key_cmp (key_meant row.0) key)) rows)
 
--- what two tables have at a key, joined: the pick of both values, or the one that there is
+-- the values of two tables at a key, joined: the pick of both, or the only one, or none
 abbrev pub picked_value : {E : Type 0} → (E → E → E) → Option E → Option E → Option E
 picked_value picked None other = other
 picked_value picked (Some value) None = Some value
 picked_value picked (Some value) (Some other) = Some (picked value other)
 
--- the join of two tables' rows: ascending, and with what the two have at each key, joined
+-- Says that some rows are the join of two tables: they ascend, and at each key they have the joined
+-- values of the two.
 pub record IsJoinOfRows {E : Type 0} (picked : E → E → E) (first second joined : List (Key × E)) : Type 0 where
   pub ascends : AreAscending joined
   pub values : (key : model.Key) → value_at joined key ≡ picked_value picked (value_at first key) (value_at second key)
 
--- the keys of the rows ascend, and the value of each row is valid
+-- Says that the keys of the rows ascend and that each value is valid.
 abbrev pub AreValidRows : {E : Type 0} → (E → Type 0) → List (Key × E) → Type 0
 AreValidRows valid rows = AreAscending rows × All (λ row. valid row.1) rows

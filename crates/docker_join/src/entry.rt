@@ -1,4 +1,4 @@
-//! Entries: what is known of a key, and since when.
+//! Entries: what a state knows of a key, and from which change it knows it.
 ghost use Rattle.std.specs.Prelude.{◌≡◌, false, IfOk, IsOk, if◌then◌else◌};
 ghost use Rattle.std.specs.Ordering.{on, as_partial_cmp, eq_by_cmp, ord_max};
 ghost use Rattle.std.specs.Cmp.{partial_equiv_from_equiv, on_equiv, on_total, eq_by_cmp_equiv, partial_order_from_total};
@@ -18,21 +18,21 @@ use cif_change::Body;
 use std::alloc::Global;
 use std::cmp::Ordering;
 
-/// What is known of a key. A deletion is less than a lapsed op, and a lapsed op is less than any
-/// put. Puts are ordered by their bodies.
+/// What a state knows of a key. In the order of ops a deletion comes first, then a lapsed op, then
+/// all puts. Puts are ordered by their bodies.
 #[derive(Debug, Drop)]
 pub enum Op {
     /// The key is deleted.
     Deleted,
-    /// The key was put with a body that ended before a horizon. The body is no longer known.
+    /// The key was put with a body that ended before a horizon. The body isn't kept any more.
     Lapsed,
     /// The key is put with this body.
     Put(Body),
 }
 
 impl Op {
-    /// The op under a horizon, which is a day number. A put whose end number is below the horizon
-    /// lapses and loses its body. Any other op stays: a deletion, a lapsed op, a TIPLOC, a body
+    /// Applies a horizon, given as a day number. A put whose end number is below the horizon lapses
+    /// and loses its body. Anything else is unchanged: a deletion, a lapsed op, a TIPLOC, a body
     /// without an end.
     pub fn lapse(self, horizon: u16) -> Op
         ensures { op_meant result ≡ lapse horizon (op_meant self) }
@@ -44,7 +44,7 @@ impl Op {
         }
     }
 
-    /// Whether it is a put whose end number is below the horizon.
+    /// Whether this is a put whose end number is below the horizon.
     fn ends_before(&self, horizon: u16) -> bool
         ensures { lapse horizon (op_meant self.now) ≡
             (if result then lapsed else op_meant self.now) }
@@ -105,19 +105,19 @@ impl Ord for Op {
     }
 }
 
-/// An entry: what is known of a key, with the stamp of the change that said so. Entries are ordered
-/// by stamp, then by op. Of two entries of one key the greater wins.
+/// What a state knows of a key, with the stamp of the change that it knows it from. Entries are
+/// ordered by stamp, and then by op. Of two entries of one key, the greater counts.
 #[derive(Debug, Drop)]
 pub struct Entry {
-    /// The stamp of the change.
+    /// The stamp of the change that the entry comes from.
     pub stamp: Stamp,
     /// What the change did to the key.
     pub op: Op,
 }
 
 impl Entry {
-    /// Lapses the op under a horizon, in place. The stamp stays, so that no older entry wins over
-    /// this one. Returns whether the op has lapsed in this call.
+    /// Applies a horizon to the op. The stamp is unchanged, so that no older entry counts instead
+    /// of this one. Returns whether the op has lapsed in this call.
     pub fn lapse(&mut self, horizon: u16) -> bool
         ensures lapsed { entry_meant self.new ≡ lapse_entry horizon (entry_meant self.old) }
         ensures same { result ≡ false → self.new ≡ self.old }
@@ -171,7 +171,7 @@ impl Ord for Entry {
 }
 
 impl Merge for Entry {
-    // the lines of the op's body are records
+    // Says that the lines of the entry's body are records.
     ghost is_valid = { λ entry. HasRecords (op_meant entry.op) };
 
     ghost is_join = { IsGreater (on entry_meant entry_cmp) };
@@ -191,7 +191,7 @@ impl Merge for Entry {
     ghost idempotent = { greater_itself (λ entry. HasRecords (op_meant entry.op))
         (on_total entry_meant entry_total) };
 
-    /// The greater of the two. It allocates no memory.
+    /// The greater of the two entries. No memory is allocated.
     fn join(self, _alloc: Global, other: Entry) -> Result<Entry, (Entry, Entry)>
         ensures always { IsOk result }
         ensures ok { IfOk result (IsGreater (on entry_meant entry_cmp) self other) }
@@ -206,7 +206,7 @@ impl Pick for Entry {
     ghost joins = { greater_max (λ entry. HasRecords (op_meant entry.op))
         (on_total entry_meant entry_total) };
 
-    /// The greater of the two.
+    /// The greater of the two entries.
     fn pick(self, other: Entry) -> Entry {
         self.max(other)
     }

@@ -1,26 +1,26 @@
-//! Values that can be joined, in any order and any number of times.
+//! Values that can be joined in any order, any number of times.
 ghost use Rattle.std.specs.Prelude.{◌≡◌, IfOk, IfErr};
 
 use std::alloc::Global;
 
 /// A type whose values can be joined. For valid values the join is commutative, associative and
-/// idempotent, as long as joins succeed.
+/// idempotent, as long as it doesn't run out of memory.
 ///
-/// The programs join only states. File stamps, stamps, entries and tables can be joined too: the
-/// library offers them with the same laws.
+/// The programs join only states. The library also implements the trait, with the same laws, for
+/// file stamps, stamps, entries and tables.
 pub trait Merge: Sized {
-    // the values for which the laws hold
+    // Says that a value is valid: the laws hold for it.
     ghost is_valid: { Self → Type 0 };
 
-    // the third value is the join of the first two
+    // Says that the third value is the join of the first two.
     ghost is_join: { Self → Self → Self → Type 0 };
 
-    /// The join of two values. If memory runs out, it returns both unchanged.
+    /// Joins two values. If memory runs out, returns both unchanged.
     fn join(self, alloc: Global, other: Self) -> Result<Self, (Self, Self)>
         ensures ok { IfOk result (is_join self other) }
         ensures err { IfErr result (λ both. (both.0 ≡ self) × (both.1 ≡ other)) };
 
-    // joins of valid values are valid
+    // the join of two valid values is valid
     ghost closed: { (a b c : Self) → is_valid a → is_valid b → is_join a b c → is_valid c };
 
     // two valid values have at most one join
@@ -37,10 +37,10 @@ pub trait Merge: Sized {
 
 /// A type whose values can be joined without allocating memory.
 pub trait Pick: Merge {
-    // the join of two values
+    // the value that `pick` returns
     ghost picked: { Self → Self → Self };
 
-    /// The join of two values.
+    /// Joins two values.
     fn pick(self, other: Self) -> Self
         ensures { result ≡ picked self other };
 

@@ -1,5 +1,5 @@
-//! Rows of tables: how they lapse, and how the rows of two tables are joined in the memory of the
-//! first.
+//! The rows of tables: their lapse under a horizon, and the join of two tables' rows in the memory
+//! of the first.
 ghost use Rattle.std.specs.Prelude.{◌≡◌, ◌+◌, ◌<◌, ◌≤◌, true, false, map, vec_len, vec_capacity, MatchOption};
 ghost use Rattle.std.specs.VecDeque.{deque_len, deque_capacity};
 ghost use Rattle.cif_change.specs.Meaning.{key_meant};
@@ -13,8 +13,8 @@ use crate::merge::Pick;
 use cif_change::Key;
 use std::collections::VecDeque;
 
-/// Lapses the entry of each key under a horizon. Keys and stamps stay, and what lapses loses its
-/// body. Returns whether an entry has lapsed in this call.
+/// Applies a horizon to the entry of each row. Keys and stamps are unchanged, and an op that lapses
+/// loses its body. Returns whether any op has lapsed in this call.
 pub fn lapse_rows(rows: &mut [(Key, Entry)], horizon: u16) -> bool
     ensures lapsed { map row_meant rows.new ≡ lapse_entries horizon (map row_meant rows.old) }
     ensures same { result ≡ false → rows.new ≡ rows.old }
@@ -27,10 +27,10 @@ pub fn lapse_rows(rows: &mut [(Key, Entry)], horizon: u16) -> bool
     some
 }
 
-/// The rows of the join of two tables, in the first vector, which has room for the rows of both. It
-/// allocates nothing. The rows of the second table are placed from the last to the first. Rows of
-/// the first table move only if they come after such a row. They move in blocks, and only a few
-/// keys of each block are compared.
+/// Joins the rows of two tables in the first vector, which must have room for the rows of both.
+/// Allocates nothing. The rows of the second table are placed one by one, from the last to the
+/// first. A row of the first table moves only if it comes after one of them. Such rows move in
+/// blocks, and only a few keys of each block are compared.
 pub fn join_rows<E: Pick>(first: Vec<(Key, E)>, mut second: Vec<(Key, E)>) -> Vec<(Key, E)>
     requires first { AreAscending first.items }
     requires second { AreAscending second.items }
@@ -47,10 +47,10 @@ pub fn join_rows<E: Pick>(first: Vec<(Key, E)>, mut second: Vec<(Key, E)>) -> Ve
     rows.into_vec()
 }
 
-/// Places a row of the second table, and returns how many rows of the first are then left. The ring
-/// has the placed rows in front, and in its last `left` rows what is left of the first table. Those
-/// above the row are placed before it. If the next one has the row's key, the join of both is
-/// placed.
+/// Places a row of the second table. Returns how many rows of the first table are still to be
+/// placed. In the ring the placed rows come first, and the rows still to be placed, of which there
+/// are `left`, come last. First places the rows of the first table that have greater keys, and then
+/// this row. If the next row has the same key, the join of both is placed instead.
 fn place<E: Pick>(rows: &mut VecDeque<(Key, E)>, left: usize, row: (Key, E)) -> usize
     requires left { left ≤ deque_len rows.old }
     requires room { deque_len rows.old < deque_capacity rows.old }
@@ -74,7 +74,7 @@ fn place<E: Pick>(rows: &mut VecDeque<(Key, E)>, left: usize, row: (Key, E)) -> 
     }
 }
 
-/// Takes the last row, if one is left and it has this key.
+/// Takes the last row of the ring, if a row is left and its key is this one.
 fn take_level<E>(rows: &mut VecDeque<(Key, E)>, left: usize, key: &Key) -> Option<(Key, E)>
     requires { left ≤ deque_len rows.old }
     ensures taken { IsTaken (key_meant key.now) (deque_len rows.old) left rows.old.items
@@ -92,7 +92,7 @@ fn take_level<E>(rows: &mut VecDeque<(Key, E)>, left: usize, key: &Key) -> Optio
     rows.pop_back()
 }
 
-/// Whether the last row has this key.
+/// Whether the last row of the ring has this key.
 fn is_level<E>(rows: &VecDeque<(Key, E)>, key: &Key) -> bool
     requires { 0 < deque_len rows.now }
     ensures { (d : _) → result
@@ -101,7 +101,8 @@ fn is_level<E>(rows: &VecDeque<(Key, E)>, key: &Key) -> bool
     rows[rows.len() - 1].0.cmp(key).is_eq()
 }
 
-/// Whether the row at this distance from the end, 1 for the last, has a greater key.
+/// Whether a row has a key greater than this one. The row is given by its distance from the end of
+/// the ring, which is 1 for the last row.
 fn is_above<E>(rows: &VecDeque<(Key, E)>, back: usize, key: &Key) -> bool
     requires { (0 < back) × (back ≤ deque_len rows.now) }
     ensures { (d : _) → result
@@ -110,9 +111,9 @@ fn is_above<E>(rows: &VecDeque<(Key, E)>, back: usize, key: &Key) -> bool
     rows[rows.len() - back].0.cmp(key).is_gt()
 }
 
-/// How many of the last `left` rows have greater keys. It looks at the last row, and then each time
-/// twice as far back. Once it meets a key that isn't greater, a binary search finds where the
-/// greater ones end.
+/// How many of the last `left` rows have keys greater than this one. First looks at the last row,
+/// and then each time twice as far from the end. At the first key that isn't greater, a binary
+/// search takes over.
 fn run_above<E>(rows: &VecDeque<(Key, E)>, left: usize, key: &Key) -> usize
     requires { left ≤ deque_len rows.now }
     ensures { IsRunAbove (key_meant key.now) rows.now.items (deque_len rows.now) left result }
@@ -126,8 +127,8 @@ fn run_above<E>(rows: &VecDeque<(Key, E)>, left: usize, key: &Key) -> usize
     run_between(rows, key, low, (high - 1).min(left))
 }
 
-/// How many of the last `high` rows have greater keys, by a binary search. The last `low` of them
-/// do.
+/// How many of the last `high` rows have keys greater than this one, found by binary search. The
+/// last `low` rows are known to have greater keys.
 fn run_between<E>(rows: &VecDeque<(Key, E)>, key: &Key, mut low: usize, mut high: usize) -> usize
     requires order { low ≤ high }
     requires within { high ≤ deque_len rows.now }

@@ -1,4 +1,4 @@
-//! Stamps: when a file was extracted, and which of its records changed a key.
+//! Stamps: from which file something is known, and from which of its records.
 ghost use Rattle.std.specs.Prelude.{IfOk, IsOk, ⊤};
 ghost use Rattle.std.specs.Ordering.{on, as_partial_cmp, eq_by_cmp, ord_max};
 ghost use Rattle.std.specs.Cmp.{partial_equiv_from_equiv, on_equiv, on_total, eq_by_cmp_equiv, partial_order_from_total};
@@ -15,15 +15,15 @@ use cif_change::Day;
 use std::alloc::Global;
 use std::cmp::Ordering;
 
-/// A file stamp: when a file was extracted, and its reference. File stamps are ordered by day, by
-/// minute, then by reference.
+/// When a file was extracted, and its reference. File stamps are ordered by day, then by minute,
+/// then by reference.
 #[derive(Clone, Copy, Debug)]
 pub struct FileStamp {
-    /// The day of extract.
+    /// The date of extract in the file's header.
     pub day: Day,
-    /// The minute of that day, from 0.
+    /// The time of extract, as a minute of the day from 0 to 1439.
     pub minute: u16,
-    /// The current file reference.
+    /// The current file reference in the file's header.
     pub reference: [u8; 7],
 }
 
@@ -86,7 +86,7 @@ impl Merge for FileStamp {
 
     ghost idempotent = { greater_itself (λ _. ⊤) (on_total file_stamp_meant file_stamp_total) };
 
-    /// The greater of the two. It allocates no memory.
+    /// The greater of the two file stamps, the newer one. No memory is allocated.
     fn join(self, _alloc: Global, other: FileStamp) -> Result<FileStamp, (FileStamp, FileStamp)>
         ensures always { IsOk result }
         ensures ok { IfOk result (IsGreater (on file_stamp_meant file_stamp_cmp) self other) }
@@ -100,17 +100,17 @@ impl Pick for FileStamp {
 
     ghost joins = { greater_max (λ _. ⊤) (on_total file_stamp_meant file_stamp_total) };
 
-    /// The greater of the two.
+    /// The greater of the two file stamps.
     fn pick(self, other: FileStamp) -> FileStamp {
         self.max(other)
     }
 }
 
-/// A stamp: a file stamp, and the number of a record in that file. Stamps are ordered by file
-/// stamp, then by number.
+/// A record of a file: the file's stamp, and the number of the record. Stamps are ordered by file
+/// stamp, and then by number.
 #[derive(Clone, Copy, Debug)]
 pub struct Stamp {
-    /// The file stamp.
+    /// The stamp of the file.
     pub file: FileStamp,
     /// The number of the record in its file, from 1.
     pub number: u32,
@@ -172,7 +172,7 @@ impl Merge for Stamp {
 
     ghost idempotent = { greater_itself (λ _. ⊤) (on_total stamp_meant stamp_total) };
 
-    /// The greater of the two. It allocates no memory.
+    /// The greater of the two stamps, the newer one. No memory is allocated.
     fn join(self, _alloc: Global, other: Stamp) -> Result<Stamp, (Stamp, Stamp)>
         ensures always { IsOk result }
         ensures ok { IfOk result (IsGreater (on stamp_meant stamp_cmp) self other) }
@@ -186,7 +186,7 @@ impl Pick for Stamp {
 
     ghost joins = { greater_max (λ _. ⊤) (on_total stamp_meant stamp_total) };
 
-    /// The greater of the two.
+    /// The greater of the two stamps.
     fn pick(self, other: Stamp) -> Stamp {
         self.max(other)
     }

@@ -1,4 +1,4 @@
-//! Tables: keys, each with what is known of it.
+//! Tables, which have one row for each key.
 ghost use Rattle.std.specs.Prelude.{◌≡◌, ◌==◌, ◌+◌, ◌≤◌, [], false, length, map, vec_len, vec_capacity, IfOk, IfErr};
 ghost use Rattle.std.specs.Option.{option_copied};
 ghost use Rattle.cif_change.specs.Meaning.{key_meant};
@@ -13,10 +13,10 @@ use cif_change::Key;
 use std::alloc::Global;
 use std::marker::Model;
 
-/// Keys, each with what is known of it.
+/// A table: keys, each with one value, such as an entry.
 #[derive(Debug, Drop)]
 pub struct Table<E> {
-    /// The rows: each a key with what is known of it, in ascending order of keys.
+    /// The rows: a key and its value, in ascending order of keys.
     pub rows: Vec<(Key, E)>,
 }
 
@@ -33,7 +33,7 @@ impl<E> Model for Table<E> {
 }
 
 impl<E> Table<E> {
-    /// A table without keys.
+    /// A table without rows.
     pub fn new(alloc: Global) -> Table<E>
         ensures { result ≡ [] }
     {
@@ -42,7 +42,7 @@ impl<E> Table<E> {
         }
     }
 
-    /// The table with these rows, whose keys ascend.
+    /// Makes a table of these rows, whose keys must ascend.
     pub fn from_rows(rows: Vec<(Key, E)>) -> Table<E>
         requires { AreAscending rows.items }
         ensures { result ≡ rows.items }
@@ -67,8 +67,8 @@ impl<E> Table<E> {
         rows
     }
 
-    /// The rows, in the order of their keys, with room for `more` rows after them. If memory runs
-    /// out, it returns the table unchanged.
+    /// The rows, in the order of their keys, in a vector with room for `more` further rows. If
+    /// memory runs out, returns the table unchanged.
     pub fn with_room(self, more: usize) -> Result<Vec<(Key, E)>, Table<E>>
         ensures rows { IfOk result (λ rows. rows.items ≡ self) }
         ensures room { IfOk result (λ rows. vec_len rows + more ≤ vec_capacity rows) }
@@ -82,21 +82,21 @@ impl<E> Table<E> {
         }
     }
 
-    /// How many keys there are.
+    /// How many rows there are.
     pub fn len(&self) -> usize
         ensures { result ≡ length self.now }
     {
         self.rows.len()
     }
 
-    /// Whether the table has no key.
+    /// Whether the table has no row.
     pub fn is_empty(&self) -> bool
         ensures { result ≡ (length self.now == 0) }
     {
         self.rows.is_empty()
     }
 
-    /// What is known of a key. None if the table doesn't have it.
+    /// The value of a key. None if the table doesn't have the key.
     pub fn get(&self, key: &Key) -> Option<&E>
         ensures { option_copied result ≡ value_at self.now (key_meant key.now) }
     {
@@ -108,8 +108,8 @@ impl<E> Table<E> {
 }
 
 impl Table<Entry> {
-    /// Lapses the entry of each key under a horizon. Keys and stamps stay, and what lapses loses
-    /// its body. Returns whether an entry has lapsed in this call.
+    /// Applies a horizon to the entry of each row. Keys and stamps are unchanged, and an op that
+    /// lapses loses its body. Returns whether any op has lapsed in this call.
     pub fn lapse(&mut self, horizon: u16) -> bool
         ensures lapsed { map row_meant self.new ≡ lapse_entries horizon (map row_meant self.old) }
         ensures same { result ≡ false → self.new ≡ self.old }
@@ -122,7 +122,7 @@ impl<E: Pick> Merge for Table<E> {
     ghost use Rattle.docker_join.specs.Rows.{AreValidRows, IsJoinOfRows};
     ghost use Rattle.docker_join.specs.RowLaws.{pick_laws, joins_closed, joins_one, joins_commute, joins_associate, joins_itself};
 
-    // the keys ascend, and what is known of each is valid
+    // Says that the keys ascend and that each value is valid.
     ghost is_valid = { AreValidRows E.is_valid };
 
     ghost is_join = { IsJoinOfRows E.picked };
@@ -141,9 +141,8 @@ impl<E: Pick> Merge for Table<E> {
     ghost idempotent = { joins_itself E.is_valid E.picked
         (pick_laws E.is_valid E.is_join E.picked E.closed E.one E.commutative E.associative E.idempotent E.joins) };
 
-    /// The table with the keys of both. For a key of both tables it has the join of what they know,
-    /// and for any other key what the one table knows. If memory runs out, no row has moved, and it
-    /// returns both tables unchanged.
+    /// Joins two tables. A key that both have gets the join of their two values, and any other key
+    /// keeps its value. If memory runs out, returns both tables unchanged, and no row has moved.
     fn join(self, _alloc: Global, other: Table<E>) -> Result<Table<E>, (Table<E>, Table<E>)> {
         match self.with_room(other.len()) {
             Ok(rows) => Ok(Table::from_rows(join_rows(rows, other.into_rows()))),

@@ -1,4 +1,4 @@
--- The state of one file, made from the file's ledger item and the greatest of its rows.
+-- The state of one file has the file's ledger item, and for each key the greatest entry that its changes make.
 use Rattle.std.proofs.Common.{◌≡◌, ℕ, ◌≤◌, List, [], ◌∷◌, ◌++◌, map, length, refl, ap, sym, ◌∙◌, subst, inl, inr, ◌⊎◌, Contains, All, Bool, true, false, Some, None, arith}
 use Rattle.std.specs.Prelude.{Option, ◌↔◌, slice_index_or, ◌==◌}
 use Rattle.std.specs.Cmp.{tied_itself}
@@ -39,12 +39,12 @@ use Rattle.docker_laws.proofs.dockers.ThinState.{kept_good, thin_valid}
 use Rattle.docker_join.proofs.MeantOrder.{ascending_meant}
 use Rattle.docker_state.proofs.StateJoin.{op_records}
 
--- the first of some lines is the line with index 0
+-- the line at index 0 is the first line
 pub first_is : (lines : List (List ℕ)) → slice_index_or lines 0 [] ≡ first_record lines
 first_is [] = refl
 first_is (line ∷ lines) = refl
 
--- a list of one element has only that element
+-- a member of a list of one element is equal to this element
 pub only : {A : Type 0} (x z : A) → Contains (x ∷ []) z → x ≡ z
 only x z among = by (Contains-cons x [] z among)
   where
@@ -56,7 +56,7 @@ only x z among = by (Contains-cons x [] z among)
 not_above_itself : (stamp : FileStamp) → IsAtMost file_stamp_cmp stamp stamp
 not_above_itself stamp above = let tied = tied_itself file_stamp_total stamp in cc
 
--- the floor of a ledger with only this item keeps the item's stamp
+-- Says that a ledger with only this item has a floor, and that the floor keeps the item.
 abbrev OneFloor : stamps.LedgerItem → Type 0
 OneFloor item = (floor : Option FileStamp) × IsFloor (item ∷ []) floor × IsKept floor item.stamp
 
@@ -78,7 +78,7 @@ one_floor item = by (item.indicator == 70) (eqb_tells item.indicator 70)
     )
     by b (inr update) = (None, λ other among is_full. update.1 (subst (λ (i : stamps.LedgerItem). IsFull i) (sym (only item other among)) is_full), tt)
 
--- the rows that changes make have records
+-- if the bodies that some changes put consist of records, so do the bodies of the rows that the changes make
 pub made_records : (all : List model.Change) → HaveRecords all → (stamp : FileStamp) (made : List (Key × Entry))
     → map row_meant made ≡ map (made_by stamp) all → All (λ (row : Key × Entry). HasRecords (op_meant row.1.op)) made
 made_records all have stamp made made_is = all_members (λ (row : Key × Entry). HasRecords (op_meant row.1.op)) made (λ row among.
@@ -86,30 +86,30 @@ made_records all have stamp made made_is = all_members (λ (row : Key × Entry).
     (subst (λ (rows : List (model.Key × ops.Entry)). Contains rows (row_meant row)) made_is (map-Contains row_meant made row among)) in
     subst (λ (pair : model.Key × ops.Entry). HasRecords pair.1.op) found.2 (have found.0 found.1))
 
--- the changes of a file have records
+-- the bodies that a file's changes put consist of records
 pub file_records : (file : List (List ℕ)) → IsFile file → length file ≤ most_records → HaveRecords (changes file)
 file_records file is_file few change among = op_records change.key (op_of change.act) (file_change file is_file few change among).good.1
 
--- the changes that are kept of a file have records
+-- the bodies that the changes kept of a file put consist of records
 pub thin_records : (place : List ℕ) (day : ℕ) (file : List (List ℕ)) → IsFile file → length file ≤ most_records → (all kept : List model.Change)
     → all ≡ changes file → IsThinning place day all kept → HaveRecords kept
 thin_records place day file is_file few all kept all_are thinning change among =
     op_records change.key (op_of change.act)
     (kept_good place day file is_file few kept (subst (λ (a : List model.Change). IsThinning place day a kept) all_are thinning) change among).0.1
 
--- a ledger with one item
+-- appending an item to an empty ledger gives a ledger of that one item
 pub one_item : (item : LedgerItem) (before ledger : List LedgerItem) → before ≡ [] → ledger ≡ before ++ item ∷ [] → map item_meant ledger ≡ item_meant item ∷ []
 one_item item before ledger none pushed =
     let all : ledger ≡ item ∷ [] = pushed ∙ ap (λ (xs : List LedgerItem). xs ++ item ∷ []) none in
     ap (map item_meant) all
 
--- the rows have the item's stamp
+-- rows that changes make with a stamp equal to the item's are the rows made with the item's stamp
 pub made_stamped : (item : LedgerItem) (stamp : code.FileStamp) → file_stamp_meant stamp ≡ (item_meant item).stamp → (all : List model.Change)
     → (made : List (Key × Entry)) → map row_meant made ≡ map (made_by (file_stamp_meant stamp)) all
     → map row_meant made ≡ map (made_by (item_meant item).stamp) all
 made_stamped item stamp same all made made_is = made_is ∙ ap (λ (s : FileStamp). map (made_by s) all) same
 
--- the state of a ledger item and of the greatest rows is the one that the item and the changes make
+-- the state with one ledger item, and with the greatest entries of some changes, is the state that the changes make
 pub made_state : (item : stamps.LedgerItem) (all : List model.Change) (ledger : List LedgerItem) (made rows : List (Key × Entry))
     → map item_meant ledger ≡ item ∷ [] → map row_meant made ≡ map (made_by item.stamp) all → AreAscending rows
     → ((key : model.Key) (entry : ops.Entry) → Contains (map row_meant rows) (key, entry) ↔ IsGreatestAmong (map row_meant made) key entry)
@@ -122,12 +122,12 @@ made_state item all ledger made rows ledger_is made_is up in_rows = record {
       ↔ IsGreatestAmong xs key entry) made_is (in_rows key entry);
 }
 
--- the summary of one file
+-- the state that a file's changes make is the summary of the file
 module _ (file : List (List ℕ)) (state : State) (is : IsMadeState (ledger_item_of file) (changes file) state) where
   kept_one : (f : Option FileStamp) → IsKept f (file_stamp_of file) → IsKeptFile (file ∷ []) f file
   kept_one f kept = record { among = cons-Contains-first file []; kept = kept }
 
-  -- an entry that a change makes is among the entries that all changes make
+  -- each entry of the file is one of the entries that its changes make
   to_made : (f : Option FileStamp) (key : model.Key) (entry : ops.Entry) → IsEntryOf (file ∷ []) f key entry
       → Contains (map (made_by (file_stamp_of file)) (changes file)) (key, entry)
   to_made f key entry of =
@@ -170,11 +170,11 @@ module _ (file : List (List ℕ)) (state : State) (is : IsMadeState (ledger_item
     );
   })
 
-  -- the state of the file is its summary
+  -- the state that a file's changes make is the file's summary
   pub file_summary : IsSummary (file ∷ []) 0 state
   file_summary = let told = one_floor (ledger_item_of file) in summary_under told.0 told.1 told.2
 
-  -- the state of the file is valid
+  -- the state that a file's changes make is valid
   pub file_valid : IsFile file → length file ≤ most_records → IsValid state
   file_valid is_file few =
       summary_is_valid (file ∷ []) 0 state (omega arith)
@@ -182,19 +182,19 @@ module _ (file : List (List ℕ)) (state : State) (is : IsMadeState (ledger_item
       (all_members (λ f. length f ≤ most_records) (file ∷ []) (λ f among. subst (λ (x : List (List ℕ)). length x ≤ most_records) (only file f among) few))
       file_summary
 
--- the ledger item of a header line is the ledger item of a file that begins with the line
+-- the ledger item of a header line is the ledger item of any file that begins with this line
 pub item_is_of : (head line : List ℕ) (item : stamps.LedgerItem) (lines : List (List ℕ)) → head ≡ line → line ≡ slice_index_or lines 0 []
     → ((file : List (List ℕ)) → head ≡ first_record file → item ≡ ledger_item_of file) → item ≡ ledger_item_of lines
 item_is_of head line item lines same first_line told = told lines (same ∙ first_line ∙ first_is lines)
 
--- the changes of a file make its summary
+-- a state made by a ledger item and changes that are equal to a file's is the summary of the file
 pub summary_of_made : (item : stamps.LedgerItem) (all : List model.Change) (lines : List (List ℕ)) (state : State) → item ≡ ledger_item_of lines
     → all ≡ changes lines → IsMadeState item all state → IsSummary (lines ∷ []) 0 state
 summary_of_made item all lines state item_is all_is is =
     file_summary lines state
     (subst (λ (i : stamps.LedgerItem). IsMadeState i (changes lines) state) item_is (subst (λ (a : List model.Change). IsMadeState item a state) all_is is))
 
--- the state that a file's changes make is valid
+-- any state made by a ledger item and changes that are equal to a file's is valid
 pub valid_of_made : (item : stamps.LedgerItem) (all : List model.Change) (lines : List (List ℕ)) → item ≡ ledger_item_of lines → all ≡ changes lines
     → IsFile lines → length lines ≤ most_records → MakeValid item all
 valid_of_made item all lines item_is all_is is_file few state is =
@@ -202,21 +202,21 @@ valid_of_made item all lines item_is all_is is_file few state is =
     (subst (λ (i : stamps.LedgerItem). IsMadeState i (changes lines) state) item_is (subst (λ (a : List model.Change). IsMadeState item a state) all_is is))
     is_file few
 
--- the state that kept changes make is a state of those changes
+-- the state that the kept changes of a file make is a state of these changes, as `IsStateOfChanges` says
 pub kept_state : (item : stamps.LedgerItem) (kept : List model.Change) (lines : List (List ℕ)) (state : State) → item ≡ ledger_item_of lines
     → IsMadeState item kept state → IsStateOfChanges lines kept state
 kept_state item kept lines state item_is is =
     let of = subst (λ (i : stamps.LedgerItem). IsMadeState i kept state) item_is is in
     record { horizon = of.horizon; ledger = of.ledger; ascending = of.ascending; entries = of.entries }
 
--- the state that kept changes make is valid if the changes are enough for the place and the day
+-- the state that the kept changes of a file make is valid if these changes are enough for a place and a day
 pub valid_of_kept : (place : List ℕ) (day : ℕ) (item : stamps.LedgerItem) (all kept : List model.Change) (lines : List (List ℕ))
     → item ≡ ledger_item_of lines → IsFile lines → length lines ≤ most_records → all ≡ changes lines → IsThinning place day all kept → MakeValid item kept
 valid_of_kept place day item all kept lines item_is is_file few all_are thinning state is =
     thin_valid place day lines is_file few kept (subst (λ (a : List model.Change). IsThinning place day a kept) all_are thinning) state
     (kept_state item kept lines state item_is is)
 
--- each row with a greatest entry is a row that a change makes
+-- each row with the greatest entry of its key is a row that some change makes
 pub rows_made_by : (file : FileStamp) (all : List model.Change) (made rows : List (Key × Entry)) → map row_meant made ≡ map (made_by file) all
     → ((key : model.Key) (entry : ops.Entry) → Contains (map row_meant rows) (key, entry) ↔ IsGreatestAmong (map row_meant made) key entry)
     → AreMadeBy all (map row_meant rows)
@@ -227,11 +227,11 @@ rows_made_by file all made rows made_is in_rows row among =
     subst (Contains {X = model.Key × ops.Op} (map (λ (change : model.Change). (change.key, op_of change.act)) all)) (λ i. ((found.2 i).0, (found.2 i).1.op))
     (map-Contains (λ (change : model.Change). (change.key, op_of change.act)) all found.0 found.1)
 
--- the parts of a file have its changes
+-- the changes in the parts of a file are the changes of the file
 pub changes_are : (file : FileRead) (parts : FileParts) → file_of_parts parts ≡ file → map change_meant parts.changes.items ≡ file.changes_made
 changes_are file parts same = ap (λ (f : FileRead). f.changes_made) same
 
--- the parts of a thinned file have the file's kept changes
+-- the changes in the parts of a thin file are the changes that it kept
 pub kept_are : (file : ThinRead) (parts : FileParts) → thin_of_parts file.place file.day file.file.changes_made parts ≡ file
     → map change_meant parts.changes.items ≡ file.kept
 kept_are file parts same = ap (λ (f : ThinRead). f.kept) same

@@ -1,4 +1,4 @@
--- The stamps that a floor keeps.
+-- Filtering by what a floor keeps.
 use Rattle.std.proofs.Common.{◌≡◌, arith, List, [], ◌∷◌, length, map, refl, ap, sym, ◌∙◌, subst, Contains, Bool, true, false, cond, Some, None}
 use Rattle.std.specs.Prelude.{filter, Option, ◌↔◌, IsTrue}
 use Rattle.std.specs.declared.cmp.Ordering.TheVariants.{Less, Equal, Greater}
@@ -9,7 +9,7 @@ use Rattle.std.specs.declared.cmp.Ordering.{Ordering}
 use Rattle.docker_model.specs.state.Order.{IsBelow, IsStrictlyAscending}
 use Rattle.cif_laws.proofs.lists.FilteredMembers.{filter_back, filter_forth}
 
--- the elements that a filter leaves, if its test never changes
+-- the lemmas for a filter whose test gives the same each time it is called
 module _ {X P : Type 0} (R : P → X → Bool → P → Type 0) (test : X → Bool) (p : P) (says : (x : X) (b : Bool) (q : P) → R p x b q → (b ≡ test x) × (q ≡ p)) where
   told : (bs : List Bool) (xs : List X) (s q : P) → s ≡ p → length bs ≡ length xs → ReturnsInTurn R s bs xs q → items_where_true bs xs ≡ filter test xs
   told [] [] s q is size turns = refl
@@ -23,11 +23,11 @@ module _ {X P : Type 0} (R : P → X → Bool → P → Type 0) (test : X → Bo
       step true h rest = (λ i. x ∷ rest i) ∙ (λ i. cond (h i) (x ∷ filter test xs) (filter test xs))
       step false h rest = rest ∙ (λ i. cond (h i) (x ∷ filter test xs) (filter test xs))
 
-  -- a filter whose test never changes leaves the elements that pass the test
+  -- a filter with such a test leaves exactly the elements that pass the test
   pub kept_by : (xs ys : List X) → IsFiltered R p xs ys → ys ≡ filter test xs
   kept_by xs ys is = is.4 ∙ told is.0 xs p is.1 refl is.2 is.3
 
--- a filter of an ascending list
+-- the lemmas for filtering an ascending list
 module _ {A : Type 0} (cmp : A → A → Ordering) (test : A → Bool) where
   filter_above : (low : A) (xs : List A) → AllByRecursion (IsBelow cmp low) xs → AllByRecursion (IsBelow cmp low) (filter test xs)
   filter_above low [] above = tt
@@ -37,7 +37,7 @@ module _ {A : Type 0} (cmp : A → A → Ordering) (test : A → Bool) where
       by true rest = (above.0, rest)
       by false rest = rest
 
-  -- a filter of an ascending list leaves an ascending list
+  -- filtering an ascending list leaves an ascending list
   pub filter_ascends : (xs : List A) → IsStrictlyAscending cmp xs → IsStrictlyAscending cmp (filter test xs)
   filter_ascends [] up = tt
   filter_ascends (x ∷ xs) up = by (test x) (filter_ascends xs up.1)
@@ -46,7 +46,7 @@ module _ {A : Type 0} (cmp : A → A → Ordering) (test : A → Bool) where
       by true rest = (filter_above x xs up.0, rest)
       by false rest = rest
 
--- filtering by a test of the images and then mapping gives the same as mapping and then filtering
+-- filtering by a test of what a function gives, and then applying the function, is the same as applying it first and then filtering
 pub filter-map : {A B : Type 0} (f : A → B) (test : B → Bool) (xs : List A) → map f (filter (λ x. test (f x)) xs) ≡ filter test (map f xs)
 filter-map f test [] = refl
 filter-map f test (x ∷ xs) = by (test (f x)) (filter-map f test xs)
@@ -56,24 +56,24 @@ filter-map f test (x ∷ xs) = by (test (f x)) (filter-map f test xs)
     by true same = ap (λ zs. f x ∷ zs) same
     by false same = same
 
--- the test by which a floor keeps file stamps
+-- whether a comparison gives less or equal
 not_above : Ordering → Bool
 not_above Less = true
 not_above Equal = true
 not_above Greater = false
 
--- this file stamp isn't below the floor, or there is no floor
+-- whether a floor keeps a stamp: it isn't below the floor, or there is no floor
 pub keeps : Option FileStamp → FileStamp → Bool
 keeps None stamp = true
 keeps (Some floor) stamp = not_above (file_stamp_cmp floor stamp)
 
--- a stamp that passes the test is kept
+-- a stamp that passes the test is kept under the floor
 pub keeps_is : (floor : Option FileStamp) (stamp : FileStamp) → keeps floor stamp ≡ true → IsKept floor stamp
 unfolding keeps not_above
 keeps_is None stamp h = tt
 keeps_is (Some floor) stamp h = λ above. let bad : false ≡ true = ap not_above (sym above) ∙ h in cc
 
--- a stamp that is kept passes the test
+-- a stamp that is kept under the floor passes the test
 pub is_keeps : (floor : Option FileStamp) (stamp : FileStamp) → IsKept floor stamp → keeps floor stamp ≡ true
 unfolding keeps not_above
 is_keeps None stamp kept = refl
@@ -84,7 +84,7 @@ is_keeps (Some floor) stamp kept = by (file_stamp_cmp floor stamp) kept
     by Equal below = refl
     by Greater below = absurd (below refl)
 
--- any test that decides whether a stamp is kept gives the same as this test
+-- any test that passes if and only if a stamp is kept gives the same as this test
 pub says_kept : (floor : Option FileStamp) (stamp : FileStamp) (b : Bool) → IsTrue b ↔ IsKept floor stamp → b ≡ keeps floor stamp
 says_kept floor stamp true told = sym (is_keeps floor stamp (told.0 refl))
 says_kept floor stamp false told = by (keeps floor stamp) refl
@@ -93,17 +93,17 @@ says_kept floor stamp false told = by (keeps floor stamp) refl
     by false h = refl
     by true h = told.1 (keeps_is floor stamp h)
 
--- the images of the elements that are kept
+-- the lemmas for elements that a floor keeps, translated by a function
 module _ {A B : Type 0} (f : A → B) (cmp : B → B → Ordering) (floor : Option FileStamp) (stamp : B → FileStamp) (xs ys : List A)
     (is : ys ≡ filter (λ x. keeps floor (stamp (f x))) xs) where
   as_meant : map f ys ≡ filter (λ v. keeps floor (stamp v)) (map f xs)
   as_meant = ap (map f) is ∙ filter-map f (λ v. keeps floor (stamp v)) xs
 
-  -- the images of the kept elements ascend
+  -- if the translated elements ascend, so do the translated elements that the floor keeps
   pub kept_ascends : IsStrictlyAscending cmp (map f xs) → IsStrictlyAscending cmp (map f ys)
   kept_ascends up = subst (IsStrictlyAscending cmp) (sym as_meant) (filter_ascends cmp (λ v. keeps floor (stamp v)) (map f xs) up)
 
-  -- the images of the kept elements are the images that are kept
+  -- the translated elements that are left are exactly the ones that the floor keeps
   pub kept_members : (z : B) → Contains (map f ys) z ↔ (Contains (map f xs) z × IsKept floor (stamp z))
   kept_members z = (
     λ among. let found = filter_back (λ v. keeps floor (stamp v)) (map f xs) z (subst (λ zs. Contains zs z) as_meant among) in

@@ -1,4 +1,4 @@
--- The floor of two ledgers together.
+-- The floor of two ledgers together, given the floor of each.
 use Rattle.std.proofs.Common.{◌≡◌, List, ◌++◌, ap, sym, ◌∙◌, inl, inr, ◌⊎◌, Contains}
 use Rattle.std.specs.Ordering.{on}
 use Rattle.std.proofs.lemmas.List.Elements.{Contains-append_left, Contains-append_right, Contains-append_cases}
@@ -10,7 +10,7 @@ use Rattle.cif_laws.proofs.orders.AtMost.{at_most_trans}
 use Rattle.docker_join.specs.Greater.{IsGreater}
 
 module _ (left right : List LedgerItem) where
-  -- if neither ledger has a full extract, both together have no floor
+  -- if neither ledger has a full extract, both together have none
   pub neither_full : HasNoFull left → HasNoFull right → HasNoFull (left ++ right)
   neither_full one other item among full = by (Contains-append_cases left right item among)
     where
@@ -18,7 +18,7 @@ module _ (left right : List LedgerItem) where
       by (inl here) = one item here full
       by (inr here) = other item here full
 
-  -- if only the first ledger has a full extract, the floor is the first one's
+  -- if only the first ledger has a full extract, the floor of both is the first one's
   pub left_full : (stamp : stamps.FileStamp) → IsGreatestFull left stamp → HasNoFull right → IsGreatestFull (left ++ right) stamp
   left_full stamp one other = record {
     full = one.full;
@@ -32,7 +32,7 @@ module _ (left right : List LedgerItem) where
       by item full (inl here) = one.greatest item here full
       by item full (inr here) = absurd (other item here full)
 
-  -- if only the second ledger has a full extract, the floor is the second one's
+  -- if only the second ledger has a full extract, the floor of both is the second one's
   pub right_full : (stamp : stamps.FileStamp) → HasNoFull left → IsGreatestFull right stamp → IsGreatestFull (left ++ right) stamp
   right_full stamp one other = record {
     full = other.full;
@@ -46,7 +46,7 @@ module _ (left right : List LedgerItem) where
       by item full (inl here) = absurd (one item here full)
       by item full (inr here) = other.greatest item here full
 
-  -- if both ledgers have a full extract, the floor is the greater of their floors
+  -- if each ledger has a full extract, the floor of both is the greater of their floors
   pub both_full : (first second greater : stamps.FileStamp) → IsGreatestFull left first → IsGreatestFull right second
       → IsGreater file_stamp_cmp first second greater
       → IsGreatestFull (left ++ right) greater
@@ -72,7 +72,7 @@ module _ (left right : List LedgerItem) where
         greatest = λ item among full. up item full (Contains-append_cases left right item among);
       }
 
--- the greater of two values in the code is the greater of their meanings
+-- translating the greater of two values of the code gives the greater of the two translated values
 pub greater_meant : {A B : Type 0} (f : A → B) (cmp : _) (a b c : A) → IsGreater (on f cmp) a b c → IsGreater cmp (f a) (f b) (f c)
 greater_meant f cmp a b c is = record { among = by is.among; first = is.first; second = is.second }
   where

@@ -1,4 +1,4 @@
--- The last row of each key, among sorted rows, has the greatest entry of the key.
+-- If rows are sorted by key and then by entry, the last row of each key has the greatest entry of the key.
 use Rattle.std.proofs.Common.{◌≡◌, List, [], ◌∷◌, map, refl, ap, sym, ◌∙◌, subst, inl, inr, ◌⊎◌, Contains, Bool, true, false, cond}
 use Rattle.std.specs.declared.cmp.Ordering.{Ordering}
 use Rattle.std.specs.declared.cmp.Ordering.TheVariants.{Less, Equal, Greater}
@@ -30,7 +30,7 @@ pub not_under : (a b : Key × Entry) → is_lt (by_entry b a) ≡ false → IsAt
 not_under a b h above = let turned : by_entry b a ≡ Less = by_entry_total.antisymm b a ∙ ap ordering_reverse above in
     let bad : true ≡ false = sym (ap is_lt turned) ∙ h in cc
 
--- among the last rows there is one with this row's key
+-- Says that one of the last rows has the key of this row.
 abbrev LastOf : List (Key × Entry) → Key × Entry → Type 0
 LastOf rows w = (m : Key × Entry) × Contains (last_rows rows) m × (row_cmp w m ≡ Equal)
 
@@ -61,7 +61,7 @@ last_of (row ∷ next ∷ rows) w among = by (is_eq (row_cmp next row)) refl (λ
     by false h rest (inr inside) = let m = rest w inside in (m.0, cons-Contains row (last_rows (next ∷ rows)) m.0 m.1, m.2)
 
 module _ (rows : List (Key × Entry)) (sorted : AreSorted rows) (records : (row : Key × Entry) → Contains rows row → HasRecords (op_meant row.1.op)) where
-  -- a last row has the greatest entry of its key
+  -- each last row has the greatest entry of its key
   pub last_is_greatest : (key : model.Key) (entry : ops.Entry) → Contains (map row_meant (last_rows rows)) (key, entry)
       → IsGreatestAmong (map row_meant rows) key entry
   last_is_greatest key entry last =
@@ -76,7 +76,7 @@ module _ (rows : List (Key × Entry)) (sorted : AreSorted rows) (records : (row 
             (subst (λ e. IsAtMost entry_cmp e (entry_meant z.0.1)) (λ i. (w.2 i).1) (lasts_top rows sorted z.0 z.1 w.0 w.1 tied));
       }
 
-  -- each greatest entry is the entry of a last row
+  -- the greatest entry of each key is in one of the last rows
   pub greatest_is_last : (key : model.Key) (entry : ops.Entry) → IsGreatestAmong (map row_meant rows) key entry
       → Contains (map row_meant (last_rows rows)) (key, entry)
   greatest_is_last key entry best =

@@ -1,4 +1,4 @@
--- A horizon that is set on a state: the state's rows lapse, or nothing changes.
+-- Setting a horizon on a state: either its rows lapse under the day, or the day isn't after the horizon and nothing changes.
 use Rattle.std.proofs.Common.{◌≡◌, ℕ, ◌≤◌, List, map, ap, sym, ◌∙◌, subst}
 use Rattle.std.proofs.Math.Nat.{max-eq_left, max-eq_right}
 use Rattle.docker_model.specs.state.Lapse.{HasNotToLapse, lapse_entries}
@@ -19,24 +19,24 @@ use Rattle.docker_state.specs.Meaning.{item_meant, row_meant, state_meant}
 
 module _ (own day : ℕ) (low : own ≤ day) (ledger : List LedgerItem) (rows after : List (Key × Entry))
     (lapsed : map row_meant after ≡ lapse_entries day (map row_meant rows)) where
-  -- the rows, lapsed under a day that is no lower, are the state with that day as its horizon
+  -- the rows, with a later day applied as horizon, are the rows of the state with its horizon raised to that day
   pub rows_raised : state_meant day ledger after ≡ raise_horizon day (state_meant own ledger rows)
   rows_raised =
       (λ i. record { horizon = day; ledger = map item_meant ledger; entries = lapsed i })
       ∙ ap (λ h. lapse_state h (state_meant own ledger rows)) (sym (max-eq_right low))
 
-  -- the state with the raised horizon is valid
+  -- the state with its horizon raised is valid
   pub raised_valid : IsDay day → IsValid (state_meant own ledger rows) → IsValid (state_meant day ledger after)
   raised_valid within valid = subst IsValid (sym rows_raised) (raised_is_valid day (state_meant own ledger rows) within valid)
 
--- rows that have lapsed under a horizon stay the same under one that isn't greater
+-- applying a horizon to rows that have already lapsed under a greater one or the same changes nothing
 pub under_own : (own day : ℕ) → day ≤ own → (rows : List (Key × Entry)) → HaveLapsed own (map row_meant rows)
     → map row_meant rows ≡ lapse_entries (max own day) (map row_meant rows)
 under_own own day low rows have =
     sym (entries_stay own (map row_meant rows) (recursion_from_All (λ (entry : model.Key × ops.Entry). HasNotToLapse own entry.1.op) (map row_meant rows) have))
     ∙ ap (λ h. lapse_entries h (map row_meant rows)) (sym (max-eq_left low))
 
--- after rows have lapsed, the index is the index of the lapsed rows
+-- after rows have lapsed, the updated index is the index of the lapsed rows
 pub lapsed_index : (rows after : List (Key × Entry)) (horizon : ℕ) → map row_meant after ≡ lapse_entries horizon (map row_meant rows)
     → (slice : List (Key × Entry)) → slice ≡ after → (index later : Option Index) → IsIndexIfAny (map row_meant rows) index
     → ((before : List (model.Key × ops.Entry)) (h : ℕ) → map row_meant slice ≡ lapse_entries h before → IsIndexIfAny before index
@@ -46,7 +46,7 @@ lapsed_index rows after horizon lapsed slice same index later is lapses =
     subst (λ (xs : List (Key × Entry)). IsIndexIfAny (map row_meant xs) later) same
     (lapses (map row_meant rows) horizon (ap (map row_meant) same ∙ lapsed) is)
 
--- if no row lapsed, the index stays the index of the rows
+-- if no row has lapsed, the index is still the index of the rows
 pub same_index : (rows after : List (Key × Entry)) → after ≡ rows → (index : Option Index) → IsIndexIfAny (map row_meant rows) index
     → IsIndexIfAny (map row_meant after) index
 same_index rows after same index is = subst (λ (xs : List (Key × Entry)). IsIndexIfAny (map row_meant xs) index) (sym same) is

@@ -1,4 +1,4 @@
--- Sorted rows with their numbers: the last row of each run of rows with one key.
+-- Sorted rows with their numbers, and the last row of each key among them.
 use Rattle.std.proofs.Common.{◌≡◌, ℕ, zero, suc, ◌<◌, ◌≤◌, List, [], ◌∷◌, ◌++◌, map, length, get_or, refl, ap, sym, ◌∙◌, subst, inl, inr, ◌⊎◌, Contains, Bool, true, false, cond, Some, None, arith}
 use Rattle.std.specs.Prelude.{slice_get}
 use Rattle.std.specs.List.{AllByRecursion}
@@ -25,7 +25,7 @@ use Rattle.docker_state.specs.Rows.{Made, AreNumbered, is_made_of_key, last_made
 use Rattle.docker_state.proofs.LastRows.{by_entry, AreSorted}
 use Rattle.docker_state.proofs.GreatestRows.{by_entry_total, not_under}
 
--- the order by row, and then by number
+-- compares two numbered rows: first the rows, and then the numbers
 abbrev pub by_made : Made → Made → Ordering
 by_made a b = ordering_then (by_entry a.0 b.0) (nat_cmp a.1 b.1)
 
@@ -51,12 +51,12 @@ from_far (x ∷ xs) far = (
   from_far xs (λ i j d before within. far (suc i) (suc j) d (omega arith) (omega arith)),
 )
 
--- if rows with numbers are sorted, the rows are sorted
+-- if numbered rows are sorted, the rows without their numbers are sorted
 pub sorted_made : (xs : List Made) → IsSorted by_made xs → AreSorted (rows_in xs)
 sorted_made xs up = from_far xs
     (λ i j d before within. sorted_far (λ x y. is_lt (by_made x y)) (ranks_by by_made_total (λ m. m)) xs up i j d (omega arith) within)
 
--- the last rows with numbers, without their numbers, are the last rows
+-- the last numbered rows, without their numbers, are the last rows
 pub last_is : (made : List Made) → rows_in (last_made made) ≡ last_rows (rows_in made)
 last_is [] = refl
 last_is (m ∷ []) = refl
@@ -103,12 +103,12 @@ picked_all items (m ∷ made) are =
     let rest = picked_all items made (λ z among. are z (cons-Contains m made z among)) in
     λ i. here i ∷ rest i
 
--- the numbers of the last rows pick these rows' items
+-- the numbers of the last rows are the indexes of their keys and ops in the list of items
 pub last_picked : (items : List Item) (made sorted : List Made) → ((z : Made) → Contains sorted z → Contains made z) → AreNumbered items made
     → ArePicked items (numbers_in (last_made sorted)) (items_of (map row_meant (rows_in (last_made sorted))))
 last_picked items made sorted from are = picked_all items (last_made sorted) (λ z among. are z (from z (last_among sorted z among)))
 
--- ---- rows that changes make
+-- ---- the numbered rows that changes make
 
 item_kept : (items : List Item) (item other : Item) (n : ℕ) → slice_get items n ≡ Some other → slice_get (items ++ item ∷ []) n ≡ Some other
 item_kept [] item other n is = absurd (none_some other is)
@@ -122,7 +122,7 @@ item_last : (items : List Item) (item : Item) → slice_get (items ++ item ∷ [
 item_last [] item = refl
 item_last (first ∷ items) item = item_last items item
 
--- one more change makes one more row
+-- with one more change, its row is appended to the rows before
 pub row_more : (file : FileStamp) (changes : List model.Change) (change : model.Change) (made after : List Made) (m : Made)
     → after ≡ made ++ m ∷ [] → row_meant m.0 ≡ made_by file change → map row_meant (rows_in made) ≡ map (made_by file) changes
     → map row_meant (rows_in after) ≡ map (made_by file) (changes ++ change ∷ [])
@@ -133,7 +133,7 @@ row_more file changes change made after m pushed made_is before =
     ∙ (λ i. before i ++ made_is i ∷ [])
     ∙ sym (map-append (made_by file) changes (change ∷ []))
 
--- the row of one more change has the change's number
+-- the row of one more change is numbered by how many changes come before
 pub numbered_more : (file : FileStamp) (changes : List model.Change) (change : model.Change) (made after : List Made) (m : Made)
     → after ≡ made ++ m ∷ [] → row_meant m.0 ≡ made_by file change → m.1 ≡ length (items_put changes)
     → AreNumbered (items_put changes) made → AreNumbered (items_put (changes ++ change ∷ [])) after
@@ -158,7 +158,7 @@ numbered_more file changes change made after m pushed made_is count are z among 
     by (inl before) = item_kept (items_put changes) item ((row_meant z.0).0, (row_meant z.0).1.op) z.1 (are z before)
     by (inr new) = last (Contains-cons {A = Made} m [] z new)
 
--- as many items are noted as there are changes
+-- there are as many keys with ops as there are changes
 pub noted_len : (changes : List Change) (count : ℕ) → count ≡ length changes → count ≡ length (items_put (map change_meant changes))
 noted_len changes count len =
     let one = length-map changes change_meant in

@@ -1,4 +1,4 @@
--- Sorted rows: the last row of each run of rows with one key.
+-- Sorted rows, and the last row of each key among them.
 use Rattle.std.proofs.Common.{◌≡◌, List, [], ◌∷◌, inl, inr, ◌⊎◌, refl, ap, sym, ◌∙◌, Bool, true, false, cond, subst, Contains}
 use Rattle.std.specs.List.{AllByRecursion}
 use Rattle.std.specs.declared.cmp.Ordering.{Ordering}
@@ -18,18 +18,18 @@ use Rattle.docker_join.specs.Meaning.{entry_meant}
 use Rattle.docker_join.specs.Rows.{row_cmp, AreAscending}
 use Rattle.docker_state.specs.Rows.{last_rows}
 
--- the order of rows by key, then by entry
+-- compares two rows: first their keys, and then their entries
 abbrev pub by_entry : Key × Entry → Key × Entry → Ordering
 by_entry a b = ordering_then (row_cmp a b) (entry_cmp (entry_meant a.1) (entry_meant b.1))
 
--- no row is above a later row
+-- Says that no row is above a later row.
 abbrev pub AreSorted : List (Key × Entry) → Type 0
 AreSorted rows = AllLater (IsAtMost by_entry) rows
 
 abbrev LaterKey : Key × Entry → Key × Entry → Type 0
 LaterKey a b = (row_cmp a b ≡ Less) ⊎ ((row_cmp a b ≡ Equal) × IsAtMost entry_cmp (entry_meant a.1) (entry_meant b.1))
 
--- of two sorted rows the later one has a higher key, or the same key and an entry that isn't lower
+-- of two sorted rows, the later one has a greater key, or the same key and an entry that isn't less
 pub later_key : (a b : Key × Entry) → IsAtMost by_entry a b → LaterKey a b
 later_key a b = by (row_cmp a b) refl
   where
@@ -38,7 +38,7 @@ later_key a b = by (row_cmp a b) refl
     by Equal is low = inr (is, low)
     by Greater is low = absurd (low refl)
 
--- a property of all rows is a property of the last rows
+-- what holds of all rows holds of all last rows
 pub lasts_all : (P : Key × Entry → Type 0) (rows : List (Key × Entry)) → AllByRecursion P rows → AllByRecursion P (last_rows rows)
 lasts_all P [] all = tt
 lasts_all P (row ∷ []) all = (all.0, tt)
@@ -48,7 +48,7 @@ lasts_all P (row ∷ next ∷ rows) all = by (is_eq (row_cmp next row)) (lasts_a
     by true rest = rest
     by false rest = (all.0, rest)
 
--- a row whose key is below the next row's key is below all rows after it
+-- if a sorted row has a lower key than the next row, it has a lower key than all rows after it
 below_all : (row next : Key × Entry) (rows : List (Key × Entry)) → row_cmp row next ≡ Less → AllByRecursion (IsAtMost by_entry next) rows
     → AllByRecursion (IsBelow row_cmp row) rows
 below_all row next [] below later = tt
@@ -62,7 +62,7 @@ below_all row next (other ∷ rows) below later = (by (later_key next other late
         let d = key_total.antisymm (key_meant row.0) (key_meant next.0) in
         cc
 
--- the last rows ascend
+-- the last rows of sorted rows ascend by key
 pub lasts_ascend : (rows : List (Key × Entry)) → AreSorted rows → AreAscending (last_rows rows)
 lasts_ascend [] sorted = tt
 lasts_ascend (row ∷ []) sorted = (tt, tt)
@@ -83,12 +83,12 @@ lasts_ascend (row ∷ next ∷ rows) sorted = by (row_cmp next row) refl (lasts_
     by Less is rest = in_front (λ tied. cc) rest
     by Greater is rest = in_front (λ tied. cc) rest
 
--- a sorted row is below the next row if the next row has another key
+-- if a sorted row and the next row have different keys, the first key is the lower one
 front_below : (row next : Key × Entry) → ¬ (row_cmp next row ≡ Equal) → LaterKey row next → row_cmp row next ≡ Less
 front_below row next apart (inl below) = below
 front_below row next apart (inr same) = absurd (apart (key_total.antisymm (key_meant next.0) (key_meant row.0) ∙ ap ordering_reverse same.0))
 
--- a member of a list of one element is that element
+-- a member of a list of one element is equal to this element
 alone : {A : Type 0} (x v : A) → Contains (x ∷ []) v → x ≡ v
 alone x v inside = by (Contains-cons x [] v inside)
   where
@@ -96,7 +96,7 @@ alone x v inside = by (Contains-cons x [] v inside)
     by (inl same) = same
     by (inr none) = absurd (nil-Contains v none)
 
--- of two rows with one key, the later one's entry isn't lower
+-- of two sorted rows with one key, the later one's entry isn't less
 of_one_key : (a b : Key × Entry) → IsAtMost by_entry a b → row_cmp a b ≡ Equal → IsAtMost entry_cmp (entry_meant a.1) (entry_meant b.1)
 of_one_key a b low tied = by (later_key a b low)
   where
@@ -110,7 +110,7 @@ lasts_among rows z last =
     below_by_recursion (Contains rows) (last_rows rows) z
     (lasts_all (Contains rows) rows (recursion_from_All (Contains rows) rows (all_members (Contains rows) rows (λ x among. among)))) last
 
--- among the rows with one key the last row has the greatest entry
+-- of all sorted rows with one key, the last has the greatest entry
 pub lasts_top : (rows : List (Key × Entry)) → AreSorted rows → (z : Key × Entry) → Contains (last_rows rows) z → (w : Key × Entry) → Contains rows w
     → row_cmp w z ≡ Equal
     → IsAtMost entry_cmp (entry_meant w.1) (entry_meant z.1)

@@ -1,4 +1,4 @@
--- Whether a ledger has all items of a list that its floor keeps.
+-- Whether a ledger has all items of a list, apart from those that a floor doesn't keep.
 use Rattle.std.proofs.Common.{◌≡◌, ◌+◌, ℕ, ◌<◌, ◌≤◌, List, map, Bool, true, length, get_or, ◌∙◌, subst, arith}
 use Rattle.std.specs.Prelude.{Option, ◌↔◌, IsTrue}
 use Rattle.std.specs.List.{AllWithin}
@@ -8,9 +8,9 @@ use Rattle.docker_model.specs.state.Stamp.{FileStamp, LedgerItem}
 use Rattle.cif_laws.proofs.lists.Membership.{Contains-map}
 use Rattle.docker_state.specs.Staging.{HasIfKept, HasKeptItems}
 
--- a search of a ledger for each item of a list
+-- the lemmas for looking up each item of a list in the ledger
 module _ {A : Type 0} (f : A → LedgerItem) (ledger : List LedgerItem) (floor : Option FileStamp) (items : List A) where
-  -- after the last item of the list, the ledger has each item that is kept
+  -- if the ledger has each item of the list that the floor keeps, up to the end of the list, it has all of them
   pub has_all : (at : ℕ) → length items ≤ at → AllWithin (λ item. HasIfKept ledger (f item) floor) items 0 at → HasKeptItems ledger (map f items) floor
   has_all at whole each item among kept =
       let found = Contains-map f items item among in
@@ -18,7 +18,7 @@ module _ {A : Type 0} (f : A → LedgerItem) (ledger : List LedgerItem) (floor :
       subst (λ (v : A). HasIfKept ledger (f v) floor) found.1.2 (each found.1.0 found.0 (omega arith) (let within = found.1.1 in omega arith)) in
       subst (λ (v : LedgerItem). HasIfKept ledger v floor) found.2 here kept
 
-  -- if the ledger has the next item, or needn't have it, it has all kept items so far
+  -- if the ledger has the kept items up to here, and the next item if the floor keeps it, it has the kept items up to the next one
   pub one_more_has : (at : ℕ) (item : A) → at < length items → item ≡ get_or items at item → (b : Bool) → IsTrue b ↔ HasIfKept ledger (f item) floor → b ≡ true
       → AllWithin (λ v. HasIfKept ledger (f v) floor) items 0 at → AllWithin (λ v. HasIfKept ledger (f v) floor) items 0 (at + 1)
   one_more_has at item within is b tells has before =

@@ -1,4 +1,4 @@
--- The walk over live keys gives the live table in the order of its keys.
+-- The walk over a state's live keys gives the live table, in ascending order of keys.
 use Rattle.std.proofs.Common.{◌≡◌, List, [], ◌∷◌, refl, ap, sym, ◌∙◌, subst, inl, inr, ◌⊎◌, Contains, Some, None}
 use Rattle.std.specs.Prelude.{◌↔◌}
 use Rattle.std.specs.List.{AllByRecursion}
@@ -10,18 +10,18 @@ use Rattle.cif_laws.proofs.lists.Membership.{Contains-cons, cons-Contains, cons-
 use Rattle.state_laws.proofs.states.PlainTable.{Found, NotFound, find_in, one_per_key, live_at, live_none}
 use Rattle.docker_state.specs.Live.{put_before, live_rows, AreInKeyOrder}
 
--- a key with a body
+-- a key with its body
 abbrev Row : Type 0
 Row = Key × Body
 
 abbrev SameRow : Row → Row → Type 0
 SameRow a b = a ≡ b
 
--- one of the entries puts this body at this key
+-- Says that some entry puts this body under this key.
 abbrev pub PutThere : List (Key × Entry) → Key → Body → Type 0
 PutThere entries key body = (entry : Entry) × Contains entries (key, entry) × (entry.op ≡ put_with body)
 
--- each row of the walk is put by an entry
+-- each key and body that the walk gives is put by an entry
 pub from_live : (entries : List (Key × Entry)) (key : Key) (body : Body) → Contains (live_rows entries) (key, body) → PutThere entries key body
 from_live [] key body among = absurd (nil-Contains (key, body) among)
 from_live (first ∷ entries) key body among = by first.1.op refl (from_live entries key body) among
@@ -44,7 +44,7 @@ from_live (first ∷ entries) key body among = by first.1.op refl (from_live ent
         cases (inl same) = here other is same
         cases (inr behind) = later (rest behind)
 
--- the walk has each body that an entry puts
+-- the walk gives each key and body that an entry puts
 pub to_live : (entries : List (Key × Entry)) (key : Key) (entry : Entry) (body : Body) → entry.op ≡ put_with body → Contains entries (key, entry)
     → Contains (live_rows entries) (key, body)
 to_live [] key entry body is among = absurd (nil-Contains (key, entry) among)
@@ -68,7 +68,7 @@ put_of deleted body is = cc
 put_of lapsed body is = cc
 put_of (put_with other) body is = let same : other ≡ body = cc in ap put_with same
 
--- each body that an entry puts is live
+-- in a valid state, each key and body that an entry puts is live
 pub live_put : (state : State) → IsValid state → (key : Key) (body : Body) → PutThere state.entries key body → live_table state key ≡ Some body
 live_put state valid key body put = by (find_in state.entries key)
   where
@@ -78,7 +78,7 @@ live_put state valid key body put = by (find_in state.entries key)
         live_at state key found.0 found.1 ∙ (λ i. body_of (same i).op) ∙ ap body_of put.2
     by (inr gone) = absurd (gone.1 put.0 put.1)
 
--- each live body is put by an entry
+-- each key and body that is live is put by an entry
 pub live_has : (state : State) (key : Key) (body : Body) → live_table state key ≡ Some body → PutThere state.entries key body
 live_has state key body is = by (find_in state.entries key)
   where
@@ -86,7 +86,7 @@ live_has state key body is = by (find_in state.entries key)
     by (inl found) = (found.0.1, found.2, put_of found.0.1.op body (sym (live_at state key found.0 found.1) ∙ is))
     by (inr gone) = absurd (let none : None ≡ Some body = sym (live_none state key gone.0) ∙ is in cc)
 
--- the walk has a key with a body if and only if that body is live at that key
+-- in a valid state, the walk gives a key and a body if and only if this body is live under the key
 pub live_walks : (state : State) → IsValid state → (walked : List (Key × Body)) → walked ≡ live_rows state.entries
     → (key : Key) (body : Body) → Contains walked (key, body) ↔ (live_table state key ≡ Some body)
 live_walks state valid walked walked_is key body = (
@@ -107,7 +107,7 @@ live_above key (first ∷ entries) above = by first.1.op (live_above key entries
     by lapsed rest = rest
     by (put_with body) rest = (above.0, rest)
 
--- the walk over ascending entries ascends
+-- a walk over ascending entries gives ascending keys
 pub ascends : (entries : List (Key × Entry)) → AreAscending entries → AreInKeyOrder (live_rows entries)
 ascends [] up = tt
 ascends (first ∷ entries) up = by first.1.op (ascends entries up.1)
@@ -117,6 +117,6 @@ ascends (first ∷ entries) up = by first.1.op (ascends entries up.1)
     by lapsed rest = rest
     by (put_with body) rest = (live_above first.0 entries up.0, rest)
 
--- the walk over a valid state ascends by key
+-- the walk over a valid state gives ascending keys
 pub live_ascends : (state : State) → IsValid state → (walked : List (Key × Body)) → walked ≡ live_rows state.entries → AreInKeyOrder walked
 live_ascends state valid walked is = subst AreInKeyOrder (sym is) (ascends state.entries valid.entries.1)

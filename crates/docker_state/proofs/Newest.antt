@@ -1,4 +1,4 @@
--- A stamp that is newer than each file in a ledger is newer than each entry of those files.
+-- A stamp that is newer than all files in a ledger is newer than all entries from these files.
 use Rattle.std.proofs.Common.{◌≡◌, Bool, true, false, List, [], ◌∷◌, ◌++◌, map, refl, ap, sym, ◌∙◌, subst, inl, inr, ◌⊎◌, Contains}
 use Rattle.std.specs.Prelude.{Option, ◌↔◌, IsTrue}
 use Rattle.std.specs.declared.cmp.Ordering.{Ordering}
@@ -15,13 +15,13 @@ use Rattle.cif_laws.proofs.lists.Membership.{Contains-cons, Contains-map, Contai
 use Rattle.cif_laws.proofs.orders.AtMost.{at_most_below, at_most_or, at_most_trans, level}
 use Rattle.cif_laws.proofs.orders.Orders.{file_stamp_total}
 
--- if an item is below another item, its stamp isn't above the other's stamp
+-- if a ledger item is below another, its stamp isn't above the other's
 stamp_at_most : (a b : LedgerItem) → IsBelow ledger_item_cmp a b → IsAtMost file_stamp_cmp a.stamp b.stamp
 stamp_at_most a b below = λ above.
     let bad : Greater ≡ Less =
     sym (λ i. ordering_then (above i) (ordering_then (nat_cmp a.indicator b.indicator) (bytes_cmp a.last_reference b.last_reference))) ∙ below in cc
 
--- if an item is below another item, each stamp above the other's is above its own
+-- if a ledger item is below another, any stamp above the other's is above its own stamp
 below_with : (a b : LedgerItem) (stamp : FileStamp) → IsBelow ledger_item_cmp a b → IsBelow file_stamp_cmp b.stamp stamp
     → IsBelow file_stamp_cmp a.stamp stamp
 below_with a b stamp before low = by (at_most_or file_stamp_total stamp a.stamp)
@@ -37,7 +37,7 @@ last_there : (before : List LedgerItem) (last : LedgerItem) → Contains (before
 last_there [] last = cons-Contains-first last []
 last_there (item ∷ before) last = cons-Contains item (before ++ last ∷ []) last (last_there before last)
 
--- a stamp above a ledger's last item is above each item
+-- a stamp above the stamp of a ledger's last item is above the stamps of all items
 pub above_last : (before : List LedgerItem) (last : LedgerItem) (stamp : FileStamp) → IsStrictlyAscending ledger_item_cmp (before ++ last ∷ [])
     → IsBelow file_stamp_cmp last.stamp stamp → (item : LedgerItem) → Contains (before ++ last ∷ []) item → IsBelow file_stamp_cmp item.stamp stamp
 above_last [] last stamp up low item among =
@@ -57,7 +57,7 @@ less_is Less told = refl
 less_is Equal told = let bad : true ≡ false = sym told in cc
 less_is Greater told = let bad : true ≡ false = sym told in cc
 
--- if a stamp is above the stamp of a ledger's last item, it is above the stamp of each item
+-- if a test of the code passes, that the stamp is above the last item's, the stamp is above the stamps of all items
 pub above_each : {A : Type 0} (meant : A → LedgerItem) (items before : List A) (last : A) (stamp file : FileStamp) (b : Bool)
     → items ≡ before ++ last ∷ [] → IsStrictlyAscending ledger_item_cmp (map meant items) → file ≡ (meant last).stamp
     → b ≡ is_lt (file_stamp_cmp file stamp) → IsTrue b → (item : LedgerItem) → Contains (map meant items) item → IsBelow file_stamp_cmp item.stamp stamp
@@ -67,7 +67,7 @@ above_each meant items before last stamp file b are up file_is is told item amon
     (subst (λ (one : FileStamp). IsBelow file_stamp_cmp one stamp) file_is (less_is (file_stamp_cmp file stamp) (sym is ∙ told)))
     item (subst (λ (all : List LedgerItem). Contains all item) same among)
 
--- an entry of a file that is newer than each known file has to be staged if and only if it is kept
+-- if an entry's file is newer than all known files, the entry has to be staged if and only if the floor keeps it
 pub newest_tells : (own : State) → IsValid own → (floor : Option FileStamp) (key : Key) (entry : Entry)
     → ((item : LedgerItem) → Contains own.ledger item → IsBelow file_stamp_cmp item.stamp entry.stamp.file)
     → (b : Bool) → IsTrue b ↔ IsKept floor entry.stamp.file → IsTrue b ↔ IsToStage own floor key entry

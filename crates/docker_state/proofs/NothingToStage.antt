@@ -1,4 +1,4 @@
--- A state that already has whatever another state would bring.
+-- A state that already has everything that another state would bring.
 use Rattle.std.proofs.Common.{◌≡◌, Bool, true, false, List, [], ◌∷◌, ◌++◌, map, length, refl, ap, sym, ◌∙◌, subst, inl, inr, ◌⊎◌, Contains, arith}
 use Rattle.std.specs.Prelude.{Option, ◌↔◌, IsTrue}
 use Rattle.std.specs.Ordering.{ordering_reverse}
@@ -33,7 +33,7 @@ pub none_of_no_row : {A : Type 0} (meant : A → Key × Entry) (own : State) (fl
 none_of_no_row meant own floor [] none = λ key entry among. absurd (nil-Contains (key, entry) among)
 none_of_no_row meant own floor (row ∷ rows) some = absurd (omega arith)
 
--- if neither the first row nor any row after it has to be staged, no row has to be staged
+-- if the first row doesn't have to be staged, nor any row after it, then none has to be
 pub none_of_more : (own : State) (floor : Option FileStamp) (row : Key × Entry) (rows : List (Key × Entry)) → ¬ IsToStage own floor row.0 row.1
     → HasNoneToStage own floor rows → HasNoneToStage own floor (row ∷ rows)
 none_of_more own floor row rows first others key entry among = by (Contains-cons row rows (key, entry) among)
@@ -42,18 +42,18 @@ none_of_more own floor row rows first others key entry among = by (Contains-cons
     by (inl same) = subst (λ (it : Key × Entry). ¬ IsToStage own floor it.0 it.1) same first
     by (inr behind) = others key entry behind
 
--- as in `none_of_more`, for rows of the code
+-- if the first row of the code doesn't have to be staged, nor any row after it, then none has to be
 pub none_of_rest : {A : Type 0} (meant : A → Key × Entry) (own : State) (floor : Option FileStamp) (rows behind : List A) (row : A) → rows ≡ row ∷ behind
     → ¬ IsToStage own floor (meant row).0 (meant row).1 → HasNoneToStage own floor (map meant behind) → HasNoneToStage own floor (map meant rows)
 none_of_rest meant own floor rows behind row is first others =
     subst (λ xs. HasNoneToStage own floor (map meant xs)) (sym is) (none_of_more own floor (meant row) (map meant behind) first others)
 
--- if a test fails, the property that it decides doesn't hold
+-- if a test passes if and only if a property holds, and it fails, the property doesn't hold
 pub untold : {P : Type 0} (b : Bool) → b ≡ false → IsTrue b ↔ P → ¬ P
 untold b fails tells holds = let bad : false ≡ true = sym fails ∙ tells.1 holds in cc
 
--- if a state has each kept item of another state, and none of the other's entries has to be staged,
--- it is their join under the greater horizon
+-- Suppose a state has all items of another state that the floor keeps, and none of the other's
+-- entries has to be staged. Then it is the join of both, under the greater horizon.
 pub covered : (own other : State) → IsValid own → IsValid other → (floor : Option FileStamp) → IsFloor (own.ledger ++ other.ledger) floor
     → HasKeptItems own.ledger other.ledger floor → HasNoneToStage own floor other.entries → IsJoin own other (raise_horizon other.horizon own)
 covered own other valid valid_too floor is_floor has none =

@@ -1,4 +1,4 @@
--- A valid state with one more good entry is valid.
+-- Adding a good entry to the parts of a valid state.
 use Rattle.std.proofs.Common.{◌≡◌, List, [], ◌∷◌, ◌++◌, map, ap, sym, ◌∙◌, subst}
 use Rattle.std.proofs.lemmas.List.{map-append}
 use Rattle.std.specs.Prelude.{Option}
@@ -18,7 +18,7 @@ use Rattle.docker_state.specs.declared.item.LedgerItem.{LedgerItem}
 use Rattle.docker_state.specs.Indexed.{HasNotedIfAny}
 use Rattle.docker_state.specs.Meaning.{item_meant, row_meant, state_meant}
 
--- the state of the parts with one more good entry is valid
+-- a valid state with one more good entry, given after all others, is valid
 pub valid_with_entry : (ledger : List LedgerItem) (rows : List (Key × Entry)) (state : State) → state_meant 0 ledger rows ≡ state
     → IsValid (state_meant 0 ledger rows)
     → (key : Key) (entry : Entry) → IsStampHere state (key_meant key) (entry_meant entry).stamp → IsOpOf (key_meant key) (entry_meant entry).op
@@ -29,7 +29,7 @@ valid_with_entry ledger rows state view valid key entry here of after pushed =
     (valid_more (state_meant 0 ledger rows) (key_meant key) (entry_meant entry).stamp (entry_meant entry).op valid
     (subst (λ (s : State). IsStampHere s (key_meant key) (entry_meant entry).stamp) (sym view) here) of (none_has_to (entry_meant entry).op))
 
--- if the places of the rows and of one more entry are noted, so are the places of all of them
+-- if the rows and one more entry are noted, the rows with this entry are noted
 pub noted_with_entry : (rows after : List (Key × Entry)) (key : Key) (entry : Entry) (notes : Option Notes) → after ≡ rows ++ (key, entry) ∷ []
     → HasNotedIfAny (items_of (map row_meant rows) ++ (key_meant key, op_meant entry.op) ∷ []) notes
     → HasNotedIfAny (items_of (map row_meant after)) notes

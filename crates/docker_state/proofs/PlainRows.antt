@@ -1,4 +1,4 @@
--- Rows that changes make, without numbers, and the last row of each key's run.
+-- Rows that changes make, without numbers, and the last row of each key among them.
 use Rattle.std.proofs.Common.{◌≡◌, ℕ, suc, ◌<◌, List, [], ◌∷◌, ◌++◌, map, length, get_or, refl, ap, sym, ◌∙◌, subst, Contains, All, Bool, false, cond, Some, arith}
 use Rattle.std.specs.Prelude.{slice_get, ◌↔◌}
 use Rattle.std.specs.List.{AllByRecursion}
@@ -23,14 +23,14 @@ use Rattle.docker_state.specs.Rows.{is_of_key, last_rows, made_by}
 use Rattle.docker_state.proofs.LastRows.{by_entry, AreSorted, lasts_ascend}
 use Rattle.docker_state.proofs.GreatestRows.{by_entry_total, not_under, last_is_greatest, greatest_is_last}
 
--- one more change makes one more row
+-- with one more change, its row is appended to the rows before
 pub one_row_more : (file : FileStamp) (changes : List model.Change) (change : model.Change) (rows after : List (Key × Entry)) (row : Key × Entry)
     → after ≡ rows ++ row ∷ [] → row_meant row ≡ made_by file change → map row_meant rows ≡ map (made_by file) changes
     → map row_meant after ≡ map (made_by file) (changes ++ change ∷ [])
 one_row_more file changes change rows after row pushed same before =
     ap (map row_meant) pushed ∙ map-append row_meant rows (row ∷ []) ∙ (λ i. before i ++ same i ∷ []) ∙ sym (map-append (made_by file) changes (change ∷ []))
 
--- a row whose key the next row doesn't have is a last one
+-- if the next row has another key, and all rows from it on are last rows, so are all rows from this row on
 pub one_apart_more : (row : Key × Entry) (behind : List (Key × Entry)) → is_of_key (slice_get behind 0) (key_meant row.0) ≡ false
     → last_rows behind ≡ behind → last_rows (row ∷ behind) ≡ row ∷ behind
 one_apart_more row [] apart rest = refl
@@ -49,23 +49,23 @@ from_far (x ∷ xs) far = (
   from_far xs (λ i j d before within. far (suc i) (suc j) d (omega arith) (omega arith)),
 )
 
--- sorted rows, each above none of the later ones
+-- a list that is sorted, as the library defines it, has no row above a later one
 pub rows_sorted : (xs : List (Key × Entry)) → IsSorted by_entry xs → AreSorted xs
 rows_sorted xs up = from_far xs
     (λ i j d before within. sorted_far (λ x y. is_lt (by_entry x y)) (ranks_by by_entry_total (λ m. m)) xs up i j d (omega arith) within)
 
--- what is the greatest among rows is the greatest in every order of them
+-- the greatest entry of a key among some rows is also the greatest among the same rows in another order
 along : (xs ys : List (model.Key × ops.Entry)) → ((pair : model.Key × ops.Entry) → Contains xs pair → Contains ys pair)
     → ((pair : model.Key × ops.Entry) → Contains ys pair → Contains xs pair)
     → (key : model.Key) (entry : ops.Entry) → IsGreatestAmong xs key entry → IsGreatestAmong ys key entry
 along xs ys to from key entry best = record { among = to (key, entry) best.among; greatest = λ other among. best.greatest other (from (key, other) among) }
 
 module _ (old new out : List (Key × Entry)) (sorted : IsSorted by_entry new) (moved : IsPermutation old new) (last : out ≡ last_rows new) where
-  -- the last rows of sorted rows ascend
+  -- the last rows of the sorted rows ascend by key
   pub lasts_in_order : AreAscending out
   lasts_in_order = subst (λ (rows : List (Key × Entry)). AreAscending rows) (sym last) (lasts_ascend new (rows_sorted new sorted))
 
-  -- they have the greatest entry of each key
+  -- the last rows of the sorted rows have exactly the greatest entry of each key
   pub lasts_are_greatest : All (λ (row : Key × Entry). HasRecords (op_meant row.1.op)) old → (key : model.Key) (entry : ops.Entry)
       → Contains (map row_meant out) (key, entry) ↔ IsGreatestAmong (map row_meant old) key entry
   lasts_are_greatest have key entry = (

@@ -19,11 +19,11 @@ use Rattle.docker_state.specs.Live.{live_rows, put_before}
 use Rattle.docker_state.specs.PlaceRows.{is_call, is_link, is_here, row_here, rows_here}
 use Rattle.docker_state.proofs.LiveTable.{ascends, live_walks}
 
--- a row passes the test of its key and its body
+-- whether a row with its body is at the place
 abbrev passes : Bool → List ℕ → Row → Bool
 passes links place row = is_here links place row.0 row.1
 
--- the rows at a place are the live rows that pass the test
+-- the rows at a place are the live rows that pass this test
 pub rows_here_are : (links : Bool) (place : List ℕ) (rows : List (Key × Entry)) → rows_here links place rows ≡ filter (passes links place) (live_rows rows)
 rows_here_are links place [] = refl
 rows_here_are links place (row ∷ rows) = by row.1.op (rows_here_are links place rows)
@@ -42,12 +42,12 @@ rows_here_are links place (row ∷ rows) = by row.1.op (rows_here_are links plac
     by lapsed rest = rest
     by (put_with body) rest = step (is_here links place row.0 body) body rest
 
--- a schedule that calls at the place
+-- Says that a key and its body belong to a live schedule that calls at the place.
 abbrev IsCaller : State → List ℕ → Key → Body → Type 0
 IsCaller state place key body = (schedule : ScheduleKey) × (lines : List (List ℕ)) × (key ≡ schedule_key schedule) × (body ≡ schedule_body lines)
     × IsCalling (live_table state) place schedule lines
 
--- an association at the place
+-- Says that a key and its body belong to a live association at the place.
 abbrev IsPartner : State → List ℕ → Key → Body → Type 0
 IsPartner state place key body = (association : AssociationKey) × (line : List ℕ) × (key ≡ association_key association) × (body ≡ association_body line)
     × IsLinked (live_table state) place association line
@@ -100,7 +100,7 @@ module _ (state : State) (valid : IsValid state) (place : List ℕ) where
   ascending_there links =
       filter_ascends (on (λ (row : Row). row.0) key_cmp) (passes links place) (live_rows state.entries) (ascends state.entries valid.entries.1)
 
-  -- the live rows that pass the test of calls are the ones that call there
+  -- the rows found for calls are exactly the live schedules that call at the place
   pub calling_sifted : AreCalling (live_table state) place (rows_here false place state.entries)
   calling_sifted = subst (AreCalling (live_table state) place) (sym (rows_here_are false place state.entries)) (record {
     ascending = ascending_there false;
@@ -110,7 +110,7 @@ module _ (state : State) (valid : IsValid state) (place : List ℕ) where
     );
   })
 
-  -- the live rows that pass the test of links are the ones that are linked there
+  -- the rows found for links are exactly the live associations at the place
   pub linked_sifted : AreLinked (live_table state) place (rows_here true place state.entries)
   linked_sifted = subst (AreLinked (live_table state) place) (sym (rows_here_are true place state.entries)) (record {
     ascending = ascending_there true;
@@ -120,6 +120,6 @@ module _ (state : State) (valid : IsValid state) (place : List ℕ) where
     );
   })
 
-  -- as many call there as there are such rows
+  -- as many live schedules call at the place as rows are found for calls
   pub calls_counted : (count : ℕ) → count ≡ length (rows_here false place state.entries) → IsCallingCount (live_table state) place count
   calls_counted count is = (rows_here false place state.entries, calling_sifted, sym is)

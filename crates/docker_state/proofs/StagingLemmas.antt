@@ -1,4 +1,4 @@
--- One more entry is staged, or a commit has nothing to take over.
+-- What staging one more entry does, and when a commit has nothing to do.
 use Rattle.std.proofs.Common.{◌≡◌, List, [], ◌∷◌, ◌++◌, refl, sym, ◌∙◌, subst, inl, inr, ◌⊎◌, Contains, Some, None, All, eqb-true, arith}
 use Rattle.std.specs.Prelude.{Option, ◌↔◌, IsTrue, Bool, true, false, length, ◌==◌}
 use Rattle.std.specs.declared.cmp.Ordering.{Ordering}
@@ -24,7 +24,7 @@ use Rattle.state_laws.proofs.states.OneJoin.{floor_unique}
 use Rattle.cif_laws.proofs.orders.AtMost.{at_most_itself}
 use Rattle.docker_state.specs.Staging.{Staging, HasKeptItems, HasNothingNew, IsAboveStaged}
 
--- joining the empty list to a list adds no element
+-- appending the empty list to a list adds no element
 in_first : {A : Type 0} (xs : List A) (x : A) → Contains (xs ++ []) x → Contains xs x
 in_first xs x among = by (Contains-append_cases xs [] x among)
   where
@@ -32,10 +32,10 @@ in_first xs x among = by (Contains-append_cases xs [] x among)
     by (inl here) = here
     by (inr none) = absurd (nil-Contains x none)
 
--- our state has each received item that is kept
+-- the lemmas for a state that has each received item that the floor keeps
 module _ (own : State) (valid : IsValid own) (items : List LedgerItem) (floor : Option FileStamp) (is_floor : IsFloor (own.ledger ++ items) floor)
     (has : HasKeptItems own.ledger items floor) where
-  -- if our state has all received items that are kept, both ledgers have our ledger's floor
+  -- the floor of both ledgers together is the floor of our own ledger
   own_floor : IsFloor own.ledger floor
   own_floor = by floor is_floor has
     where
@@ -81,7 +81,7 @@ module _ (own : State) (valid : IsValid own) (items : List LedgerItem) (floor : 
         (at_most_itself entry_total other);
   }
 
-  -- if no entry is staged, our state is the join with the state that was received
+  -- if no entry is staged, the join with the received state is our state
   pub join_of_nothing_new : (staged : List (model.Key × ops.Entry)) → staged ≡ [] → IsJoin own (staged_state items staged) own
   join_of_nothing_new staged none = subst (λ (es : List (model.Key × ops.Entry)). IsJoin own (staged_state items es) own) (sym none) (record {
     horizon = sym (max-zero own.horizon);
@@ -105,14 +105,14 @@ module _ (own : State) (valid : IsValid own) (items : List LedgerItem) (floor : 
       either item kept (inl here) = here
       either item kept (inr there) = has item there kept
 
--- a good entry above the staged entries may be staged after them
+-- a good entry whose key is above all staged entries can be staged after them
 pub entry_here : (items : List LedgerItem) (staged : List (model.Key × ops.Entry)) (key : model.Key) (entry : ops.Entry) → IsAboveStaged staged key
     → IsGoodEntry items (key, entry)
     → IsStampHere (staged_state items staged) key entry.stamp
 entry_here items staged key entry above good =
     ((good.key, all_members (λ (e : model.Key × ops.Entry). IsBelow key_cmp e.0 key) staged above), good.stamp)
 
--- our entry of a key, or its absence, decides whether a received entry has to be staged
+-- whether a received entry has to be staged depends only on the floor and on our entry of its key, if we have one
 pub to_stage_tells : (own : State) → IsValid own → (floor : Option FileStamp) (key : model.Key) (entry : ops.Entry) (mine : Option ops.Entry)
     → mine ≡ entry_at own key
     → (b : Bool) → IsTrue b ↔ (IsKept floor entry.stamp.file × IsGreaterThan mine entry) → IsTrue b ↔ IsToStage own floor key entry
@@ -122,7 +122,7 @@ to_stage_tells own valid floor key entry mine is b tells =
       λ to. tells.1 (subst (λ (o : Option ops.Entry). IsKept floor entry.stamp.file × IsGreaterThan o entry) (sym is) (told.0 to)),
     )
 
--- an entry that is kept has to be staged if our entry is below it
+-- if the floor keeps a received entry, it has to be staged if and only if our entry of its key is less
 pub below_tells : (Kept : Type 0) → Kept → (to : Ordering) (b : Bool) → b ≡ is_lt to → IsTrue b ↔ (Kept × (to ≡ Less))
 below_tells Kept kept Less b same = (λ _. (kept, refl), λ _. same)
 below_tells Kept kept Equal b same =
@@ -130,7 +130,7 @@ below_tells Kept kept Equal b same =
 below_tells Kept kept Greater b same =
     (λ true_is. absurd (let bad : false ≡ true = sym same ∙ true_is in cc), λ told. absurd (let bad : Greater ≡ Less = told.1 in cc))
 
--- if nothing new was received, our state is the join of itself and the received state
+-- if nothing new was received, the join with the received state is our state
 pub nothing_new_is_join : (own : State) → IsValid own → (staging : Staging) → IsFloor (own.ledger ++ staging.items) staging.floor → (ledger : List LedgerItem)
     → ledger ≡ own.ledger
     → HasNothingNew ledger staging → IsJoin own (staged_state staging.items staging.staged) own
@@ -142,7 +142,7 @@ none_in : {A : Type 0} (xs : List A) → (length xs == 0) ≡ true → xs ≡ []
 none_in [] empty = refl
 none_in (x ∷ xs) empty = absurd (let size : length (x ∷ xs) ≡ 0 = eqb-true (length (x ∷ xs)) 0 empty in omega arith)
 
--- if no entry is staged and the ledger has each item that is kept, nothing new was received
+-- if no entry is staged, nothing new was received if and only if the ledger has each item that the floor keeps
 pub nothing_new_tells : (ledger : List LedgerItem) (staging : Staging) (empty : Bool) → empty ≡ (length staging.staged == 0) → empty ≡ true
     → (b : Bool) → IsTrue b ↔ HasKeptItems ledger staging.items staging.floor → IsTrue b ↔ HasNothingNew ledger staging
 nothing_new_tells ledger staging empty size is b tells =

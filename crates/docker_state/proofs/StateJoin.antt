@@ -1,4 +1,4 @@
--- The join of two states, from the union of their ledgers and the join of their rows.
+-- The join of two states, made from the union of their ledgers and the join of their rows.
 use Rattle.std.proofs.Common.{◌≡◌, ℕ, List, ◌++◌, map, ap, sym, ◌∙◌, subst, inl, inr, ◌⊎◌, Contains}
 use Rattle.std.specs.Prelude.{Option, ◌↔◌, max}
 use Rattle.std.proofs.Math.Nat.{max_comm}
@@ -25,17 +25,17 @@ use Rattle.docker_join.proofs.MeantOrder.{ascending_meant, meant_ascending}
 use Rattle.docker_state.proofs.LapsedTables.{joined_lapses}
 use Rattle.docker_state.proofs.TableJoin.{Keyed, higher, joined_greatest, greatest_joined}
 
--- the items are the items of both ledgers
+-- Says that a ledger has exactly the items of two others.
 abbrev pub HasUnion : List LedgerItem → List LedgerItem → List LedgerItem → Type 0
 HasUnion union first second =
     (item : stamps.LedgerItem) → Contains (map item_meant union) item ↔ Contains (map item_meant first ++ map item_meant second) item
 
--- the rows are the rows of a table that are kept under the floor
+-- Says that some rows are exactly the rows of a table that the floor keeps.
 abbrev pub HasKeptRows : List (Key × Entry) → List (Key × Entry) → Option stamps.FileStamp → Type 0
 HasKeptRows rows joined floor =
     (row : Keyed) → Contains (map row_meant rows) row ↔ (Contains (map row_meant joined) row × IsKept floor row.1.stamp.file)
 
--- an op that agrees with a key has records
+-- the lines of a body that belongs under its key are records
 pub op_records : (key : model.Key) (op : ops.Op) → IsOpOf key op → HasRecords op
 op_records key deleted good = tt
 op_records key lapsed good = tt
@@ -64,8 +64,8 @@ module _ (g h : ℕ) (items others : List LedgerItem) (first second : List (Key 
   up_second : AreAscending second
   up_second = meant_ascending row_meant (λ (a b : model.Key × ops.Entry). key_cmp a.0 b.0) second two.entries.1
 
-  -- the union of the ledgers and the join of the lapsed rows, each under the floor, make the join
-  -- of the states
+  -- Take the union of the ledgers, and the join of the rows with the horizon applied, and keep of
+  -- both what the floor keeps. This is the join of the states.
   pub states_joined : (floor : Option stamps.FileStamp) → IsFloor (map item_meant items ++ map item_meant others) floor
       → (union ledger : List LedgerItem) → HasUnion union items others
       → IsStrictlyAscending ledger_item_cmp (map item_meant ledger)
@@ -118,7 +118,7 @@ module _ (g h : ℕ) (items others : List LedgerItem) (first second : List (Key 
           joined_lapses (max g h) first second left right up_first up_second left_is
           (right_is ∙ ap (λ n. lapse_entries n (map row_meant second)) (max_comm h g)) entry_records whole joined whole_is is
 
-  -- the join has the entries of the tables' join that the floor keeps, lapsed, and no others
+  -- the rows of the join are the join of the two tables, without what the floor doesn't keep, and with the horizon applied
   pub rows_joined : (floor : Option stamps.FileStamp) → IsFloor (map item_meant items ++ map item_meant others) floor → (horizon : ℕ) → horizon ≡ max g h
       → (joined : State) → IsJoin (state_meant g items first) (state_meant h others second) joined → AreJoined first second floor horizon joined.entries
   rows_joined floor is_floor horizon horizon_is joined is = record {

@@ -1,4 +1,4 @@
--- The meaning of a state's fields.
+-- What the fields of a state of the code mean in the definitions.
 use Rattle.std.proofs.Common.{◌≡◌, ℕ, List, [], ◌∷◌, map, refl, ap, sym, ◌∙◌, subst, Bool, true, false, cond, Some, None, arith}
 use Rattle.std.specs.Prelude.{Option, find, option_and_then, ◌==◌}
 use Rattle.std.specs.Option.{option_map}
@@ -18,7 +18,7 @@ use Rattle.docker_join.specs.Rows.{value_at}
 use Rattle.docker_state.specs.declared.item.LedgerItem as item
 use Rattle.docker_state.specs.Meaning.{item_meant, row_meant, state_meant}
 
--- the rows' entry of a key is the state's entry of that key
+-- the value of a key in the rows is the state's entry of this key
 pub entry_of_rows : (horizon : ℕ) (ledger : List item.LedgerItem) (rows : List (Key × Entry)) (key : model.Key)
     → option_map entry_meant (value_at rows key) ≡ entry_at (state_meant horizon ledger rows) key
 entry_of_rows horizon ledger [] key = refl
@@ -32,7 +32,7 @@ entry_of_rows horizon ledger (row ∷ rows) key = by (is_eq (key_cmp (key_meant 
     by true same = refl
     by false same = same
 
--- the first full item found in the code is the first full item in the definitions
+-- searching the items of the code for the first full extract finds the same as searching the translated items
 pub find_meant : (items : List item.LedgerItem)
     → find (λ (i : LedgerItem). i.indicator == 70) (map item_meant items) ≡ option_map item_meant
     (find (λ (i : item.LedgerItem). (item_meant i).indicator == 70) items)
@@ -46,7 +46,7 @@ find_meant (head ∷ items) = by ((item_meant head).indicator == 70) (find_meant
     by true same = refl
     by false same = same
 
--- the floor of a ledger is its first full item's stamp
+-- the floor of a ledger is the stamp of its first full extract
 pub floor_found : (items : List item.LedgerItem) → IsLedger (map item_meant items)
     → (found : Option item.LedgerItem) → found ≡ find (λ (i : item.LedgerItem). (item_meant i).indicator == 70) items
     → (floor : Option FileStamp) → floor ≡ option_map (λ (i : item.LedgerItem). (item_meant i).stamp) found → IsFloor (map item_meant items) floor

@@ -1,4 +1,4 @@
--- The join of two tables of rows has the greatest entries of both.
+-- The join of two tables has, for each key, the greatest entry of both tables.
 use Rattle.std.proofs.Common.{◌≡◌, List, ◌++◌, map, refl, ap, sym, ◌∙◌, subst, inl, inr, ◌⊎◌, Contains, Some, None}
 use Rattle.std.specs.Prelude.{Option}
 use Rattle.std.specs.Ordering.{on, ord_max}
@@ -25,30 +25,30 @@ use Rattle.docker_join.specs.Rows.{AreAscending, value_at, picked_value, IsJoinO
 use Rattle.docker_join.specs.RowLaws.{value_of, row_of}
 use Rattle.docker_state.specs.Meaning.{row_meant}
 
--- a key with its entry, as the definitions have it
+-- a key with its entry, in the definitions
 abbrev pub Keyed : Type 0
 Keyed = model.Key × ops.Entry
 
--- the order by key
+-- compares two keys with their entries by key only
 abbrev pub by_key : Keyed → Keyed → Ordering
 by_key a b = key_cmp a.0 b.0
 
--- the file stamp of the entry
+-- the stamp of the file that an entry comes from
 abbrev pub file_of : Keyed → FileStamp
 file_of pair = pair.1.stamp.file
 
--- the rows have this entry at the key, as the definitions have it
+-- Says that the rows of the code have an entry at a key that, translated, is this one.
 abbrev pub ValueMeant : List (Key × Entry) → model.Key → ops.Entry → Type 0
 ValueMeant rows key entry = (value : Entry) × (value_at rows key ≡ Some value) × (entry_meant value ≡ entry)
 
--- an entry among ascending rows is the one that they have at its key
+-- if an entry is among ascending rows, it is the value at its key
 pub value_in : (rows : List (Key × Entry)) → AreAscending rows → (key : model.Key) (entry : ops.Entry) → Contains (map row_meant rows) (key, entry)
     → ValueMeant rows key entry
 value_in rows up key entry among =
     let found = Contains-map row_meant rows (key, entry) among in
     (found.0.1, subst (λ k. value_at rows k ≡ Some found.0.1) (λ i. (found.2 i).0) (value_of rows found.0 up found.1), λ i. (found.2 i).1)
 
--- the entry that rows have at a key is among the rows
+-- the value that rows have at a key is among the rows
 pub in_rows : (rows : List (Key × Entry)) (key : model.Key) (value : Entry) → value_at rows key ≡ Some value
     → Contains (map row_meant rows) (key, entry_meant value)
 in_rows rows key value found =
@@ -60,7 +60,7 @@ in_rows rows key value found =
 abbrev pub higher : Entry → Entry → Entry
 higher = ord_max (on entry_meant entry_cmp)
 
--- two values at one key are equal
+-- if an optional value is equal to two values, these are equal
 pub same_value : (a b : Entry) (o : Option Entry) → o ≡ Some a → o ≡ Some b → a ≡ b
 same_value a b o is_a is_b = cc
 
@@ -69,7 +69,7 @@ module _ (first second joined : List (Key × Entry)) (up_first : AreAscending fi
   abbrev Both : List (model.Key × ops.Entry)
   Both = map row_meant first ++ map row_meant second
 
-  -- the join's entry of a key is the greatest of that key
+  -- the value of the join at a key is the greatest entry of this key
   up : (key : model.Key) (a b : Option Entry) → value_at first key ≡ a → value_at second key ≡ b → (value : Entry) → picked_value higher a b ≡ Some value
       → IsGreatestAmong Both key (entry_meant value)
   up key None None is_a is_b value here = cc
@@ -133,7 +133,7 @@ module _ (first second joined : List (Key × Entry)) (up_first : AreAscending fi
       let there = value_in joined is.ascends key entry among in
       subst (IsGreatestAmong Both key) there.2 (up key (value_at first key) (value_at second key) refl refl there.0 (sym (is.values key) ∙ there.1))
 
-  -- the join has an entry of a key if one of the tables has
+  -- if the first table has a value at a key, the join has one
   some_left : (v : Entry) (b : Option Entry) → (m : Entry) × (picked_value higher (Some v) b ≡ Some m)
   some_left v None = (v, refl)
   some_left v (Some w) = (higher v w, refl)
@@ -142,7 +142,7 @@ module _ (first second joined : List (Key × Entry)) (up_first : AreAscending fi
   some_right None w = (w, refl)
   some_right (Some v) w = (higher v w, refl)
 
-  -- each key of the tables has an entry in the join
+  -- if one of the tables has an entry of a key, the join has one
   pub joined_has : (key : model.Key) (entry : ops.Entry) → Contains Both (key, entry) → (m : ops.Entry) × Contains (map row_meant joined) (key, m)
   joined_has key entry among = by (Contains-append_cases (map row_meant first) (map row_meant second) (key, entry) among)
     where
@@ -157,7 +157,7 @@ module _ (first second joined : List (Key × Entry)) (up_first : AreAscending fi
           let m = some_right (value_at first key) e.0 in
           (entry_meant m.0, in_rows joined key m.0 (is.values key ∙ (λ i. picked_value higher (value_at first key) (e.1 i)) ∙ m.1))
 
-  -- the greatest entry of a key is in the join, if the entries have records
+  -- if the bodies' lines are records, the greatest entry of each key is in the join
   pub greatest_joined : ((pair : model.Key × ops.Entry) → Contains Both pair → HasRecords pair.1.op) → (key : model.Key) (entry : ops.Entry)
       → IsGreatestAmong Both key entry → Contains (map row_meant joined) (key, entry)
   greatest_joined records key entry best = by (Contains-append_cases (map row_meant first) (map row_meant second) (key, entry) best.among)

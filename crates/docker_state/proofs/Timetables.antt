@@ -1,4 +1,4 @@
--- What a walk over a timetable gives, from what the walk over its state gives.
+-- From the iterators of a state to the iterators of a timetable.
 use Rattle.std.proofs.Common.{◌≡◌, List, refl, ap, sym, ◌∙◌, subst, Bool, true, false}
 use Rattle.docker_model.specs.file.Change.{Key}
 use Rattle.docker_model.specs.state.State.{State, IsValid, live_table}
@@ -9,7 +9,7 @@ use Rattle.docker_state.specs.Live.{live_rows}
 use Rattle.docker_state.specs.Timetables.{Timetable, counts, live_in}
 use Rattle.docker_state.proofs.LiveTable.{live_ascends, live_walks}
 
--- good rows have the live table of a valid state
+-- the live table of a valid state consists of good rows
 of_good_rows : (state : State) → IsValid state → IsOfGoodRows (live_table state)
 of_good_rows state valid = record {
   rows = live_rows state.entries;
@@ -20,6 +20,6 @@ of_good_rows state valid = record {
   bodies = good_bodies state valid;
 }
 
--- so is the table of a timetable
+-- the table of a timetable over a valid state consists of good rows
 pub timetable_good : (timetable : Timetable) → IsValid timetable.state → IsOfGoodRows (live_in timetable)
 timetable_good timetable valid = counted_good (counts timetable.permanent) (live_table timetable.state) (of_good_rows timetable.state valid)

@@ -1,5 +1,4 @@
--- The rows of a UID's schedules stand together. The live rows among them are the UID's live
--- schedules.
+-- The rows of a UID's schedules follow each other. The live ones among them are the UID's live schedules.
 use Rattle.std.proofs.Common.{◌≡◌, ℕ, zero, suc, ◌-◌, ◌<◌, ◌≤◌, List, [], ◌∷◌, ◌++◌, map, take, drop, length, get_or, refl, ap, sym, ◌∙◌, subst, inl, inr, ◌⊎◌, Bool, true, false, not, cond, nat_lt, Contains, Some, None, arith}
 use Rattle.std.specs.List.{AllByRecursion, AllPairs, position, position_or_len}
 use Rattle.std.specs.List.Sorted.{IsPartitionedBy, IsPartitionPoint}
@@ -32,10 +31,9 @@ use Rattle.docker_state.specs.Meaning.{row_meant}
 use Rattle.docker_state.specs.UidPiece.{to_uid, is_before, AreTo, IsBeginning, IsPieceOfUid}
 use Rattle.docker_state.proofs.LiveTable.{PutThere, from_live, to_live, live_has, live_put, ascends}
 
--- ---- a test that holds up to some key
+-- ---- a test that passes up to some row and fails from there on
 
--- a test of how a key compares, which fails for greater, and which holds for less if it holds for
--- equal
+-- Says that a test of a comparison fails for greater, and that it passes for less if it passes for equal.
 abbrev GoesDown : (Ordering → Bool) → Type 0
 GoesDown test = (test Greater ≡ false) × (test Equal ≡ true → test Less ≡ true)
 
@@ -78,21 +76,21 @@ module _ (test : Ordering → Bool) (down : GoesDown test) (least : test Less �
           let same : j ≡ i = omega arith in
           subst (λ k. test (to_uid (key_meant (get_or rows k d).0) uid) ≡ true) same passes
 
--- the row's key isn't above the UID's schedules
+-- whether a row's key is below the UID's schedules or among them
 abbrev pub is_up_to : List ℕ → Key × Entry → Bool
 is_up_to uid row = is_le (to_uid (key_meant row.0) uid)
 
--- the rows before the UID's schedules are the first rows
+-- the rows before the UID's schedules come before all other rows
 pub parted_before : (uid : List ℕ) (rows : List (Key × Entry)) → AreAscending rows → IsPartitionedBy (is_before uid) rows
 parted_before uid rows up = parted is_lt (refl, λ same. refl) refl uid rows up
 
--- the rows that aren't after the UID's schedules are the first rows
+-- the rows at or before the UID's schedules come before all other rows
 pub parted_up_to : (uid : List ℕ) (rows : List (Key × Entry)) → AreAscending rows → IsPartitionedBy (is_up_to uid) rows
 parted_up_to uid rows up = parted is_le (refl, λ same. refl) refl uid rows up
 
--- ---- where the UID's schedules begin, found by walking back
+-- ---- finding the first of the UID's schedules by a walk back
 
--- if a row isn't before the UID's schedules, the rows after it aren't before them either
+-- if a row isn't before the UID's schedules, no later row is
 module _ (uid : List ℕ) (rows : List (Key × Entry)) (up : AreAscending rows) (first : ℕ) (within : first < length rows)
     (here : (d : Key × Entry) → is_before uid (get_or rows first d) ≡ false) where
   rest_behind : (k : ℕ) (d : Key × Entry) → first ≤ k → k < length rows → is_before uid (get_or rows k d) ≡ false
@@ -102,15 +100,15 @@ module _ (uid : List ℕ) (rows : List (Key × Entry)) (up : AreAscending rows) 
       by false is = is
       by true is = absurd (let bad : true ≡ false = sym (parted_before uid rows up first k d low high is) ∙ here d in cc)
 
-  -- the walk back ends at the first of all rows
+  -- if the walk back ends at index 0, the UID's schedules begin there
   pub begins_at_front : first ≡ 0 → IsBeginning uid rows first
   begins_at_front zero_is = (λ k d low high. absurd (let none : k < 0 = subst (λ n. k < n) zero_is high in omega arith), rest_behind)
 
-  -- the walk back ends just after a row that is before the UID's schedules
+  -- if the walk back ends after a row that is before the UID's schedules, these begin at the next row
   pub begins_after : (0 < first) → ((d : Key × Entry) → is_before uid (get_or rows (first - 1) d) ≡ true) → IsBeginning uid rows first
   begins_after above before = (λ k d low high. parted_before uid rows up k (first - 1) d (omega arith) (omega arith) (before d), rest_behind)
 
--- if no row is after the UID's schedules, the walk reaches the end
+-- if no row is after the UID's schedules, they end at the end of all rows
 pub walk_of_all : (uid : List ℕ) (rows : List (Key × Entry)) → position (λ row. not (is_up_to uid row)) rows ≡ None
     → length rows ≡ position_or_len (λ row. not (is_up_to uid row)) rows
 walk_of_all uid rows none =
@@ -125,11 +123,11 @@ walk_of_all uid rows none =
     by true h some = absurd cc
     by false h some = ltb-false (position_or_len (λ row. not (is_up_to uid row)) rows) (length rows) h
 
--- the walk ends within the rows
+-- the index just after the UID's schedules is at most the number of rows
 pub walk_within : (uid : List ℕ) (rows : List (Key × Entry)) (end : ℕ) → end ≡ position_or_len (λ row. not (is_up_to uid row)) rows → end ≤ length rows
 walk_within uid rows end end_is = subst (λ n. n ≤ length rows) (sym end_is) (prefix_len-le-length (λ row. not (not (is_up_to uid row))) rows)
 
--- the walk ends at the first row after the UID's schedules
+-- the rows below this index are at or before the UID's schedules, and the others are after them
 pub walk_parts : (uid : List ℕ) (rows : List (Key × Entry)) (end : ℕ) → AreAscending rows → end ≡ position_or_len (λ row. not (is_up_to uid row)) rows
     → IsPartitionPoint (λ row. is_up_to uid row ≡ true) (λ row. is_up_to uid row ≡ false) rows end
 walk_parts uid rows end up end_is = (front, back)
@@ -161,16 +159,16 @@ walk_parts uid rows end up end_is = (front, back)
     back : (k : ℕ) (d : Key × Entry) → end ≤ k → k < length rows → is_up_to uid (get_or rows k d) ≡ false
     back k d low high = by k d (is_up_to uid (get_or rows k d)) refl low high
 
--- if rows ascend, the rows after the first n ascend
+-- if rows ascend, the rows after the first n ascend too
 pub behind_ascends : (rows : List (Key × Entry)) (n : ℕ) → AreAscending rows → AreAscending (drop n rows)
 behind_ascends rows zero up = up
 behind_ascends [] (suc n) up = tt
 behind_ascends (row ∷ rows) (suc n) up = behind_ascends rows n up.1
 
--- ---- the piece of the UID's rows
+-- ---- the piece of the rows with the UID's schedules
 
 module _ {A : Type 0} (P : A → Type 0) where
-  -- a property of the first n elements holds for each element taken
+  -- what holds of the elements at the indexes below n holds of each of the first n elements
   front_all : (xs : List A) (n : ℕ) → n ≤ length xs → ((k : ℕ) (d : A) → 0 ≤ k → k < n → P (get_or xs k d)) → (z : A) → Contains (take n xs) z → P z
   front_all xs zero bound all z among = absurd (nil-Contains z among)
   front_all [] (suc n) bound all z among = absurd (let none : suc n ≤ 0 = bound in omega arith)
@@ -181,7 +179,7 @@ module _ {A : Type 0} (P : A → Type 0) where
       by rest (inl same) = subst P same (all 0 x (omega arith) (omega arith))
       by rest (inr inside) = rest inside
 
-  -- a property of the elements after the first n holds for each element left
+  -- what holds of the elements at the indexes from n on holds of each element after the first n
   back_all : (xs : List A) (n : ℕ) → n ≤ length xs → ((k : ℕ) (d : A) → n ≤ k → k < length xs → P (get_or xs k d)) → (z : A) → Contains (drop n xs) z → P z
   back_all [] zero bound all z among = absurd (nil-Contains z among)
   back_all [] (suc n) bound all z among = absurd (let none : suc n ≤ 0 = bound in omega arith)
@@ -208,7 +206,7 @@ greater_of Less h = absurd (let bad : true ≡ false = h in cc)
 greater_of Equal h = absurd (let bad : true ≡ false = h in cc)
 greater_of Greater h = refl
 
--- the rows between both ends are the UID's piece
+-- the rows between the two indexes are exactly the UID's schedules
 pub piece_is : (uid : List ℕ) (rows rest here : List (Key × Entry)) (n m : ℕ) → n ≤ length rows → rest ≡ drop n rows → m ≤ length rest → here ≡ take m rest
     → IsPartitionPoint (λ row. is_before uid row ≡ true) (λ row. is_before uid row ≡ false) rows n
     → IsPartitionPoint (λ row. is_up_to uid row ≡ true) (λ row. is_up_to uid row ≡ false) rest m → IsPieceOfUid uid rows here
@@ -229,21 +227,21 @@ piece_is uid rows rest here n m bound rest_is bound_too here_is first second = r
   above = λ row among. greater_of (to_uid (key_meant row.0) uid) (back_all (λ r. is_up_to uid r ≡ false) rest m bound_too second.1 row among);
 }
 
--- ---- the piece's live rows
+-- ---- the live rows of the piece
 
--- a key that compares equal is a schedule key with this UID
+-- a key that compares as equal with the UID's schedules is the key of a schedule of this UID
 of_uid_is : (key : model.Key) (uid : List ℕ) → to_uid key uid ≡ Equal → (schedule : ScheduleKey) × (key ≡ schedule_key schedule) × (schedule.uid ≡ uid)
 of_uid_is (tiploc_key code) uid tied = absurd (let bad : Less ≡ Equal = tied in cc)
 of_uid_is (association_key key) uid tied = absurd (let bad : Less ≡ Equal = tied in cc)
 of_uid_is (schedule_key key) uid tied = (key, refl, exact_bytes key.uid uid tied)
 
--- a body that suits a schedule key is a schedule's
+-- a body that belongs under a schedule's key is a schedule's
 schedule_of : (key : ScheduleKey) (body : Body) → IsOpOf (schedule_key key) (put_with body) → (lines : List (List ℕ)) × (body ≡ schedule_body lines)
 schedule_of key (tiploc_body bytes) good = absurd good
 schedule_of key (association_body line) good = absurd good
 schedule_of key (schedule_body lines) good = (lines, refl)
 
--- a property of all elements is a property of the first ones
+-- what holds of all elements of two concatenated lists holds of all elements of the first list
 front_of : {A : Type 0} (P : A → Type 0) (xs ys : List A) → AllByRecursion P (xs ++ ys) → AllByRecursion P xs
 front_of P [] ys all = tt
 front_of P (x ∷ xs) ys all = (all.0, front_of P xs ys all.1)
@@ -273,7 +271,7 @@ module _ (state : State) (valid : IsValid state) (uid : List ℕ) (rows piece : 
       (Contains-append_left (map row_meant is.before ++ map row_meant piece) (map row_meant is.behind) pair
       (Contains-append_right (map row_meant is.before) (map row_meant piece) pair among))
 
-  -- each of these rows compares with the UID in this way
+  -- if some rows compare in one way with the UID's schedules, so do their translations
   stands : (order : Ordering) (some : List (Key × Entry)) → AreTo order uid some → (pair : model.Key × ops.Entry) → Contains (map row_meant some) pair
       → to_uid pair.0 uid ≡ order
   stands order some all pair among =
@@ -315,7 +313,7 @@ module _ (state : State) (valid : IsValid state) (uid : List ℕ) (rows piece : 
       ap (λ (k : model.Key). to_uid k uid) made.2 ∙ ap (λ (u : List ℕ). bytes_cmp u uid) made.5 ∙ tied_itself nat_list_cmp_total uid in
       to_live (map row_meant piece) key put.0 body put.2 (in_piece (key, put.0) put.1 tied)
 
-  -- the live rows of the piece are the UID's live schedules
+  -- the live rows of the piece are exactly the UID's live schedules
   pub live_of_uid : (walked : List (model.Key × Body)) → walked ≡ live_rows (map row_meant piece) → AreOfUid (live_table state) uid walked
   unfolding Told
   live_of_uid walked walked_is = subst (AreOfUid (live_table state) uid) (sym walked_is) (record {

@@ -1,4 +1,4 @@
--- A state whose rows may have an index.
+-- States that may have an index of their rows.
 use Rattle.std.specs.Prelude.{ℕ, List, map, Option, IfSome}
 use Rattle.docker_model.specs.file.Change as model
 use Rattle.docker_model.specs.state.Op as ops
@@ -14,24 +14,25 @@ use Rattle.state_index.specs.Spots.{IsIndexOf}
 use Rattle.docker_state.specs.declared.item.LedgerItem.{LedgerItem}
 use Rattle.docker_state.specs.Meaning.{row_meant, state_meant}
 
--- the index is the index of these rows, if there is one
+-- Says that this is the index of these rows, or that there is none.
 abbrev pub IsIndexIfAny : List (model.Key × ops.Entry) → Option Index → Type 0
 IsIndexIfAny rows index = IfSome index (IsIndexOf rows)
 
--- these items are noted, if there are notes
+-- Says that these are the notes of these rows, or that there are none.
 abbrev pub HasNotedIfAny : List Item → Option Notes → Type 0
 HasNotedIfAny items notes = IfSome notes (HasNoted items)
 
--- there is room for the index of these rows, if there are notes and room
+-- Says that there is memory for the index of these rows, unless nothing is noted or nothing was
+-- reserved.
 abbrev pub HasRoomIfAny : List (model.Key × ops.Entry) → Option Notes → Option Room → Type 0
 HasRoomIfAny rows notes room = IfSome notes (λ noted. IfSome room (HasRoomFor rows noted.names.list.items))
 
--- some items are noted, if there are notes, and these rows are picked of the items in this order
+-- Says that the rows are at these indexes among the noted rows, or that nothing is noted.
 abbrev pub ArePickedNotes : List ℕ → List (model.Key × ops.Entry) → Option Notes → Type 0
 ArePickedNotes order rows notes = IfSome notes (λ noted. (items : List Item) × HasNoted items noted × ArePicked items order (items_of rows))
 
--- the state of a horizon, a ledger and rows is valid, and the index is the index of the rows, if
--- there is one
+-- Says that the state with this horizon, ledger and rows is valid, and that this is the index of
+-- the rows, or that there is none.
 pub record IsIndexed (horizon : ℕ) (ledger : List LedgerItem) (rows : List (Key × Entry)) (index : Option Index) : Type 0 where
   pub valid : IsValid (state_meant horizon ledger rows)
   pub indexed : IsIndexIfAny (map row_meant rows) index

@@ -1,21 +1,21 @@
--- The live keys of a state, each with its body.
+-- The live keys of a state, with their bodies.
 use Rattle.std.specs.Prelude.{List, [], ◌∷◌}
 use Rattle.docker_model.specs.file.Change.{Key, Body}
 use Rattle.std.specs.Ordering.{on}
 use Rattle.docker_model.specs.state.Order.{IsStrictlyAscending}
 use Rattle.docker_model.specs.state.Op.{Op, deleted, lapsed, put_with, Entry, key_cmp}
 
--- puts a key with its body before the rest, if the op is a put
+-- a list with a key and its body in front, if the op is a put; otherwise the list unchanged
 abbrev pub put_before : Key → Op → List (Key × Body) → List (Key × Body)
 put_before key deleted rest = rest
 put_before key lapsed rest = rest
 put_before key (put_with body) rest = (key, body) ∷ rest
 
--- the keys that these entries put, each with its body, in the same order
+-- the keys that these entries put, with their bodies, in the same order
 abbrev pub live_rows : List (Key × Entry) → List (Key × Body)
 live_rows [] = []
 live_rows (entry ∷ entries) = put_before entry.0 entry.1.op (live_rows entries)
 
--- the keys ascend
+-- Says that the keys ascend strictly.
 abbrev pub AreInKeyOrder : List (Key × Body) → Type 0
 AreInKeyOrder rows = IsStrictlyAscending (on (λ (row : Key × Body). row.0) key_cmp) rows

@@ -1,4 +1,4 @@
--- The state that changes of one file make.
+-- The state that the changes of one file make.
 use Rattle.std.specs.Prelude.{◌≡◌, ◌↔◌, List, [], ◌∷◌, map, Contains}
 use Rattle.docker_model.specs.file.Change as model
 use Rattle.docker_model.specs.state.Stamp as stamps
@@ -8,8 +8,8 @@ use Rattle.docker_model.specs.state.State.{State, AreAscending, IsGreatestAmong,
 use Rattle.docker_join.specs.Records.{HasRecords}
 use Rattle.docker_state.specs.Rows.{made_by}
 
--- the state has only this ledger item, and for each key the greatest entry that the changes make in
--- the item's file
+-- Says that a state has exactly one ledger item and, for each key, the greatest entry that the
+-- changes of the item's file make.
 pub record IsMadeState (item : stamps.LedgerItem) (changes : List model.Change) (state : State) : Type 0 where
   pub horizon : state.horizon ≡ 0
   pub ledger : state.ledger ≡ item ∷ []
@@ -17,10 +17,10 @@ pub record IsMadeState (item : stamps.LedgerItem) (changes : List model.Change) 
   pub entries : (key : model.Key) (entry : ops.Entry) → Contains state.entries (key, entry)
       ↔ IsGreatestAmong (map (made_by item.stamp) changes) key entry
 
--- each state that the changes make is valid
+-- Says that any state that the changes make is valid.
 abbrev pub MakeValid : stamps.LedgerItem → List model.Change → Type 0
 MakeValid item changes = (state : State) → IsMadeState item changes state → IsValid state
 
--- what each of the changes puts is made of records
+-- Says that the lines of all bodies that the changes put are records.
 abbrev pub HaveRecords : List model.Change → Type 0
 HaveRecords changes = (change : model.Change) → Contains changes change → HasRecords (op_of change.act)

@@ -1,4 +1,4 @@
--- What the parts of a state mean.
+-- What holds of the parts of a state while they are given one by one.
 use Rattle.std.specs.Prelude.{List, map, length, ◌-◌, slice_get, Option}
 use Rattle.std.specs.Option.{option_map}
 use Rattle.docker_model.specs.file.Change.{Key}
@@ -12,11 +12,12 @@ use Rattle.docker_state.specs.declared.item.LedgerItem.{LedgerItem}
 use Rattle.docker_state.specs.Indexed.{HasNotedIfAny}
 use Rattle.docker_state.specs.Meaning.{row_meant, state_meant}
 
--- the state of ledger items and rows is valid, and what the rows name is noted, if there are notes
+-- Says that the parts are a valid state and that, if there are notes, these are the notes of its
+-- rows.
 pub record AreParts (ledger : List LedgerItem) (rows : List (Kept × Row)) (notes : Option Notes) : Type 0 where
   pub valid : IsValid (state_meant 0 ledger rows)
   pub noted : HasNotedIfAny (items_of (map row_meant rows)) notes
 
--- the key of the last entry, if there is one
+-- the key of the last entry; none if there are no entries
 abbrev pub last_key : List (Key × Entry) → Option Key
 last_key entries = option_map (λ (entry : Key × Entry). entry.0) (slice_get entries (length entries - 1))

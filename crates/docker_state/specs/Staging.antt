@@ -1,4 +1,4 @@
--- What a state has received from another, before it is committed.
+-- What a state has received of another state before it commits.
 use Rattle.std.specs.Prelude.{◌≡◌, List, ◌++◌, ◌∷◌, [], map, Option, Contains, ◌⊎◌}
 use Rattle.std.specs.declared.cmp.Ordering.TheVariants.{Less}
 use Rattle.docker_model.specs.file.Change as model
@@ -14,13 +14,13 @@ use Rattle.docker_join.specs.declared.entry.Entry.{Entry}
 use Rattle.docker_state.specs.declared.item.LedgerItem.{LedgerItem}
 use Rattle.docker_state.specs.Meaning.{floor_meant, item_meant, row_meant}
 
--- the common floor of both ledgers, the received ledger items, and the entries that are staged
+-- the floor of both ledgers together, the ledger items received, and the entries that are staged
 pub record Staging : Type 0 where
   pub floor : Option stamps.FileStamp
   pub items : List stamps.LedgerItem
   pub staged : List (model.Key × ops.Entry)
 
--- a staging, from the code's floor, ledger and rows
+-- the `Staging` with this floor, ledger and rows of the code
 abbrev pub staging_meant : Option FileStamp → List LedgerItem → List (Key × Entry) → Staging
 staging_meant floor items rows = record {
   floor = floor_meant floor;
@@ -28,7 +28,7 @@ staging_meant floor items rows = record {
   staged = map row_meant rows;
 }
 
--- the staging after one more entry is staged
+-- a staging with one more entry staged
 abbrev pub with_staged : Staging → model.Key → ops.Entry → Staging
 with_staged staging key entry = record {
   floor = staging.floor;
@@ -36,32 +36,33 @@ with_staged staging key entry = record {
   staged = staging.staged ++ (key, entry) ∷ [];
 }
 
--- the entry was offered: it is staged if it has to be, and otherwise left out
+-- Says what offering an entry does: if it has to be staged, it is staged, and otherwise nothing
+-- changes.
 abbrev pub IsOffered : State → Staging → model.Key → ops.Entry → Staging → Type 0
 IsOffered own before key entry after =
     (IsToStage own before.floor key entry × (after ≡ with_staged before key entry))
     ⊎ (¬ IsToStage own before.floor key entry × (after ≡ before))
 
--- none of these entries has to be staged for our state
+-- Says that none of these entries has to be staged for our state.
 abbrev pub HasNoneToStage : State → Option stamps.FileStamp → List (model.Key × ops.Entry) → Type 0
 HasNoneToStage own floor entries =
     (key : model.Key) (entry : ops.Entry) → Contains entries (key, entry) → ¬ IsToStage own floor key entry
 
--- the key is above each staged entry's key
+-- Says that a key is above the keys of all staged entries.
 abbrev pub IsAboveStaged : List (model.Key × ops.Entry) → model.Key → Type 0
 IsAboveStaged staged key =
     (other : model.Key × ops.Entry) → Contains staged other → key_cmp other.0 key ≡ Less
 
--- the ledger has the item, or the item isn't kept under the floor
+-- Says that the ledger has an item, or that the floor doesn't keep the item.
 abbrev pub HasIfKept : List stamps.LedgerItem → stamps.LedgerItem → Option stamps.FileStamp → Type 0
 HasIfKept ledger item floor = IsKept floor item.stamp → Contains ledger item
 
--- the ledger has each of these items that is kept under the floor
+-- Says that the ledger has each of these items that the floor keeps.
 abbrev pub HasKeptItems : List stamps.LedgerItem → List stamps.LedgerItem → Option stamps.FileStamp → Type 0
 HasKeptItems ledger items floor =
     (item : stamps.LedgerItem) → Contains items item → HasIfKept ledger item floor
 
--- no entry is staged, and the ledger has each received item that is kept under the floor
+-- Says that no entry is staged, and that the ledger has each received item that the floor keeps.
 abbrev pub HasNothingNew : List stamps.LedgerItem → Staging → Type 0
 HasNothingNew ledger staging =
     (staging.staged ≡ []) × HasKeptItems ledger staging.items staging.floor

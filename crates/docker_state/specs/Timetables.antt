@@ -11,11 +11,11 @@ pub record Timetable : Type 0 where
   pub state : State
   pub permanent : Bool
 
--- whether a key counts: each does, or each of a permanent entry
+-- whether an entry with this key counts: always, or only if it is permanent
 abbrev pub counts : Bool → model.Key → Bool
 counts false key = true
 counts true key = is_permanent key
 
--- the table of a timetable: the live entries of its state that count
+-- the table of a timetable: those live entries of its state that count
 abbrev pub live_in : Timetable → Table
 live_in timetable = counted_table (counts timetable.permanent) (live_table timetable.state)

@@ -1,4 +1,4 @@
--- The rows of a UID's schedules, which stand together among rows in key order.
+-- The rows of a UID's schedules, which follow each other in key order.
 use Rattle.std.specs.Prelude.{◌≡◌, ℕ, List, ◌++◌, Bool, true, false, Contains}
 use Rattle.std.specs.List.{slice_get}
 use Rattle.std.specs.List.Sorted.{IsPartitionPoint}
@@ -13,33 +13,33 @@ use Rattle.cif_file.specs.Key.{Key}
 use Rattle.cif_change.specs.Meaning.{key_meant}
 use Rattle.docker_join.specs.declared.entry.Entry.{Entry}
 
--- how a key compares with a UID's schedules. Keys of other kinds are below them
+-- compares a key with a UID's schedules; keys of TIPLOCs and associations are below them
 abbrev pub to_uid : model.Key → List ℕ → Ordering
 to_uid (tiploc_key code) uid = Less
 to_uid (association_key key) uid = Less
 to_uid (schedule_key key) uid = bytes_cmp key.uid uid
 
--- the row's key is below the UID's schedules
+-- whether a row comes before the UID's schedules in key order
 abbrev pub is_before : List ℕ → Key × Entry → Bool
 is_before uid row = is_lt (to_uid (key_meant row.0) uid)
 
--- the row at this index is a schedule of the UID
+-- whether the row at this index is a schedule of the UID; false if there is no such row
 abbrev pub is_of_uid_at : List ℕ → List (Key × Entry) → ℕ → Bool
 is_of_uid_at uid rows at =
     option_map_or (λ row. is_eq (to_uid (key_meant row.0) uid)) (slice_get rows at) false
 
--- this many rows are before the UID's schedules
+-- Says that exactly the first `count` rows come before the UID's schedules.
 abbrev pub IsBeginning : List ℕ → List (Key × Entry) → ℕ → Type 0
 IsBeginning uid rows count =
     IsPartitionPoint (λ row. is_before uid row ≡ true) (λ row. is_before uid row ≡ false) rows count
 
--- each of these rows compares with the UID's schedules in this way
+-- Says that each of these rows compares with the UID's schedules in this way.
 abbrev pub AreTo : Ordering → List ℕ → List (Key × Entry) → Type 0
 AreTo order uid rows =
     (row : Key × Entry) → Contains rows row → to_uid (key_meant row.0) uid ≡ order
 
--- the piece is the UID's rows: the rows before it are below the UID's schedules, and the rows after
--- it above
+-- Says that a piece of the rows has exactly the UID's schedules: all rows before it are below them,
+-- and all rows after it are above them.
 pub record IsPieceOfUid (uid : List ℕ) (rows piece : List (Key × Entry)) : Type 0 where
   pub before : List (Key × Entry)
   pub behind : List (Key × Entry)

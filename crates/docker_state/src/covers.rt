@@ -1,5 +1,5 @@
-//! Whether a state has all that another would bring. If so, the join with the other is this state,
-//! under the greater horizon.
+//! Finds out whether a state already has everything that another state would bring. The join of the
+//! two is then this state under the greater of the two horizons.
 ghost use Rattle.std.specs.Prelude.{map, IsTrue, Contains};
 ghost use Rattle.docker_model.specs.state.Stamp.{ledger_item_cmp, IsKept};
 ghost use Rattle.docker_model.specs.state.Order.{IsStrictlyAscending};
@@ -14,7 +14,7 @@ use crate::state::State;
 use cif_file::Key;
 use docker_join::{Entry, FileStamp};
 
-/// Whether each file of a ledger is below a floor.
+/// Whether each file of a ledger is below a floor. False if there is no floor.
 fn are_below(ledger: &[LedgerItem], floor: &Option<FileStamp>) -> bool
     requires { IsStrictlyAscending ledger_item_cmp (map item_meant ledger.now) }
     ensures { IsTrue result → (item : _) → Contains (map item_meant ledger.now) item
@@ -26,7 +26,8 @@ fn are_below(ledger: &[LedgerItem], floor: &Option<FileStamp>) -> bool
     }
 }
 
-/// Whether none of these rows has to be staged for a state. Their keys ascend.
+/// Whether a state already has these entries, or a greater entry of each key, or the floor doesn't
+/// keep them. The keys of the rows must ascend.
 fn none_to_stage(own: &State, rows: &[(Key, Entry)], floor: &Option<FileStamp>) -> bool
     ensures { IsTrue result
         → HasNoneToStage own.now (floor_meant floor.now) (map row_meant rows.now) }
@@ -42,8 +43,8 @@ fn none_to_stage(own: &State, rows: &[(Key, Entry)], floor: &Option<FileStamp>) 
     true
 }
 
-/// Whether the other state brings no entry that this one has to take over. If all files of the
-/// other are below the floor of both, none of its rows is looked at.
+/// Whether another state has no entry that a state would have to take over. If all files of the
+/// other state are below the floor of both, none of its rows is read.
 fn brings_none(own: &State, other: &State, floor: &Option<FileStamp>) -> bool
     ensures { IsTrue result → HasNoneToStage own.now (floor_meant floor.now) other.now.entries }
 {
@@ -51,9 +52,9 @@ fn brings_none(own: &State, other: &State, floor: &Option<FileStamp>) -> bool
 }
 
 impl State {
-    /// Whether the join with another state is this one under the greater horizon. That is so if
-    /// this state has each item and each entry of the other, or a greater entry of its key. What is
-    /// below the floor of both doesn't count.
+    /// Whether the join with another state is this state under the greater of the two horizons.
+    /// True only if this state has each ledger item of the other, and for each of its entries the
+    /// same or a greater one. What is below the floor of both doesn't count.
     pub(crate) fn covers(&self, other: &State) -> bool
         ensures { IsTrue result
             → IsJoin self.now other.now (raise_horizon other.now.horizon self.now) }

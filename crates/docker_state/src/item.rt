@@ -1,4 +1,4 @@
-//! Ledger items: what a state keeps of a file's header.
+//! Ledger items: what a state remembers of each file's header.
 ghost use Rattle.std.specs.Prelude.{◌≡◌, ◌==◌};
 ghost use Rattle.std.specs.Ordering.{on, as_partial_cmp, eq_by_cmp};
 ghost use Rattle.std.specs.Cmp.{partial_equiv_from_equiv, on_equiv, on_total, eq_by_cmp_equiv, partial_order_from_total};
@@ -13,24 +13,24 @@ use cif_line::{Day, Extract, Header};
 use docker_join::FileStamp;
 use std::cmp::Ordering;
 
-/// A ledger item: what a state keeps of a file's header. Ordered by file stamp, then by update
-/// indicator, then by last file reference.
+/// What a state remembers of a file's header. Ledger items are ordered by file stamp, then by
+/// update indicator, then by last file reference.
 #[derive(Clone, Copy, Debug)]
 pub struct LedgerItem {
-    /// The day of extract.
+    /// The date of extract.
     pub day: Day,
-    /// The minute of the day, from 0.
+    /// The time of extract, as a minute of the day from 0 to 1439.
     pub minute: u16,
     /// The current file reference.
     pub reference: [u8; 7],
-    /// Whether the extract is full or an update.
+    /// The update indicator: a full extract or an update.
     pub indicator: Extract,
     /// The last file reference.
     pub last_reference: [u8; 7],
 }
 
 impl LedgerItem {
-    /// The file's stamp.
+    /// The stamp of the file: its date and time of extract, and its current reference.
     pub fn stamp(&self) -> FileStamp
         ensures { file_stamp_meant result ≡ (item_meant self.now).stamp }
     {
@@ -49,7 +49,7 @@ impl LedgerItem {
     }
 }
 
-/// The ledger item of the file with this header.
+/// The ledger item of a file with this header.
 pub(crate) fn item_of(header: &Header) -> LedgerItem
     ensures { (file : _) → header.now ≡ first_record file
         → item_meant result ≡ ledger_item_of file }

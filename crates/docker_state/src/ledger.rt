@@ -1,4 +1,5 @@
-//! The union of two ledgers, and the items that a floor keeps.
+//! Ledgers, the sorted lists of a state's known files: their union, and the items that a floor
+//! keeps.
 ghost use Rattle.std.specs.Prelude.{◌≡◌, ◌+◌, ◌≤◌, ◌↔◌, ◌++◌, [], length, map, vec_len, vec_capacity, IfSome, IsTrue, Contains};
 ghost use Rattle.docker_model.specs.state.Stamp.{file_stamp_cmp, ledger_item_cmp, IsKept};
 ghost use Rattle.docker_model.specs.state.Order.{IsBelow, IsStrictlyAscending};
@@ -12,7 +13,7 @@ use docker_join::FileStamp;
 use std::alloc::Global;
 use std::cmp::Ordering;
 
-/// An empty vector with room for both ledgers' items. None if memory runs out.
+/// An empty vector with room for the items of two ledgers. None if the allocator refuses.
 pub(crate) fn room_for(alloc: Global, first: usize, second: usize) -> Option<Vec<LedgerItem>>
     ensures empty { IfSome result (λ items. (items.items ≡ []) × (vec_len items ≡ 0)) }
     ensures room { IfSome result (λ items. first + second ≤ vec_capacity items) }
@@ -20,7 +21,8 @@ pub(crate) fn room_for(alloc: Global, first: usize, second: usize) -> Option<Vec
     Vec::with_capacity(alloc, first.checked_add(second)?).ok()
 }
 
-/// The items of two ledgers in ascending order, each once. The vector has room for all.
+/// The items of two ledgers, in ascending order and each once. They are written to a vector that
+/// must have room for all.
 pub(crate) fn union_of(
     mut first: &[LedgerItem],
     mut second: &[LedgerItem],
@@ -67,7 +69,7 @@ pub(crate) fn union_of(
     items
 }
 
-/// The items that a floor keeps.
+/// Keeps only the items that a floor keeps.
 pub(crate) fn kept_items(mut items: Vec<LedgerItem>, floor: &Option<FileStamp>) -> Vec<LedgerItem>
     requires { IsStrictlyAscending ledger_item_cmp (map item_meant items.items) }
     ensures ascending { IsStrictlyAscending ledger_item_cmp (map item_meant result.items) }
@@ -78,14 +80,14 @@ pub(crate) fn kept_items(mut items: Vec<LedgerItem>, floor: &Option<FileStamp>) 
     items
 }
 
-/// Whether a floor keeps an item.
+/// Whether a floor keeps this item.
 fn is_kept_item(floor: &Option<FileStamp>, item: &LedgerItem) -> bool
     ensures { IsTrue result ↔ IsKept (floor_meant floor.now) (item_meant item.now).stamp }
 {
     is_kept(floor, &item.stamp())
 }
 
-/// Whether a ledger has each of these items that the floor keeps.
+/// Whether a ledger has all of these items, apart from those that the floor doesn't keep.
 pub(crate) fn has_kept_items(
     ledger: &[LedgerItem],
     items: &[LedgerItem],
@@ -104,7 +106,7 @@ pub(crate) fn has_kept_items(
     true
 }
 
-/// Whether a ledger has an item, or the floor doesn't keep it.
+/// Whether a ledger has this item, or the floor doesn't keep it.
 fn has_if_kept(ledger: &[LedgerItem], item: &LedgerItem, floor: &Option<FileStamp>) -> bool
     requires { IsStrictlyAscending ledger_item_cmp (map item_meant ledger.now) }
     ensures { IsTrue result
@@ -113,7 +115,7 @@ fn has_if_kept(ledger: &[LedgerItem], item: &LedgerItem, floor: &Option<FileStam
     !is_kept_item(floor, item) || has_item(ledger, item)
 }
 
-/// Whether a ledger has an item, by a binary search.
+/// Whether a ledger has this item, found by binary search.
 fn has_item(ledger: &[LedgerItem], item: &LedgerItem) -> bool
     requires { IsStrictlyAscending ledger_item_cmp (map item_meant ledger.now) }
     ensures { IsTrue result ↔ Contains (map item_meant ledger.now) (item_meant item.now) }
@@ -121,7 +123,8 @@ fn has_item(ledger: &[LedgerItem], item: &LedgerItem) -> bool
     ledger.binary_search(item).is_ok()
 }
 
-/// Whether a file stamp is above each item's stamp in a ledger. Only the last item is looked at.
+/// Whether a file stamp is greater than the stamps of all items in a ledger. Only the last item is
+/// read, as items ascend.
 pub(crate) fn is_above_all(ledger: &[LedgerItem], stamp: &FileStamp) -> bool
     requires { IsStrictlyAscending ledger_item_cmp (map item_meant ledger.now) }
     ensures { IsTrue result → (item : _) → Contains (map item_meant ledger.now) item

@@ -1,5 +1,6 @@
-//! The state of what files say: which files are known, and for each key the greatest entry, lapsed
-//! under a horizon. States are joined in any order, and however often.
+//! The state that follows from a set of files: which files are known, and the greatest entry of
+//! each key, with entries lapsed under a horizon. States can be joined in any order, any number of
+//! times.
 #![tactic(auto)]
 
 mod covers;

@@ -1,4 +1,4 @@
-//! The walk over the live keys.
+//! An iterator over the live keys of a state.
 ghost use Rattle.std.specs.Prelude.{◌≡◌, map};
 ghost use Rattle.std.specs.Iterator.{YieldsFirstBy, item_count};
 ghost use Rattle.cif_change.specs.Meaning.{key_meant, body_meant};
@@ -9,7 +9,7 @@ use cif_file::{Body, Key};
 use docker_join::{Entry, Op};
 use std::marker::Model;
 
-/// Walks over the keys that are put, each with its body, in key order.
+/// An iterator over the keys that are put, in ascending order. It gives each key with its body.
 #[derive(Clone, Debug, Drop)]
 pub struct Live<'a> {
     rows: &'a [(Key, Entry)],
@@ -27,7 +27,7 @@ impl<'a> Model for Live<'a> {
 }
 
 impl<'a> Live<'a> {
-    /// The walk over these rows.
+    /// An iterator over the live keys of these rows.
     pub(crate) fn of(rows: &'a [(Key, Entry)]) -> Live<'a>
         ensures { result ≡ live_rows (map row_meant rows.entry.now) }
     {

@@ -1,4 +1,4 @@
-//! Finds an entry by looking first where it is likely to be.
+//! Looks up an entry, and first looks at the row where it is likely to be.
 ghost use Rattle.std.specs.Prelude.{◌≡◌};
 ghost use Rattle.std.specs.Option.{option_copied};
 ghost use Rattle.cif_change.specs.Meaning.{key_meant};
@@ -7,9 +7,9 @@ ghost use Rattle.docker_join.specs.Rows.{AreAscending, value_at};
 use cif_file::Key;
 use docker_join::Entry;
 
-/// The entry of a key, or None if no row has the key. The row at index `near` is looked at first,
-/// and only then is there a binary search. If the entry is found, `near` becomes the index of the
-/// next row, which is likely to have the next key in order.
+/// The entry of a key. None if no row has the key. First looks at the row at index `near`, and only
+/// if that row has another key searches all rows. If the entry is found, `near` is set to the index
+/// of the next row: the next key to be looked up is likely to be there.
 pub(crate) fn entry_near<'a>(
     rows: &'a [(Key, Entry)],
     key: &Key,

@@ -1,4 +1,4 @@
-//! The live rows at a place, by an index or by a walk over all rows.
+//! Iterators over the live rows at a place, found in an index or among all rows.
 ghost use Rattle.std.specs.Prelude.{◌≡◌};
 ghost use Rattle.std.specs.Iterator.{YieldsFirstBy, item_count};
 ghost use Rattle.cif_change.specs.Meaning.{key_meant, body_meant};
@@ -9,17 +9,17 @@ use cif_file::{Body, Key};
 use state_index::Numbered as NumberedRows;
 use std::marker::Model;
 
-/// A walk over the live rows at a place.
+/// How the live rows at a place are found.
 #[derive(Clone, Debug, Drop)]
 pub(crate) enum Walk<'a> {
-    /// Over the rows that an index names.
+    /// By the marks of an index.
     Numbered(NumberedRows<'a>),
-    /// Over all rows.
+    /// By a walk over all rows.
     Sifted(SiftedRows<'a>),
 }
 
 impl<'a> Walk<'a> {
-    /// The next row, with its index.
+    /// The next live row at the place, with its index.
     fn next(&mut self) -> Option<(usize, &'a Key, &'a Body)>
         ensures { YieldsFirstBy (λ row. (key_meant row.1.now, body_meant row.2.now))
             rows_walked self.old result self.new }
@@ -31,9 +31,9 @@ impl<'a> Walk<'a> {
     }
 }
 
-/// Walks over the live rows at a place, in key order. It gives each row's index, key and body. No
-/// clause says that the index is right: it only says where to look first, and no result depends on
-/// it.
+/// An iterator over the live rows at a place, in key order. It gives the index, the key and the
+/// body of each row. No clause says that the index is right. A caller may use it as a hint where to
+/// look first, but no result may depend on it.
 #[derive(Clone, Debug, Drop)]
 pub struct Numbered<'a> {
     walk: Walk<'a>,
@@ -62,7 +62,8 @@ impl<'a> Iterator for Numbered<'a> {
     }
 }
 
-/// Walks over the live rows at a place, in key order. It gives each row's key and body.
+/// An iterator over the live rows at a place, in key order. It gives the key and the body of each
+/// row.
 #[derive(Clone, Debug, Drop)]
 pub struct PlaceRows<'a> {
     numbered: Numbered<'a>,
@@ -78,7 +79,7 @@ impl<'a> Model for PlaceRows<'a> {
 }
 
 impl<'a> PlaceRows<'a> {
-    /// The rows of a walk.
+    /// An iterator over the rows that a walk finds.
     pub(crate) fn of(walk: Walk<'a>) -> PlaceRows<'a>
         ensures { result ≡ rows_walked walk.entry }
     {
@@ -87,7 +88,7 @@ impl<'a> PlaceRows<'a> {
         }
     }
 
-    /// The same walk, with each row's index, counted from 0.
+    /// An iterator over the same rows that also gives the index of each, from 0.
     pub fn numbered(self) -> Numbered<'a>
         ensures { result ≡ self.entry }
     {

@@ -1,5 +1,5 @@
-//! Receives a state entry by entry. What has to be kept of it is staged, and then committed at
-//! once.
+//! Receives another state entry by entry. Entries that have to be taken over are staged, and a
+//! commit then takes them over all at once.
 ghost use Rattle.std.specs.Prelude.{◌≡◌, ◌==◌, ◌↔◌, ◌++◌, [], List, length, map, IsTrue, IsOk, IsErr, IfOk};
 ghost use Rattle.docker_model.specs.file.Change as model;
 ghost use Rattle.docker_model.specs.state.Op as ops;
@@ -24,15 +24,15 @@ use std::alloc::Global;
 use std::marker::Model;
 use std::mem;
 
-/// What a state has received from another: the other's ledger, and the entries that the state will
-/// take over. The state has nothing of it before the commit.
+/// What a state has received of another state: the other's ledger, and the entries of the other
+/// that this state will take over. The state itself doesn't change before the commit.
 #[derive(Debug, Drop)]
 pub struct Staging {
     floor: Option<FileStamp>,
     items: Vec<LedgerItem>,
     staged: Vec<(Key, Entry)>,
-    // the index in the state's entries where the next key is looked for first: keys are offered in
-    // order
+    // Where the next key is looked up first: an index among the entries of the state. Keys are
+    // offered in ascending order, so it is likely to be near.
     near: usize,
 }
 
@@ -51,8 +51,8 @@ impl Model for Staging {
 }
 
 impl Staging {
-    /// Staging for a state, with the ledger received, which is valid, and no entry yet. It takes no
-    /// memory, so it never returns `Memory`.
+    /// Begins to receive a state, given its ledger, which must be valid. No entry is staged yet.
+    /// Never returns `Memory`, as it allocates nothing.
     pub fn new(alloc: Global, state: &State, items: Vec<LedgerItem>) -> Result<Staging, Memory>
         requires { IsLedger (map item_meant items.items) }
         ensures ok { IsOk result }
@@ -70,7 +70,7 @@ impl Staging {
         })
     }
 
-    /// The ledger items received, ascending.
+    /// The ledger items of the state being received, in ascending order.
     pub fn items(&self) -> &[LedgerItem]
         ensures items { map item_meant result.now ≡ self.now.items }
         ensures valid { IsValid (staged_state self.now.items self.now.staged) }
@@ -78,8 +78,8 @@ impl Staging {
         self.items.as_slice()
     }
 
-    /// The floor of the received ledger and the state's ledger together: the file stamp of the
-    /// newest full extract in either. None if there is none.
+    /// The floor of both ledgers together, the received one and the state's own: the file stamp of
+    /// the newest full extract in either. None if neither has a full extract.
     pub fn floor(&self) -> Option<FileStamp>
         ensures { floor_meant result ≡ self.now.floor }
     {
@@ -100,9 +100,9 @@ impl Staging {
         self.staged.is_empty()
     }
 
-    /// Offers the next entry received, with its key. It is staged if it is kept under the floor,
-    /// and the state has no entry of the key, or only a lesser one. If memory runs out, all stays
-    /// as it was, without the entry.
+    /// Offers the next entry of the state being received. The entry is staged if the floor keeps
+    /// it, and if it is greater than the state's entry of the same key or the state has none. If
+    /// memory runs out, nothing changes, and the entry isn't staged.
     pub fn offer(&mut self, state: &State, key: Key, entry: Entry) -> Result<(), Memory>
         requires floor { IsFloor (state.now.ledger ++ self.old.items) self.old.floor }
         requires above { IsAboveStaged self.old.staged (key_meant key) }
@@ -122,7 +122,8 @@ impl Staging {
         Ok(())
     }
 
-    /// Whether nothing is staged, and this ledger has each item that is kept under the floor.
+    /// Whether no entry is staged, and this ledger already has each received item that the floor
+    /// keeps.
     fn has_nothing_new(&self, ledger: &[LedgerItem]) -> bool
         requires { IsStrictlyAscending ledger_item_cmp (map item_meant ledger.now) }
         ensures { IsTrue result ↔ HasNothingNew (map item_meant ledger.now) self.now }
@@ -131,8 +132,8 @@ impl Staging {
     }
 }
 
-/// Whether an entry is kept under a floor and greater than the state's entry of its key, if there
-/// is one. The state's entry is looked for at index `near` first.
+/// Whether the floor keeps an entry, and it is greater than the state's entry of the same key or
+/// the state has none. The state's entry is first looked for at index `near`.
 pub(crate) fn is_to_stage(
     state: &State,
     floor: &Option<FileStamp>,
@@ -143,8 +144,8 @@ pub(crate) fn is_to_stage(
     ensures { IsTrue result
         ↔ IsToStage state.now (floor_meant floor.now) (key_meant key.now) (entry_meant entry.now) }
 {
-    // An entry of a file that is newer than every known file is greater than ours, so ours needn't
-    // be searched for.
+    // If the entry's file is newer than every known file, the entry is greater than any of ours.
+    // Then ours doesn't have to be found.
     if is_above_all(state.ledger(), &entry.stamp.file) {
         return is_kept(floor, &entry.stamp.file);
     }
@@ -156,11 +157,11 @@ pub(crate) fn is_to_stage(
 
 impl State {
     /// Joins the state with what was received. The ledger becomes the union of both ledgers, and
-    /// each staged entry takes its place at its key. What is below the floor of both is dropped,
-    /// and what ends before this state's horizon lapses. If the entries were offered to another
-    /// state with the same floor, it is still the join, and a greater entry of this state stays. If
-    /// nothing is staged and no item is new, it does nothing. If memory runs out, the state stays
-    /// as it was, and what was received is dropped.
+    /// each staged entry is written at its key. Entries and items below the floor of both are
+    /// dropped, and bodies that end before this state's horizon lapse. The entries may have been
+    /// offered to another state with the same floor: a greater entry of this state then stays, and
+    /// the result is still the join. If nothing is staged and no item is new, nothing is done. If
+    /// memory runs out, the state is unchanged, and what was received is dropped.
     pub fn commit(&mut self, staging: Staging) -> Result<(), Memory>
         requires floor { IsFloor (self.old.ledger ++ staging.items) staging.floor }
         ensures join { IsOk result

@@ -1,4 +1,4 @@
-//! A timetable: the live entries of a state from which dockers are made. They are all of them, or
+//! Timetables: the live entries of a state that count for a docker. These are all live entries, or
 //! only the permanent ones.
 ghost use Rattle.std.specs.Prelude.{◌≡◌, true, false, option_map};
 ghost use Rattle.std.specs.Option.{option_copied};
@@ -18,8 +18,9 @@ use cif_line::{Tiploc, Uid};
 use docker_join::Op;
 use std::marker::Model;
 
-/// The live entries of a state from which dockers are made: all of them, or only the timing points
-/// and what is permanent. Whoever walks over it passes over the others, so no second state is made.
+/// The live entries of a state that count for a docker: all of them, or only its timing points and
+/// what is permanent. Its iterators skip the entries that don't count, so no second state has to be
+/// made.
 #[derive(Debug, Drop)]
 pub struct Timetable<'a> {
     state: &'a State,
@@ -41,31 +42,31 @@ impl<'a> Model for Timetable<'a> {
 }
 
 impl<'a> Timetable<'a> {
-    /// All live entries of a state.
+    /// The timetable in which all live entries of a state count.
     pub fn of(state: &'a State) -> Timetable<'a>
         ensures { result ≡ record { state = state.entry.now; permanent = false } }
     {
         Timetable::counting(state, false)
     }
 
-    /// The live entries of a state without the short-term ones: its timing points, and the schedules
-    /// and associations with the STP indicator `P`.
+    /// The timetable without the short-term plan. Of the live entries of a state, only its timing
+    /// points count, and schedules and associations with the STP indicator `P`.
     pub fn permanent(state: &'a State) -> Timetable<'a>
         ensures { result ≡ record { state = state.entry.now; permanent = true } }
     {
         Timetable::counting(state, true)
     }
 
-    /// The live entries that count.
+    /// The timetable in which all live entries count, or only the permanent ones.
     fn counting(state: &'a State, permanent: bool) -> Timetable<'a>
         ensures { result ≡ record { state = state.entry.now; permanent = permanent } }
     {
-        // Called for its contract: the state is valid.
+        // Called only for its contract, which says that the state is valid.
         let _entries = state.entries();
         Timetable { state, permanent }
     }
 
-    /// The same timetable once more.
+    /// A copy of the timetable.
     pub fn again(&self) -> Timetable<'a>
         ensures { result ≡ self.now }
     {
@@ -75,7 +76,7 @@ impl<'a> Timetable<'a> {
         }
     }
 
-    /// The horizon of the state: a day number, 0 if none was set.
+    /// The horizon of the state: a day number from 0 for 1960-01-01, or 0 if none was set.
     pub fn horizon(&self) -> u16
         ensures horizon { result ≡ self.now.state.horizon }
         ensures day { IsDay result }
@@ -83,7 +84,7 @@ impl<'a> Timetable<'a> {
         self.state.horizon()
     }
 
-    /// The body of a timing point, if it is live. A timing point always counts.
+    /// The body of a timing point. None if it isn't live. Timing points always count.
     pub fn tiploc(&self, tiploc: &Tiploc) -> Option<&'a Body>
         ensures body { option_map body_meant (option_copied result)
             ≡ live_in self.now (tiploc_key tiploc.now) }
@@ -95,8 +96,8 @@ impl<'a> Timetable<'a> {
         }
     }
 
-    /// The schedules that count and call at a TIPLOC, by an LO, an LI or an LT: each once, with its
-    /// lines, in the order of the keys.
+    /// The schedules that count and call at a TIPLOC, in an LO, LI or LT record. Each comes once,
+    /// with its lines, in the order of the keys.
     pub fn calling(&self, tiploc: &Tiploc) -> TimetableRows<'a>
         ensures rows { AreCalling (live_in self.now) tiploc.now result }
         ensures good { IsOfGoodRows (live_in self.now) }
@@ -104,7 +105,8 @@ impl<'a> Timetable<'a> {
         TimetableRows::of(self.state.calling(tiploc).numbered(), self.permanent)
     }
 
-    /// The associations that count at a location: each with its line, in the order of the keys.
+    /// The associations at a location that count. Each comes with its line, in the order of the
+    /// keys.
     pub fn linked(&self, tiploc: &Tiploc) -> TimetableRows<'a>
         ensures rows { AreLinked (live_in self.now) tiploc.now result }
         ensures good { IsOfGoodRows (live_in self.now) }
@@ -112,9 +114,9 @@ impl<'a> Timetable<'a> {
         TimetableRows::of(self.state.linked(tiploc).numbered(), self.permanent)
     }
 
-    /// The schedules of a UID that count: each with its lines, in the order of the keys. The row
-    /// with this index is looked at first; `TimetableRows` gives such an index. If that row is of
-    /// the UID, nothing is searched.
+    /// The schedules of a UID that count. Each comes with its lines, in the order of the keys.
+    /// First looks at the row at index `near`, such as `TimetableRows` gives. If that row is of the
+    /// UID, no search is needed.
     pub fn of_uid_near(&self, uid: &Uid, near: usize) -> UidSchedules<'a>
         ensures rows { AreOfUid (live_in self.now) uid.now result }
         ensures good { IsOfGoodRows (live_in self.now) }
@@ -123,7 +125,7 @@ impl<'a> Timetable<'a> {
     }
 }
 
-/// The body that an op puts. None if it puts none.
+/// The body that an op puts. None if the op isn't a put.
 fn put_in(op: &Op) -> Option<&Body>
     ensures { option_map body_meant (option_copied result) ≡ body_of (op_meant op.entry.now) }
 {

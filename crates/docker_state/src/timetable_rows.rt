@@ -1,4 +1,4 @@
-//! Walks over the rows that count in a timetable.
+//! Iterators over the rows that count in a timetable.
 ghost use Rattle.std.specs.Prelude.{◌≡◌};
 ghost use Rattle.std.specs.Iterator.{YieldsFirstBy, item_count};
 ghost use Rattle.cif_change.specs.Meaning.{key_meant, body_meant};
@@ -12,8 +12,8 @@ use cif_file::{Body, Key};
 use cif_line::Stp;
 use std::marker::Model;
 
-/// Walks over the rows at a place that count, in key order. It gives each row's index, key and body.
-/// No clause says that the index is right: it only says where to look first.
+/// An iterator over the rows at a place that count, in key order. It gives the index, the key and
+/// the body of each row. No clause says that the index is right. It is a hint where to look first.
 #[derive(Clone, Debug, Drop)]
 pub struct TimetableRows<'a> {
     rows: Numbered<'a>,
@@ -32,7 +32,7 @@ impl<'a> Model for TimetableRows<'a> {
 }
 
 impl<'a> TimetableRows<'a> {
-    /// The rows of a walk that count: all of them, or only the permanent ones.
+    /// An iterator over the rows among these that count: all, or only the permanent ones.
     pub(crate) fn of(rows: Numbered<'a>, permanent: bool) -> TimetableRows<'a>
         ensures { result ≡ counted_rows (counts permanent) rows.entry }
     {
@@ -58,7 +58,8 @@ impl<'a> Iterator for TimetableRows<'a> {
     }
 }
 
-/// Walks over the schedules of a UID that count, in key order. It gives each row's key and body.
+/// An iterator over the schedules of a UID that count, in key order. It gives the key and the body
+/// of each.
 #[derive(Clone, Debug, Drop)]
 pub struct UidSchedules<'a> {
     rows: Live<'a>,
@@ -77,7 +78,7 @@ impl<'a> Model for UidSchedules<'a> {
 }
 
 impl<'a> UidSchedules<'a> {
-    /// The rows of a walk that count: all of them, or only the permanent ones.
+    /// An iterator over the rows among these that count: all, or only the permanent ones.
     pub(crate) fn of(rows: Live<'a>, permanent: bool) -> UidSchedules<'a>
         ensures { result ≡ counted_rows (counts permanent) rows.entry }
     {
@@ -103,15 +104,14 @@ impl<'a> Iterator for UidSchedules<'a> {
     }
 }
 
-/// Whether a row with this key counts: each does, or each that is permanent.
+/// Whether a row with this key counts: always, or only if it is permanent.
 fn is_counted(permanent: bool, key: &Key) -> bool
     ensures { result ≡ counts permanent (key_meant key.now) }
 {
     !permanent || is_permanent(key)
 }
 
-/// Whether the key is of a timing point, or of a schedule or an association with the STP indicator
-/// `P`.
+/// Whether a key is permanent: it is a timing point's, or it has the STP indicator `P`.
 fn is_permanent(key: &Key) -> bool
     ensures { result ≡ is_permanent (key_meant key.now) }
 {

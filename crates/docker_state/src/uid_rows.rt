@@ -1,4 +1,4 @@
-//! The rows of a UID's schedules.
+//! Finds the schedules of a UID.
 ghost use Rattle.std.specs.Prelude.{◌≡◌, ◌≤◌, true, not, length, position};
 ghost use Rattle.std.specs.List.{position_or_len};
 ghost use Rattle.std.specs.Ordering.{is_le};
@@ -11,8 +11,8 @@ use cif_line::Uid;
 use docker_join::Entry;
 use std::cmp::Ordering;
 
-/// The rows of a UID's schedules, which stand together among rows in key order. Their end is found
-/// by a walk, since a UID has few schedules, while a search would touch rows far away.
+/// The rows of a UID's schedules, which follow each other in key order. A walk finds the last of
+/// them: a UID has few schedules, and a binary search would read rows far away in memory.
 pub(crate) fn rows_of_uid<'a>(
     rows: &'a [(Key, Entry)],
     uid: &Uid,
@@ -26,8 +26,8 @@ pub(crate) fn rows_of_uid<'a>(
     here
 }
 
-/// How many rows are before the UID's schedules. If the row at index `near` is one of them, a walk
-/// back finds the first. Otherwise a binary search does.
+/// How many rows come before the UID's schedules. If the row at index `near` is one of these
+/// schedules, a walk back finds the first. Otherwise a binary search does.
 fn rows_before(rows: &[(Key, Entry)], uid: &Uid, near: usize) -> usize
     requires { AreAscending rows.now }
     ensures within { result ≤ length rows.now }
@@ -40,7 +40,7 @@ fn rows_before(rows: &[(Key, Entry)], uid: &Uid, near: usize) -> usize
     }
 }
 
-/// Whether the row at this index is a schedule of the UID.
+/// Whether the row at this index is a schedule of the UID. False if there is no such row.
 fn is_of_uid_at(rows: &[(Key, Entry)], uid: &Uid, at: usize) -> bool
     ensures { result ≡ is_of_uid_at uid.now rows.now at }
 {
@@ -50,7 +50,8 @@ fn is_of_uid_at(rows: &[(Key, Entry)], uid: &Uid, at: usize) -> bool
     }
 }
 
-/// The index of the UID's first schedule, by a walk back from one of them.
+/// The index of the UID's first schedule, found by a walk back from the given row, which is one of
+/// its schedules.
 fn first_back(rows: &[(Key, Entry)], uid: &Uid, from: usize) -> usize
     requires up { AreAscending rows.now }
     requires here { is_of_uid_at uid.now rows.now from ≡ true }
@@ -64,7 +65,7 @@ fn first_back(rows: &[(Key, Entry)], uid: &Uid, from: usize) -> usize
     first
 }
 
-/// How many rows at the front aren't after the UID's schedules.
+/// The index just after the UID's last schedule: how many rows are at or below the UID's schedules.
 fn rows_up_to(rows: &[(Key, Entry)], uid: &Uid) -> usize
     ensures { result
         ≡ position_or_len (λ row. not (is_le (to_uid (key_meant row.0) uid.now))) rows.now }
@@ -75,7 +76,7 @@ fn rows_up_to(rows: &[(Key, Entry)], uid: &Uid) -> usize
     }
 }
 
-/// The index of the first row after the UID's schedules.
+/// The index of the first row after the UID's schedules. None if no row comes after them.
 fn first_after(rows: &[(Key, Entry)], uid: &Uid) -> Option<usize>
     ensures { result
         ≡ position (λ row. not (is_le (to_uid (key_meant row.0) uid.now))) rows.now }
@@ -83,7 +84,7 @@ fn first_after(rows: &[(Key, Entry)], uid: &Uid) -> Option<usize>
     rows.iter().position(|row| !to_uid(&row.0, uid).is_le())
 }
 
-/// Compares a key with a UID's schedules.
+/// Compares a key with the keys of a UID's schedules.
 fn to_uid(key: &Key, uid: &Uid) -> Ordering
     ensures { result ≡ to_uid (key_meant key.now) uid.now }
 {

@@ -1,5 +1,5 @@
-//! Worked rows for files: texts that are accepted and refused, in pieces and from sources. This
-//! crate holds only tests.
+//! Worked examples of files: texts that are accepted or refused, read whole, in pieces and from
+//! sources. This crate has only tests.
 #![tactic(auto)]
 
 #[cfg(test)]

@@ -23,7 +23,7 @@ mod thin;
 const SHORT: &[u8] =
     b"TIASHFELD         ASHFIELD CENTRAL                                             ";
 
-/// A TIPLOC insertion with a tab in column 20.
+/// A TIPLOC insert with a tab, which isn't printable, in column 20.
 const TAB: &[u8] =
     b"TIASHFELD         A\tHFIELD CENTRAL                                              ";
 
@@ -35,15 +35,15 @@ const LT_0001: &[u8] =
 const LT_0006: &[u8] =
     b"LTBRAYTON 0006     2  FL                                                        ";
 
-/// The records of the file of one schedule.
+/// The records of a small file with one schedule, which many rows use: `F2`.
 const F2: [&[u8]; 5] = [HD, BS, LO, LT, ZZ];
 
-/// A fault with this cause at this record.
+/// The fault with this cause at this record.
 fn at(number: u32, cause: FileCause) -> FileFault {
     FileFault { number, cause }
 }
 
-/// The key of the schedule of C10001.
+/// The key of C10001's schedule in `F2`.
 fn schedule(rt: &impl Abort) -> Key {
     Key::Schedule(ScheduleKey {
         uid: Uid::from_field(b"C10001").expect(rt, "a UID"),
@@ -52,12 +52,12 @@ fn schedule(rt: &impl Abort) -> Key {
     })
 }
 
-/// A line of this text.
+/// The line with this text.
 fn line(rt: &impl Abort, text: &[u8]) -> Line {
     Line::new(text).expect(rt, "a line")
 }
 
-/// Asserts that this is the file of one schedule.
+/// Asserts that a file is `F2`.
 fn check_f2(rt: &impl Abort, file: CifFile) {
     check_header(rt, &file);
     same(rt, file.records(), 5);
@@ -69,7 +69,7 @@ fn check_f2(rt: &impl Abort, file: CifFile) {
     same(rt, file.into_changes().len(), 1);
 }
 
-/// Asserts that a file has the header of the file of one schedule.
+/// Asserts that a file has the header of `F2`.
 fn check_header(rt: &impl Abort, file: &CifFile) {
     let header = file.header();
     same(rt, header.day().number(), 23536);
@@ -79,7 +79,7 @@ fn check_header(rt: &impl Abort, file: &CifFile) {
     same(rt, header.extract(), Extract::Update);
 }
 
-/// The lines of the schedule that the change puts, if it puts one.
+/// The lines of the schedule that an act puts. None for a deletion or another body.
 fn lines_of(act: &Act) -> Option<&Lines> {
     match act {
         Act::Put(Body::Schedule(lines)) => Some(lines),
@@ -87,7 +87,7 @@ fn lines_of(act: &Act) -> Option<&Lines> {
     }
 }
 
-/// Asserts that the change puts the three lines of the schedule.
+/// Asserts that an act puts the three lines of the schedule in `F2`.
 fn check_lines(rt: &impl Abort, act: &Act) {
     let lines = lines_of(act).expect(rt, "a schedule");
     same(rt, lines.len(), 3);
@@ -96,7 +96,7 @@ fn check_lines(rt: &impl Abort, act: &Act) {
     same(rt, lines.as_slice(), wanted.as_slice());
 }
 
-/// The fault of a text that is read in pieces of this length.
+/// Reads a text in pieces of `step` bytes. Returns its fault, or None.
 fn fault_by(alloc: Global, text: &[u8], step: usize) -> Option<FileFault>
     requires { 0 < step }
 {
@@ -109,13 +109,13 @@ fn fault_by(alloc: Global, text: &[u8], step: usize) -> Option<FileFault>
     parser.finish().err()
 }
 
-/// Why a text from a source isn't judged to be a file.
+/// Checks with `judge_file` a text from a source. Returns why it is refused, or None.
 fn judged_fault(alloc: Global, text: &[u8]) -> Option<ReadFault> {
     let mut source = Bytes::new(text, 7);
     judge_file(alloc, &mut source, 1000).err()
 }
 
-/// The fault of a text as `judge_file` returns it.
+/// The fault of a text in the form in which `judge_file` returns it.
 fn read_fault(fault: Option<FileFault>) -> Option<ReadFault> {
     match fault {
         Some(fault) => Some(ReadFault::File(fault)),
@@ -123,8 +123,8 @@ fn read_fault(fault: Option<FileFault>) -> Option<ReadFault> {
     }
 }
 
-/// Asserts that the text has this fault, or none, in one piece and in pieces of several lengths.
-/// Each later call has to return the fault again, and `judge_file` has to find the same fault.
+/// Asserts that a text has this fault, or none, read whole, in pieces of several lengths, and by
+/// `judge_file`. After a fault, a parser must return it again at every call.
 fn check_fault(rt: &impl Abort, alloc: Global, text: &[u8], wanted: Option<FileFault>, name: &str) {
     let whole = read_pieces(alloc, &[text], 1000).err();
     same_in(rt, name, whole, wanted);
@@ -140,14 +140,14 @@ fn check_fault(rt: &impl Abort, alloc: Global, text: &[u8], wanted: Option<FileF
     same_in(rt, name, parser.finish().err(), wanted);
 }
 
-/// Asserts that the parser returns this fault whatever it is fed.
+/// Asserts that a parser returns this fault again, whatever it is fed.
 fn check_again(rt: &impl Abort, parser: &mut FileParser, fault: FileFault, name: &str) {
     same_in(rt, name, parser.feed(b""), Err(fault));
     same_in(rt, name, parser.feed(HD), Err(fault));
     same_in(rt, name, parser.feed(b"\n"), Err(fault));
 }
 
-/// The changes of the file of these records.
+/// Reads the file with these records. Returns its changes.
 fn changes(rt: &impl Abort, alloc: Global, records: &[&[u8]]) -> Vec<Change> {
     let text = text(alloc, records, b"\n").expect(rt, "room");
     let file = read_pieces(alloc, &[text.as_slice()], 1000).expect(rt, "a file");
@@ -155,7 +155,7 @@ fn changes(rt: &impl Abort, alloc: Global, records: &[&[u8]]) -> Vec<Change> {
     file.into_changes()
 }
 
-/// Asserts that the text of these records has this fault.
+/// Asserts that a text of these records is refused with this fault.
 fn is_refused(
     rt: &impl Abort,
     alloc: Global,
@@ -169,7 +169,8 @@ fn is_refused(
     check_fault(rt, alloc, text.as_slice(), Some(fault), name);
 }
 
-/// Records of a text that is refused, the record at fault, the cause, and the row's name.
+/// The records of a text that is refused, the number of the record at fault, the cause, and a name
+/// for the row.
 type Refused = (&'static [&'static [u8]], u32, FileCause, &'static str);
 
 const REFUSED: &[Refused] = &[
@@ -194,7 +195,7 @@ const REFUSED: &[Refused] = &[
     ),
 ];
 
-/// Asserts that the file of one schedule has too many records for a limit of three.
+/// Asserts that `F2`, with its five records, is refused under a limit of three.
 fn check_limit(rt: &impl Abort, alloc: Global) {
     let text = text(alloc, &F2, b"\n").expect(rt, "room");
     let fault = read_pieces(alloc, &[text.as_slice()], 3).err();
@@ -209,13 +210,14 @@ fn refused_texts(rt: HostRuntime) {
     check_limit(&rt, rt.alloc());
 }
 
-/// Asserts that the file of these records has these changes.
+/// Asserts that the file with these records makes these changes.
 fn changes_are(rt: &impl Abort, alloc: Global, records: &[&[u8]], wanted: &[Change]) {
     let changes = changes(rt, alloc, records);
     same(rt, changes.as_slice(), wanted);
 }
 
-/// Asserts that the changes of the file of these records are at these records.
+/// Asserts that the changes of the file with these records come from the records with these
+/// numbers.
 fn changes_stand_at(rt: &impl Abort, alloc: Global, records: &[&[u8]], numbers: &[u32]) {
     let changes = changes(rt, alloc, records);
     same(rt, changes.len(), numbers.len());
@@ -224,7 +226,7 @@ fn changes_stand_at(rt: &impl Abort, alloc: Global, records: &[&[u8]], numbers: 
     }
 }
 
-/// The deletion at the second record.
+/// A change that deletes this key, made by the second record.
 fn deletion(key: &Key) -> Change {
     Change {
         number: 2,
@@ -233,7 +235,7 @@ fn deletion(key: &Key) -> Change {
     }
 }
 
-/// The change by which the second record puts a timing point.
+/// A change that puts this body at a timing point, made by the second record.
 fn put(key: &Key, body: [u8; 63]) -> Change {
     Change {
         number: 2,
@@ -242,7 +244,7 @@ fn put(key: &Key, body: [u8; 63]) -> Change {
     }
 }
 
-/// Records of a text that is accepted, and the records of its changes.
+/// The records of a text that is accepted, and the numbers of the records that make changes.
 type Accepted = (&'static [&'static [u8]], &'static [u32]);
 
 const ACCEPTED: &[Accepted] = &[
@@ -280,26 +282,26 @@ fn accepted_texts(rt: HostRuntime) {
     }
 }
 
-/// Asserts that this text is the file of one schedule.
+/// Asserts that a text is read as `F2`.
 fn check_f2_text(rt: &impl Abort, alloc: Global, text: &[u8]) {
     let file = read_pieces(alloc, &[text], 5).expect(rt, "a file");
     check_f2(rt, file);
 }
 
-/// Asserts that the records of the file of one schedule are accepted with this line end.
+/// Asserts that the records of `F2` are read as `F2` with this line end.
 fn check_f2_ends(rt: &impl Abort, alloc: Global, end: &[u8]) {
     let whole = text(alloc, &F2, end).expect(rt, "room");
     check_f2_text(rt, alloc, whole.as_slice());
 }
 
-/// Asserts that the file of one schedule is accepted without the last line feed.
+/// Asserts that `F2` is accepted without a line feed after its last record.
 fn check_f2_open(rt: &impl Abort, alloc: Global) {
     let mut whole = text(alloc, &F2, b"\n").expect(rt, "room");
     whole.pop();
     check_f2_text(rt, alloc, whole.as_slice());
 }
 
-/// Asserts that the file of one schedule is accepted in pieces of one byte.
+/// Asserts that `F2` is accepted in pieces of one byte.
 fn check_f2_bytes(rt: &impl Abort, alloc: Global) {
     let whole = text(alloc, &F2, b"\n").expect(rt, "room");
     let mut parser = FileParser::new(alloc, 4_294_967_294);
@@ -334,8 +336,8 @@ fn renames(rt: HostRuntime) {
     changes_are(&rt, alloc, &[HD, TA_SAME, ZZ], &[put(&old, BODY_OF_TI)]);
 }
 
-/// The fault of the first `length` bytes of the file of one schedule, whose lines have `width`
-/// bytes with their ends.
+/// The fault of the first `length` bytes of `F2`. Each line has `width` bytes, including its line
+/// end.
 fn cut_fault(length: u32, width: u32) -> Option<FileFault>
     requires { 80 < width }
 {
@@ -355,8 +357,8 @@ fn cut_fault(length: u32, width: u32) -> Option<FileFault>
     Some(at(records.saturating_add(1), FileCause::NoEnd))
 }
 
-/// Asserts that each proper prefix of the file of one schedule has its fault. A line has `width`
-/// bytes with its end.
+/// Asserts that each proper prefix of `F2` has the fault that `cut_fault` gives. Each line has
+/// `width` bytes, including its line end.
 fn check_cuts(rt: &impl Abort, alloc: Global, end: &[u8], width: u32)
     requires { 80 < width }
 {
@@ -379,7 +381,8 @@ fn cut_texts(rt: HostRuntime) {
     check_cuts(&rt, rt.alloc(), b"\r\n", 82);
 }
 
-/// Asserts that a parser accepts a thousand records of an endless text, and no more.
+/// Asserts that a parser with a limit of a thousand records accepts that many of an endless text,
+/// and refuses the next one.
 fn check_records_without_end(rt: &impl Abort, alloc: Global) {
     let mut parser = FileParser::new(alloc, 1000);
     let mut again = Ok(());
@@ -395,7 +398,7 @@ fn check_records_without_end(rt: &impl Abort, alloc: Global) {
     same(rt, parser.finish().err(), Some(fault));
 }
 
-/// The fault of an endless line after its first `length` bytes.
+/// The fault of the first `length` bytes of a line that never ends.
 fn long_fault(length: u32) -> Option<FileFault> {
     if length <= 81 {
         None
@@ -431,8 +434,8 @@ fn a_journey(rt: HostRuntime) {
     same(&rt, journey.complete(), true);
 }
 
-/// The out-of-memory fault that each later call returns: the earlier one, or the one that the line
-/// feed of this record gave.
+/// The out-of-memory fault that each later call must return. That is the earlier one, if there was
+/// one, and otherwise the one that was returned at this record's line feed.
 fn memory_fault_from(
     fed: Option<FileFault>,
     wanting: Option<FileFault>,
@@ -444,8 +447,8 @@ fn memory_fault_from(
     }
 }
 
-/// The file that the parser has, if memory sufficed. Otherwise none, and the fault is out of memory
-/// at this record, or the earlier fault.
+/// Ends the input. Returns the file, or None if memory ran out, now at this record or before.
+/// Asserts that `finish` then returns that fault.
 fn file_at_end(
     rt: &impl Abort,
     parser: FileParser,
@@ -465,9 +468,9 @@ fn file_at_end(
     }
 }
 
-/// The file of these records, fed one by one with a line feed between them; none if memory runs
-/// out. The line feed of the record for which memory ran out reports it, or the end of the text for
-/// the last record. Each later call reports it again.
+/// Feeds a parser these records one by one, with line feeds between them. Returns the file, or None
+/// if memory runs out. Asserts that this is reported at the line feed of the record that needed the
+/// memory, or at the end for the last record, and again by each later call.
 fn file_or_out_of_memory(
     rt: &impl Abort,
     alloc: Global,
@@ -500,7 +503,7 @@ fn out_of_memory(rt: HostRuntime) {
     }
 }
 
-/// Asserts that a fault with this cause at the seventh record is printed like this.
+/// Asserts how a fault with this cause at record 7 is printed.
 fn cause_prints(rt: &impl Abort, alloc: Global, cause: FileCause, wanted: &str) {
     prints(rt, alloc, at(7, cause), wanted);
 }

@@ -1,4 +1,4 @@
-//! What the rows do with any folder.
+//! What the rows do with any kind of folder: real files, or files in memory.
 ghost use Rattle.std.specs.Prelude.{◌<◌};
 
 use crate::compare::same;
@@ -7,14 +7,14 @@ use docker_host::{Drafted, Folder, OpenFault};
 use std::alloc::Global;
 use std::process::Abort;
 
-/// Asserts that a folder failed fewer than 100 times.
+/// Asserts that a folder has failed fewer than 100 times, which the contracts of its calls need.
 pub(crate) fn has_few_failures<F: Folder>(rt: &impl Abort, folder: &F)
     ensures { F.failures folder.now < 100 }
 {
     assert!(rt; folder.failures() < 100);
 }
 
-/// What is left of a source of at most 10,000 bytes. `None` if it fails.
+/// Reads the rest of a source, at most 10,000 bytes. `None` if the source fails.
 fn left_of<S: Source>(rt: &impl Abort, alloc: Global, source: &mut S) -> Option<Vec<u8>> {
     let mut text = Vec::new(alloc);
     let mut piece = [0u8; 64];
@@ -29,7 +29,7 @@ fn left_of<S: Source>(rt: &impl Abort, alloc: Global, source: &mut S) -> Option<
     None
 }
 
-/// What a named file holds when it is opened. `None` if it isn't read to its end.
+/// Opens the named file and reads it to its end. `None` if either fails.
 pub(crate) fn read<F: Folder>(
     rt: &impl Abort,
     alloc: Global,
@@ -45,7 +45,7 @@ pub(crate) fn read<F: Folder>(
     text
 }
 
-/// Asserts what a named file holds.
+/// Asserts that the named file has this text.
 pub(crate) fn holds<F: Folder>(
     rt: &impl Abort,
     alloc: Global,
@@ -57,7 +57,7 @@ pub(crate) fn holds<F: Folder>(
     same(rt, held.as_slice(), text.as_bytes());
 }
 
-/// Writes a text to a draft, and puts it in the place of its file.
+/// Writes this text to a draft, and then renames the draft over its file.
 fn finish<F: Folder>(
     rt: &impl Abort,
     folder: &mut F,
@@ -76,7 +76,8 @@ fn finish<F: Folder>(
     folder.complete(made).map_err(|_| OpenFault::Failed)
 }
 
-/// Stores a text in a named file, by a draft from a look.
+/// Writes this text to the named file by way of a draft. The draft is refused if the file was
+/// replaced since `seen`.
 pub(crate) fn store<F: Folder>(
     rt: &impl Abort,
     folder: &mut F,
@@ -89,7 +90,7 @@ pub(crate) fn store<F: Folder>(
     finish(rt, folder, made, text)
 }
 
-/// Asserts how storing a text ends, by a draft from a new look.
+/// Looks at the named file and then stores this text in it. Asserts the result.
 pub(crate) fn stores<F: Folder>(
     rt: &impl Abort,
     folder: &mut F,

@@ -1,4 +1,4 @@
-//! Worked rows of folders: the real files, and files in memory. This crate holds only tests.
+//! Worked examples of folders: real files, and files in memory. This crate has only tests.
 #![tactic(auto)]
 
 #[cfg(test)]

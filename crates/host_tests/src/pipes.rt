@@ -1,4 +1,5 @@
-//! Devices that aren't regular files. They are written directly.
+//! Devices that aren't regular files, such as `/dev/null`. They are written to directly, without a
+//! draft.
 
 use crate::compare::same;
 use crate::folders::{read, stores};

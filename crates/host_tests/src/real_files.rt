@@ -1,5 +1,5 @@
-//! Real files: how they are read and written anew, and when a draft is refused. Each row has file
-//! names of its own, because rows run side by side.
+//! Real files: how they are read and replaced, and when a draft is refused. Rows run in parallel,
+//! so each row uses file names of its own.
 
 use crate::compare::same;
 use crate::folders::{has_few_failures, holds, store, stores};
@@ -9,31 +9,31 @@ use std::fs::{Files, Permissions};
 use std::os::unix::fs::{PermissionsExt, symlink};
 use std::process::Abort;
 
-/// A draft that is refused, or that failed.
+/// The result of a draft that was refused, or that failed.
 const FAILED: Result<(), OpenFault> = Err(OpenFault::Failed);
 
-/// Writes a file, as another program does.
+/// Writes a file, as if another program did it.
 fn put(rt: &(impl Abort + Files), name: &str, text: &str) {
     assert!(rt; fs::write(rt, name, text).is_ok());
 }
 
-/// Removes what is under a name, if there is something.
+/// Removes the named file, if there is one.
 fn clear(rt: &(impl Abort + Files), name: &str) {
     let _ = fs::remove_file(rt, name);
 }
 
-/// Makes a link that leads to a name.
+/// Makes a symbolic link from `name` to `to`.
 fn link(rt: &(impl Abort + Files), to: &str, name: &str) {
     clear(rt, name);
     assert!(rt; symlink(rt, to, name).is_ok());
 }
 
-/// Asserts whether there is something under a name, links not followed.
+/// Asserts whether anything has this name. A link counts as itself.
 fn stands(rt: &(impl Abort + Files), name: &str, there: bool) {
     same(rt, fs::symlink_metadata(rt, name).is_ok(), there);
 }
 
-/// Asserts whether a link is under a name.
+/// Asserts that this is the name of a symbolic link.
 fn is_link(rt: &(impl Abort + Files), name: &str) {
     let Ok(there) = fs::symlink_metadata(rt, name) else {
         panic!(rt; "nothing is there");

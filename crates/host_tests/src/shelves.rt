@@ -1,4 +1,4 @@
-//! Files in memory: what they hold, and where they fail.
+//! Shelves, which are files in memory: what they hold, and at which call they fail.
 
 use crate::compare::same;
 use crate::folders::{has_few_failures, holds, read, store, stores};
@@ -6,14 +6,15 @@ use docker_host::{Fails, Folder, OpenFault, Shelf};
 use std::alloc::Global;
 use std::process::Abort;
 
-/// A shelf with one file, which holds 300 bytes, and room for drafts of 1,000.
+/// A shelf with one file of 300 bytes, and with room for a draft of 1,000 bytes.
 fn shelf_of(rt: &impl Abort, alloc: Global) -> Shelf {
     let mut shelf = Shelf::new(alloc, 1000);
     assert!(rt; shelf.put("F", &[65; 300]).is_ok());
     shelf
 }
 
-/// Asserts how many bytes the file `F` has when it is read. `None` if it isn't read to its end.
+/// Asserts that the file `F` is read to its end and has this many bytes. With `None`, asserts that
+/// it isn't read to its end.
 fn reads(rt: &impl Abort, alloc: Global, shelf: &mut Shelf, length: Option<usize>) {
     let text = read(rt, alloc, shelf, "F");
     same(rt, text.map(|text| text.len()), length);
@@ -55,8 +56,8 @@ fn another_text_that_came_since(rt: HostRuntime) {
     same(&rt, shelf.failures(), 1);
 }
 
-/// Asserts how often a shelf failed when its file is read and it fails at this call. Once it
-/// doesn't fail there, the file is read whole.
+/// Asserts how often a shelf has failed after its file was read, if it fails at this call. Asserts
+/// too that the file is read whole once the shelf no longer fails.
 fn fails_reading(rt: &impl Abort, alloc: Global, fails: Fails, failures: u64) {
     let mut shelf = shelf_of(rt, alloc);
     shelf.fail(fails);
@@ -66,8 +67,8 @@ fn fails_reading(rt: &impl Abort, alloc: Global, fails: Fails, failures: u64) {
     reads(rt, alloc, &mut shelf, Some(300));
 }
 
-/// Asserts that storing a text on a shelf that fails at this call returns this fault and counts this
-/// many failures. Asserts too that the shelf stores the text once it no longer fails.
+/// Asserts that storing a text on a shelf that fails at this call ends in this fault, after this
+/// many failures. Asserts too that the text is stored once the shelf no longer fails.
 fn fails_storing(rt: &impl Abort, alloc: Global, fails: Fails, fault: OpenFault, failures: u64) {
     let mut shelf = shelf_of(rt, alloc);
     shelf.fail(fails);

@@ -1,4 +1,4 @@
--- Rows have at most as many spots as the changes or rows from which they were made.
+-- Rows have at most as many spots as the rows or changes that were noted for them.
 use Rattle.std.proofs.Common.{◌≡◌, ℕ, ◌+◌, ◌≤◌, List, [], ◌∷◌, ◌++◌, map, length, refl, ap, sym, ◌∙◌, subst, inl, inr, ◌⊎◌, Contains, arith}
 use Rattle.std.specs.declared.cmp.Ordering.TheVariants.{Less, Equal}
 use Rattle.std.specs.Ordering.{on}
@@ -16,11 +16,11 @@ use Rattle.state_index.specs.Spots.{Places, call_places, link_places, spot_at, s
 use Rattle.state_index.specs.Rooms.{AreMadeBy}
 use Rattle.state_index.proofs.Positions.{Keyed}
 
--- a key and its op
+-- a key with an op
 abbrev pub Pair : Type 0
 Pair = Key × Op
 
--- the number of places that these keys and ops have together
+-- the sum of a count over some keys and ops, such as how many places each has
 abbrev pub total : (Key → Op → ℕ) → List Pair → ℕ
 total count [] = 0
 total count (pair ∷ pairs) = count pair.0 pair.1 + total count pairs
@@ -40,7 +40,7 @@ total-append : (count : Key → Op → ℕ) (first second : List Pair) → total
 total-append count [] second = omega arith
 total-append count (pair ∷ first) second = let rest = total-append count first second in omega arith
 
--- a list with a member is a front, the member and a back
+-- if a list has an element, it is a front, followed by the element and a back
 cut_at : (pairs : List Pair) (pair : Pair) → Contains pairs pair → (front : List Pair) × (back : List Pair) × (pairs ≡ front ++ (pair ∷ back))
 cut_at [] pair among = absurd (nil-Contains pair among)
 cut_at (first ∷ pairs) pair among = by (cut_at pairs pair) (Contains-cons first pairs pair among)
@@ -50,7 +50,8 @@ cut_at (first ∷ pairs) pair among = by (cut_at pairs pair) (Contains-cons firs
     by rest (inl same) = ([], pairs, (λ i. same i ∷ pairs))
     by rest (inr inside) = let found = rest inside in (first ∷ found.0, found.1, (λ i. first ∷ found.2 i))
 
--- rows with different keys, all among some pairs, have no more places than the pairs
+-- if rows with different keys are all among some keys with ops, a count's total over the rows is at
+-- most its total over these keys and ops
 fewer : (count : Key → Op → ℕ) (rows : List Keyed) → AreAscending rows → (pairs : List Pair) →
     ((row : Keyed) → Contains rows row → Contains {X = Pair} pairs (row.0, row.1.op))
     → total count (pairs_of rows) ≤ total count pairs
@@ -88,7 +89,7 @@ fewer count (row ∷ rows) up pairs among = by (fewer count rows up.1) (cut_at p
             place next inside (Contains-append_cases front ((row.0, row.1.op) ∷ back) (next.0, next.1.op)
             (subst (λ (zs : List Pair). Contains zs (next.0, next.1.op)) whole (among next (cons-Contains row rows next inside))))
 
--- an association has at most one place
+-- an association has one location, and any other row none
 few_links : (key : Key) (op : Op) → length (link_places key op) ≤ 1
 few_links (association_key key) (put_with (association_body line)) = omega arith
 few_links (association_key key) (put_with (tiploc_body bytes)) = omega arith
@@ -105,11 +106,11 @@ at_most_all (pair ∷ pairs) = let one = few_links pair.0 pair.1 in let rest = a
 abbrev pub changed : List model.Change → List Pair
 changed changes = map (λ (change : model.Change). (change.key, op_of change.act)) changes
 
--- rows have as many call spots as the places where their keys and ops call
+-- rows have as many spots of calls as their schedules have calls in total
 pub places_of_rows : (rows : List Keyed) → length (spots_of call_places rows) ≡ total (λ key op. length (call_places key op)) (pairs_of rows)
 places_of_rows rows = spots_total call_places 0 rows
 
--- each row has at most one link spot
+-- rows have at most as many spots of links as there are rows
 pub links_of_rows : (rows : List Keyed) → length (spots_of link_places rows) ≤ length rows
 links_of_rows rows =
     let one = spots_total link_places 0 rows in
@@ -117,7 +118,7 @@ links_of_rows rows =
     let three = length-map {B = Pair} rows (λ (row : Keyed). (row.0, row.1.op)) in
     omega arith
 
--- the rows that changes make have no more calls than the changes
+-- the rows that some changes make have at most as many calls as the changes
 pub places_of_changes : (rows : List Keyed) (changes : List model.Change) → AreAscending rows → AreMadeBy changes rows
     → length (spots_of call_places rows) ≤ total (λ key op. length (call_places key op)) (changed changes)
 places_of_changes rows changes up made =
@@ -138,7 +139,7 @@ ones : (pairs : List Pair) → total (λ key op. 1) pairs ≡ length pairs
 ones [] = refl
 ones (pair ∷ pairs) = let rest = ones pairs in omega arith
 
--- changes make no more rows than there are changes
+-- some changes make at most as many rows as there are changes
 pub rows_of_changes : (rows : List Keyed) (changes : List model.Change) → AreAscending rows → AreMadeBy changes rows → length rows ≤ length changes
 rows_of_changes rows changes up made =
     let few = fewer (λ key op. 1) rows up (changed changes) made in

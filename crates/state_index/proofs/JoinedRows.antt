@@ -1,5 +1,4 @@
--- The rows of a join are the rows of a walk over both tables. The moves say where each row goes in
--- the join.
+-- The rows of a join are the winning rows of a walk over both tables. The moves say at which index of the join each row is.
 use Rattle.std.proofs.Common.{◌≡◌, ℕ, List, [], ◌∷◌, map, refl, ap, sym, ◌∙◌, subst, Bool, true, false, cond, ◌⊎◌, Some, None, Contains}
 use Rattle.std.specs.Prelude.{Option, ◌↔◌, filter, not}
 use Rattle.std.specs.List.{AllByRecursion}
@@ -33,7 +32,7 @@ use Rattle.state_index.proofs.RisingMoves.{first_rising, second_rising}
 use Rattle.state_index.proofs.JoinedSpots.{keeps, kept_lapsed, turns_out}
 use Rattle.state_index.proofs.RowPlaces.{no_calls, no_links}
 
--- a stamp that passes the test is kept
+-- a stamp that passes the test `is_kept` is kept under the floor
 pub keeps_is : (floor : Option FileStamp) (stamp : FileStamp) → is_kept floor stamp ≡ true → IsKept floor stamp
 keeps_is None stamp h = tt
 keeps_is (Some floor) stamp h = by (file_stamp_cmp floor stamp) h
@@ -52,7 +51,7 @@ is_keeps (Some floor) stamp kept = by (file_stamp_cmp floor stamp) kept
     by Equal below = refl
     by Greater below = absurd (below refl)
 
--- a filter of an ascending list ascends
+-- removing elements from an ascending list leaves an ascending list
 module _ {A : Type 0} (cmp : A → A → Ordering) (test : A → Bool) where
   filter_above : (low : A) (xs : List A) → AllByRecursion (IsBelow cmp low) xs → AllByRecursion (IsBelow cmp low) (filter test xs)
   filter_above low [] above = tt
@@ -74,7 +73,7 @@ keyed_total : IsTotalOrder (on (λ (row : Keyed). row.0) key_cmp)
 keyed_total = on_total (λ (row : Keyed). row.0) key_total
 
 module _ (floor : Option FileStamp) (horizon : ℕ) where
-  -- the list has the entries that the floor keeps, lapsed under the horizon, and no others
+  -- `kept_lapsed` gives exactly the entries that the floor keeps, with the horizon applied
   members_are : (entries : List Keyed) (key : model.Key) (entry : ops.Entry) → Contains (kept_lapsed floor horizon entries) (key, entry)
       ↔ LapsesTo entries floor horizon key entry
   members_are entries key entry = (
@@ -88,7 +87,7 @@ module _ (floor : Option FileStamp) (horizon : ℕ) where
         (filter_forth (keeps floor) entries (key, told.0) told.1 (is_keeps floor told.0.stamp.file told.2))),
   )
 
-  -- the rows that the floor keeps, lapsed, are the rows of the join
+  -- the winning rows that the floor keeps, with the horizon applied, are the rows of the join
   pub joined_is : (first second : List Row) (joined : List Keyed) → AreAscending first → AreAscending second → AreJoined first second floor horizon joined
       → joined ≡ kept_lapsed floor horizon (map row_meant (map winner (turns_of first second)))
   joined_is first second joined up_first up_second is =
@@ -115,7 +114,7 @@ module _ (floor : Option FileStamp) (horizon : ℕ) where
           same_rows is.whole (walk picked first second) is.is_join.ascends walk_is.ascends (λ key. is.is_join.values key ∙ sym (walk_is.values key))
           ∙ sym (winners_are first second)
 
-  -- the moves of both tables' rows into the join
+  -- the spots of the joined rows are the spots of both tables, moved to the new indexes of their rows
   module _ (first second : List Row) (up_first : AreAscending first) (up_second : AreAscending second) (moves : Moves)
       (first_is : moves.first.items ≡ first_moves floor horizon 0 (turns_of first second))
       (second_is : moves.second.items ≡ second_moves floor horizon 0 (turns_of first second)) where

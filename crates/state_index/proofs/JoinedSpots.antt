@@ -1,4 +1,4 @@
--- The spots of a join's rows are the spots of both tables, moved to where their rows go.
+-- The spots of joined rows are the spots of both tables, moved to the new indexes of their rows.
 use Rattle.std.proofs.Common.{◌≡◌, ℕ, ◌+◌, List, [], ◌∷◌, ◌++◌, map, length, refl, ap, sym, ◌∙◌, subst}
 use Rattle.std.proofs.Common.{inl, inr, ◌⊎◌, Bool, true, false, cond, Some, None, Contains, arith}
 use Rattle.std.specs.Prelude.{Option, ◌↔◌, ◌<◌, ◌≤◌, slice_get, ◌&&◌, option_map, option_and_then, filter}
@@ -21,7 +21,7 @@ use Rattle.state_index.specs.Joined.{moved_spot, moved_spots}
 use Rattle.state_index.proofs.Positions.{Keyed}
 use Rattle.state_index.proofs.TurnRows.{Row, winner, IsLevel, first_len, second_len}
 
--- an op that is still a put after the lapse hasn't changed
+-- an op that is still a put once the horizon is applied is unchanged
 pub stays : (horizon : ℕ) (op : ops.Op) → is_put (lapse horizon op) ≡ true → lapse horizon op ≡ op
 stays horizon deleted put = refl
 stays horizon lapsed put = refl
@@ -32,12 +32,12 @@ stays horizon (put_with body) put = by (below_or horizon body)
         ≡ false = sym put ∙ gone in cc)
     by (inr above) = put_stays horizon body above
 
--- the spots of one row, at the index where the row goes
+-- the spots of one row at its index in the join; none if it isn't live there
 abbrev pub at_move : Option ℕ → List (List ℕ) → List Spot
 at_move None places = []
 at_move (Some at) places = map (spot_at at) places
 
--- moving a row's spots puts them where the row goes
+-- moving the spots of one row gives its spots at its new index
 moved_row : (moves : List (Option ℕ)) (at : ℕ) (move : Option ℕ) → slice_get moves at ≡ Some move → (places : List (List ℕ))
     → filter_map (moved_spot moves) (map (spot_at at) places) ≡ at_move move places
 moved_row moves at None is [] = refl
@@ -52,13 +52,13 @@ moved_row moves at (Some to) is (place ∷ places) =
     (λ i. cons_option (some i) (filter_map (moved_spot moves) (map (spot_at at) places))) ∙ ap (λ rest. spot_at to place ∷ rest)
     (moved_row moves at (Some to) is places)
 
--- the element just after the front of a list
+-- the element that follows the front of a list is at the index that is the length of the front
 behind_front : {A : Type 0} (front : List A) (x : A) (xs : List A) → slice_get (front ++ x ∷ xs) (length front) ≡ Some x
 behind_front [] x xs = refl
 behind_front (y ∷ front) x xs = behind_front front x xs
 
 module _ (places : Places) where
-  -- the spots of rows, each at the index where its row goes
+  -- the spots of some rows, each row at its index in the join
   abbrev pub along : List (Option ℕ) → List Keyed → List Spot
   along [] rows = []
   along (move ∷ moves) [] = []
@@ -83,11 +83,11 @@ module _ (places : Places) where
           ∙ (λ i. moved_row (front ++ move ∷ moves) (length front) move (behind_front front move moves) (places row.0 row.1.op) i
           ++ (sym (λ j. moved_spots (append_assoc front (move ∷ []) moves j) (spots_from places (longer j) rows)) ∙ later) i)
 
-  -- moving the spots of rows puts each where its row goes
+  -- moving the spots of some rows gives the spots of each row at its new index
   pub moved_along : (moves : List (Option ℕ)) (rows : List Keyed) → length moves ≡ length rows → moved_spots moves (spots_of places rows) ≡ along moves rows
   moved_along moves rows size = along_from [] moves rows size
 
--- the first list has the members of the two others, and no other members
+-- Says that the first list has exactly the members of the two other lists.
 abbrev AreOfBoth : List Spot → List Spot → List Spot → Type 0
 AreOfBoth all first second = (spot : Spot) → Contains all spot ↔ (Contains first spot ⊎ Contains second spot)
 
@@ -131,7 +131,7 @@ second_more : (front all first second : List Spot) → AreOfBoth all first secon
 second_more front all first second told =
     turned (front ++ all) (front ++ second) first (first_more front all second first (turned all first second told))
 
--- whether the floor keeps a row
+-- whether the floor keeps what comes from a row's file
 abbrev pub keeps : Option FileStamp → Keyed → Bool
 keeps floor pair = is_kept floor pair.1.stamp.file
 
@@ -142,7 +142,7 @@ module _ (places : Places) (none : (key : model.Key) (op : ops.Op) → is_put op
   abbrev Kept : List Row → List Keyed
   Kept rows = kept_lapsed floor horizon (map row_meant rows)
 
-  -- the spots of winning rows are the first one's, at the index where it goes, and then the others'
+  -- the spots of winning rows are the first row's at its index in the join, followed by the spots of the others
   row_out : (at : ℕ) (row : Row) (rows : List Row)
       → spots_from places at (Kept (row ∷ rows)) ≡ at_move (goes floor horizon at row.1) (places (key_meant row.0) (op_meant row.1.op)) ++ spots_from places
       (after floor at row.1) (Kept rows)
@@ -220,7 +220,7 @@ module _ (places : Places) (none : (key : model.Key) (op : ops.Op) → is_put op
           (along places (first_moves floor horizon (after floor at other.1) turns) (map row_meant (firsts turns)))
           (along places (second_moves floor horizon (after floor at other.1) turns) (map row_meant (seconds turns))) lost)
 
-  -- the spots of the winning rows are the spots of both tables, moved to where their rows go
+  -- the spots of the winning rows are the spots of both tables, moved to the new indexes of their rows
   pub turns_out : (turns : List AtKey) → AllByRecursion IsLevel turns → (spot : Spot)
       → Contains (spots_of places (Kept (map winner turns))) spot
       ↔ (Contains (moved_spots (first_moves floor horizon 0 turns) (spots_of places (map row_meant (firsts turns)))) spot

@@ -1,4 +1,4 @@
--- After a lapse, the spots that stay are the spots of the lapsed rows.
+-- After a lapse, the spots whose rows are still put are the spots of the lapsed rows.
 use Rattle.std.proofs.Common.{◌≡◌, ℕ, List, [], refl, ap, sym, ◌∙◌, subst, Bool, true, false, Some, None, Contains}
 use Rattle.std.specs.Prelude.{Option, filter, slice_get, option_map, option_and_then}
 use Rattle.std.specs.Option.{is_some}
@@ -39,7 +39,7 @@ module _ (places : Places) (none : (key : Key) (op : Op) → is_put op ≡ false
   lapsed_at at row is = ap (λ (all : List Keyed). slice_get all at) are ∙ slice_get-map (lapse_keyed horizon) before at ∙ ap
       (option_map (lapse_keyed horizon)) is
 
-  -- each lapsed row comes from a row before the lapse
+  -- each row after the lapse is a row from before, with the horizon applied
   was_at : (at : ℕ) (row : Keyed) → slice_get rows at ≡ Some row → (old : Keyed) × (slice_get before at ≡ Some old) × (lapse_keyed horizon old ≡ row)
   was_at at row is = by (slice_get before at) refl
     where
@@ -87,7 +87,7 @@ module _ (places : Places) (none : (key : Key) (op : Op) → is_put op ≡ false
           subst (λ zs. Contains zs spot) (sym is)
           (filter_forth (is_put_at rows) spots spot ((of.members spot).1 there) (put_row rows spot row at ∙ put))
 
-  -- after a lapse, the postings that stay are the postings of the lapsed rows
+  -- removing the postings of rows that lapsed leaves the postings of the rows after the lapse
   pub lapsed_postings : (names : List (List ℕ)) (postings after : List Posting) → after ≡ filter (is_put_at_posting rows) postings → ArePostingsOf places before names postings
       → ArePostingsOf places rows names after
   lapsed_postings names postings after is of = record {

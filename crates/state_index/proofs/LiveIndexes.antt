@@ -1,5 +1,5 @@
--- The spots of a state's rows are the indexes of its live table: the rows that a place's spots name
--- are those that call or are linked there.
+-- The spots of a state's rows give the indexes of its live table. The rows that the spots of a
+-- place name are the rows that call or are linked there.
 use Rattle.std.proofs.Common.{◌≡◌, ℕ, List, [], ◌∷◌, ◌++◌, map, refl, ap, sym, ◌∙◌, subst, Some, None, Contains}
 use Rattle.std.specs.Prelude.{Option, slice_get, option_and_then}
 use Rattle.std.specs.List.{filter_map, cons_option}
@@ -34,13 +34,13 @@ put_of deleted body is = absurd (none_some body is)
 put_of lapsed body is = absurd (none_some body is)
 put_of (put_with other) body is = ap put_with (some_is other body is)
 
--- a row that is put is live
+-- a row that is put is live in the state
 put_is_live : (state : State) → AreAscending state.entries → (at : ℕ) (row : Keyed) (body : Body) → slice_get state.entries at ≡ Some row
     → row.1.op ≡ put_with body → live_table state row.0 ≡ Some body
 put_is_live state up at row body is put =
     ap (option_and_then (λ (entry : Entry). body_of entry.op)) ((entry_at_iff state up row.0 row.1).1 (at_member state.entries at row is)) ∙ ap body_of put
 
--- each live key is a row that is put
+-- a key that is live in the state is the key of a row that is put
 live_is_put : (state : State) → AreAscending state.entries → (key : Key) (body : Body) → live_table state key ≡ Some body
     → (at : ℕ) × (entry : Entry) × (slice_get state.entries at ≡ Some (key, entry)) × (entry.op ≡ put_with body)
 live_is_put state up key body live = by (entry_at state key) refl live
@@ -52,7 +52,7 @@ live_is_put state up key body live = by (entry_at state key) refl live
         let place = member_at state.entries (key, entry) ((entry_at_iff state up key entry).0 at) in
         (place.0, entry, place.1, put_of entry.op body is)
 
--- for both indexes: the index of calls and the index of links
+-- the lemmas that hold for both indexes, the index of calls and the index of links
 module _ {K : Type 0} (wrap : K → Key) (row_of : List ℕ → Key → Option (List ℕ × K)) (cmp : K → K → Ordering)
     (unwrap : (place : List ℕ) (key : Key) (row : List ℕ × K) → row_of place key ≡ Some row → (row.0 ≡ place) × (key ≡ wrap row.1))
     (wrapped : (place : List ℕ) (k : K) → row_of place (wrap k) ≡ Some (place, k))
@@ -60,11 +60,11 @@ module _ {K : Type 0} (wrap : K → Key) (row_of : List ℕ → Key → Option (
   abbrev IndexRow : Type 0
   IndexRow = List ℕ × K
 
-  -- the row of the live table's index that a spot stands for
+  -- the row of the live table's index that a spot gives; none if the spot's row has a key of another kind
   abbrev row_at : List Keyed → Spot → Option IndexRow
   row_at rows spot = option_and_then (λ (row : Keyed). row_of spot.place row.0) (slice_get rows spot.at)
 
-  -- the index row has the spot's place, and the key of the row that the spot names
+  -- a spot gives a row with the spot's place and the key of the row that the spot names
   told_at : (rows : List Keyed) (spot : Spot) (index_row : IndexRow) → row_at rows spot ≡ Some index_row
       → (row : Keyed) × (slice_get rows spot.at ≡ Some row) × (index_row.0 ≡ spot.place) × (row.0 ≡ wrap index_row.1)
   told_at rows spot index_row is = by (slice_get rows spot.at) refl is
@@ -81,7 +81,7 @@ module _ {K : Type 0} (wrap : K → Key) (row_of : List ℕ → Key → Option (
   abbrev index_cmp : IndexRow → IndexRow → Ordering
   index_cmp a b = ordering_then (bytes_cmp a.0 b.0) (cmp a.1 b.1)
 
-  -- the index rows of ascending spots ascend
+  -- ascending spots give ascending rows of the index
   index_ascends : (rows : List Keyed) → AreAscending rows → (spots : List Spot) → IsStrictlyAscending spot_cmp spots
       → IsStrictlyAscending index_cmp (filter_map (row_at rows) spots)
   index_ascends rows up spots ascending = chosen_ascends (row_at rows) spot_cmp index_cmp keeps spots ascending
@@ -107,11 +107,11 @@ module _ {K : Type 0} (wrap : K → Key) (row_of : List ℕ → Key → Option (
               (λ i. ordering_then ((places ∙ at) i) (cmp c.1 d.1))
               ∙ below c.1 d.1 (sym (λ i. key_cmp (from_a.3 i) (from_b.3 i)) ∙ keys)
 
-  -- the spot names a row that is put and has a key of this kind
+  -- Says that a spot names a row that is put and has a key of the right kind.
   abbrev IsSeen : List Keyed → Spot → Type 0
   IsSeen rows spot = (row : Keyed) × (k : K) × (body : Body) × (slice_get rows spot.at ≡ Some row) × (row.0 ≡ wrap k) × (row.1.op ≡ put_with body)
 
-  -- the keys of the rows that such spots name are the keys that the index has
+  -- if each of some spots names such a row, the index has the keys of these rows
   same_keys : (rows : List Keyed) (piece : List Spot) → ((spot : Spot) → Contains piece spot → IsSeen rows spot)
       → map (λ (row : Row). row.0) (rows_at_spots rows piece) ≡ map (λ (row : IndexRow). wrap row.1) (filter_map (row_at rows) piece)
   same_keys rows [] seen = refl
@@ -127,7 +127,7 @@ module _ {K : Type 0} (wrap : K → Key) (row_of : List ℕ → Key → Option (
           ∙ (λ i. key i ∷ rest i)
           ∙ sym (λ i. map (λ (r : IndexRow). wrap r.1) (cons_option (row_is rows spot row k at key i) (filter_map (row_at rows) piece)))
 
-  -- spots of other places give no index row of this place
+  -- spots of other places give no row of this place
   not_at : (rows : List Keyed) (place : List ℕ) (spots : List Spot) → ((spot : Spot) → Contains spots spot → ¬ (spot.place ≡ place))
       → (row : IndexRow) → Contains (filter_map (row_at rows) spots) row → ¬ (row.0 ≡ place)
   not_at rows place spots none row among =
@@ -135,7 +135,7 @@ module _ {K : Type 0} (wrap : K → Key) (row_of : List ℕ → Key → Option (
       let told = told_at rows found.0 row found.2 in
       λ here. none found.0 found.1 (sym told.2 ∙ here)
 
-  -- spots of this place give only index rows of this place
+  -- spots of a place give only rows of this place
   is_at : (rows : List Keyed) (place : List ℕ) (spots : List Spot) → ((spot : Spot) → Contains spots spot → spot.place ≡ place)
       → (row : IndexRow) → Contains (filter_map (row_at rows) spots) row → row.0 ≡ place
   is_at rows place spots all row among =
@@ -149,7 +149,7 @@ module _ {K : Type 0} (wrap : K → Key) (row_of : List ℕ → Key → Option (
   cut rows before piece behind =
       filter_map-append (row_at rows) (before ++ piece) behind ∙ (λ i. filter_map-append (row_at rows) before piece i ++ filter_map (row_at rows) behind)
 
--- the rows that spots name are live
+-- the rows that some spots name are live
 live_at_spots : (state : State) → AreAscending state.entries → (spots : List Spot) (key : Key) (body : Body)
     → Contains (rows_at_spots state.entries spots) (key, body) → live_table state key ≡ Some body
 live_at_spots state up spots key body among = by (slice_get state.entries found.0.at) refl found.2
@@ -169,7 +169,7 @@ live_at_spots state up spots key body among = by (slice_get state.entries found.
     by None at told = absurd (none_some (key, body) told)
     by (Some row) at told = at_row row at row.1.op refl told
 
--- the place and the key of a row in the index of calls
+-- in the index of calls, the row for a place and a key has this place and this key
 call_unwrap : (place : List ℕ) (key : Key) (row : CallingRow) → calling_row place key ≡ Some row → (row.0 ≡ place) × (key ≡ schedule_key row.1)
 call_unwrap place (schedule_key key) row is =
     let same : (place, key) ≡ row = some_is (place, key) row is in (sym (ap (λ (r : CallingRow). r.0) same), ap (λ (r : CallingRow). schedule_key r.1) same)
@@ -268,7 +268,7 @@ module _ (state : State) (up : AreAscending state.entries) (spots : List Spot) w
           )))
           (ap (option_and_then (λ (row : Keyed). linked_row place row.0)) live.2)
 
-  -- the rows that a place's piece of spots names are the ones that call there
+  -- the rows that the spots of a place name are exactly the live schedules that call there
   pub calling_there : AreSpotsOf call_places state.entries spots → (place : List ℕ) (piece : List Spot) → IsPieceAt place spots piece
       → AreCalling (live_table state) place (rows_at_spots state.entries piece)
   calling_there of place piece is =
@@ -292,7 +292,7 @@ module _ (state : State) (up : AreAscending state.entries) (spots : List Spot) w
           let calls = call_back stands.0.0 stands.0.1.op spot.place stands.2 in
           (stands.0, calls.0, schedule_body calls.1, stands.1, calls.2, calls.3)
 
-  -- the rows that a place's piece of link spots names are the ones that are linked there
+  -- the rows that the spots of a place name are exactly the live associations there
   pub linked_there : AreSpotsOf link_places state.entries spots → (place : List ℕ) (piece : List Spot) → IsPieceAt place spots piece
       → AreLinked (live_table state) place (rows_at_spots state.entries piece)
   linked_there of place piece is =
@@ -316,7 +316,7 @@ module _ (state : State) (up : AreAscending state.entries) (spots : List Spot) w
           let there = link_back stands.0.0 stands.0.1.op spot.place stands.2 in
           (stands.0, there.0, association_body there.1, stands.1, there.2, there.3)
 
--- as in `calling_there`, for equal rows, spots and places
+-- the rows found at a place by its spots of calls are exactly the live schedules that call there
 pub calling_found : (state : State) (rows : List Keyed) → state.entries ≡ rows → AreAscending rows → (spots slice : List Spot) → slice ≡ spots
     → AreSpotsOf call_places rows spots
     → (place field : List ℕ) → field ≡ place → (piece : List Spot) → IsPieceAt field slice piece → (result : List Row) → result ≡ rows_at_spots rows piece
@@ -326,7 +326,7 @@ calling_found state rows same up spots slice slice_is of place field field_is pi
     (calling_there state (subst AreAscending (sym same) up) spots (subst (λ (all : List Keyed). AreSpotsOf call_places all spots) (sym same) of) place piece
     (subst (λ p. IsPieceAt p spots piece) field_is (subst (λ zs. IsPieceAt field zs piece) slice_is is)))
 
--- as in `linked_there`, for equal rows, spots and places
+-- the rows found at a place by its spots of links are exactly the live associations there
 pub linked_found : (state : State) (rows : List Keyed) → state.entries ≡ rows → AreAscending rows → (spots slice : List Spot) → slice ≡ spots
     → AreSpotsOf link_places rows spots
     → (place field : List ℕ) → field ≡ place → (piece : List Spot) → IsPieceAt field slice piece → (result : List Row) → result ≡ rows_at_spots rows piece

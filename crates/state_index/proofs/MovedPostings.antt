@@ -1,4 +1,4 @@
--- Postings, moved to where their places and rows go in a join.
+-- Postings, moved to the indexes that their places and rows have in a join.
 use Rattle.std.proofs.Common.{◌≡◌, ℕ, suc, ◌≤◌, List, [], ◌∷◌, length, refl, ap, sym, ◌∙◌, subst, inl, inr, ◌⊎◌, Some, None, Contains, arith}
 use Rattle.std.specs.Prelude.{Option, ◌↔◌, slice_get, option_map, option_and_then}
 use Rattle.std.specs.List.{filter_map, cons_option}
@@ -21,7 +21,7 @@ use Rattle.state_index.proofs.MovedSpots.{joined_spots}
 none_some : {A : Type 0} (a : A) → None ≡ Some a → ⊥
 none_some a h = cc
 
--- two filters that also map, one after the other, are one such filter
+-- applying two functions in turn, each of which maps some elements and drops the others, can be done by one such function
 fused : {A B C : Type 0} (f : A → Option B) (g : B → Option C) (xs : List A) → filter_map g (filter_map f xs) ≡ filter_map (λ x. option_and_then g (f x)) xs
 fused f g [] = refl
 fused {A} {B} {C} f g (x ∷ xs) = by (f x) (fused f g xs)
@@ -44,7 +44,7 @@ module _ (names others : List (List ℕ)) (ranks : List ℕ) (are : AreRanks oth
   rank_at : (i : ℕ) → option_map (slice_get others) (slice_get ranks i) ≡ option_map Some (slice_get names i)
   rank_at i = sym (slice_get-map (slice_get others) ranks i) ∙ ap (λ (all : List (Option (List ℕ))). slice_get all i) are ∙ slice_get-map Some names i
 
-  -- a moved posting stands for the moved spot
+  -- the spot of a moved posting is the moved spot of the posting
   same_move : (posting : Posting) → option_and_then (posting_spot others) (moved_posting ranks moves posting) ≡ option_and_then (moved_spot moves) (posting_spot names posting)
   same_move posting = by (slice_get ranks posting.place) refl (slice_get names posting.place) refl
     where
@@ -79,7 +79,7 @@ module _ (names others : List (List ℕ)) (ranks : List ℕ) (are : AreRanks oth
       ∙ (λ i. filter_map (λ posting. same_move posting i) postings)
       ∙ sym (fused (posting_spot names) (moved_spot moves) postings)
 
-  -- a posting is moved only if its place has a rank and its row goes into the join
+  -- the place of a moved posting is the rank of its old place, and its row the index of its old row in the join
   went : (posting moved : Posting) → moved_posting ranks moves posting ≡ Some moved
       → (slice_get ranks posting.place ≡ Some moved.place) × (slice_get moves posting.at ≡ Some (Some moved.at))
   went posting moved is = by (slice_get ranks posting.place) refl (slice_get moves posting.at) refl is
@@ -94,7 +94,7 @@ module _ (names others : List (List ℕ)) (ranks : List ℕ) (are : AreRanks oth
           let same : record { place = rank; at = p } ≡ moved = some_is (record { place = rank; at = p }) moved told in
           (at ∙ ap (λ (m : Posting). Some m.place) same, there ∙ ap (λ (m : Posting). Some (Some m.at)) same)
 
-  -- a rank in the list of ranks belongs to a place that both lists of names have
+  -- each rank is the index, in the new list of names, of the place that the old list has there
   placed : (i rank : ℕ) → slice_get ranks i ≡ Some rank → (place : List ℕ) × (slice_get names i ≡ Some place) × (slice_get others rank ≡ Some place)
   placed i rank is = by (slice_get names i) refl
     where
@@ -137,7 +137,7 @@ module _ (names others : List (List ℕ)) (ranks : List ℕ) (are : AreRanks oth
     pub moved_ascends : (postings : List Posting) → IsStrictlyAscending posting_cmp postings → IsStrictlyAscending posting_cmp (moved_postings ranks moves postings)
     moved_ascends postings rising = chosen_ascends (moved_posting ranks moves) posting_cmp posting_cmp moved_below postings rising
 
--- the moved postings of both tables, merged, are the postings of the joined rows
+-- merging the moved postings of both tables gives the postings of the joined rows
 module _ (places : Places) (rows others joined : List Keyed) (moves other_moves : List (Option ℕ)) (names other_names all : List (List ℕ))
     (ranks other_ranks : List ℕ) (are : AreRanks all names ranks) (others_are : AreRanks all other_names other_ranks)
     (up : IsStrictlyAscending bytes_cmp names) (others_up : IsStrictlyAscending bytes_cmp other_names) (all_up : IsStrictlyAscending bytes_cmp all)

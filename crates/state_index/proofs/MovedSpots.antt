@@ -1,5 +1,4 @@
--- Spots, moved to where their rows go in a join. They stay in order, and are the spots of the
--- joined rows.
+-- Spots, moved to the indexes that their rows have in a join. They keep their order, and they are the spots of the joined rows.
 use Rattle.std.proofs.Common.{◌≡◌, ℕ, List, refl, ap, sym, ◌∙◌, inl, inr, ◌⊎◌, Some, None, Contains}
 use Rattle.std.specs.Prelude.{Option, ◌↔◌, slice_get, option_map, option_and_then}
 use Rattle.std.specs.declared.cmp.Ordering.{Ordering}
@@ -16,9 +15,9 @@ use Rattle.state_index.proofs.Positions.{Keyed, some_is, chosen_ascends, chosen_
 none_some : {A : Type 0} (a : A) → None ≡ Some a → ⊥
 none_some a h = cc
 
--- spots, moved by the moves of their rows
+-- spots, moved to the new indexes of their rows
 module _ (moves : List (Option ℕ)) where
-  -- a spot is moved only if its row goes into the join
+  -- a moved spot has its old place, and the index of its old row in the join
   went : (spot moved : Spot) → moved_spot moves spot ≡ Some moved → (slice_get moves spot.at ≡ Some (Some moved.at)) × (moved.place ≡ spot.place)
   went spot moved is = by (slice_get moves spot.at) refl is
     where
@@ -33,7 +32,7 @@ module _ (moves : List (Option ℕ)) where
           let same : spot_at p spot.place ≡ moved = some_is (spot_at p spot.place) moved some in
           (at ∙ ap (λ (s : Spot). Some (Some s.at)) same, sym (ap (λ (s : Spot). s.place) same))
 
-  -- spots that are moved stay in order
+  -- two moved spots are in the same order as before
   moved_below : AreRising moves → (a b c d : Spot) → spot_cmp a b ≡ Less → moved_spot moves a ≡ Some c → moved_spot moves b ≡ Some d → spot_cmp c d ≡ Less
   moved_below rise a b c d below is_c is_d = by (bytes_cmp a.place b.place) refl below
     where
@@ -56,14 +55,14 @@ module _ (moves : List (Option ℕ)) where
   pub moved_ascends : AreRising moves → (spots : List Spot) → IsStrictlyAscending spot_cmp spots → IsStrictlyAscending spot_cmp (moved_spots moves spots)
   moved_ascends rise spots up = chosen_ascends (moved_spot moves) spot_cmp spot_cmp (moved_below rise) spots up
 
-  -- if all spots of a list are in another list, all its moved spots are in the other's moved spots
+  -- if all spots of one list are in another, all moved spots of the first are moved spots of the other
   pub moved_same : (spots others : List Spot) → ((spot : Spot) → Contains spots spot → Contains others spot) → (spot : Spot)
       → Contains (moved_spots moves spots) spot → Contains (moved_spots moves others) spot
   moved_same spots others same spot among =
       let found = chosen_from (moved_spot moves) spots spot among in
       chosen_to (moved_spot moves) others found.0 spot (same found.0 found.1) found.2
 
--- the moved spots of both tables, merged, are the spots of the joined rows
+-- merging the moved spots of both tables gives the spots of the joined rows
 module _ (places : Places) (rows others joined : List Keyed) (moves other_moves : List (Option ℕ)) (first second : List Spot) where
   pub joined_spots : (out : List Spot) → AreRising moves → AreRising other_moves → AreSpotsOf places rows first → AreSpotsOf places others second
       → ((spot : Spot) → Contains (spots_of places joined) spot

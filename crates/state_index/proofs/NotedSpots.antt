@@ -1,4 +1,4 @@
--- The postings of noted rows stand for the rows' spots.
+-- The postings of noted rows have the spots of these rows.
 use Rattle.std.proofs.Common.{◌≡◌, ℕ, zero, suc, ◌+◌, ◌≤◌, List, [], ◌∷◌, ◌++◌, map, take, drop, length}
 use Rattle.std.proofs.Common.{refl, ap, sym, ◌∙◌, subst, Bool, true, false, Some, None, arith, get_or}
 use Rattle.std.specs.Prelude.{Option, slice_get, option_map}
@@ -100,7 +100,7 @@ module _ (names sorted : List (List ℕ)) (ranks : List ℕ) (are : AreRanks sor
             → AreSpots at (row ∷ rows) (piece ∷ pieces) × (length (row ∷ rows) ≡ length (piece ∷ pieces))
         by rest = ((all_here (let len = rest.1 in omega arith) rest.0.0, len_here rest.0.1), ap suc rest.1)
 
--- the postings of calls noted for rows stand for the rows' call spots
+-- the postings of noted calls have exactly the spots of calls of the rows
 calls_noted : (names sorted : List (List ℕ)) (ranks numbers : List ℕ) → AreRanks sorted names ranks → (count : ℕ) (rows : List Keyed) (pieces : List Piece)
     → count ≡ length rows → AreNoted names numbers (items_of rows) pieces
     → (spots_in sorted (noted_postings false ranks numbers count pieces) ≡ spots_of call_places rows)
@@ -108,7 +108,7 @@ calls_noted : (names sorted : List (List ℕ)) (ranks numbers : List ℕ) → Ar
 calls_noted names sorted ranks numbers are count rows pieces count_is noted =
     (all_spots names sorted ranks are call_places false (λ ns item piece is. is.calls) numbers count 0 rows pieces noted (omega arith)).0
 
--- the postings of links noted for rows stand for the rows' link spots
+-- the postings of noted links have exactly the spots of links of the rows
 links_noted : (names sorted : List (List ℕ)) (ranks numbers : List ℕ) → AreRanks sorted names ranks → (count : ℕ) (rows : List Keyed) (pieces : List Piece)
     → count ≡ length rows → AreNoted names numbers (items_of rows) pieces
     → (spots_in sorted (noted_postings true ranks numbers count pieces) ≡ spots_of link_places rows)
@@ -116,7 +116,7 @@ links_noted : (names sorted : List (List ℕ)) (ranks numbers : List ℕ) → Ar
 links_noted names sorted ranks numbers are count rows pieces count_is noted =
     (all_spots names sorted ranks are link_places true (λ ns item piece is. is.links) numbers count 0 rows pieces noted (omega arith)).0
 
--- these postings are in row order, and stand for the rows' spots
+-- Says that these postings are in row order, that their places are in the list, and that they have the spots of the rows.
 pub record IsWalk (places : Places) (rows : List Keyed) (sorted : List (List ℕ)) (walk : List Posting) : Type 0 where
   pub spots : spots_in sorted walk ≡ spots_of places rows
   pub len : length walk ≡ length (spots_of places rows)
@@ -135,7 +135,7 @@ walked places rows sorted walk postings same told = subst (IsWalk places rows so
     in_order : AreBelow (length sorted) postings × AreFrom 0 postings
     in_order = made_of_rows places rows sorted postings told.0 (ap length told.0 ∙ sym told.1)
 
--- the walk over the noted calls gives the rows' postings of calls in row order
+-- a walk over noted calls gives the postings of the rows' calls, in row order
 pub calls_walk : (names sorted : List (List ℕ)) (ranks numbers : List ℕ) → AreRanks sorted names ranks → (count : ℕ) (rows : List Keyed) (pieces : List Piece)
     → count ≡ length rows → AreNoted names numbers (items_of rows) pieces → (walk : List Posting) → walk ≡ noted_postings false ranks numbers count pieces
     → IsWalk call_places rows sorted walk
@@ -143,7 +143,7 @@ calls_walk names sorted ranks numbers are count rows pieces count_is noted walk 
     walked call_places rows sorted walk (noted_postings false ranks numbers count pieces) walk_is
     (calls_noted names sorted ranks numbers are count rows pieces count_is noted)
 
--- the walk over the noted links gives the rows' postings of links in row order
+-- a walk over noted links gives the postings of the rows' links, in row order
 pub links_walk : (names sorted : List (List ℕ)) (ranks numbers : List ℕ) → AreRanks sorted names ranks → (count : ℕ) (rows : List Keyed) (pieces : List Piece)
     → count ≡ length rows → AreNoted names numbers (items_of rows) pieces → (walk : List Posting) → walk ≡ noted_postings true ranks numbers count pieces
     → IsWalk link_places rows sorted walk
@@ -151,9 +151,9 @@ links_walk names sorted ranks numbers are count rows pieces count_is noted walk 
     walked link_places rows sorted walk (noted_postings true ranks numbers count pieces) walk_is
     (links_noted names sorted ranks numbers are count rows pieces count_is noted)
 
--- ---- the room for an index
+-- ---- the memory for an index
 
--- room for many postings is room for fewer
+-- memory for many postings is also memory for fewer
 less_slots : (places few many : ℕ) (slots : Slots) → few ≤ many → HasSlots places many slots → HasSlots places few slots
 less_slots places few many slots less has = record {
   none = has.none;
@@ -164,7 +164,7 @@ less_slots places few many slots less has = record {
   room = (let all = has.room in omega arith);
 }
 
--- room for at least as many calls and links as the rows have is room for their index
+-- memory for at least as many calls and links as the rows have is memory for their index
 fits : (rows : List Keyed) (names : List (List ℕ)) (calls count : ℕ) (room : Room) → IsRoom names calls count room
     → length (spots_of call_places rows) ≤ calls → length (spots_of link_places rows) ≤ count → length rows ≤ count → HasRoomFor rows names room
 fits rows names calls count room is few_calls few_links few_rows = record {
@@ -175,8 +175,7 @@ fits rows names calls count room is few_calls few_links few_rows = record {
   links = less_slots (length room.places.items) (length (spots_of link_places rows)) count room.links few_links is.links;
 }
 
--- the pieces have at least as many numbers as their items have calls. There are as many pieces as
--- items
+-- There are as many pieces as rows, and the pieces have at least as many numbers as the rows have calls.
 pieces_fit : (names : List (List ℕ)) (numbers : List ℕ) (items : List Item) (pieces : List Piece) → AreNoted names numbers items pieces
     → (total (λ key op. length (call_places key op)) items ≤ numbers_in pieces) × (length items ≡ length pieces)
 pieces_fit names numbers [] [] are = (omega arith, refl)
@@ -200,7 +199,7 @@ pieces_fit names numbers (item ∷ items) (piece ∷ pieces) are =
         taken (suc n) [] = omega arith
         taken (suc n) (x ∷ xs) = let rest = taken n xs in omega arith
 
--- room for all noted numbers is room for the index of the noted rows
+-- memory for all noted numbers is memory for the index of the noted rows
 pub room_of_rows : (rows : List Keyed) (notes : Notes) (calls count : ℕ) (room : Room) → calls ≡ length notes.numbers.items → count ≡ length notes.pieces.items
     → IsRoom notes.names.list.items calls count room → HasNoted (items_of rows) notes → HasRoomFor rows notes.names.list.items room
 room_of_rows rows notes calls count room calls_is count_is is has =
@@ -213,7 +212,7 @@ room_of_rows rows notes calls count room calls_is count_is is has =
     let all = places_of_rows rows in
     fits rows notes.names.list.items calls count room is (omega arith) (omega arith) (omega arith)
 
--- room for all noted numbers is room for the index of the rows that the noted changes make
+-- memory for all noted numbers is memory for the index of the rows that the noted changes make
 pub room_of_changes : (changes : List model.Change) (rows : List Keyed) (notes : Notes) (calls count : ℕ) (room : Room) → calls ≡ length notes.numbers.items
     → count ≡ length notes.pieces.items → IsRoom notes.names.list.items calls count room → HasNoted (items_put changes) notes → AreAscending rows
     → AreMadeBy changes rows → HasRoomFor rows notes.names.list.items room

@@ -1,4 +1,4 @@
--- The postings of one place stand together among ascending postings.
+-- Among ascending postings, all postings of one place follow each other without a gap.
 use Rattle.std.proofs.Common.{◌≡◌, ℕ, zero, suc, ◌<◌, ◌≤◌, List, [], ◌∷◌, ◌++◌, take, drop, length, get_or, refl, ap, sym, ◌∙◌, subst, inl, inr, ◌⊎◌, Bool, true, false, Contains, arith}
 use Rattle.std.specs.List.{AllByRecursion}
 use Rattle.std.specs.List.Sorted.{IsPartitionedBy, IsPartitionPoint}
@@ -17,7 +17,7 @@ use Rattle.state_index.specs.PostingOrder.{posting_cmp}
 use Rattle.state_index.specs.PlaceRows.{IsPieceOf}
 
 module _ {A : Type 0} (P : A → Type 0) where
-  -- a property of the first n elements holds for each element taken
+  -- what holds of the elements at the indexes below n holds of each of the first n elements
   taken : (xs : List A) (n : ℕ) → n ≤ length xs → ((k : ℕ) (d : A) → 0 ≤ k → k < n → P (get_or xs k d)) → (z : A) → Contains (take n xs) z → P z
   taken xs zero bound all z among = absurd (nil-Contains z among)
   taken [] (suc n) bound all z among = absurd (let none : suc n ≤ 0 = bound in omega arith)
@@ -28,7 +28,7 @@ module _ {A : Type 0} (P : A → Type 0) where
       by rest (inl same) = subst P same (all 0 x (omega arith) (omega arith))
       by rest (inr inside) = rest inside
 
-  -- a property of the elements after the first n holds for each element left
+  -- what holds of the elements at the indexes from n on holds of each element after the first n
   dropped : (xs : List A) (n : ℕ) → n ≤ length xs → ((k : ℕ) (d : A) → n ≤ k → k < length xs → P (get_or xs k d)) → (z : A) → Contains (drop n xs) z → P z
   dropped [] zero bound all z among = absurd (nil-Contains z among)
   dropped [] (suc n) bound all z among = absurd (let none : suc n ≤ 0 = bound in omega arith)
@@ -40,7 +40,7 @@ module _ {A : Type 0} (P : A → Type 0) where
       by rest (inr inside) = rest inside
   dropped (x ∷ xs) (suc n) bound all z among = dropped xs n (omega arith) (λ k d low high. all (suc k) d (omega arith) (omega arith)) z among
 
--- ---- a test that holds up to some place
+-- ---- a test that passes up to some index and fails from there on
 
 above_at : (low : Posting) (postings : List Posting) (j : ℕ) (d : Posting) → AllByRecursion (IsBelow posting_cmp low) postings → j < length postings → posting_cmp low
     (get_or postings j d) ≡ Less
@@ -55,12 +55,11 @@ below_at (posting ∷ postings) i zero d up before within = absurd (omega arith)
 below_at (posting ∷ postings) zero (suc j) d up before within = above_at posting postings j d up.0 (omega arith)
 below_at (posting ∷ postings) (suc i) (suc j) d up before within = below_at postings i j d up.1 (omega arith) (omega arith)
 
--- compares a posting's place with this place
+-- compares the index of a posting's place with a given index
 abbrev by_place : ℕ → Posting → Ordering
 by_place place posting = nat_cmp posting.place place
 
--- a test of how places compare, which fails for greater, and which holds for less if it holds for
--- equal
+-- Says that a test of a comparison fails for greater, and that it passes for less if it passes for equal.
 abbrev GoesDown : (Ordering → Bool) → Type 0
 GoesDown test = (test Greater ≡ false) × (test Equal ≡ true → test Less ≡ true)
 
@@ -91,17 +90,17 @@ module _ (test : Ordering → Bool) (down : GoesDown test) (place : ℕ) where
           let same : j ≡ i = omega arith in
           subst (λ k. test (by_place place (get_or postings k d)) ≡ true) same passes
 
--- if postings ascend, the postings after the first n ascend
+-- if postings ascend, the postings after the first n ascend too
 pub behind_ascends : (postings : List Posting) (n : ℕ) → IsStrictlyAscending posting_cmp postings → IsStrictlyAscending posting_cmp (drop n postings)
 behind_ascends postings zero up = up
 behind_ascends [] (suc n) up = tt
 behind_ascends (posting ∷ postings) (suc n) up = behind_ascends postings n up.1
 
--- the posting's place is below this place
+-- whether the index of a posting's place is below a given index
 abbrev pub is_before : ℕ → Posting → Bool
 is_before place posting = is_lt (nat_cmp posting.place place)
 
--- the posting's place is this place or a lower one
+-- whether the index of a posting's place is a given index or a lower one
 abbrev pub is_up_to : ℕ → Posting → Bool
 is_up_to place posting = is_le (nat_cmp posting.place place)
 
@@ -138,7 +137,7 @@ here_is place posting fails passes = by (nat_cmp posting.place place) refl fails
     by Less is told up = absurd (let bad : true ≡ false = told in cc)
     by Greater is told up = absurd (let bad : false ≡ true = up in cc)
 
--- the two ends that these tests find enclose the place's postings
+-- the postings between the two indexes that the searches find are the postings of the place
 pub piece_is : (place : ℕ) (postings rest piece : List Posting) (from to : ℕ) → from ≤ length postings → rest ≡ drop from postings → to ≤ length rest → piece
     ≡ take to rest
     → IsPartitionPoint (λ posting. is_before place posting ≡ true) (λ posting. is_before place posting ≡ false) postings from

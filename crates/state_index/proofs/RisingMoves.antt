@@ -1,4 +1,4 @@
--- The moves of a table's rows ascend.
+-- The moves of a table's rows keep their order.
 use Rattle.std.proofs.Common.{◌≡◌, ℕ, zero, suc, ◌+◌, ◌≤◌, List, [], ◌∷◌, Bool, true, false, cond, Some, None, arith}
 use Rattle.std.specs.Prelude.{Option, slice_get, ⊤, ◌&&◌}
 use Rattle.docker_model.specs.state.Stamp.{FileStamp}
@@ -11,7 +11,7 @@ use Rattle.state_index.specs.Joined.{AreRising}
 none_some : {A : Type 0} (a : A) → None ≡ Some a → ⊥
 none_some a h = cc
 
--- each move goes to this index or a later one, and to a later one than the moves before it
+-- Says that the indexes to which rows are moved are at least a given index, and that each is greater than the ones before it.
 abbrev RiseFrom : ℕ → List (Option ℕ) → Type 0
 RiseFrom low [] = ⊤
 RiseFrom low (None ∷ moves) = RiseFrom low moves
@@ -40,7 +40,7 @@ rises low (None ∷ moves) rise (suc i) (suc j) p q before is_p is_q = rises low
 rises low (Some at ∷ moves) rise (suc i) (suc j) p q before is_p is_q = rises (1 + at) moves rise.1 i j p q (omega arith) is_p is_q
 
 module _ (floor : Option FileStamp) (horizon : ℕ) where
-  -- moves still rise if one more row comes first, whether or not it goes into the join
+  -- moves are still in order if one more row is put before them, whether or not it is in the join
   one_more : (at : ℕ) (entry : Entry) (moves : List (Option ℕ)) → RiseFrom (after floor at entry) moves → RiseFrom at (goes floor horizon at entry ∷ moves)
   one_more at entry moves rise = by (is_kept floor (entry_meant entry).stamp.file) (is_put (lapse horizon (entry_meant entry).op)) rise
     where
@@ -92,10 +92,10 @@ module _ (floor : Option FileStamp) (horizon : ℕ) where
       by true won lost = won
       by false won lost = lost
 
-  -- the moves of the first table's rows ascend
+  -- the moves of the first table's rows keep their order
   pub first_rising : (turns : List AtKey) → AreRising (first_moves floor horizon 0 turns)
   first_rising turns = rises 0 (first_moves floor horizon 0 turns) (firsts_rise 0 turns)
 
-  -- the moves of the second table's rows ascend
+  -- the moves of the second table's rows keep their order
   pub second_rising : (turns : List AtKey) → AreRising (second_moves floor horizon 0 turns)
   second_rising turns = rises 0 (second_moves floor horizon 0 turns) (seconds_rise 0 turns)

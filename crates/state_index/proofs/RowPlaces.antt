@@ -1,4 +1,4 @@
--- The places of a row: where its schedule calls, or where its trains are associated.
+-- The places of a row: where a schedule calls, or where an association links two trains.
 use Rattle.std.proofs.Common.{◌≡◌, ℕ, List, [], refl, ap, subst, inl, inr, ◌⊎◌, true, false, Some, None, Contains}
 use Rattle.std.specs.Prelude.{Option, filter}
 use Rattle.docker_model.specs.records.Record.{Kind, header, tiploc_insert, tiploc_amend, tiploc_delete, association}
@@ -13,7 +13,7 @@ use Rattle.cif_laws.proofs.lists.FilteredMembers.{filter_back, filter_forth}
 use Rattle.state_index.specs.Spots.{call_places, link_places}
 use Rattle.state_index.specs.Turns.{is_put}
 
--- the line is a location record
+-- Says that a line is a location record (LO, LI or LT).
 abbrev IsLocation : List ℕ → Type 0
 IsLocation line = HasKind origin_location line ⊎ HasKind intermediate_location line ⊎ HasKind terminating_location line
 
@@ -43,7 +43,7 @@ location_forth line (inl is) = ap is_location is
 location_forth line (inr (inl is)) = ap is_location is
 location_forth line (inr (inr is)) = ap is_location is
 
--- the row is a schedule that calls at this place
+-- Says that a row is a schedule that is put and calls at this place.
 abbrev pub Calls : Key → Op → List ℕ → Type 0
 Calls key op place = (schedule : ScheduleKey) × (lines : List (List ℕ)) × (key ≡ schedule_key schedule) × (op ≡ put_with (schedule_body lines))
     × CallsAt place lines
@@ -71,7 +71,7 @@ call_forth schedule lines place calls =
     (map-Contains (columns 3 9) (filter (λ line. is_location (kind_of line)) lines) calls.line
     (filter_forth (λ line. is_location (kind_of line)) lines calls.line calls.among (location_forth calls.line calls.kind)))
 
--- the row is an association at this place
+-- Says that a row is an association that is put and links two trains at this place.
 abbrev pub IsThere : Key → Op → List ℕ → Type 0
 IsThere key op place = (association : AssociationKey) × (line : List ℕ) × (key ≡ association_key association) × (op ≡ put_with (association_body line)) ×
     (association.location ≡ place)
@@ -89,7 +89,7 @@ pub link_forth : (key : AssociationKey) (line : List ℕ) (place : List ℕ) →
     → Contains (link_places (association_key key) (put_with (association_body line))) place
 link_forth key line place here = single-Contains key.location place here
 
--- a row that isn't put has no place
+-- a row whose op isn't a put calls nowhere
 pub no_calls : (key : Key) (op : Op) → is_put op ≡ false → call_places key op ≡ []
 no_calls (schedule_key key) deleted none = refl
 no_calls (schedule_key key) lapsed none = refl

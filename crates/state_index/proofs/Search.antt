@@ -15,13 +15,13 @@ use Rattle.cif_laws.proofs.orders.Ascending.{later_of}
 use Rattle.cif_laws.proofs.lists.Later.{pairs_from_later}
 use Rattle.docker_join.proofs.MeantOrder.{meant_ascending}
 
--- there is an element at each index within the list
+-- a list has an element at each index below its length
 member_at : {A : Type 0} (xs : List A) (at : ℕ) → at < length xs → (x : A) × Contains xs x × (get_or xs at x ≡ x)
 member_at {A} [] at within = absurd (let none : at < length {A = A} [] = within in omega arith)
 member_at (x ∷ xs) zero within = (x, cons-Contains-first x xs, refl)
 member_at (x ∷ xs) (suc at) within = let m = member_at xs at (omega arith) in (m.0, cons-Contains x xs m.0 m.1, m.2)
 
--- a list whose images under a function ascend
+-- the lemmas for a list whose elements ascend by what a function gives for them
 module _ {A B : Type 0} (f : A → B) {cmp : B → B → Ordering} (total : IsTotalOrder cmp) (exact : (x y : B) → cmp x y ≡ Equal → x ≡ y)
     (xs : List A) (up : IsStrictlyAscending cmp (map f xs)) (z : B) where
   abbrev to : A → Ordering
@@ -54,8 +54,7 @@ module _ {A B : Type 0} (f : A → B) {cmp : B → B → Ordering} (total : IsTo
           let same : i ≡ j = omega arith in
           subst (λ k. ordering_index (to (get_or xs i d)) ≤ ordering_index (to (get_or xs k d))) same (omega arith)
 
-  -- if the elements before an index are below a value, and the others above it, the list doesn't
-  -- have the value
+  -- If all elements before an index are below a value, and all others are above it, the list doesn't have the value.
   absent : (at : ℕ) → IsPartitionPoint (λ x. to x ≡ Less) (λ x. to x ≡ Greater) xs at → ¬ Contains (map f xs) z
   absent at parts among = let found = Contains-map f xs z among in here found.0 found.1.0 found.1.1 found.1.2 found.2 (cases_lt found.1.0 at)
     where
@@ -66,7 +65,7 @@ module _ {A B : Type 0} (f : A → B) {cmp : B → B → Ordering} (total : IsTo
       here x i within is same (inl before) = let below = parts.0 i x (omega arith) before in let at_x = ap to is in let equal = tied x same in cc
       here x i within is same (inr after) = let above = parts.1 i x after within in let at_x = ap to is in let equal = tied x same in cc
 
-  -- the search finds the value if and only if the list has it
+  -- the search finds an element with the value if and only if the list has one
   pub search_tells : (found : Result ℕ ℕ) → IsSearchInRange found (length xs) → IsBinarySearchResult to xs found → (b : Bool) → b ≡ is_ok found
       → IsTrue b ↔ Contains (map f xs) z
   search_tells (Ok at) within is b same = (

@@ -1,5 +1,4 @@
--- The turns of a walk over two tables: their rows, the rows that win, and where the winning rows
--- go.
+-- The turns of a walk over two tables: which rows they have, which rows win, and where the winning rows are in the join.
 use Rattle.std.proofs.Common.{◌≡◌, ℕ, suc, ◌+◌, ◌≤◌, List, [], ◌∷◌, map, length, refl, ap, Bool, true, false, cond, None, arith}
 use Rattle.std.specs.Prelude.{Option, ⊤}
 use Rattle.std.specs.List.{AllByRecursion}
@@ -18,7 +17,7 @@ use Rattle.docker_join.proofs.MergedRows.{row_out, walk_from, walk}
 use Rattle.state_index.specs.Turns.{AtKey, in_first, in_second, in_both, firsts, seconds, placed_turn}
 use Rattle.state_index.specs.Turns.{turns_from, turns_of, wins, goes, after, first_moves, second_moves}
 
--- a row of a table
+-- a row of a table: a key with its entry
 abbrev pub Row : Type 0
 Row = Key × Entry
 
@@ -32,7 +31,7 @@ winner (in_first one) = one
 winner (in_second other) = other
 winner (in_both one other) = (one.0, picked one.1 other.1)
 
--- if both tables have a row at this turn, the two rows have one key
+-- Says that the rows of a turn have the same key, if it has two.
 abbrev pub IsLevel : AtKey → Type 0
 IsLevel (in_first one) = ⊤
 IsLevel (in_second other) = ⊤
@@ -95,12 +94,12 @@ all_level : (ys : List Row) → AllByRecursion IsLevel (map in_second ys)
 all_level [] = tt
 all_level (y ∷ ys) = (tt, all_level ys)
 
--- the turns have the rows of the first table
+-- the rows of the first table in all turns are the first table
 pub firsts_are : (xs ys : List Row) → firsts (turns_of xs ys) ≡ xs
 firsts_are [] ys = no_firsts ys
 firsts_are (x ∷ xs) ys = firsts_from x xs (turns_of xs) (firsts_are xs) ys
 
--- the turns have the rows of the second table
+-- the rows of the second table in all turns are the second table
 pub seconds_are : (xs ys : List Row) → seconds (turns_of xs ys) ≡ ys
 seconds_are [] ys = all_seconds ys
 seconds_are (x ∷ xs) ys = seconds_from x xs (turns_of xs) (seconds_are xs) ys
@@ -110,12 +109,12 @@ pub winners_are : (xs ys : List Row) → map winner (turns_of xs ys) ≡ walk pi
 winners_are [] ys = all_winners ys
 winners_are (x ∷ xs) ys = winners_from x xs (turns_of xs) (walk picked xs) (winners_are xs) ys
 
--- at each turn all rows have one key
+-- at each turn that has two rows, their keys are equal
 pub turns_level : (xs ys : List Row) → AllByRecursion IsLevel (turns_of xs ys)
 turns_level [] ys = all_level ys
 turns_level (x ∷ xs) ys = level_from x xs (turns_of xs) (turns_level xs) ys
 
--- there are at most as many turns as rows
+-- there are at most as many turns as rows in both tables
 pub few_turns : (turns : List AtKey) → length turns ≤ length (firsts turns) + length (seconds turns)
 few_turns [] = omega arith
 few_turns (in_first one ∷ turns) = let rest = few_turns turns in omega arith
@@ -123,7 +122,7 @@ few_turns (in_second other ∷ turns) = let rest = few_turns turns in omega arit
 few_turns (in_both one other ∷ turns) = let rest = few_turns turns in omega arith
 
 module _ (floor : Option FileStamp) (horizon : ℕ) where
-  -- each row of the first table has a move
+  -- there is one move for each row of the first table
   pub first_len : (at : ℕ) (turns : List AtKey) → length (first_moves floor horizon at turns) ≡ length (firsts turns)
   first_len at [] = refl
   first_len at (in_first one ∷ turns) = ap suc (first_len (after floor at one.1) turns)
@@ -139,7 +138,7 @@ module _ (floor : Option FileStamp) (horizon : ℕ) where
       by true won lost = won
       by false won lost = lost
 
-  -- each row of the second table has a move
+  -- there is one move for each row of the second table
   pub second_len : (at : ℕ) (turns : List AtKey) → length (second_moves floor horizon at turns) ≡ length (seconds turns)
   second_len at [] = refl
   second_len at (in_first one ∷ turns) = second_len (after floor at one.1) turns

@@ -4,6 +4,6 @@ use Rattle.docker_model.specs.state.Table.{Table}
 use Rattle.state_laws.specs.Row.{Row}
 use Rattle.state_laws.specs.Index.{AreCalling}
 
--- this many live schedules call at the place
+-- Says that this many live schedules call at the place.
 abbrev pub IsCallingCount : Table → List ℕ → ℕ → Type 0
 IsCallingCount live place count = (rows : List Row) × AreCalling live place rows × (length rows ≡ count)

@@ -1,23 +1,26 @@
--- The postings of rows whose places are noted.
+-- The postings of rows whose places were noted.
 use Rattle.std.specs.Prelude.{ℕ, ◌-◌, Bool, List, [], ◌∷◌, ◌++◌, map, length, get_or}
 use Rattle.cif_change.specs.declared.piece.Piece.{Piece}
 pub use Rattle.cif_change.specs.Noted.{Item, items_of, items_put, Keeps, if_asked, numbers_of, IsNoted, AreNoted, numbers_in, HasNoted, IsNext, no_piece, ArePicked}
 use Rattle.state_index.specs.declared.posting.Posting.{Posting}
 
--- the posting of a noted number, for the row at this index. `ranks` has the final index of each place
+-- the posting for a noted number of the row at index `at`; `ranks` gives the index of the place for
+-- each number
 abbrev pub posting_of : List ℕ → ℕ → ℕ → Posting
 posting_of ranks at number = record { place = get_or ranks number 0; at = at }
 
--- the index of the row before the rows that are left, out of this many rows
+-- the index of the row just before those whose pieces are still to come, given how many rows there
+-- are
 abbrev pub row_before : ℕ → List Piece → ℕ
 row_before rows left = rows - length left - 1
 
--- the postings of the rows that are left, out of this many rows
+-- the postings of the rows whose pieces are still to come, given how many rows there are
 abbrev pub noted_postings : Bool → List ℕ → List ℕ → ℕ → List Piece → List Posting
 noted_postings links ranks numbers rows [] = []
 noted_postings links ranks numbers rows (piece ∷ pieces) =
     map (posting_of ranks (row_before rows pieces)) (numbers_of links numbers piece) ++ noted_postings links ranks numbers rows pieces
 
--- the postings of these numbers of the current row, and then the postings of the rows that are left
+-- the postings for the remaining numbers of the current row, followed by the postings of the rows still
+-- to come
 abbrev pub postings_left : Bool → List ℕ → List ℕ → ℕ → List Piece → List ℕ → List Posting
 postings_left links ranks numbers rows pieces here = map (posting_of ranks (row_before rows pieces)) here ++ noted_postings links ranks numbers rows pieces

@@ -9,28 +9,27 @@ use Rattle.state_index.specs.SpotOrder.{Spot}
 use Rattle.state_index.specs.Turns.{is_put}
 use Rattle.state_index.specs.declared.posting.Posting.{Posting}
 
--- a row's key with its body, if the row is put
+-- the key and the body of a row; none unless its op is a put
 abbrev pub live_row : Key × Entry → Option Row
 live_row row = option_and_then (λ body. Some (row.0, body)) (body_of row.1.op)
 
--- the live row that a spot names
+-- the live row that a spot names; none if the row isn't live
 abbrev pub live_at : List (Key × Entry) → Spot → Option Row
 live_at rows spot = option_and_then live_row (slice_get rows spot.at)
 
--- the live rows that spots name, in the order of the spots
+-- the live rows that some spots name, in the order of the spots
 abbrev pub rows_at_spots : List (Key × Entry) → List Spot → List Row
 rows_at_spots rows spots = filter_map (live_at rows) spots
 
--- the live row that a posting names
+-- the live row that a posting names; none if the row isn't live
 abbrev pub live_at_posting : List (Key × Entry) → Posting → Option Row
 live_at_posting rows posting = option_and_then live_row (slice_get rows posting.at)
 
--- the live rows that postings name, in the order of the postings
+-- the live rows that some postings name, in the order of the postings
 abbrev pub rows_at_postings : List (Key × Entry) → List Posting → List Row
 rows_at_postings rows postings = filter_map (live_at_posting rows) postings
 
--- the piece is the postings of one place, by the place's index; no posting before or after it has that
--- place
+-- Says that a piece of the postings has all postings of the place with this index, and no others.
 pub record IsPieceOf (rank : ℕ) (postings piece : List Posting) : Type 0 where
   pub before : List Posting
   pub behind : List Posting
@@ -39,7 +38,7 @@ pub record IsPieceOf (rank : ℕ) (postings piece : List Posting) : Type 0 where
   pub here : (posting : Posting) → Contains piece posting → posting.place ≡ rank
   pub none_behind : (posting : Posting) → Contains behind posting → ¬ (posting.place ≡ rank)
 
--- the piece is the spots of one place; no spot before or after it has that place
+-- Says that a piece of the spots has all spots of this place, and no others.
 pub record IsPieceAt (place : List ℕ) (spots piece : List Spot) : Type 0 where
   pub before : List Spot
   pub behind : List Spot
@@ -48,23 +47,23 @@ pub record IsPieceAt (place : List ℕ) (spots piece : List Spot) : Type 0 where
   pub here : (spot : Spot) → Contains piece spot → spot.place ≡ place
   pub none_behind : (spot : Spot) → Contains behind spot → ¬ (spot.place ≡ place)
 
--- the row that a spot names is put
+-- whether the row that a spot names is live
 abbrev pub is_put_at : List (Key × Entry) → Spot → Bool
 is_put_at rows spot = is_some (live_at rows spot)
 
--- the row that a posting names is put
+-- whether the row that a posting names is live
 abbrev pub is_put_at_posting : List (Key × Entry) → Posting → Bool
 is_put_at_posting rows posting = is_some (live_at_posting rows posting)
 
--- for each row, whether it is put
+-- for each row, whether its op is a put
 abbrev pub puts_in : List (Key × Entry) → List Bool
 puts_in rows = map (λ (row : Key × Entry). is_put row.1.op) rows
 
--- a row's flag, or false if it has none
+-- the value of an optional flag; false if there is none
 abbrev pub or_not : Option Bool → Bool
 or_not None = false
 or_not (Some put) = put
 
--- the row that a posting names is put, according to these flags
+-- whether the row that a posting names is live, according to a list with one flag for each row
 abbrev pub put_among : List Bool → Posting → Bool
 put_among puts posting = or_not (slice_get puts posting.at)

@@ -1,4 +1,4 @@
--- The memory that an index needs.
+-- The memory that is reserved before an index is made.
 use Rattle.std.specs.Prelude.{◌≡◌, ℕ, ◌<◌, ◌≤◌, ◌^◌, List, [], length, map, Contains}
 use Rattle.std.specs.Vec.{vec_len, vec_capacity}
 use Rattle.docker_model.specs.file.Change as model
@@ -11,7 +11,8 @@ use Rattle.state_index.specs.ByPlace.{AreCounts}
 use Rattle.state_index.specs.Joined.{AreRanks}
 use Rattle.state_index.specs.Spots.{call_places, link_places, spots_of}
 
--- there are no counts yet, and there is room for this many places and postings
+-- Says that all counts are 0, that no posting is written yet, and that there is memory for this many
+-- places and postings.
 pub record HasSlots (places postings : ℕ) (slots : Slots) : Type 0 where
   pub none : AreCounts [] slots.counts.items
   pub len : length slots.counts.items ≡ places
@@ -20,8 +21,8 @@ pub record HasSlots (places postings : ℕ) (slots : Slots) : Type 0 where
   pub room_next : places ≤ vec_capacity slots.next
   pub room : postings ≤ length slots.postings.items
 
--- there is room for these rows' index: all their places in order, the index of each place that has
--- a number, and slots for the postings
+-- Says that there is room for the index of these rows. Their places are in order, each provisional
+-- number has the index of its place, and there is memory for all postings.
 pub record HasRoomFor (rows : List (model.Key × ops.Entry)) (names : List (List ℕ)) (room : Room) : Type 0 where
   pub named : IsStrictlyAscending bytes_cmp room.places.items
   pub ranks : AreRanks room.places.items names room.ranks.items
@@ -29,11 +30,12 @@ pub record HasRoomFor (rows : List (model.Key × ops.Entry)) (names : List (List
   pub calls : HasSlots (length room.places.items) (length (spots_of call_places rows)) room.calls
   pub links : HasSlots (length room.places.items) (length (spots_of link_places rows)) room.links
 
--- all places of the first list are in the second
+-- Says that all places of the first list are in the second.
 abbrev pub Includes : List (List ℕ) → List (List ℕ) → Type 0
 Includes few many = (place : List ℕ) → Contains few place → Contains many place
 
--- all named places in order, and room for this many calls and the links of this many rows
+-- Says that the named places are in order, and that there is room for this many calls and for the
+-- links of this many rows.
 pub record IsRoom (names : List (List ℕ)) (most_calls most_rows : ℕ) (room : Room) : Type 0 where
   pub named : IsStrictlyAscending bytes_cmp room.places.items
   pub ranks : AreRanks room.places.items names room.ranks.items
@@ -41,7 +43,7 @@ pub record IsRoom (names : List (List ℕ)) (most_calls most_rows : ℕ) (room :
   pub calls : HasSlots (length room.places.items) most_calls room.calls
   pub links : HasSlots (length room.places.items) most_rows room.links
 
--- each of these rows is made by one of these changes
+-- Says that each row has the key of some change and the op that this change leaves.
 abbrev pub AreMadeBy : List model.Change → List (model.Key × ops.Entry) → Type 0
 AreMadeBy changes rows = (row : model.Key × ops.Entry) → Contains rows row
     → Contains {X = model.Key × ops.Op} (map (λ (change : model.Change). (change.key, op_of change.act)) changes) (row.0, row.1.op)

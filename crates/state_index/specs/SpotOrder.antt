@@ -1,4 +1,5 @@
--- Spots and their order.
+-- Spots and their order. A spot says the same as a posting, but has the TIPLOC itself in place of its
+-- index.
 use Rattle.std.specs.Prelude.{ℕ, List}
 use Rattle.std.specs.declared.cmp.Ordering.{Ordering}
 use Rattle.std.specs.Ordering.{ordering_then, nat_cmp}
@@ -6,15 +7,15 @@ use Rattle.std.specs.Cmp.{IsTotalOrder, then_total, on_total, nat_cmp_total}
 use Rattle.std.specs.Cmp.Lexicographic.{nat_list_cmp_total}
 use Rattle.docker_model.specs.state.Order.{bytes_cmp}
 
--- a spot: a TIPLOC, and the index of a row that calls or is linked there
+-- a TIPLOC, and the index of a row that calls or is linked there
 pub record Spot : Type 0 where
   pub place : List ℕ
   pub at : ℕ
 
--- the order of spots: by place, then by row
+-- compares two spots: by TIPLOC, and then by row
 abbrev pub spot_cmp : Spot → Spot → Ordering
 spot_cmp a b = ordering_then (bytes_cmp a.place b.place) (nat_cmp a.at b.at)
 
--- the order of spots is total
+-- Says that the order of spots is total.
 pub spot_total : IsTotalOrder spot_cmp
 spot_total = then_total (on_total (λ (s : Spot). s.place) nat_list_cmp_total) (on_total (λ (s : Spot). s.at) nat_cmp_total)

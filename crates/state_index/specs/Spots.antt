@@ -1,4 +1,4 @@
--- An index of rows by place: the spots at which live schedules call, and the spots of live
+-- What an index of rows has: the spots of all calls of live schedules, and the spots of all live
 -- associations.
 use Rattle.std.specs.Prelude.{ℕ, ◌+◌, ◌↔◌, List, [], ◌∷◌, ◌++◌, map, Contains, Option, option_map, slice_get}
 use Rattle.std.specs.List.{filter_map}
@@ -11,7 +11,8 @@ use Rattle.state_index.specs.declared.posting.Posting.{Posting}
 use Rattle.state_index.specs.PostingOrder.{posting_cmp}
 use Rattle.state_index.specs.declared.index.Index.{Index}
 
--- gives the places of a key and its op
+-- a function that gives the places where a row with this key and op calls, or the places where it
+-- is linked
 abbrev pub Places : Type 0
 Places = Key → Op → List (List ℕ)
 
@@ -19,48 +20,49 @@ Places = Key → Op → List (List ℕ)
 abbrev pub places_of : Places → Key × Entry → List (List ℕ)
 places_of places row = places row.0 row.1.op
 
--- the spot of a place and the row at this index
+-- the spot of a place, for the row at index `at`
 abbrev pub spot_at : ℕ → List ℕ → Spot
 spot_at at place = record { place = place; at = at }
 
--- the spots of rows, the first of which has this index
+-- the spots of some rows, if the first of them is at index `at`
 abbrev pub spots_from : Places → ℕ → List (Key × Entry) → List Spot
 spots_from places at [] = []
 spots_from places at (row ∷ rows) = map (spot_at at) (places_of places row) ++ spots_from places (1 + at) rows
 
--- the spots of rows
+-- the spots of some rows, if the first of them is at index 0
 abbrev pub spots_of : Places → List (Key × Entry) → List Spot
 spots_of places rows = spots_from places 0 rows
 
--- these are the rows' spots in ascending order, each once
+-- Says that these are the spots of the rows, in ascending order and each once.
 pub record AreSpotsOf (places : Places) (rows : List (Key × Entry)) (spots : List Spot) : Type 0 where
   pub ascending : IsStrictlyAscending spot_cmp spots
   pub members : (spot : Spot) → Contains spots spot ↔ Contains (spots_of places rows) spot
 
--- the spot that a posting stands for. The posting's place is an index into these names
+-- the spot of a posting, whose place is an index in a list of names; none if the list has no such
+-- index
 abbrev pub posting_spot : List (List ℕ) → Posting → Option Spot
 posting_spot names posting = option_map (spot_at posting.at) (slice_get names posting.place)
 
--- the spots that postings stand for
+-- the spots of some postings, whose places are indexes in a list of names
 abbrev pub spots_in : List (List ℕ) → List Posting → List Spot
 spots_in names postings = filter_map (posting_spot names) postings
 
--- the postings ascend, and stand for the rows' spots
+-- Says that the postings ascend, and that their spots are the spots of the rows.
 pub record ArePostingsOf (places : Places) (rows : List (Key × Entry)) (names : List (List ℕ)) (postings : List Posting) : Type 0 where
   pub up : IsStrictlyAscending posting_cmp postings
   pub are : AreSpotsOf places rows (spots_in names postings)
 
--- this is the rows' index: it has the spots at which live schedules call and the spots of live
--- associations
+-- Says that this is the index of the rows: its postings of calls have the spots where live schedules
+-- call, and its postings of links the spots of live associations.
 pub record IsIndexOf (rows : List (Key × Entry)) (index : Index) : Type 0 where
   pub named : IsStrictlyAscending bytes_cmp index.places.items
   pub calls : ArePostingsOf call_places rows index.places.items index.calls.items
   pub links : ArePostingsOf link_places rows index.places.items index.links.items
 
--- the spots at which live schedules call
+-- the spots of an index where live schedules call
 abbrev pub call_spots : Index → List Spot
 call_spots index = spots_in index.places.items index.calls.items
 
--- the spots of live associations
+-- the spots of an index where live associations are
 abbrev pub link_spots : Index → List Spot
 link_spots index = spots_in index.places.items index.links.items

@@ -1,4 +1,4 @@
--- The walk over the rows of two tables, key by key, and where each row goes.
+-- The walk over the rows of two tables, key by key, and where each row is in the join.
 use Rattle.std.specs.Prelude.{ℕ, ◌+◌, Bool, true, false, ◌&&◌, not, if◌then◌else◌, List, [], ◌∷◌, map, Option, Some, None}
 use Rattle.std.specs.declared.cmp.Ordering.{Ordering}
 use Rattle.std.specs.declared.cmp.Ordering.TheVariants.{Less, Equal, Greater}
@@ -14,74 +14,76 @@ use Rattle.docker_join.specs.Rows.{row_cmp}
 use Rattle.state_index.specs.declared.turns.Turn.{Turn}
 use Rattle.state_index.specs.declared.turns.Turn.TheVariants as turn
 
--- one turn of the walk: what two tables have at one key
+-- one turn of the walk: a key, with the rows that two tables have there
 pub data AtKey : Type 0 where
   in_first : (one : Key × Entry) → AtKey
   in_second : (other : Key × Entry) → AtKey
   in_both : (one other : Key × Entry) → AtKey
 
--- a turn as the proofs see it
+-- the turn of the code as an `AtKey`
 abbrev pub turn_meant : Turn → AtKey
 turn_meant (turn.First one) = in_first one.now
 turn_meant (turn.Second other) = in_second other.now
 turn_meant (turn.Both one other) = in_both one.now other.now
 
--- the first table's rows in these turns
+-- the rows of the first table in some turns
 abbrev pub firsts : List AtKey → List (Key × Entry)
 firsts [] = []
 firsts (in_first one ∷ turns) = one ∷ firsts turns
 firsts (in_second other ∷ turns) = firsts turns
 firsts (in_both one other ∷ turns) = one ∷ firsts turns
 
--- the second table's rows in these turns
+-- the rows of the second table in some turns
 abbrev pub seconds : List AtKey → List (Key × Entry)
 seconds [] = []
 seconds (in_first one ∷ turns) = seconds turns
 seconds (in_second other ∷ turns) = other ∷ seconds turns
 seconds (in_both one other ∷ turns) = other ∷ seconds turns
 
--- the turn at the lesser of two keys, and then the rest of the walk from there
+-- the turn at the lower of two keys, followed by the turns after it
 abbrev pub placed_turn : Ordering → Key × Entry → Key × Entry → List AtKey → List AtKey → List AtKey → List AtKey
 placed_turn Less x y less equal greater = in_first x ∷ less
 placed_turn Equal x y less equal greater = in_both x y ∷ equal
 placed_turn Greater x y less equal greater = in_second y ∷ greater
 
--- the walk from the first table's next row on; `rest` walks on after it
+-- the turns from row `x` of the first table on, given the turns after that row
 abbrev pub turns_from : Key × Entry → (List (Key × Entry) → List AtKey) → List (Key × Entry) → List AtKey
 turns_from x rest [] = in_first x ∷ rest []
 turns_from x rest (y ∷ ys) = placed_turn (row_cmp x y) x y (rest (y ∷ ys)) (rest ys) (turns_from x rest ys)
 
--- the walk over the rows of both tables
+-- the turns of two tables, in ascending order of keys
 abbrev pub turns_of : List (Key × Entry) → List (Key × Entry) → List AtKey
 turns_of [] ys = map in_second ys
 turns_of (x ∷ xs) ys = turns_from x (turns_of xs) ys
 
--- the floor keeps this file stamp
+-- whether a floor keeps what comes from a file: its stamp isn't below the floor. Without a floor
+-- everything is kept
 abbrev pub is_kept : Option FileStamp → FileStamp → Bool
 is_kept None stamp = true
 is_kept (Some floor) stamp = not (is_gt (file_stamp_cmp floor stamp))
 
--- the op is a put
+-- whether an op is a put
 abbrev pub is_put : ops.Op → Bool
 is_put deleted = false
 is_put lapsed = false
 is_put (put_with body) = true
 
--- the index that a winning entry gets if there are already `at` rows. None if it isn't kept, or
--- isn't live after the lapse
+-- the index that a winning entry gets in the join, if `at` rows come before it. None if the floor
+-- doesn't keep it, or if it isn't live once the horizon is applied
 abbrev pub goes : Option FileStamp → ℕ → ℕ → Entry → Option ℕ
 goes floor horizon at entry =
     if is_kept floor (entry_meant entry).stamp.file && is_put (lapse horizon (entry_meant entry).op) then Some at else None
 
--- the number of rows with a winning entry, if there were `at` before it
+-- how many rows the join has after a winning entry, if it had `at` before
 abbrev pub after : Option FileStamp → ℕ → Entry → ℕ
 after floor at entry = if is_kept floor (entry_meant entry).stamp.file then 1 + at else at
 
--- the first entry wins over the second: it is the greater one
+-- whether the first of two entries wins: it is greater than the second
 abbrev pub wins : Entry → Entry → Bool
 wins one other = is_lt (entry_cmp (entry_meant other) (entry_meant one))
 
--- where the first table's rows go, if there are already `at` rows
+-- for each row of the first table in some turns, its index in the join, if the join has `at` rows
+-- before these turns
 abbrev pub first_moves : Option FileStamp → ℕ → ℕ → List AtKey → List (Option ℕ)
 first_moves floor horizon at [] = []
 first_moves floor horizon at (in_first one ∷ turns) = goes floor horizon at one.1 ∷ first_moves floor horizon (after floor at one.1) turns
@@ -90,7 +92,8 @@ first_moves floor horizon at (in_both one other ∷ turns) =
     if wins one.1 other.1 then goes floor horizon at one.1 ∷ first_moves floor horizon (after floor at one.1) turns
     else None ∷ first_moves floor horizon (after floor at other.1) turns
 
--- where the second table's rows go, if there are already `at` rows
+-- for each row of the second table in some turns, its index in the join, if the join has `at` rows
+-- before these turns
 abbrev pub second_moves : Option FileStamp → ℕ → ℕ → List AtKey → List (Option ℕ)
 second_moves floor horizon at [] = []
 second_moves floor horizon at (in_first one ∷ turns) = second_moves floor horizon (after floor at one.1) turns

@@ -1,4 +1,5 @@
-//! The index of rows: where their live schedules call, and where their live associations are.
+//! The index of a table's rows by place: where live schedules call, and where live associations
+//! are.
 ghost use Rattle.std.specs.Prelude.{◌≡◌, ℕ, ◌+◌, List, [], map, IfOk};
 ghost use Rattle.docker_model.specs.file.Change as model;
 ghost use Rattle.docker_model.specs.state.Op as ops;
@@ -27,20 +28,22 @@ use cif_change::{Key, Memory, Notes, Tiploc};
 use docker_join::Entry;
 use std::alloc::Global;
 
-/// An index of rows by place: which rows call or are linked there.
+/// An index of a table's rows by place. For each TIPLOC it says which rows call or are linked
+/// there.
 #[derive(Debug, Drop)]
 pub struct Index {
-    /// The TIPLOCs that rows name, in ascending order, each once.
+    /// The TIPLOCs that the rows name, in ascending order and each once.
     pub places: Vec<[u8; 7]>,
-    /// For each place the live schedules that call there, by an LO, an LI or an LT. In ascending
-    /// order, each once.
+    /// One posting for each live schedule and each place at which it calls, in an LO, LI or LT record.
+    /// Postings ascend by place and then by row, and none is repeated.
     pub calls: Vec<Posting>,
-    /// For each place the live associations there. In ascending order, each once.
+    /// One posting for each live association, at its location. Postings ascend by place and then by row,
+    /// and none is repeated.
     pub links: Vec<Posting>,
 }
 
 impl Index {
-    /// The index without rows.
+    /// The index of an empty table.
     pub fn new(alloc: Global) -> Index
         ensures { IsIndexOf [] result }
     {
@@ -51,8 +54,8 @@ impl Index {
         }
     }
 
-    /// The index of these rows, made from their notes in the room that was reserved. It allocates
-    /// nothing.
+    /// Makes the index of these rows from their notes, in memory that was reserved before.
+    /// Allocates nothing.
     pub fn of_rows(room: Room, notes: Notes, rows: &[(Key, Entry)]) -> Index
         requires room { HasRoomFor (map row_meant rows.now) notes.names.list.items room }
         requires noted { AreNoted notes.names.list.items notes.numbers.items
@@ -80,9 +83,9 @@ impl Index {
         }
     }
 
-    /// Makes this the index of these rows, in place, after a horizon was set and some rows have
-    /// lapsed. The call may allocate one byte per row for a time; if the allocator refuses, it
-    /// takes longer.
+    /// Updates the index in place after a horizon was set and some of its rows lapsed. May allocate
+    /// one byte per row for a while. If the allocator refuses, the call takes longer but doesn't
+    /// fail.
     pub fn lapse(&mut self, rows: &[(Key, Entry)])
         ensures { (before : List (model.Key × ops.Entry)) (horizon : ℕ)
             → map row_meant rows.now ≡ lapse_entries horizon before
@@ -93,8 +96,8 @@ impl Index {
         keep_put(&mut self.links, rows, &puts);
     }
 
-    /// The index of two tables' join, from their indexes. The time is linear in both. `Memory` if
-    /// the allocator refuses.
+    /// Makes the index of the join of two tables from the indexes of the two. The time is linear in
+    /// their sizes. Returns `Memory` if the allocator refuses.
     pub fn of_join(
         alloc: Global,
         first: &Index,
@@ -141,8 +144,8 @@ impl Index {
         })
     }
 
-    /// The live schedules that call at a TIPLOC, found by a binary search. `rows` are the rows of
-    /// this index.
+    /// The live schedules that call at a TIPLOC, found by binary search. `rows` must be the rows of
+    /// which this is the index.
     pub fn calling<'a>(&'a self, rows: &'a [(Key, Entry)], tiploc: &Tiploc) -> PlaceRows<'a>
         requires index { IsIndexOf (map row_meant rows.now) self.now }
         requires ascending { AreAscending (map row_meant rows.now) }
@@ -159,8 +162,8 @@ impl Index {
         )
     }
 
-    /// How many live schedules call at a TIPLOC. Binary searches find the first and the last of
-    /// them, and no row is looked at.
+    /// How many live schedules call at a TIPLOC. Two binary searches find the first and the last
+    /// posting of the place, and no row is read.
     pub fn count_calling(&self, tiploc: &Tiploc) -> usize
         requires named { IsStrictlyAscending bytes_cmp self.now.places.items }
         requires up { IsStrictlyAscending posting_cmp self.now.calls.items }
@@ -175,8 +178,8 @@ impl Index {
         .len()
     }
 
-    /// The live associations at a location, found by a binary search. `rows` are the rows of this
-    /// index.
+    /// The live associations at a location, found by binary search. `rows` must be the rows of
+    /// which this is the index.
     pub fn linked<'a>(&'a self, rows: &'a [(Key, Entry)], tiploc: &Tiploc) -> PlaceRows<'a>
         requires index { IsIndexOf (map row_meant rows.now) self.now }
         requires ascending { AreAscending (map row_meant rows.now) }
@@ -194,7 +197,8 @@ impl Index {
     }
 }
 
-/// An empty vector with room for the postings of both indexes. `Memory` if the allocator refuses.
+/// An empty vector with room for the postings of two indexes. Returns `Memory` if the allocator
+/// refuses.
 fn room_for(alloc: Global, first: usize, second: usize) -> Result<Vec<Posting>, Memory>
     ensures { IfOk result (HasRoomOf (first + second)) }
 {

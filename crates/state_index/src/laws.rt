@@ -1,5 +1,5 @@
-//! The laws of an index: its spots stand for the indexes of the live table. Each law is the
-//! contract of a function without a body.
+//! The laws of indexes. An index of a state's rows gives the indexes of its live table, and rows
+//! have only one index. Each law is the contract of a function without a body.
 ghost use Rattle.std.specs.Prelude.{◌≡◌, List};
 ghost use Rattle.docker_model.specs.file.Change.{Key};
 ghost use Rattle.docker_model.specs.state.Op.{Entry};
@@ -9,7 +9,8 @@ ghost use Rattle.state_index.specs.declared.index.Index.{Index};
 ghost use Rattle.state_index.specs.Spots.{IsIndexOf, call_spots, link_spots};
 ghost use Rattle.state_index.specs.Tables.{calling_rows, linked_rows};
 
-/// The spots of a state's rows stand for the two indexes of the state's live table.
+/// The spots in an index of a state's rows give the two indexes of the state's live table: where
+/// schedules call, and where associations are.
 pub fn indexes_of_rows()
     ensures calls { (state : State) (index : Index)
         → AreAscending state.entries → IsIndexOf state.entries index
@@ -19,7 +20,7 @@ pub fn indexes_of_rows()
         → IsLinkedIndex (live_table state) (linked_rows state.entries (link_spots index)) }
 {}
 
-/// Rows have only one index.
+/// Two indexes of the same rows have the same spots.
 pub fn one_index_of_rows()
     ensures calls { (rows : List (Key × Entry)) (first second : Index)
         → IsIndexOf rows first → IsIndexOf rows second → call_spots first ≡ call_spots second }

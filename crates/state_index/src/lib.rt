@@ -1,5 +1,5 @@
-//! Two indexes of the rows of a state: the TIPLOCs where its live schedules call, and the locations
-//! of its live associations. Re-exports the notes of rows from the crate below.
+//! Two indexes of a state's rows by place: at which TIPLOCs its live schedules call, and at which
+//! its live associations are. The crate re-exports the notes of `cif_change`.
 #![tactic(auto)]
 
 mod fill;

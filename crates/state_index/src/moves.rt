@@ -1,4 +1,4 @@
-//! Finds where the rows of two tables go in their join.
+//! Finds where each row of two tables is in their join.
 ghost use Rattle.std.specs.Prelude.{◌≡◌, ◌+◌, ◌<◌, ◌≤◌, ◌^◌, List, [], ◌∷◌, ◌++◌, vec_len, vec_capacity, length, map, IfOk};
 ghost use Rattle.docker_model.specs.file.Change as model;
 ghost use Rattle.docker_model.specs.state.Op as ops;
@@ -13,19 +13,20 @@ use cif_change::{Key, Memory};
 use docker_join::{Entry, FileStamp, Op};
 use std::alloc::Global;
 
-/// For each row of two tables, its index among the rows of the join. None if the other table's
-/// entry wins, if the floor doesn't keep this one, or if it isn't live after the lapse.
+/// The index in the join of each row of two tables. None if the other table's entry at the key
+/// wins, if the floor doesn't keep the entry, or if the entry isn't live once the horizon is
+/// applied.
 #[derive(Debug, Drop)]
 pub struct Moves {
-    /// The new indexes of the first table's rows.
+    /// For each row of the first table, its index in the join.
     pub first: Vec<Option<u32>>,
-    /// The new indexes of the second table's rows.
+    /// For each row of the second table, its index in the join.
     pub second: Vec<Option<u32>>,
 }
 
 impl Moves {
-    /// No moves yet, but room for the moves of this many rows of each table. `Memory` if the
-    /// allocator refuses.
+    /// No moves yet, but memory for the moves of this many rows of each table. Returns `Memory` if
+    /// the allocator refuses.
     pub fn with_room(alloc: Global, first: usize, second: usize) -> Result<Moves, Memory>
         ensures { IfOk result (HasRows first second) }
     {
@@ -38,9 +39,9 @@ impl Moves {
         Ok(Moves { first, second })
     }
 
-    /// The moves of two tables' rows into their join, as far as the floor keeps them, lapsed under
-    /// a horizon. The horizon is a day number, counted from 0 for 1960-01-01. There has to be room
-    /// for the moves of all rows. It allocates nothing.
+    /// Finds where the rows of two tables are in their join, from which the floor removes older
+    /// entries and in which entries lapse under the horizon. The horizon is a day number, counted
+    /// from 0 for 1960-01-01. There must be room for the moves of all rows. Allocates nothing.
     pub fn of_tables(
         self,
         first: &[(Key, Entry)],
@@ -58,7 +59,7 @@ impl Moves {
         self.walk(first, second, floor, horizon)
     }
 
-    /// The moves of all rows, by a walk over both tables.
+    /// Finds the moves of all rows by a walk over both tables at once.
     fn walk(
         self,
         first: &[(Key, Entry)],
@@ -80,8 +81,8 @@ impl Moves {
         moves
     }
 
-    /// Notes where the rows of one turn go, if the join has `at` rows so far. Returns how many rows
-    /// it has after this turn.
+    /// Notes the moves of the one or two rows of a turn, before which the join has `at` rows.
+    /// Returns how many rows it has after the turn.
     fn take(&mut self, turn: Turn<'_>, floor: &Option<FileStamp>, horizon: u16, at: u32) -> u32
         requires few { at + 1 < 2 ^ 32 }
         requires first_room { vec_len self.old.first + length (firsts (turn_meant turn ∷ []))
@@ -132,15 +133,16 @@ impl Moves {
     }
 }
 
-/// Whether the first of two entries with one key wins. If they are equal, the second does.
+/// Whether the first of two entries of one key wins: it is greater. If they are equal, the second
+/// wins.
 fn wins(one: &Entry, other: &Entry) -> bool
     ensures { result ≡ wins one.now other.now }
 {
     other < one
 }
 
-/// The index of a winning entry in the join, if there are `at` rows so far. None if it isn't kept,
-/// or isn't live after the lapse.
+/// The index that a winning entry gets in the join, if `at` rows come before it. None if the floor
+/// doesn't keep the entry, or if it isn't live once the horizon is applied.
 fn index_of(entry: &Entry, floor: &Option<FileStamp>, horizon: u16, at: u32) -> Option<u32>
     ensures { result ≡ goes (floor_meant floor.now) horizon at entry.now }
 {
@@ -151,7 +153,7 @@ fn index_of(entry: &Entry, floor: &Option<FileStamp>, horizon: u16, at: u32) -> 
     }
 }
 
-/// How many rows the join has with a winning entry, if there are `at` rows so far.
+/// How many rows the join has after a winning entry, if it had `at` before.
 fn index_after(entry: &Entry, floor: &Option<FileStamp>, at: u32) -> u32
     requires { at + 1 < 2 ^ 32 }
     ensures { result ≡ after (floor_meant floor.now) at entry.now }
@@ -163,7 +165,8 @@ fn index_after(entry: &Entry, floor: &Option<FileStamp>, at: u32) -> u32
     }
 }
 
-/// Whether a floor keeps this file stamp.
+/// Whether a floor keeps what comes from a file: its stamp isn't below the floor. Without a floor
+/// everything is kept.
 fn is_kept(floor: &Option<FileStamp>, stamp: &FileStamp) -> bool
     ensures { result ≡ is_kept (floor_meant floor.now) (file_stamp_meant stamp.now) }
 {
@@ -173,7 +176,7 @@ fn is_kept(floor: &Option<FileStamp>, stamp: &FileStamp) -> bool
     }
 }
 
-/// Whether an op is a put that doesn't lapse under a horizon.
+/// Whether an op is a put that doesn't lapse under the horizon.
 fn stays_put(op: &Op, horizon: u16) -> bool
     ensures { result ≡ is_put (lapse horizon (op_meant op.now)) }
 {

@@ -1,9 +1,9 @@
-//! The places of an index, in order.
+//! The ordered list of places in an index.
 ghost use Rattle.std.specs.Prelude.{◌≡◌, Contains, IsSome, IfSome, Some, slice_get};
 ghost use Rattle.docker_model.specs.state.Order.{bytes_cmp, IsStrictlyAscending};
 ghost use Rattle.state_index.specs.Rooms.{Includes};
 
-/// These places in ascending order, each once.
+/// The same places, sorted in ascending order and each once.
 pub(crate) fn ascending_places(mut places: Vec<[u8; 7]>) -> Vec<[u8; 7]>
     ensures up { IsStrictlyAscending bytes_cmp result.items }
     ensures all { Includes places.items result.items }
@@ -13,7 +13,7 @@ pub(crate) fn ascending_places(mut places: Vec<[u8; 7]>) -> Vec<[u8; 7]>
     places
 }
 
-/// The index of a place among ascending places. None if it isn't there.
+/// The index of a place in an ascending list of places. None if the list doesn't have it.
 pub(crate) fn rank_of(places: &[[u8; 7]], place: &[u8; 7]) -> Option<usize>
     requires { IsStrictlyAscending bytes_cmp places.now }
     ensures some { IfSome result (λ rank. slice_get places.now rank ≡ Some place.now) }

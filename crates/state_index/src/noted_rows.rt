@@ -1,4 +1,4 @@
-//! What rows name, noted as they come.
+//! Notes the places that a table's rows name.
 ghost use Rattle.std.specs.Prelude.{◌++◌, [], ◌∷◌, List, map, IsOk, IsErr, IfOk};
 ghost use Rattle.cif_change.specs.Meaning.{key_meant};
 ghost use Rattle.docker_join.specs.Meaning.{op_meant, row_meant};
@@ -8,7 +8,7 @@ use cif_change::{Key, Memory, Notes};
 use docker_join::{Entry, Op};
 use std::alloc::Global;
 
-/// What these rows name. `Memory` if the allocator refuses it.
+/// Notes the places that these rows name. Returns `Memory` if the allocator refuses.
 pub fn notes_of_rows(alloc: Global, rows: &[(Key, Entry)]) -> Result<Notes, Memory>
     ensures { IfOk result (HasNoted (items_of (map row_meant rows.now))) }
 {
@@ -21,7 +21,8 @@ pub fn notes_of_rows(alloc: Global, rows: &[(Key, Entry)]) -> Result<Notes, Memo
     Ok(notes)
 }
 
-/// Notes the next row: a key with its op. If it returns `Memory`, the row isn't noted.
+/// Notes the places of the next row, given its key and its op. Returns `Memory` if the allocator
+/// refuses; the row isn't noted then.
 pub fn note_row(notes: &mut Notes, key: &Key, op: &Op) -> Result<(), Memory>
     ensures ok { IsOk result → (items : List Item) → HasNoted items notes.old
         → HasNoted (items ++ (key_meant key.now, op_meant op.now) ∷ []) notes.new }

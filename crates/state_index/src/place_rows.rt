@@ -1,4 +1,4 @@
-//! The rows that call or are linked at a place.
+//! Iterators over the rows that call or are linked at a place.
 ghost use Rattle.std.specs.Prelude.{◌≡◌, List, length, map};
 ghost use Rattle.std.specs.Iterator.{YieldsFirstBy, item_count};
 ghost use Rattle.cif_change.specs.Meaning.{key_meant, body_meant};
@@ -18,9 +18,9 @@ use cif_change::{Body, Key};
 use docker_join::{Entry, Op};
 use std::marker::Model;
 
-/// Walks over the live rows at a place, in key order. It gives each row's index, key and body. No
-/// clause says that the index is right: it only says where to look first, and no result depends on
-/// it.
+/// An iterator over the live rows at a place, in key order. It gives the index, the key and the
+/// body of each row. No clause says that the index is right. A caller may use it as a hint where to
+/// look first, but no result may depend on it.
 #[derive(Clone, Debug, Drop)]
 pub struct Numbered<'a> {
     rows: &'a [(Key, Entry)],
@@ -58,7 +58,8 @@ impl<'a> Iterator for Numbered<'a> {
     }
 }
 
-/// Walks over the live rows at a place, in key order. It gives each row's key and body.
+/// An iterator over the live rows at a place, in key order. It gives the key and the body of each
+/// row.
 #[derive(Clone, Debug, Drop)]
 pub struct PlaceRows<'a> {
     numbered: Numbered<'a>,
@@ -74,7 +75,7 @@ impl<'a> Model for PlaceRows<'a> {
 }
 
 impl<'a> PlaceRows<'a> {
-    /// The walk over the rows that these postings name.
+    /// An iterator over the rows that these postings name.
     pub(crate) fn of(rows: &'a [(Key, Entry)], postings: &'a [Posting]) -> PlaceRows<'a>
         ensures { result ≡ rows_at_postings (map row_meant rows.entry.now) postings.entry.now }
     {
@@ -83,7 +84,7 @@ impl<'a> PlaceRows<'a> {
         }
     }
 
-    /// The same walk, with each row's index, counted from 0.
+    /// An iterator over the same rows that also gives the index of each, from 0.
     pub fn numbered(self) -> Numbered<'a>
         ensures { result ≡ self.entry }
     {
@@ -107,7 +108,7 @@ impl<'a> Iterator for PlaceRows<'a> {
     }
 }
 
-/// The live row that a posting names. None if it isn't put.
+/// The row that a posting names, if it is live: its op is a put.
 fn live_at<'a>(rows: &'a [(Key, Entry)], posting: &Posting) -> Option<(&'a Key, &'a Body)>
     ensures { option_map (λ row. (key_meant row.0.now, body_meant row.1.now)) result
         ≡ live_at_posting (map row_meant rows.entry.now) posting.now }
@@ -121,7 +122,7 @@ fn live_at<'a>(rows: &'a [(Key, Entry)], posting: &Posting) -> Option<(&'a Key, 
     }
 }
 
-/// Whether the row that a posting names is put.
+/// Whether the op of the row that a posting names is a put.
 pub(crate) fn is_put_at(rows: &[(Key, Entry)], posting: &Posting) -> bool
     ensures { result ≡ is_put_at_posting (map row_meant rows.now) posting.now }
 {
@@ -131,8 +132,8 @@ pub(crate) fn is_put_at(rows: &[(Key, Entry)], posting: &Posting) -> bool
     }
 }
 
-/// The postings of one place among ascending postings, found by a binary search. `rank` is the place's
-/// index.
+/// The postings of one place among ascending postings, found by binary search. `rank` is the index of the
+/// place in the list of places.
 pub(crate) fn postings_of<'a>(postings: &'a [Posting], rank: usize) -> &'a [Posting]
     requires { IsStrictlyAscending posting_cmp postings.now }
     ensures { IsPieceOf rank postings.entry.now result.now }
@@ -142,22 +143,22 @@ pub(crate) fn postings_of<'a>(postings: &'a [Posting], rank: usize) -> &'a [Post
     here
 }
 
-/// Whether a posting's place has an index below this one.
+/// Whether the index of a posting's place is below `rank`.
 fn is_before(posting: &Posting, rank: usize) -> bool
     ensures { result ≡ is_lt (nat_cmp posting.now.place rank) }
 {
     (posting.place as usize).cmp(&rank).is_lt()
 }
 
-/// Whether a posting's place has this index, or one below it.
+/// Whether the index of a posting's place is `rank` or lower.
 fn is_up_to(posting: &Posting, rank: usize) -> bool
     ensures { result ≡ is_le (nat_cmp posting.now.place rank) }
 {
     (posting.place as usize).cmp(&rank).is_le()
 }
 
-/// The postings at a place, among ascending postings, found by a binary search. There are none if the
-/// place isn't named.
+/// The postings of one place among ascending postings, found by binary search. None are found if the
+/// place isn't in the list of places.
 pub(crate) fn postings_at<'a>(
     places: &[[u8; 7]],
     postings: &'a [Posting],

@@ -1,4 +1,4 @@
-//! The postings of an index: each is a place, and a row that calls or is linked there.
+//! Postings, the entries of an index.
 ghost use Rattle.std.specs.Ordering.{as_partial_cmp, eq_by_cmp};
 ghost use Rattle.std.specs.Cmp.{partial_equiv_from_equiv, eq_by_cmp_equiv, partial_order_from_total};
 ghost use Rattle.std.proofs.Common.{refl};
@@ -6,12 +6,13 @@ ghost use Rattle.state_index.specs.PostingOrder.{posting_cmp, posting_total};
 
 use std::cmp::Ordering;
 
-/// An index entry: a row that calls or is linked at a place. Ordered by place, then by row.
+/// An entry of an index: this row calls, or is linked, at this place. Postings are ordered by place,
+/// and then by row.
 #[derive(Clone, Copy, Debug)]
 pub struct Posting {
-    /// The place's index among the places, from 0.
+    /// The index of the place in the index's list of places, from 0.
     pub place: u32,
-    /// The row's index among the rows, from 0.
+    /// The index of the row in the table, from 0.
     pub at: u32,
 }
 

@@ -1,4 +1,4 @@
-//! Which rows are put, and the postings that name them.
+//! Removes the postings of rows that have lapsed.
 ghost use Rattle.std.specs.Prelude.{◌≡◌, filter, map, IfSome};
 ghost use Rattle.docker_join.specs.Meaning.{op_meant, row_meant};
 ghost use Rattle.state_index.specs.Turns.{is_put};
@@ -10,7 +10,8 @@ use cif_change::Key;
 use docker_join::{Entry, Op};
 use std::alloc::Global;
 
-/// Whether each of these rows is put, in one byte per row. None if the allocator refuses.
+/// A table with one byte for each row, which says whether its op is a put. None if the allocator
+/// refuses.
 pub(crate) fn puts_of(alloc: Global, rows: &[(Key, Entry)]) -> Option<Vec<bool>>
     ensures { IfSome result (λ puts. puts.items ≡ puts_in (map row_meant rows.now)) }
 {
@@ -25,8 +26,8 @@ pub(crate) fn puts_of(alloc: Global, rows: &[(Key, Entry)]) -> Option<Vec<bool>>
     Some(puts)
 }
 
-/// Keeps only the postings whose rows are put. It looks that up in the table `puts`, which is small.
-/// Without the table it looks into the rows.
+/// Keeps only the postings of rows whose op is a put. Looks the ops up in the table `puts`, which is
+/// small enough for the cache. Without that table it reads the rows themselves.
 pub(crate) fn keep_put(postings: &mut Vec<Posting>, rows: &[(Key, Entry)], puts: &Option<Vec<bool>>)
     requires { IfSome puts.now (λ puts. puts.items ≡ puts_in (map row_meant rows.now)) }
     ensures { postings.new.items
@@ -41,7 +42,7 @@ pub(crate) fn keep_put(postings: &mut Vec<Posting>, rows: &[(Key, Entry)], puts:
     }
 }
 
-/// Whether the row that a posting names is put, by the table.
+/// Whether the op of the row that a posting names is a put, according to the table.
 fn is_put_in(puts: &[bool], posting: &Posting) -> bool
     ensures { result ≡ put_among puts.now posting.now }
 {

@@ -1,4 +1,4 @@
-//! The memory that an index needs.
+//! The memory that making an index needs, reserved before it is made.
 ghost use Rattle.std.specs.Prelude.{◌<◌, List, IfOk};
 ghost use Rattle.docker_model.specs.file.Change as model;
 ghost use Rattle.docker_model.specs.state.Op as ops;
@@ -12,22 +12,22 @@ use crate::slots::Slots;
 use cif_change::{Memory, Notes};
 use std::alloc::Global;
 
-/// The places of an index that is to be made, and room for its postings.
+/// What making an index needs: the ordered places, and memory for the postings.
 #[derive(Debug, Drop)]
 pub struct Room {
-    /// The TIPLOCs that the rows name, in ascending order.
+    /// The TIPLOCs that the rows name, in ascending order and each once.
     pub places: Vec<[u8; 7]>,
-    /// For each provisional number, its place's index in `places`.
+    /// The index in `places` for each provisional number of the notes.
     pub ranks: Vec<u32>,
-    /// Room to sort the calls.
+    /// Memory for sorting the calls.
     pub calls: Slots,
-    /// Room to sort the links.
+    /// Memory for sorting the links.
     pub links: Slots,
 }
 
 impl Room {
-    /// Room for the index of the noted rows. If changes were noted, it is for the rows that they
-    /// make, one for each key. `Memory` if the allocator refuses.
+    /// Reserves memory for the index of the noted rows. If changes were noted, it is enough for the
+    /// rows that they make, one for each key. Returns `Memory` if the allocator refuses.
     pub fn for_notes(alloc: Global, notes: &Notes) -> Result<Room, Memory>
         ensures rows { (rows : List (model.Key × ops.Entry)) → HasNoted (items_of rows) notes.now
             → IfOk result (HasRoomFor rows notes.now.names.list.items) }
@@ -43,7 +43,8 @@ impl Room {
         )
     }
 
-    /// These places in order, and room for this many calls and for the links of this many rows.
+    /// Orders these places, and reserves memory for this many calls and for the links of this many
+    /// rows.
     fn for_names(
         alloc: Global,
         names: &[[u8; 7]],

@@ -1,4 +1,4 @@
-//! A walk over the rows of two tables, key by key.
+//! An iterator over the rows of two tables at once, key by key.
 ghost use Rattle.std.specs.Iterator.{YieldsFirstBy, item_count};
 ghost use Rattle.state_index.specs.Turns.{turn_meant};
 
@@ -7,7 +7,7 @@ use docker_join::Entry;
 use std::cmp::Ordering;
 use std::marker::Model;
 
-/// One turn of the walk: what two tables have at one key.
+/// The rows that two tables have at one key.
 #[derive(Clone, Copy, Debug)]
 pub(crate) enum Turn<'a> {
     /// Only the first table has the key.
@@ -18,7 +18,8 @@ pub(crate) enum Turn<'a> {
     Both(&'a (Key, Entry), &'a (Key, Entry)),
 }
 
-/// Walks over the keys of two tables in order, and gives what the tables have at each key.
+/// An iterator over the keys of two tables, in ascending order. For each key it gives the rows that
+/// the tables have there.
 #[derive(Clone, Debug, Drop)]
 pub(crate) struct Turns<'a> {
     first: &'a [(Key, Entry)],
@@ -38,7 +39,7 @@ impl<'a> Turns<'a> {
     ghost use Rattle.std.specs.Prelude.{◌≡◌, ◌+◌, ◌≤◌, length};
     ghost use Rattle.state_index.specs.Turns.{turns_of, firsts, seconds};
 
-    /// The walk over the rows of two tables.
+    /// An iterator over the rows of these tables, whose keys ascend.
     pub(crate) fn of(first: &'a [(Key, Entry)], second: &'a [(Key, Entry)]) -> Turns<'a>
         ensures turns { result ≡ turns_of first.entry.now second.entry.now }
         ensures few { length result ≤ length first.entry.now + length second.entry.now }

@@ -1,5 +1,5 @@
-//! Worked examples of entries, tables and states: made from files, joined, under horizons, and
-//! staged. Also the calls at a place, and indexes of rows. This crate holds only tests.
+//! Worked examples of entries, tables and states, which are made from files, joined, put under
+//! horizons and received. Also of calls at a place, and of indexes. This crate has only tests.
 #![tactic(auto)]
 
 #[cfg(test)]

@@ -20,13 +20,13 @@ mod tables;
 
 use shown::shown;
 
-/// The file of these records.
+/// Reads the file with these records.
 fn file(rt: &impl Abort, alloc: Global, records: &[&[u8]]) -> CifFile {
     let text = text(alloc, records, b"\n").expect(rt, "memory");
     read_pieces(alloc, &[text.as_slice()], 1000).expect(rt, "a file")
 }
 
-/// The state of a file of these records.
+/// The state of the file with these records.
 fn state(rt: &impl Abort, alloc: Global, records: &[&[u8]]) -> State {
     State::of_file(alloc, file(rt, alloc, records)).expect(rt, "memory")
 }
@@ -42,7 +42,7 @@ fn pair(rt: &impl Abort, alloc: Global, one: &[&[u8]], other: &[&[u8]]) -> State
     joined(rt, alloc, first, state(rt, alloc, other))
 }
 
-/// A state on which these days have been set as horizons, one by one.
+/// The state with these days set as horizons, one after another.
 fn set(rt: &impl Abort, mut state: State, days: &[&str]) -> State {
     for day in days {
         state.set_horizon(Day::from_iso(day).expect(rt, "a day"));
@@ -50,19 +50,20 @@ fn set(rt: &impl Abort, mut state: State, days: &[&str]) -> State {
     state
 }
 
-/// The state of a file on which these days have been set as horizons.
+/// The state of a file with these days set as horizons, one after another.
 fn set_on(rt: &impl Abort, alloc: Global, file: &[&[u8]], days: &[&str]) -> State {
     set(rt, state(rt, alloc, file), days)
 }
 
-/// Asserts that a state is shown as these lines.
+/// Asserts that a state is shown as these lines of text.
 fn shown_is(rt: &impl Abort, alloc: Global, state: &State, lines: &[&[u8]]) {
     let shown = shown(rt, alloc, state);
     let wanted = text(alloc, lines, b"\n").expect(rt, "memory");
     same(rt, shown.as_slice(), wanted.as_slice());
 }
 
-/// Asserts that a state is shown as these lines, and that each of its keys gives its entry.
+/// Asserts that a state is shown as these lines, and that `get` finds the entry of each of its
+/// keys.
 fn state_is(rt: &impl Abort, alloc: Global, state: &State, lines: &[&[u8]]) {
     shown_is(rt, alloc, state, lines);
     for row in state.entries() {
@@ -70,12 +71,13 @@ fn state_is(rt: &impl Abort, alloc: Global, state: &State, lines: &[&[u8]]) {
     }
 }
 
-/// Asserts that a state is shown as these lines, and that each of its keys gives its entry.
+/// Asserts that a state is shown as these lines, and that `get` finds the entry of each of its
+/// keys. Takes the state by value.
 fn made_is(rt: &impl Abort, alloc: Global, made: State, lines: &[&[u8]]) {
     state_is(rt, alloc, &made, lines);
 }
 
-/// Asserts that a state is shown as before.
+/// Asserts that a state is shown just as it was before.
 fn shown_again(rt: &impl Abort, alloc: Global, state: &State, before: &[u8]) {
     let again = shown(rt, alloc, state);
     same(rt, again.as_slice(), before);

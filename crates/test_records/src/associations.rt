@@ -1,46 +1,46 @@
-//! Associations, column by column as in a file.
+//! Records of associations (AA), each with its 80 columns as in a file.
 
 /// C10002 joins C10001 at Ashfeld.
 pub const AA_JOIN: &[u8] =
     b"AANC10001C100022406102406141111100JJSASHFELD  TP                               P";
 
-/// C20001 divides from C10001 at Colwell, to 1 January 1960.
+/// C20001 divides from C10001 at Colwell; the last day is 1 January 1960.
 pub const AA_ENDS_1960: &[u8] =
     b"AANC10001C200012406106001011111100VVSCOLWELL  TP                               P";
 
-/// C20001 divides from C10001 at Colwell, to 31 December 2059.
+/// C20001 divides from C10001 at Colwell; the last day is 31 December 2059.
 pub const AA_ENDS_2059: &[u8] =
     b"AANC10001C200012406105912311111100VVSCOLWELL  TP                               P";
 
-/// C20001 joins C10001 at Colwell, without an end.
+/// C20001 joins C10001 at Colwell; there is no last day.
 pub const AA_NO_END: &[u8] =
     b"AANC10001C200012406109999991111100JJSCOLWELL  TP                               P";
 
-/// C20001 divides from C10001 at Colwell, without an end.
+/// C20001 divides from C10001 at Colwell; there is no last day.
 pub const AA_NO_END_DIVIDE: &[u8] =
     b"AANC10001C200012406109999991111100VVSCOLWELL  TP                               P";
 
-/// C30002 divides from C30001 at its second call at Colwell.
+/// C30002 divides from C30001 at Colwell, when C30001 calls there for the second time.
 pub const AA_DIVIDE: &[u8] =
     b"AANC30001C300022406102406101000000VVSCOLWELL2 TP                               P";
 
-/// C40002 is the next working of C40001 at Colwell, on the next day.
+/// C40002 is the next working of C40001 at Colwell, and starts on the next day.
 pub const AA_N: &[u8] =
     b"AANC40001C400022406102406101000000NPNCOLWELL  TP                               P";
 
-/// C40002 is the next working of C40001 at Colwell, on the same day.
+/// C40002 is the next working of C40001 at Colwell, and starts on the same day.
 pub const AA_S: &[u8] =
     b"AANC40001C400022406102406101000000NPSCOLWELL  TP                               P";
 
-/// C40002 is the next working of C40001 at Colwell, on the day before.
+/// C40002 is the next working of C40001 at Colwell, and starts on the day before.
 pub const AA_P: &[u8] =
     b"AANC40001C400022406102406101000000NPPCOLWELL  TP                               P";
 
-/// C40002 is the next working of C40001 at Colwell, without a date indicator.
+/// C40002 is the next working of C40001 at Colwell; the date indicator is blank.
 pub const AA_BLANK: &[u8] =
     b"AANC40001C400022406102406101000000NP COLWELL  TP                               P";
 
-/// C40002 is the next working of C40001 at Colwell, with an unknown date indicator.
+/// C40002 is the next working of C40001 at Colwell; the date indicator is an unknown letter.
 pub const AA_X: &[u8] =
     b"AANC40001C400022406102406101000000NPXCOLWELL  TP                               P";
 
@@ -48,6 +48,6 @@ pub const AA_X: &[u8] =
 pub const AA_OTHER: &[u8] =
     b"AANC40001C400022406102406101000000XXNCOLWELL  TP                               P";
 
-/// C40002 is the next working of C40001 at Colwell, on the day after 31 December 2059.
+/// C40002 is the next working of C40001 at Colwell; it starts the day after 31 December 2059.
 pub const AA_LAST: &[u8] =
     b"AANC40001C400025912315912310010000NPNCOLWELL  TP                               P";

@@ -1,10 +1,10 @@
-//! Worked dockers: their headings, their lines and the last line, each of 56 bytes, and whole
-//! dockers of these.
+//! Printed dockers: their headings, their lines and their last line, each of 56 bytes, and whole
+//! dockers made of these.
 
 /// The heading of the docker of Ashfeld on 10 June 2024.
 pub const AT_ASHFELD: &[u8] = b"DOCKER ASHFELD 2024-06-10                               ";
 
-/// The heading of the docker of Ashfeld on 10 June, under its new code and description.
+/// The heading of the docker of Ashfeld on 10 June, under the new code and the new description.
 pub const AT_ASHFLDN: &[u8] = b"DOCKER ASHFLDN 2024-06-10 ASHFIELD NEW                  ";
 
 /// The heading of the docker of Colwell on 10 June.
@@ -28,7 +28,7 @@ pub const LEAVES_0905: &[u8] = b"0905  D 1A10 C10001 P   1   SL      0905 ASHFEL
 /// C10001 leaves Ashfeld at 09:10.
 pub const LEAVES_0910: &[u8] = b"0910  D 1A10 C10001 P   1   SL      0910 ASHFELD BRAYTON";
 
-/// C10001 leaves Ashfeld at 09:15, by its overlay.
+/// C10001 leaves Ashfeld at 09:15, according to its overlay.
 pub const LEAVES_0915: &[u8] = b"0915  D 1A10 C10001 O   1   SL      0915 ASHFELD BRAYTON";
 
 /// C10001 arrives at Brayton at 09:30.
@@ -79,28 +79,28 @@ pub const COMES_2350: &[u8] = b"2350  A 4D40 C40001 P   1                ASHFELD
 /// C40002 is the next working of C40001 at Colwell.
 pub const WORKS_ON: &[u8] = b"2350  N 4D40 C40001 P   1                C40002  4D42   ";
 
-/// C40002 is the next working of C40001 at Colwell, with an identity that isn't known.
+/// C40002 is the next working of C40001 at Colwell; its train identity isn't known.
 pub const WORKS_ON_UNKNOWN: &[u8] = b"2350  N 4D40 C40001 P   1                C40002  ????   ";
 
 /// C50001 leaves Ashfeld at 12:00.
 pub const LEAVES_AS_5E50: &[u8] = b"1200  D 5E50 C50001 P                    ASHFELD BRAYTON";
 
-/// C50001 passes Colwell at 12:10, with another identity.
+/// C50001 passes Colwell at 12:10, now with another train identity.
 pub const PASSES_AS_5E51: &[u8] = b"1210  P 5E51 C50001 P                    ASHFELD BRAYTON";
 
-/// C50001 arrives at Brayton at 12:30, with its other identity.
+/// C50001 arrives at Brayton at 12:30, still with its other train identity.
 pub const COMES_AS_5E51: &[u8] = b"1230  A 5E51 C50001 P                    ASHFELD BRAYTON";
 
-/// The docker of Ashfeld on which C10001 leaves at 09:00.
+/// The docker of Ashfeld with one line: C10001 leaves at 09:00.
 pub const ASHFELD_0900: &[&[u8]] = &[AT_ASHFELD, LEAVES_0900, END];
 
-/// The docker of Ashfeld without a line.
+/// The docker of Ashfeld with no lines.
 pub const NONE_AT_ASHFELD: &[&[u8]] = &[AT_ASHFELD, END];
 
-/// The docker of Ashfeld without a line, under its new code.
+/// The docker of Ashfeld with no lines, under its new code.
 pub const NONE_AT_ASHFLDN: &[&[u8]] = &[AT_ASHFLDN, END];
 
-/// The docker of Elm without a line.
+/// The docker of Elm with no lines.
 pub const NONE_AT_ELM: &[&[u8]] = &[AT_ELM, END];
 
 /// The docker of Colwell on which C30001 calls twice, and C30002 divides from it.

@@ -1,4 +1,4 @@
-//! Headers, the trailer, and a note, column by column as in a file.
+//! Headers (HD), the trailer (ZZ) and a note (LN), each with its 80 columns as in a file.
 
 /// The header of an update of 9 June 2024, 21:00.
 pub const HD: &[u8] =
@@ -40,7 +40,7 @@ pub const HD_7B: &[u8] =
 pub const HD_X: &[u8] =
     b"HDTPS.UDFROC1.PD2406090906242100DFROC1ADFROC1ZXA                                ";
 
-/// A note, which is a kind of record that isn't read.
+/// A note record (LN), an identity that the reader doesn't know.
 pub const LN: &[u8] =
     b"LN                                                                              ";
 

@@ -1,5 +1,4 @@
-//! The records of worked rows, and the lines of worked dockers. They stand here once for all test
-//! crates.
+//! The records and the printed lines that worked examples use, in one place for all test crates.
 #![tactic(auto)]
 
 mod associations;

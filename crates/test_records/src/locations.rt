@@ -1,4 +1,4 @@
-//! Locations of journeys, and a change en route, column by column as in a file.
+//! Location records (LO, LI, LT) and a change en route (CR), each with its 80 columns as in a file.
 
 /// An origin: Ashfeld, 09:00.
 pub const LO: &[u8] =
@@ -40,7 +40,7 @@ pub const LO_1000_PLAIN: &[u8] =
 pub const LO_1100: &[u8] =
     b"LOASHFELD 1100 11001  SL                                                        ";
 
-/// An origin: Ashfeld, 12:00, with nothing but a time.
+/// An origin: Ashfeld, 12:00, with no further field.
 pub const LO_1200: &[u8] =
     b"LOASHFELD 1200                                                                  ";
 
@@ -52,7 +52,7 @@ pub const LO_2300: &[u8] =
 pub const LO_2355: &[u8] =
     b"LOASHFELD 2355 23551  SL                                                        ";
 
-/// An origin at 24:00, which isn't a time of day.
+/// An origin: Ashfeld, 24:00, which isn't a time of day.
 pub const LO_2400: &[u8] =
     b"LOASHFELD 2400 09001  SL                                                        ";
 
@@ -68,11 +68,11 @@ pub const LO_COLWELL_1045: &[u8] =
 pub const LI_0000: &[u8] =
     b"LICOLWELL 0000H0000H     000000012  SL FL                                       ";
 
-/// A pass of Dunmere at 00:05.
+/// Dunmere, passed at 00:05.
 pub const LI_0005: &[u8] =
     b"LIDUNMERE           0005                                                        ";
 
-/// A pass of Dunmere at 00:10.
+/// Dunmere, passed at 00:10.
 pub const LI_0010: &[u8] =
     b"LIDUNMERE           0010                                                        ";
 
@@ -84,15 +84,15 @@ pub const LI_1010: &[u8] =
 pub const LI_1040: &[u8] =
     b"LICOLWELL21040 1042              4                                              ";
 
-/// A pass of Colwell at 12:10.
+/// Colwell, passed at 12:10.
 pub const LI_COLWELL_1210: &[u8] =
     b"LICOLWELL           1210                                                        ";
 
-/// A call at Colwell without a time.
+/// Colwell, without a time.
 pub const LI_TIMELESS: &[u8] =
     b"LICOLWELL                        2                                              ";
 
-/// A change of identity at Colwell.
+/// A change en route at Colwell, to the train identity 5E51.
 pub const CR_5E51: &[u8] =
     b"CRCOLWELL OO5E51                                                                ";
 
@@ -104,7 +104,7 @@ pub const LT: &[u8] =
 pub const LT_0935: &[u8] =
     b"LTBRAYTON 0935 09372  FL                                                        ";
 
-/// A terminus: Brayton, 00:06, with nothing but a time.
+/// A terminus: Brayton, 00:06, with no further field.
 pub const LT_0006_PLAIN: &[u8] =
     b"LTBRAYTON 0006                                                                  ";
 
@@ -124,7 +124,7 @@ pub const LT_1100_PLAIN: &[u8] =
 pub const LT_1130: &[u8] =
     b"LTBRAYTON 1130 11322  FL                                                        ";
 
-/// A terminus: Brayton, 12:30, with nothing but a time.
+/// A terminus: Brayton, 12:30, with no further field.
 pub const LT_1230: &[u8] =
     b"LTBRAYTON 1230                                                                  ";
 

@@ -1,4 +1,4 @@
-//! Basic schedules, column by column as in a file.
+//! Basic schedules (BS), each with its 80 columns as in a file.
 
 /// A new permanent schedule of C10001, on weekdays from 10 to 14 June 2024.
 pub const BS: &[u8] =
@@ -16,11 +16,11 @@ pub const BS_DELETED: &[u8] =
 pub const BS_DELETED_PLAIN: &[u8] =
     b"BSDC10001240610                                                                P";
 
-/// The schedule of C10001 to 21 June.
+/// A schedule of C10001 whose last day is 21 June.
 pub const BS_LONGER: &[u8] =
     b"BSNC100012406102406211111100 POO1A10                                           P";
 
-/// The schedule of C10001 to 31 July.
+/// A schedule of C10001 whose last day is 31 July.
 pub const BS_JULY: &[u8] =
     b"BSNC100012406102407311111100 POO1A10                                           P";
 
@@ -44,7 +44,7 @@ pub const BS_WEEK: &[u8] =
 pub const BS_SHORTER: &[u8] =
     b"BSNC100012406102406131111111 POO1A10                                           P";
 
-/// The revision of the schedule of C10001, on each day from 10 to 13 June.
+/// A revision of C10001's schedule, which now runs on each day from 10 to 13 June.
 pub const BS_REVISED_SHORTER: &[u8] =
     b"BSRC100012406102406131111111 POO1A10                                           P";
 
@@ -56,7 +56,7 @@ pub const BS_OVERLAY: &[u8] =
 pub const BS_NEW: &[u8] =
     b"BSNC100012406132406150001010 POO1A10                                           N";
 
-/// A cancellation of C10001 on 14 June, a single record.
+/// A cancellation of C10001 on 14 June. It has no further records.
 pub const BS_CANCELLED: &[u8] =
     b"BSNC100012406142406140000100 POO1A10                                           C";
 

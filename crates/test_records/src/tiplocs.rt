@@ -1,26 +1,26 @@
-//! Timing points, column by column as in a file, and the bodies that they give.
+//! TIPLOC records (TI, TA), each with its 80 columns as in a file, and the bodies that they put.
 
-/// The insertion of Ashfeld: Ashfield Central.
+/// A TIPLOC insert: Ashfeld, described as Ashfield Central.
 pub const TI: &[u8] =
     b"TIASHFELD         ASHFIELD CENTRAL                                              ";
 
-/// An insertion of Ashfeld without a description.
+/// A TIPLOC insert: Ashfeld, without a description.
 pub const TI_BLANK: &[u8] =
     b"TIASHFELD                                                                       ";
 
-/// The body that the insertion of Ashfeld gives its code.
+/// The body that the insert puts.
 pub const BODY_OF_TI: [u8; 63] =
     *b"         ASHFIELD CENTRAL                                      ";
 
-/// The amendment of Ashfeld: another code and description.
+/// A TIPLOC amendment: Ashfeld gets another code and another description.
 pub const TA: &[u8] =
     b"TAASHFELD         ASHFIELD NEW                                          ASHFLDN ";
 
-/// The body that the amendment of Ashfeld gives the new code.
+/// The body that the amendment puts at the new code.
 pub const BODY_OF_TA: [u8; 63] =
     *b"         ASHFIELD NEW                                          ";
 
-/// An amendment of Ashfeld that keeps its code.
+/// A TIPLOC amendment: Ashfeld keeps its code.
 pub const TA_SAME: &[u8] =
     b"TAASHFELD         ASHFIELD CENTRAL                                      ASHFELD ";
 

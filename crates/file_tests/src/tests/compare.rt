@@ -1,5 +1,5 @@
-//! Tests compare values with these functions, which end the test if the values differ. An assertion
-//! in its own function is proved once for all rows.
+//! Functions with which the tests compare values. They end the test if the values differ. Each is a
+//! function of its own, so that its assertion is proved once for all rows.
 use std::alloc::Global;
 use std::fmt::{Debug, Display};
 use std::process::Abort;
@@ -9,7 +9,7 @@ pub(super) fn same<T: PartialEq + Debug + Drop>(rt: &impl Abort, got: T, wanted:
     assert_eq!(rt; got, wanted);
 }
 
-/// Asserts that two values are equal, in a row with this name.
+/// Asserts that two values are equal. If they aren't, this name says in which row.
 pub(super) fn same_in<T: PartialEq + Debug + Drop>(rt: &impl Abort, name: &str, got: T, wanted: T) {
     assert_eq!(rt; got, wanted, "{name}");
 }

@@ -1,4 +1,4 @@
-//! Files that are judged without being kept.
+//! Files that are checked and counted without being kept.
 ghost use Rattle.std.specs.Prelude.{◌<◌};
 
 use super::compare::{same, same_in};
@@ -12,7 +12,7 @@ use test_records::{
     LO_0915, LO_2355, LO_2400, LT, LT_0020, TA, TA_SAME, TI, ZZ, text,
 };
 
-/// The lines of a file, how many records and changes it has, and the row's name.
+/// The records of a file, how many records and changes it has, and a name for the row.
 type Row = (&'static [&'static [u8]], u32, u64, &'static str);
 
 const ROWS: &[Row] = &[
@@ -44,7 +44,7 @@ const ROWS: &[Row] = &[
     ),
 ];
 
-/// Asserts that a text has these counts when it is read in pieces of `step` bytes.
+/// Asserts that `judge_file`, reading a text in pieces of `step` bytes, returns these counts.
 fn check_count(rt: &impl Abort, alloc: Global, text: &[u8], step: usize, row: Row)
     requires { 0 < step }
 {

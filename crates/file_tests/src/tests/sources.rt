@@ -9,7 +9,7 @@ use std::alloc::Global;
 use std::process::Abort;
 use test_records::{HD, TI, text};
 
-/// A source that fails at the end of its bytes, and at each later read. It can't show its bytes.
+/// A source that fails at the end of its bytes and at every later read. It can't name its bytes.
 #[derive(Drop)]
 struct Broken<'a> {
     bytes: &'a [u8],
@@ -43,8 +43,8 @@ impl Source for Broken<'_> {
     }
 }
 
-/// Asserts that this text, read in pieces of `step` bytes, is the file of one schedule, and has too
-/// many records for a limit of four.
+/// Asserts that this text, read in pieces of `step` bytes, is read as `F2`, and that it is refused
+/// under a limit of four records.
 fn check_reads(rt: &impl Abort, alloc: Global, text: &[u8], step: usize)
     requires { 0 < step }
 {
@@ -67,8 +67,8 @@ fn a_file_by_reads_of_any_length(rt: HostRuntime) {
     check_reads(&rt, rt.alloc(), whole.as_slice(), 4096);
 }
 
-/// Asserts that `read_file` reports a source that fails after these bytes, and that the source
-/// failed once.
+/// Asserts that `read_file` fails with `Source` if the source fails after these bytes, and that the
+/// source has failed once.
 fn read_fails(rt: &impl Abort, alloc: Global, bytes: &[u8], name: &str) {
     let mut source = Broken { bytes, failures: 0 };
     let fault = read_file(alloc, &mut source, 5).err();
@@ -76,7 +76,7 @@ fn read_fails(rt: &impl Abort, alloc: Global, bytes: &[u8], name: &str) {
     same_in(rt, name, source.failures, 1);
 }
 
-/// Like `read_fails`, for `judge_file`.
+/// Asserts that `judge_file` fails in the same way.
 fn judging_fails(rt: &impl Abort, alloc: Global, bytes: &[u8], name: &str) {
     let mut source = Broken { bytes, failures: 0 };
     let fault = judge_file(alloc, &mut source, 5).err();
@@ -84,7 +84,8 @@ fn judging_fails(rt: &impl Abort, alloc: Global, bytes: &[u8], name: &str) {
     same_in(rt, name, source.failures, 1);
 }
 
-/// Asserts that both calls fail when the source fails after `length` bytes of a text.
+/// Asserts that both calls fail in this way if the source fails after the first `length` bytes of a
+/// text.
 fn front_fails(rt: &impl Abort, alloc: Global, text: &[u8], length: usize, name: &str) {
     let bytes = text.get(..length).expect(rt, "a front");
     read_fails(rt, alloc, bytes, name);
@@ -101,8 +102,8 @@ fn sources_that_fail(rt: HostRuntime) {
     read_fails(&rt, rt.alloc(), TI, "an open line");
 }
 
-/// Asserts that a text without end has this fault, whether it is read or judged, in pieces of
-/// `step` bytes.
+/// Asserts that an endless source, read in pieces of `step` bytes, has this fault, both with
+/// `read_file` and with `judge_file`.
 fn endless_fails(
     rt: &impl Abort,
     alloc: Global,
@@ -124,7 +125,7 @@ fn endless_fails(
     same(rt, found, Some(ReadFault::File(fault)));
 }
 
-/// Like `endless_fails`, in pieces of each length.
+/// Like `endless_fails`, in pieces of several lengths.
 fn check_endless(
     rt: &impl Abort,
     alloc: Global,

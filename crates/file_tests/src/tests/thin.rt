@@ -1,4 +1,4 @@
-//! The changes kept of files for the docker of a place on a day.
+//! The changes of a file that are kept for the docker of one place on one day.
 
 use super::compare::same_in;
 use cif_file::{Act, Body, read_thin};
@@ -10,15 +10,16 @@ use test_records::{
     text,
 };
 
-/// A timing point, a night train on 10 June, a train on 15 and 16 June, and a deletion.
+/// A timing point, a night train on 10 June, a train on 15 and 16 June, and the deletion of a
+/// schedule.
 const MIXED: [&[u8]; 12] = [
     HD, TI, BS_NIGHT, LO_2355, LI_0000, LI_0010, LT_0020, BS_WEEKEND, LO, LT, BS_DELETED, ZZ,
 ];
 
-/// A train that is put and then deleted.
+/// A schedule that is put and then deleted.
 const PUT_AND_DELETED: [&[u8]; 6] = [HD, BS, LO, LT, BS_DELETED, ZZ];
 
-/// How many lines an act puts: none if it deletes.
+/// How many lines an act puts. A deletion puts none.
 fn lines_of(act: &Act) -> usize {
     match act {
         Act::Delete => 0,
@@ -27,7 +28,7 @@ fn lines_of(act: &Act) -> usize {
     }
 }
 
-/// Asserts that for a place and a day changes with these numbers of lines are kept of a file.
+/// Asserts how many lines each change has that is kept of a file for this place and day.
 fn keeps(
     rt: &impl Abort,
     alloc: Global,

@@ -1,5 +1,5 @@
-//! Tests compare values with these functions, which end the test if the values differ. An assertion
-//! in its own function is proved once for all rows.
+//! Functions with which the tests compare values. They end the test if the values differ. Each is a
+//! function of its own, so that its assertion is proved once for all rows.
 use std::alloc::Global;
 use std::fmt::{Debug, Display};
 use std::process::Abort;

@@ -1,12 +1,12 @@
-//! The devices in memory, and a sink that fails once and can't show its bytes.
+//! The devices in memory, and a sink that fails once and can't show what was written to it.
 ghost use Rattle.std.specs.Prelude.{◌-◌, ◌^◌, ◌<◌, ◌≡◌, None};
 
 use super::compare::{prints, same};
 use cif_line::{Bytes, Endless, Failed, Fuse, Kept, Memory, Sink, Source, write_all};
 use std::process::Abort;
 
-// Returns only if the numbers are equal: a device's next call requires that its failures can still
-// be counted.
+// Asserts that a device has failed this often. The contract of the device's next call needs this
+// fact: its failures must still be countable.
 fn failures_are(rt: &impl Abort, failures: u64, wanted: u64)
     ensures { failures ≡ wanted }
 {
@@ -65,7 +65,7 @@ fn stops_when_the_sink_is_full(rt: HostRuntime) {
     failures_are(&rt, sink.failures(), 1);
 }
 
-// Reads once and writes all of what it read.
+// Reads from a source once, and writes everything that was read to a sink.
 fn pass_on<S: Source, K: Sink>(source: &mut S, sink: &mut K) -> Result<usize, Failed>
     requires source { S.failures source.old < 2 ^ 64 - 1 }
     requires sink { K.failures sink.old < 2 ^ 64 - 1 }
@@ -123,7 +123,8 @@ fn gives_a_text_again_and_again(rt: HostRuntime) {
     failures_are(&rt, slow.failures(), 0);
 }
 
-// A sink that can't show its bytes. It takes one byte per write, and fails at the third write.
+// A sink that can't show what was written to it. It takes one byte per write, and only its third
+// write fails.
 #[derive(Drop)]
 struct FailsOnce {
     writes: u8,

@@ -1,4 +1,4 @@
-//! Records of each kind that has a view, and their leftmost bad fields.
+//! For each kind of record, its view and its leftmost bad field.
 use super::compare::{prints, same};
 use cif_line::{
     Assoc, Basic, Call, ChangeEnRoute, Days, Extract, FieldFault, Header, Kind, Line, Origin, Stp,
@@ -13,7 +13,7 @@ fn line(rt: &impl Abort, text: &[u8]) -> Line {
     Line::new(text).expect(rt, "a line")
 }
 
-// A line of this text, padded with spaces, and the last byte.
+// The line with this text at its start, this byte in column 80, and spaces between them.
 fn record(rt: &impl Abort, text: &[u8], last: u8) -> Line {
     let mut bytes = [b' '; 80];
     let n = text.len().min(79);
@@ -80,7 +80,8 @@ fn terminus_of<'a>(rt: &impl Abort, line: &'a Line) -> Terminus<'a> {
     }
 }
 
-// Asserts the leftmost bad field of a line of this text, padded with spaces, and the last byte.
+// Asserts the leftmost bad field of the line with this text at its start, this byte in column 80,
+// and spaces between them.
 fn bad_field_is(rt: &impl Abort, text: &[u8], last: u8, wanted: Option<u8>) {
     let line = record(rt, text, last);
     let fault = match kind(&line) {
@@ -99,7 +100,7 @@ fn bad_field_is(rt: &impl Abort, text: &[u8], last: u8, wanted: Option<u8>) {
     same(rt, fault, wanted.map(FieldFault));
 }
 
-// The text of a line and its last byte, and its leftmost bad field.
+// The start of a line, the byte in column 80, and the leftmost bad field.
 type BadField = (&'static [u8], u8, Option<u8>);
 
 fn bad_fields_are(rt: &impl Abort, rows: &[BadField]) {

@@ -1,4 +1,4 @@
-//! Stamps, entries and ops: their order, their joins, and what lapses.
+//! Stamps, ops and entries: how they are ordered and joined, and when they lapse.
 
 use super::compare::same;
 use cif_file::Body;
@@ -8,10 +8,10 @@ use std::alloc::Global;
 use std::process::Abort;
 use test_records::{AA_ENDS_1960, AA_ENDS_2059, AA_NO_END, AA_NO_END_DIVIDE};
 
-/// The day number after the last one, as a horizon.
+/// A horizon just after the last day number, 36524.
 const AFTER_2059: u16 = 36525;
 
-/// The put of an association.
+/// The op that puts the association in this record.
 fn put(rt: &impl Abort, line: &[u8]) -> Op {
     Op::Put(Body::Assoc(Line::new(line).expect(rt, "a line")))
 }
@@ -25,7 +25,7 @@ fn file(rt: &impl Abort, day: u16, minute: u16, reference: &[u8; 7]) -> FileStam
     }
 }
 
-/// The op of an entry. The entries are numbered in ascending order.
+/// The op of one of the nine entries, which are numbered 0 to 8 in ascending order.
 fn op(rt: &impl Abort, place: u8) -> Op {
     match place {
         1 => Op::Deleted,
@@ -39,7 +39,7 @@ fn op(rt: &impl Abort, place: u8) -> Op {
     }
 }
 
-/// The record number of an entry.
+/// The record number in the stamp of one of the nine entries.
 fn number(place: u8) -> u32 {
     match place {
         0 => 2,
@@ -48,7 +48,7 @@ fn number(place: u8) -> u32 {
     }
 }
 
-/// The entry with this number, in ascending order.
+/// One of the nine entries, which are numbered 0 to 8 in ascending order.
 pub(super) fn entry(rt: &impl Abort, place: u8) -> Entry {
     let stamp = Stamp {
         file: file(rt, 23536, 1260, b"DFROC1A"),
@@ -58,7 +58,7 @@ pub(super) fn entry(rt: &impl Abort, place: u8) -> Entry {
     Entry { stamp, op }
 }
 
-/// Asserts that a file stamp is below another, and that their join is the other one.
+/// Asserts that one file stamp is below another, and that the join of the two is the higher one.
 fn file_is_below(rt: &impl Abort, alloc: Global, low: FileStamp, high: FileStamp) {
     same(rt, low < high, true);
     same(rt, low.pick(high), high);
@@ -95,7 +95,7 @@ fn stamps(rt: HostRuntime) {
     same(&rt, high.join(rt.alloc(), next), Ok(next));
 }
 
-/// Asserts that one entry is below another, and that their join is the other one.
+/// Asserts that one entry is below another, and that the join of the two is the higher one.
 fn is_below(rt: &impl Abort, alloc: Global, low: u8, high: u8) {
     same(rt, entry(rt, low) < entry(rt, high), true);
     same(rt, entry(rt, low).pick(entry(rt, high)), entry(rt, high));
@@ -116,7 +116,7 @@ fn entries(rt: HostRuntime) {
     is_below(&rt, rt.alloc(), 7, 8);
 }
 
-/// Asserts that the op of an entry stays as it is under a horizon.
+/// Asserts that a horizon leaves the op of an entry unchanged.
 fn stays(rt: &impl Abort, place: u8, horizon: u16) {
     same(rt, op(rt, place).lapse(horizon), op(rt, place));
 }

@@ -41,14 +41,14 @@ fn file_is(rt: &impl Abort, alloc: Global, file: &[&[u8]], lines: &[&[u8]]) {
     made_is(rt, alloc, state(rt, alloc, file), lines);
 }
 
-/// How a file's state is shown if the file puts a schedule and then deletes it.
+/// How the state of a file is shown that puts a schedule and then deletes it.
 const PUT_AND_DELETED: &[&[u8]] = &[
     b"item 23536 1260 DFROC1A U DFROC1Z",
     b"C10001 23537: record 5 of 23536 1260 DFROC1A",
     b"deleted",
 ];
 
-/// How the state is shown if the file that puts and deletes a schedule is a full extract.
+/// How that state is shown if the file is a full extract.
 const PUT_AND_DELETED_IN_FULL: &[&[u8]] = &[
     b"item 23536 1260 DFROC1A F DFROC1Z",
     b"floor 23536 1260 DFROC1A",
@@ -65,20 +65,20 @@ fn one_file(rt: HostRuntime) {
     file_is(&rt, alloc, full, PUT_AND_DELETED_IN_FULL);
 }
 
-/// Joins the states of two files, and then joins the first one again.
+/// Joins the states of two files, and joins the result with the first state again.
 fn merged_back(rt: &impl Abort, alloc: Global, one: &[&[u8]], other: &[&[u8]]) -> State {
     let both = pair(rt, alloc, one, other);
     joined(rt, alloc, both, state(rt, alloc, one))
 }
 
-/// Joins the states of two files, and then joins each again.
+/// Joins the states of two files, and joins the result with each of them again.
 fn merged_twice(rt: &impl Abort, alloc: Global, one: &[&[u8]], other: &[&[u8]]) -> State {
     let second = state(rt, alloc, other);
     joined(rt, alloc, second, merged_back(rt, alloc, one, other))
 }
 
-/// Asserts that the join of two files' states is shown as these lines, in either order and after
-/// either is joined again.
+/// Asserts that the join of two files' states is shown as these lines. Joins them in both orders,
+/// and also joins each state a second time.
 fn pair_is(rt: &impl Abort, alloc: Global, one: &[&[u8]], other: &[&[u8]], lines: &[&[u8]]) {
     made_is(rt, alloc, pair(rt, alloc, one, other), lines);
     made_is(rt, alloc, pair(rt, alloc, other, one), lines);
@@ -103,7 +103,7 @@ pub(super) const REVISED: &[&[u8]] = &[
     LT_0935,
 ];
 
-/// How the join of a deletion and an older schedule is shown.
+/// How the join of a deletion and an older put of the same schedule is shown.
 const DELETED_FIRST: &[&[u8]] = &[
     b"item 23535 1260 DFROC1A U DFROC1Z",
     b"item 23536 1260 DFROC1B U DFROC1A",
@@ -111,7 +111,7 @@ const DELETED_FIRST: &[&[u8]] = &[
     b"deleted",
 ];
 
-/// How the join of a timing point's insert and its new code is shown.
+/// How the join of a TIPLOC insert and a later amendment with a new code is shown.
 const RENAMED: &[&[u8]] = &[
     b"item 23536 1260 DFROC1A U DFROC1Z",
     b"item 23537 1260 DFROC1B U DFROC1A",
@@ -123,7 +123,7 @@ const RENAMED: &[&[u8]] = &[
     &BODY_OF_TA,
 ];
 
-/// How the join of two files with equal file stamps is shown.
+/// How the join of two files with the same file stamp is shown.
 const OF_ONE_STAMP: &[&[u8]] = &[
     b"item 23536 1260 DFROC1A F DFROC1Z",
     b"item 23536 1260 DFROC1A U DFROC1Z",
@@ -152,8 +152,8 @@ fn two_files(rt: HostRuntime) {
     pair_is(&rt, alloc, ONE_SCHEDULE, full, OF_ONE_STAMP);
 }
 
-/// Asserts which of two schedules with equal stamps wins: the one with this basic schedule and this
-/// origin.
+/// Asserts which of two schedules with equal stamps wins the join: the one with this basic schedule
+/// and this origin.
 fn stays(rt: &impl Abort, alloc: Global, other: &[&[u8]], basic: &[u8], origin: &[u8]) {
     let lines: &[&[u8]] = &[
         b"item 23536 1260 DFROC1A U DFROC1Z",
@@ -202,8 +202,8 @@ const THREE_FILES: &[&[u8]] = &[
     LT_1030,
 ];
 
-/// Asserts that the join of three files' states is shown as these lines, whichever two are joined
-/// first.
+/// Asserts that the join of three files' states is shown as these lines, whichever two of them are
+/// joined first.
 fn three_are(rt: &impl Abort, alloc: Global, first: &[&[u8]], second: &[&[u8]], third: &[&[u8]]) {
     let front = pair(rt, alloc, first, second);
     let all = joined(rt, alloc, front, state(rt, alloc, third));
@@ -227,7 +227,7 @@ fn a_late_full_extract(rt: HostRuntime) {
     three_are(&rt, alloc, u9, f7, u5);
 }
 
-/// The join of two states. If memory runs out, the states that were returned are joined again.
+/// Joins two states. If memory runs out, joins the two states that the call has returned once more.
 fn joined_again(
     rt: &impl Abort,
     alloc: Global,
@@ -245,8 +245,8 @@ fn joined_again(
     }
 }
 
-/// The state of a file of five records and one change. If memory runs out, it is made again from
-/// the file that was returned.
+/// Makes the state of a file of five records and one change. If memory runs out, makes it from the
+/// file that the call has returned.
 fn of_file_again(rt: &impl Abort, alloc: Global, file: CifFile) -> State {
     match State::of_file(alloc, file) {
         Ok(state) => state,
@@ -258,7 +258,7 @@ fn of_file_again(rt: &impl Abort, alloc: Global, file: CifFile) -> State {
     }
 }
 
-/// Asserts that joining two states succeeds at the first or the second try.
+/// Asserts that joining two states succeeds at the first or at the second attempt.
 fn join_succeeds(rt: &impl Abort, alloc: Global, one: State, other: State) {
     let before = shown(rt, alloc, &one);
     let before_other = shown(rt, alloc, &other);
@@ -267,8 +267,8 @@ fn join_succeeds(rt: &impl Abort, alloc: Global, one: State, other: State) {
     same(rt, joined.entries().len(), 2);
 }
 
-/// Asserts that making the state of a file of these records succeeds at the first or the second
-/// try.
+/// Asserts that making the state of the file with these records succeeds at the first or at the
+/// second attempt.
 fn of_file_succeeds(rt: &impl Abort, alloc: Global, records: &[&[u8]]) {
     let one = state(rt, alloc, records);
     let before = shown(rt, alloc, &one);

@@ -1,4 +1,4 @@
-//! The entries that lapse under a horizon, and the entries that stay.
+//! Horizons: which entries lapse under them, and which don't.
 
 use super::{joined, made_is, set, set_on};
 use docker_state::State;
@@ -9,7 +9,7 @@ use test_records::{
     LO_0905, LT, LT_0935, TI, ZZ,
 };
 
-/// How a schedule is shown under the horizon of its last day.
+/// How a schedule is shown if the horizon is its last day.
 const LIVE: &[&[u8]] = &[
     b"horizon 23541",
     b"item 23536 1260 DFROC1A U DFROC1Z",
@@ -23,7 +23,7 @@ const LIVE: &[&[u8]] = &[
     LT,
 ];
 
-/// How a schedule is shown under the horizon a day after its last day.
+/// How the schedule is shown if the horizon is the day after its last day.
 const LAPSED: &[&[u8]] = &[
     b"horizon 23542",
     b"item 23536 1260 DFROC1A U DFROC1Z",
@@ -31,7 +31,8 @@ const LAPSED: &[&[u8]] = &[
     b"lapsed",
 ];
 
-/// Asserts that a schedule is shown as these lines after these horizons are set, one by one.
+/// Asserts that a schedule is shown as these lines after these horizons were set, one after
+/// another.
 fn under_is(rt: &impl Abort, alloc: Global, days: &[&str], lines: &[&[u8]]) {
     let file: &[&[u8]] = &[HD, BS, LO, LT, ZZ];
     made_is(rt, alloc, set_on(rt, alloc, file, days), lines);
@@ -48,11 +49,10 @@ fn a_horizon(rt: HostRuntime) {
 /// A file that revises a schedule.
 const REVISION: &[&[u8]] = &[HD_10B, BS_REVISED, LO_0905, LT_0935, ZZ];
 
-/// An older file, in which the schedule ends later.
+/// An older file, in which the same schedule ends later.
 const OLDER: &[&[u8]] = &[HD_8A, BS_JULY, LO, LT, ZZ];
 
-/// How the join of the revision and the older file is shown under a horizon after the end of the
-/// revision.
+/// How the join of the two files is shown if the horizon is after the revision's end.
 const REVISION_LAPSED: &[&[u8]] = &[
     b"horizon 23542",
     b"item 23535 1260 DFROC1A U DFROC1Z",
@@ -61,14 +61,14 @@ const REVISION_LAPSED: &[&[u8]] = &[
     b"lapsed",
 ];
 
-/// Asserts that the revision has lapsed after two states are joined and these horizons are set.
+/// Joins two states and then sets these horizons. Asserts that the revision has lapsed.
 fn has_lapsed(rt: &impl Abort, alloc: Global, one: State, other: State, days: &[&str]) {
     let both = joined(rt, alloc, one, other);
     made_is(rt, alloc, set(rt, both, days), REVISION_LAPSED);
 }
 
-/// Asserts that the revision has lapsed, whether the horizons are set on the first file's state, on
-/// the second's, or after the join.
+/// Asserts that the revision lapses wherever the horizons are set: on the first state, on the
+/// second state, or on the join.
 fn lapses(
     rt: &impl Abort,
     alloc: Global,
@@ -93,7 +93,7 @@ fn a_horizon_between_two_files(rt: HostRuntime) {
     lapses(&rt, alloc, (REVISION, none), (OLDER, none), day);
 }
 
-/// How a schedule without an end and a deletion are shown under the last possible horizon.
+/// How a deletion and a schedule without an end are shown under the last possible horizon.
 const WITHOUT_END: &[&[u8]] = &[
     b"horizon 36524",
     b"item 23536 1260 DFROC1A U DFROC1Z",

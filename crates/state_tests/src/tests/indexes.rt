@@ -1,5 +1,5 @@
-//! Indexes of rows: which rows call or are linked at which places, what a lapse removes, and what a
-//! join has.
+//! Indexes of rows: which rows call or are linked at which places, which postings a lapse removes, and
+//! what the index of a join has.
 
 use super::compare::same;
 use cif_file::{AssocKey, Body, Key, Lines, ScheduleKey};
@@ -10,8 +10,8 @@ use std::alloc::Global;
 use std::process::Abort;
 use test_records::AA_NO_END;
 
-/// A schedule that calls at Ashfeld twice, at Brayton and at Colwell. At Denham it only has a
-/// change en route.
+/// A schedule that calls twice at Ashfeld, once at Brayton and once at Colwell. Denham has only a
+/// change en route, so the train doesn't call there.
 const ROUND: &[&[u8; 80]] = &[
     b"BSNC100012406109999991111100                                                    ",
     b"LOASHFELD  1200                                                                 ",
@@ -28,17 +28,17 @@ const SHORT: &[&[u8; 80]] = &[
     b"LTASHFELD  1310                                                                 ",
 ];
 
-/// A TIPLOC.
+/// The TIPLOC with this code.
 fn tiploc(rt: &impl Abort, code: &str) -> Tiploc {
     Tiploc::from_text(code).expect(rt, "a TIPLOC")
 }
 
-/// A UID.
+/// The UID with this text.
 fn uid(rt: &impl Abort, text: &[u8; 6]) -> Uid {
     Uid::from_field(text).expect(rt, "a UID")
 }
 
-/// The file stamp of a file dated this day.
+/// A file stamp with this date of extract.
 fn file(rt: &impl Abort, day: u16) -> FileStamp {
     FileStamp {
         day: Day::from_number(day).expect(rt, "a day"),
@@ -47,12 +47,12 @@ fn file(rt: &impl Abort, day: u16) -> FileStamp {
     }
 }
 
-/// The put of an association.
+/// The op that puts the association in this record.
 fn link(rt: &impl Abort, record: &[u8]) -> Op {
     Op::Put(Body::Assoc(Line::new(record).expect(rt, "a line")))
 }
 
-/// The put of a schedule with these records.
+/// The op that puts a schedule with these records.
 fn put(rt: &impl Abort, alloc: Global, records: &[&[u8; 80]]) -> Op {
     let mut lines = Vec::new(alloc);
     for record in records {
@@ -62,7 +62,7 @@ fn put(rt: &impl Abort, alloc: Global, records: &[&[u8; 80]]) -> Op {
     Op::Put(Body::Schedule(Lines::of(lines)))
 }
 
-/// The key of a schedule.
+/// The key of a schedule of this UID.
 fn schedule(rt: &impl Abort, text: &[u8; 6]) -> Key {
     Key::Schedule(ScheduleKey {
         uid: uid(rt, text),
@@ -71,7 +71,7 @@ fn schedule(rt: &impl Abort, text: &[u8; 6]) -> Key {
     })
 }
 
-/// The key of the association at Colwell.
+/// The key of an association at Colwell.
 fn association(rt: &impl Abort) -> Key {
     Key::Assoc(AssocKey {
         base: uid(rt, b"C10001"),
@@ -83,7 +83,7 @@ fn association(rt: &impl Abort) -> Key {
     })
 }
 
-/// A table and one more row, from a file of this day.
+/// A table with one more row, from a file with this date of extract.
 fn and(
     rt: &impl Abort,
     alloc: Global,
@@ -103,7 +103,7 @@ fn and(
         .expect(rt, "memory")
 }
 
-/// The table of an association, a round trip, a short trip and a deleted schedule.
+/// A table with an association, a round trip, a short trip and a deleted schedule.
 fn timetable(rt: &impl Abort, alloc: Global) -> Table<Entry> {
     let all = Table::new(alloc);
     let all = and(rt, alloc, all, association(rt), 23536, link(rt, AA_NO_END));
@@ -114,7 +114,7 @@ fn timetable(rt: &impl Abort, alloc: Global) -> Table<Entry> {
     and(rt, alloc, all, schedule(rt, b"C30001"), 23536, Op::Deleted)
 }
 
-/// A later table, in which another short trip is put and the round trip is deleted.
+/// A table from a later file: another short trip is put, and the round trip is deleted.
 fn update(rt: &impl Abort, alloc: Global) -> Table<Entry> {
     let short = put(rt, alloc, SHORT);
     let all = Table::new(alloc);
@@ -122,7 +122,7 @@ fn update(rt: &impl Abort, alloc: Global) -> Table<Entry> {
     and(rt, alloc, all, schedule(rt, b"C10001"), 23537, Op::Deleted)
 }
 
-/// The index of a table's rows.
+/// Makes the index of a table's rows.
 fn indexed(rt: &impl Abort, alloc: Global, table: &Table<Entry>) -> Index {
     let rows = table.as_slice();
     let notes = notes_of_rows(alloc, rows).expect(rt, "memory");
@@ -130,7 +130,7 @@ fn indexed(rt: &impl Abort, alloc: Global, table: &Table<Entry>) -> Index {
     Index::of_rows(room, notes, rows)
 }
 
-/// The index of the join of the timetable and the update, under a floor.
+/// Makes the index of the join of both tables, under a floor.
 fn joined(rt: &impl Abort, alloc: Global, floor: &Option<FileStamp>) -> Index {
     let own = timetable(rt, alloc);
     let other = update(rt, alloc);
@@ -142,7 +142,7 @@ fn joined(rt: &impl Abort, alloc: Global, floor: &Option<FileStamp>) -> Index {
     Index::of_join(alloc, &first, &second, &moves).expect(rt, "memory")
 }
 
-/// Asserts that a posting is of this place and this row.
+/// Asserts that a posting names this place and this row.
 fn posting_is(rt: &impl Abort, index: &Index, posting: &Posting, code: &str, at: u32) {
     let place = index
         .places
@@ -152,7 +152,7 @@ fn posting_is(rt: &impl Abort, index: &Index, posting: &Posting, code: &str, at:
     same(rt, posting.at, at);
 }
 
-/// Asserts that postings are of these places and these rows.
+/// Asserts that postings name these places and these rows, in this order.
 fn postings_are(rt: &impl Abort, index: &Index, postings: &[Posting], wanted: &[(&str, u32)]) {
     same(rt, postings.len(), wanted.len());
     for (posting, (code, at)) in postings.iter().zip(wanted) {
@@ -160,7 +160,7 @@ fn postings_are(rt: &impl Abort, index: &Index, postings: &[Posting], wanted: &[
     }
 }
 
-/// Asserts which rows call, and that the association is linked at Colwell.
+/// Asserts which rows call where, and that the association is linked at Colwell.
 fn index_is(rt: &impl Abort, index: &Index, calls: &[(&str, u32)]) {
     postings_are(rt, index, index.calls.as_slice(), calls);
     postings_are(rt, index, index.links.as_slice(), &[("COLWELL", 0)]);

@@ -1,4 +1,4 @@
-//! A state that is built from its parts.
+//! States that are built from their parts.
 
 use super::compare::same;
 use super::{shown, shown_again, state};
@@ -9,17 +9,17 @@ use std::alloc::Global;
 use std::process::Abort;
 use test_records::{BS_DELETED, HD, ZZ};
 
-/// Asserts which key was given last.
+/// Asserts that this key was given last.
 fn last_is(rt: &impl Abort, parts: &Parts, wanted: Option<Key>) {
     same(rt, parts.last().copied(), wanted);
 }
 
-/// Asserts which ledger items were given.
+/// Asserts that exactly these ledger items were given.
 fn ledger_is(rt: &impl Abort, parts: &Parts, wanted: &[LedgerItem]) {
     assert_eq!(rt; parts.ledger(), wanted);
 }
 
-/// The state of one deletion, built again from its parts.
+/// Builds a state with one item and one deletion again, from its parts.
 fn rebuilt(rt: &impl Abort, alloc: Global, one: &State) -> State {
     let (items, rows) = (one.ledger(), one.entries());
     if items.len() != 1 {

@@ -1,4 +1,4 @@
-//! The schedules that call at a TIPLOC, and the associations linked there.
+//! Finding the schedules that call at a TIPLOC, the associations there, and the schedules of a UID.
 
 use super::compare::same;
 use super::shown::{add, add_body, add_key, add_number};
@@ -14,15 +14,15 @@ use test_records::{
     text,
 };
 
-/// Adds a key and its body to a text.
+/// Appends a key and its body to a text.
 fn add_found(rt: &impl Abort, alloc: Global, text: &mut Vec<u8>, key: &Key, body: &Body) {
     add_key(rt, alloc, text, key);
     add(rt, text, b"\n");
     add_body(rt, text, body);
 }
 
-/// Adds the rows found at a place to a text, each with a word and its index among the state's rows,
-/// from 0. No clause gives the index, as no answer depends on it.
+/// Appends the rows found at a place to a text. Each is shown with a word and its index among the
+/// rows, from 0. The contracts promise nothing about this index: it is only a hint.
 fn add_place_rows(
     rt: &impl Abort,
     alloc: Global,
@@ -38,7 +38,7 @@ fn add_place_rows(
     }
 }
 
-/// Adds the schedules of a UID to a text.
+/// Appends the schedules of a UID to a text.
 fn add_of_uid(rt: &impl Abort, alloc: Global, text: &mut Vec<u8>, state: &State, uid: &Uid) {
     for (key, body) in state.of_uid(uid) {
         add(rt, text, b"of it ");
@@ -46,7 +46,8 @@ fn add_of_uid(rt: &impl Abort, alloc: Global, text: &mut Vec<u8>, state: &State,
     }
 }
 
-/// Asserts how the rows found at a TIPLOC, and the schedules of C30002, are shown.
+/// Asserts how these are shown: the rows found at a TIPLOC, and then the schedules of the UID
+/// C30002.
 fn found_is(rt: &impl Abort, alloc: Global, state: &State, tiploc: &str, lines: &[&[u8]]) {
     let mut found = Vec::new(alloc);
     let tiploc = Tiploc::from_text(tiploc).expect(rt, "a TIPLOC");
@@ -58,8 +59,8 @@ fn found_is(rt: &impl Abort, alloc: Global, state: &State, tiploc: &str, lines: 
     same(rt, found.as_slice(), wanted.as_slice());
 }
 
-/// A file with two schedules that call at Colwell, one of them twice, and their association there.
-/// Its state has as rows the association, C30001 and C30002.
+/// A file with the schedules C30001 and C30002, which call at Colwell, one of them twice, and an
+/// association of them there. Its state has three rows: the association, C30001 and C30002.
 const FILE: &[&[u8]] = &[
     HD,
     BS_C30001,
@@ -74,7 +75,7 @@ const FILE: &[&[u8]] = &[
     ZZ,
 ];
 
-/// What is found at Colwell in the state of the file with both schedules.
+/// What is found at Colwell in the state of that file.
 const AT_COLWELL: &[&[u8]] = &[
     b"calls 1: C30001 23537",
     BS_C30001,
@@ -102,7 +103,7 @@ const AT_ELM: &[&[u8]] = &[
     LT_DUNMERE_1100,
 ];
 
-/// What is found at Colwell once C10001 is put and C30002 deleted: rows 1 and 3 of four.
+/// What is found at Colwell after C10001 was put and C30002 deleted: the rows 1 and 3 of four.
 const LEFT_AT_COLWELL: &[&[u8]] = &[
     b"calls 2: C30001 23537",
     BS_C30001,
@@ -114,7 +115,7 @@ const LEFT_AT_COLWELL: &[&[u8]] = &[
     AA_DIVIDE,
 ];
 
-/// What is found at Ashfeld once C10001 is put and C30002 deleted.
+/// What is found at Ashfeld after C10001 was put and C30002 deleted.
 const AT_ASHFELD: &[&[u8]] = &[
     b"calls 1: C10001 23537",
     BS,

@@ -1,4 +1,4 @@
-//! A state, shown as lines of text.
+//! Shows a state as lines of text, to which the rows compare.
 
 use cif_file::{Body, Key};
 use cif_line::Line;
@@ -7,24 +7,24 @@ use docker_state::{LedgerItem, State};
 use std::alloc::Global;
 use std::process::Abort;
 
-/// Adds some bytes to a text.
+/// Appends some bytes to a text.
 pub(super) fn add(rt: &impl Abort, text: &mut Vec<u8>, bytes: &[u8]) {
     text.extend_from_slice(bytes).expect(rt, "memory");
 }
 
-/// Adds a line to a text.
+/// Appends a line and a line feed to a text.
 pub(super) fn add_line(rt: &impl Abort, text: &mut Vec<u8>, line: &[u8]) {
     add(rt, text, line);
     add(rt, text, b"\n");
 }
 
-/// Adds a number to a text.
+/// Appends a number in decimal to a text.
 pub(super) fn add_number(rt: &impl Abort, alloc: Global, text: &mut Vec<u8>, number: u64) {
     let digits = format!(in alloc; "{number}").expect(rt, "memory");
     add(rt, text, digits.as_bytes());
 }
 
-/// Adds a file stamp to a text.
+/// Appends a file stamp to a text.
 fn add_stamp(rt: &impl Abort, alloc: Global, text: &mut Vec<u8>, stamp: &FileStamp) {
     add_number(rt, alloc, text, u64::from(stamp.day.number()));
     add(rt, text, b" ");
@@ -33,7 +33,7 @@ fn add_stamp(rt: &impl Abort, alloc: Global, text: &mut Vec<u8>, stamp: &FileSta
     add(rt, text, &stamp.reference);
 }
 
-/// Adds a ledger item to a text.
+/// Appends a ledger item to a text.
 fn add_item(rt: &impl Abort, alloc: Global, text: &mut Vec<u8>, item: &LedgerItem) {
     add(rt, text, b"item ");
     add_stamp(rt, alloc, text, &item.stamp());
@@ -43,7 +43,7 @@ fn add_item(rt: &impl Abort, alloc: Global, text: &mut Vec<u8>, item: &LedgerIte
     add_line(rt, text, &item.last_reference);
 }
 
-/// Adds a key to a text.
+/// Appends a key to a text.
 pub(super) fn add_key(rt: &impl Abort, alloc: Global, text: &mut Vec<u8>, key: &Key) {
     match key {
         Key::Tiploc(code) => add(rt, text, code.bytes()),
@@ -56,14 +56,14 @@ pub(super) fn add_key(rt: &impl Abort, alloc: Global, text: &mut Vec<u8>, key: &
     }
 }
 
-/// Adds the lines of a schedule to a text.
+/// Appends the lines of a schedule to a text.
 fn add_lines(rt: &impl Abort, text: &mut Vec<u8>, lines: &[Line]) {
     for line in lines {
         add_line(rt, text, line.bytes());
     }
 }
 
-/// Adds the lines of a body to a text.
+/// Appends the lines of a body to a text.
 pub(super) fn add_body(rt: &impl Abort, text: &mut Vec<u8>, body: &Body) {
     match body {
         Body::Tiploc(details) => add_line(rt, text, details),
@@ -72,7 +72,7 @@ pub(super) fn add_body(rt: &impl Abort, text: &mut Vec<u8>, body: &Body) {
     }
 }
 
-/// Adds an op to a text.
+/// Appends an op to a text.
 fn add_op(rt: &impl Abort, text: &mut Vec<u8>, op: &Op) {
     match op {
         Op::Deleted => add_line(rt, text, b"deleted"),
@@ -81,7 +81,7 @@ fn add_op(rt: &impl Abort, text: &mut Vec<u8>, op: &Op) {
     }
 }
 
-/// Adds a row to a text.
+/// Appends a key and its entry to a text.
 fn add_row(rt: &impl Abort, alloc: Global, text: &mut Vec<u8>, row: &(Key, Entry)) {
     add_key(rt, alloc, text, &row.0);
     add(rt, text, b": record ");
@@ -92,7 +92,7 @@ fn add_row(rt: &impl Abort, alloc: Global, text: &mut Vec<u8>, row: &(Key, Entry
     add_op(rt, text, &row.1.op);
 }
 
-/// Adds a horizon to a text, if it isn't 0.
+/// Appends the horizon to a text, unless it is 0.
 fn add_horizon(rt: &impl Abort, alloc: Global, text: &mut Vec<u8>, horizon: u16) {
     if horizon > 0 {
         add(rt, text, b"horizon ");
@@ -101,7 +101,7 @@ fn add_horizon(rt: &impl Abort, alloc: Global, text: &mut Vec<u8>, horizon: u16)
     }
 }
 
-/// Adds a floor to a text, if there is one.
+/// Appends the floor to a text, if there is one.
 fn add_floor(rt: &impl Abort, alloc: Global, text: &mut Vec<u8>, floor: Option<FileStamp>) {
     if let Some(floor) = floor {
         add(rt, text, b"floor ");
@@ -110,21 +110,21 @@ fn add_floor(rt: &impl Abort, alloc: Global, text: &mut Vec<u8>, floor: Option<F
     }
 }
 
-/// Adds a ledger to a text.
+/// Appends the items of a ledger to a text.
 fn add_ledger(rt: &impl Abort, alloc: Global, text: &mut Vec<u8>, ledger: &[LedgerItem]) {
     for item in ledger {
         add_item(rt, alloc, text, item);
     }
 }
 
-/// Adds rows to a text.
+/// Appends rows to a text, each a key with its entry.
 fn add_rows(rt: &impl Abort, alloc: Global, text: &mut Vec<u8>, rows: &[(Key, Entry)]) {
     for row in rows {
         add_row(rt, alloc, text, row);
     }
 }
 
-/// Adds the live rows of a state to a text.
+/// Appends the live rows of a state to a text.
 fn add_live(rt: &impl Abort, alloc: Global, text: &mut Vec<u8>, state: &State) {
     for (key, body) in state.live() {
         add(rt, text, b"live ");
@@ -134,7 +134,7 @@ fn add_live(rt: &impl Abort, alloc: Global, text: &mut Vec<u8>, state: &State) {
     }
 }
 
-/// A state as text: its horizon, its ledger, its floor, its entries and its live rows.
+/// The text of a state: its horizon, its ledger, its floor, its entries and its live rows.
 pub(super) fn shown(rt: &impl Abort, alloc: Global, state: &State) -> Vec<u8> {
     let mut text = Vec::new(alloc);
     add_horizon(rt, alloc, &mut text, state.horizon());

@@ -1,4 +1,4 @@
-//! Receiving the entries of another state, one by one.
+//! Receiving another state, entry by entry.
 ghost use Rattle.std.specs.Prelude.{◌≡◌, ◌++◌, [], map};
 ghost use Rattle.docker_model.specs.state.Stamp.{IsFloor};
 ghost use Rattle.docker_model.specs.state.State.{AreEntries, IsGoodEntry};
@@ -71,8 +71,8 @@ fn offer_all(
     }
 }
 
-/// Receives another state entry by entry, and returns how many entries had been staged at the
-/// commit.
+/// Receives another state entry by entry and commits. Returns how many entries were staged before
+/// the commit.
 fn receive(rt: &impl Abort, alloc: Global, own: &mut State, other: &State) -> u64 {
     let ledger = Vec::from_slice(alloc, other.ledger()).expect(rt, "memory");
     let mut staging = Staging::new(alloc, own, ledger).expect(rt, "memory");
@@ -82,7 +82,8 @@ fn receive(rt: &impl Abort, alloc: Global, own: &mut State, other: &State) -> u6
     count
 }
 
-/// Asserts how many entries are staged, and how the state is shown after the commit.
+/// Receives another state. Asserts how many entries were staged, and how the state is shown after
+/// the commit.
 fn receive_is(
     rt: &impl Abort,
     alloc: Global,
@@ -95,8 +96,8 @@ fn receive_is(
     state_is(rt, alloc, own, lines);
 }
 
-/// Asserts that receiving a file's state gives this result, and that a second time nothing is
-/// staged.
+/// Receives the state of a file twice. Asserts the result of the first time, and that the second
+/// time nothing is staged.
 fn received_is(
     rt: &impl Abort,
     alloc: Global,

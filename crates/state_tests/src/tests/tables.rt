@@ -1,4 +1,4 @@
-//! Tables of entries: joined, searched, and lapsed.
+//! Tables of entries: how they are joined, searched and lapsed.
 
 use super::compare::same;
 use super::entries::entry;
@@ -13,7 +13,7 @@ fn key(rt: &impl Abort, code: &str) -> Key {
     Key::Tiploc(Tiploc::from_text(code).expect(rt, "a TIPLOC"))
 }
 
-/// The table of one timing point, with the entry of this number.
+/// A table with one timing point, whose entry is the one with this number.
 fn one_row(rt: &impl Abort, alloc: Global, code: &str, place: u8) -> Table<Entry> {
     let mut rows = Vec::new(alloc);
     rows.push((key(rt, code), entry(rt, place)))
@@ -21,7 +21,7 @@ fn one_row(rt: &impl Abort, alloc: Global, code: &str, place: u8) -> Table<Entry
     Table::from_rows(rows)
 }
 
-/// The table of these timing points, each with the entry of its number.
+/// A table with these timing points, each with the entry of the given number.
 fn table(rt: &impl Abort, alloc: Global, rows: &[(&str, u8)]) -> Table<Entry> {
     let mut all = Table::new(alloc);
     for (code, place) in rows {
@@ -31,7 +31,7 @@ fn table(rt: &impl Abort, alloc: Global, rows: &[(&str, u8)]) -> Table<Entry> {
     all
 }
 
-/// Asserts that a table has at a timing point the entry of this number.
+/// Asserts that the entry of a timing point is the one with this number.
 fn entry_is(rt: &impl Abort, table: &Table<Entry>, code: &str, place: u8) {
     same(rt, table.get(&key(rt, code)), Some(&entry(rt, place)));
 }

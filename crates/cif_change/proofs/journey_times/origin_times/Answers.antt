@@ -1,4 +1,4 @@
--- The times of an origin are its one time.
+-- An origin has one time, its departure.
 use Rattle.std.proofs.Common.{[], ◌∷◌, sym, ap, ◌∙◌, refl}
 use Rattle.docker_model.specs.records.Record.{columns}
 use Rattle.docker_model.specs.records.Clock.{half_minutes}

@@ -1,4 +1,4 @@
--- The times of a terminus are its one time.
+-- A terminus has one time, its arrival.
 use Rattle.std.proofs.Common.{[], ◌∷◌, sym, ap, ◌∙◌, refl}
 use Rattle.docker_model.specs.records.Record.{columns}
 use Rattle.docker_model.specs.records.Clock.{half_minutes}

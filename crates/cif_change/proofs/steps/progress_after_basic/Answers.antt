@@ -1,4 +1,4 @@
--- These are the stage, the flags and the times after a basic schedule.
+-- What the reader remembers after a basic schedule: its stage and flags, and no times.
 use Rattle.std.proofs.Common.{◌≡◌, refl, ap, sym, ◌∙◌, Bool, Some}
 use Rattle.std.specs.Prelude.{◌||◌, ◌==◌}
 use Rattle.docker_model.specs.records.Record.{column}

@@ -1,4 +1,4 @@
--- A basic schedule with good fields is a schedule's first line.
+-- A basic schedule with good fields can be the first line of a schedule.
 use Rattle.std.proofs.Common.{◌≡◌, refl, true, subst, sym}
 use Rattle.cif_laws.specs.ScheduleStage.{is_first_line}
 use Rattle.cif_change.proofs.JourneyLemmas.{first_line_is}

@@ -1,4 +1,4 @@
--- The basic schedule, and the ends among the lines so far.
+-- Up to this line, the body has the basic schedule, the origin and the terminus, if they came.
 use Rattle.std.proofs.Common.{◌≡◌, ◌++◌}
 use Rattle.std.specs.Prelude.{filter, take}
 use Rattle.docker_model.specs.records.Record.{kind_of}

@@ -1,4 +1,4 @@
--- The reader returns the counts of what it has read.
+-- The result has the counts of the file that was read.
 use Rattle.std.proofs.Common.{sym, subst}
 use Rattle.cif_file.specs.SourceRead.{CountsText}
 use Rattle.cif_file.proofs.EndedLemmas.{reads_count, reads_counted}

@@ -1,4 +1,4 @@
--- A bad byte is the cause only if there are 80 bytes.
+-- A byte is the cause only if the length is 80.
 use Rattle.std.proofs.Common.{◌∙◌, ap, sym, cond, Some, Err}
 use Rattle.std.specs.Prelude.{◌==◌}
 use Rattle.docker_model.specs.file.FileFault.{bad_byte, bad_length}

@@ -1,4 +1,4 @@
--- The cause is that the file has ended, or else the cause that the record's place and fields give.
+-- If the trailer was read, that is the cause. Otherwise the cause follows from the record's kind and fields.
 use Rattle.std.proofs.Common.{◌∙◌, sym}
 use Rattle.std.proofs.lemmas.Bool.{false≢true}
 use Rattle.cif_file.proofs.AnswerLemmas.{if_err_by}

@@ -1,4 +1,4 @@
--- Each piece is fed to the parser after the earlier ones.
+-- The parser is fed one piece after another.
 use Rattle.std.proofs.lemmas.Result.{IfOk-weaker, err_from_is_err_and}
 use Rattle.cif_file.proofs.AnswerLemmas.{if_err_by}
 use Rattle.cif_file.proofs.PiecesLemmas.{read_more, read_all, refused_front}

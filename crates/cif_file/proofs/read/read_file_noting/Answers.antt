@@ -1,4 +1,4 @@
--- The result is the file that was read, with its changes.
+-- The result is the file that was read, with all its changes.
 use Rattle.std.proofs.Common.{sym, subst}
 use Rattle.std.specs.Prelude.{⊤}
 use Rattle.cif_file.specs.SourceRead.{ReadsText}

@@ -1,4 +1,4 @@
--- The reading was fed what the source gave.
+-- The parser was fed exactly what the source gave.
 use Rattle.std.proofs.Common.{rules, [], subst, Err}
 use Rattle.cif_device.specs.FeedEnds.{EndsFeeding}
 use Rattle.cif_file.specs.FileTaken.{TakesFile, RefusesPiece}
@@ -78,7 +78,7 @@ returns-clause-no_further g c =
     no_further g.K.Keeper.keeps c.args.limit (g.S.Source.left c.args.source.now) (g.S.Source.left c.feed_all.new.source)
     (c.in-Err-Refused.ensures.no_further c.args.limit [] start)
 
--- `auto` proves these goals too. Written out, they let a wrong body fail without a long search.
+-- `auto` proves these goals too. The proofs are written out so that a wrong body fails without a long search.
 pub returns-in-Err-Source-clause-memory : goal.returns-in-Err-Source-clause-memory
 returns-in-Err-Source-clause-memory g c = search rules
 

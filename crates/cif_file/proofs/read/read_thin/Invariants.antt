@@ -1,4 +1,4 @@
--- The place and the day are the ones that were asked for.
+-- The type names the place and the day that were passed in.
 use Rattle.cif_file.proofs.read.read_thin.Given as goal
 
 abbrev pub ghosts-thin_at : goal.ghosts-thin_at

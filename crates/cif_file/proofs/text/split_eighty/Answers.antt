@@ -1,4 +1,4 @@
--- The line is the first 80 bytes, and the line end comes after them.
+-- The result is the first 80 bytes, if a line end follows them.
 use Rattle.std.proofs.Common.{◌≡◌, ℕ, ◌-◌, ◌≤◌, List, length, take, drop, sym, subst, arith, length-drop}
 use Rattle.std.proofs.lemmas.List.{take_all}
 use Rattle.cif_file.specs.Cut.{BeginsWithEnd}

@@ -1,4 +1,4 @@
--- The clock takes the three times one after the other.
+-- The three times of a line are counted one after the other.
 use Rattle.std.proofs.Common.{◌+◌, ◌∙◌}
 use Rattle.cif_laws.specs.TimesSoFar.{falls_after, later_or}
 use Rattle.cif_change.specs.JourneyRead.{time_list}

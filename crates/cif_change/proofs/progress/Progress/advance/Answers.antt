@@ -1,4 +1,4 @@
--- The next line is judged by its kind and by the stage before it.
+-- Whether the next line is taken depends first on the stage and on the line's kind.
 use Rattle.std.proofs.Common.{ap, sym, ◌∙◌, Some}
 use Rattle.std.specs.Prelude.{option_map}
 use Rattle.std.proofs.lemmas.Bool.{false≢true}

@@ -1,5 +1,5 @@
--- The kind of the line may come next. It is judged by its fields and, unless the schedule is a
--- deletion, by its times.
+-- A record of the line's kind may come next. Whether the line is taken depends on its fields and
+-- its times, and in a deletion on neither.
 use Rattle.std.proofs.Common.{ap, ◌∙◌, refl}
 use Rattle.std.proofs.lemmas.Bool.{false≢true}
 use Rattle.cif_change.specs.JourneyRead.{progress_meant, stage_then, stage_meant}

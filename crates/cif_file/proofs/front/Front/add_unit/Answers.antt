@@ -1,4 +1,4 @@
--- The trailer ends the file. A record that is a unit by itself makes its changes.
+-- After the trailer the file ends. A record that is a unit by itself makes its changes.
 use Rattle.std.proofs.Common.{refl, subst}
 use Rattle.std.specs.Prelude.{OnOk}
 use Rattle.cif_file.specs.KeeperRead.{AddsSingle}

@@ -1,4 +1,4 @@
--- The schedule's change is made, and then the record begins a unit.
+-- First the schedule's change is made, and then the next record begins another unit.
 use Rattle.cif_file.proofs.FrontLemmas.{over_of_closed, on_ok_one}
 use Rattle.cif_file.proofs.front.Front.begin_anew.Goals as goal
 

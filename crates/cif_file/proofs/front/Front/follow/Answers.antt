@@ -1,4 +1,4 @@
--- If the schedule can't continue, its cause is the file's cause.
+-- If the schedule can't continue with the line, the cause is the one for which no file does.
 use Rattle.std.proofs.Common.{ap, ◌∙◌, refl}
 use Rattle.std.specs.Prelude.{is_ok}
 use Rattle.docker_model.specs.file.File.{follows_basic}

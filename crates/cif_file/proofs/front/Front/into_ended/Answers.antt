@@ -1,4 +1,4 @@
--- The records are a file if and only if the trailer was read. The result is then that file.
+-- The records are a file if and only if the trailer was read, and the result is then this file.
 use Rattle.std.proofs.Common.{false, refl}
 use Rattle.std.proofs.lemmas.Bool.{false≢true}
 use Rattle.cif_file.proofs.FrontLemmas.{ended_iff, tells_before, tells_between, tells_inside, file_ended}

@@ -1,4 +1,4 @@
--- Records are a file if and only if the trailer was read.
+-- The records are a file if and only if the trailer was read.
 use Rattle.std.proofs.Common.{true, false}
 use Rattle.cif_file.proofs.FrontLemmas.{ended_iff, tells_before, tells_between, tells_inside, tells_ended}
 use Rattle.cif_file.proofs.front.Front.is_ended.Goals as goal

@@ -1,4 +1,4 @@
--- A basic schedule begins its schedule.
+-- With the basic schedule, a schedule begins.
 use Rattle.std.proofs.Common.{◌∙◌, refl}
 use Rattle.cif_file.proofs.FrontLemmas.{basic_added}
 use Rattle.cif_file.proofs.UnitLemmas.{schedule_is_first}

@@ -1,4 +1,4 @@
--- The next record is judged by the place to which the earlier ones lead.
+-- Whether the next record may come depends on the place to which the earlier records lead.
 use Rattle.std.proofs.Common.{◌∙◌, ap, sym}
 use Rattle.std.specs.Prelude.{option_map}
 use Rattle.cif_line.specs.Kind.{meaning}

@@ -1,5 +1,5 @@
--- After lines of a schedule comes a line that continues the schedule, or a record that begins a
--- unit. A unit can begin only if the schedule is whole.
+-- After some lines of a schedule, either the schedule continues or a record begins another unit.
+-- The latter is possible only if the lines are a whole schedule.
 use Rattle.std.proofs.lemmas.Result.{err_from_is_err_and}
 use Rattle.std.proofs.Common.{◌∙◌, ap, sym, subst, refl}
 use Rattle.std.proofs.lemmas.Bool.{false≢true}

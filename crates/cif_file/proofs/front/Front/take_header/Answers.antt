@@ -1,4 +1,4 @@
--- The first record is a header with good fields.
+-- The first record must be a header with good fields.
 use Rattle.std.proofs.lemmas.Result.{err_from_is_err_and}
 use Rattle.std.proofs.Common.{◌∙◌, ap, refl, Some}
 use Rattle.cif_line.specs.Kind.{meaning}

@@ -1,4 +1,4 @@
--- A record that begins no unit, or has a bad field, can't come next.
+-- A record that begins no unit or has a bad field is refused.
 use Rattle.std.proofs.lemmas.Result.{err_from_is_err_and}
 use Rattle.std.proofs.Common.{sym, subst, refl}
 use Rattle.cif_line.specs.Kind.{meaning}

@@ -1,4 +1,4 @@
--- An earlier fault is returned again. Without one, the piece is read.
+-- If the parser has returned a fault, it returns it again. Otherwise it reads the piece.
 use Rattle.std.proofs.Common.{◌++◌, sym, ap, subst, ◌∙◌}
 use Rattle.cif_file.specs.KeeperRead.{KeepsAll}
 use Rattle.cif_file.specs.ParserRead.{ParserState, IsReading}

@@ -1,4 +1,4 @@
--- A fault that was returned earlier is the fault of the text.
+-- A fault that `feed` has returned is a fault of the whole text.
 use Rattle.std.proofs.Common.{sym, ap, subst, ◌∙◌}
 use Rattle.cif_file.specs.ParserRead.{ParserState, IsReadingOrFault, IsOfFileText}
 use Rattle.cif_file.proofs.EndedLemmas.{of_file, are_parts_some}

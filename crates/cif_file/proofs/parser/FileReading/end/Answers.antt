@@ -1,4 +1,4 @@
--- The last line is taken, if one is open, and then the file ends.
+-- If a line is open, it is taken as the last line. Then the file ends.
 use Rattle.std.proofs.Common.{ap, subst, ◌∙◌}
 use Rattle.std.proofs.lemmas.Result.{IfOk-weaker}
 use Rattle.std.specs.Str.Lines.{strip_carriage_return}

@@ -1,4 +1,4 @@
--- A line ends here, and is taken together with its earlier bytes.
+-- The line that ends at the line feed is taken, together with the bytes of it that were kept.
 use Rattle.std.proofs.Common.{◌++◌, sym, ap, ◌∙◌}
 use Rattle.std.proofs.lemmas.Bool.{false≢true}
 use Rattle.cif_laws.specs.CompleteLines.{complete_lines}

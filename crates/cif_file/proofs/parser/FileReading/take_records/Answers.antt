@@ -1,4 +1,4 @@
--- The text is taken record by record.
+-- The records at the start of the text are taken one by one.
 use Rattle.std.proofs.Common.{refl}
 use Rattle.std.proofs.lemmas.Result.{err_from_is_err_and}
 use Rattle.cif_file.specs.ParserRead.{IsReading}

@@ -1,4 +1,4 @@
--- The limit is the first cause, then the trailer, and then the line's own cause.
+-- The limit is the first cause, the trailer the second, and the line's own cause the last.
 use Rattle.std.proofs.Common.{◌≡◌, ap, subst, refl, true, false}
 use Rattle.std.specs.Prelude.{◌↔◌}
 use Rattle.docker_model.specs.file.File.{IsFile}

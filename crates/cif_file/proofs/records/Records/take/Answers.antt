@@ -1,4 +1,4 @@
--- The line is taken if it is a record. Otherwise it is refused for its length or for a byte.
+-- A line that is a record is taken. Any other line is refused for its length or for a byte.
 use Rattle.std.proofs.Common.{refl, subst}
 use Rattle.cif_file.specs.ParserRead.{CountsNext, FaultsNext}
 use Rattle.cif_change.specs.Cause.{cause_meant}

@@ -1,4 +1,4 @@
--- The record's changes were taken.
+-- Each of the record's changes was kept or dropped as it should be.
 use Rattle.std.proofs.Common.{subst, ◌++◌, ◌∙◌}
 use Rattle.cif_file.specs.ThinKept.{HasThinned}
 use Rattle.cif_file.proofs.FrontLemmas.{on_ok_one}

@@ -1,4 +1,4 @@
--- The change of the schedule was taken, and its lines are gone.
+-- The schedule's change was kept or dropped as it should be, and no lines remain.
 use Rattle.std.proofs.Common.{◌∙◌, ◌++◌, ◌∷◌, []}
 use Rattle.cif_file.specs.KeeperRead.{change_renewed}
 use Rattle.cif_file.proofs.thin_kept.ThinSoFarKeeper.close.Goals as goal

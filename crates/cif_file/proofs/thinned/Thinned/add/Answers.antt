@@ -1,4 +1,4 @@
--- A change elsewhere is dropped. Any other change is kept as it is.
+-- A change whose key can't matter at the place is dropped. Any other change is kept unchanged.
 use Rattle.std.proofs.Common.{refl, sym, ◌∙◌}
 use Rattle.cif_file.proofs.FrontLemmas.{on_ok_one}
 use Rattle.cif_file.proofs.ThinLemmas.{elsewhere_dropped, matters_here, never_thin_change}

@@ -1,5 +1,5 @@
--- A schedule that leaves nothing that may count is deleted. Any other schedule keeps the lines that
--- the place needs.
+-- A schedule that is a deletion or doesn't run near the day is handled as a deletion. Of any other
+-- schedule the lines that the place needs are kept.
 use Rattle.std.proofs.Common.{◌≡◌, refl, sym, ap, ◌∙◌, true, false}
 use Rattle.std.specs.Prelude.{◌||◌, not}
 use Rattle.cif_file.proofs.FrontLemmas.{on_ok_one}
@@ -15,7 +15,7 @@ returns-then-is_deletion-near c =
     (opened_deletes place day c.args.opened c.args.near lines read whole near
     (either c.args.opened.progress.deletion c.args.near (ap (λ test. test || not c.args.near) (sym c.is_deletion.ensures) ∙ c.if-is_deletion-near.true))))
 
--- the schedule is no deletion, and runs near the day
+-- the schedule isn't a deletion, and it runs near the day
 none : (c : goal.After-keep) → (c.args.opened.progress.deletion ≡ false) × (c.args.near ≡ true)
 none c =
     neither c.args.opened.progress.deletion c.args.near (ap (λ test. test || not c.args.near) (sym c.is_deletion.ensures) ∙ c.if-is_deletion-near.false)

@@ -1,4 +1,4 @@
--- A record makes one change or two, and each is added.
+-- A record makes one or two changes, and each of them is added.
 use Rattle.std.proofs.Common.{subst}
 use Rattle.std.specs.Prelude.{IfSome}
 use Rattle.cif_change.specs.Meaning.{change_meant}

@@ -1,4 +1,4 @@
--- The change was appended, and its key is known.
+-- The change was appended, and its key was added to the set.
 use Rattle.std.proofs.Common.{refl}
 use Rattle.cif_file.proofs.FrontLemmas.{on_ok_one}
 use Rattle.cif_file.proofs.ThinLemmas.{thin_kept}

@@ -1,4 +1,4 @@
--- Without changes nothing is kept.
+-- Before the first change, keeping nothing is enough.
 use Rattle.std.proofs.Common.{refl}
 use Rattle.cif_file.proofs.ThinLemmas.{none_thinned}
 use Rattle.cif_file.proofs.thinned.Thinned.new.Goals as goal

@@ -1,4 +1,4 @@
--- The state that all changes of the file make.
+-- The result is the state that all changes of the file make.
 use Rattle.std.proofs.Common.{map, subst, sym, ◌∙◌}
 use Rattle.cif_change.specs.Meaning.{change_meant}
 use Rattle.docker_state.specs.Meaning.{item_meant}

@@ -1,4 +1,4 @@
--- The rows with the greatest entries, in the room that was made for them.
+-- The rows are the greatest ones of each key, in the memory that was reserved for them.
 use Rattle.std.proofs.Common.{List, map, length, ap, sym, subst, arith}
 use Rattle.docker_model.specs.file.Change as model
 use Rattle.docker_model.specs.state.Op as ops
