@@ -1,30 +1,31 @@
 # shellcheck shell=bash
-# What the launchers share; they source it.
+# The part that the launchers share. They source it.
 #   launch PROGRAM [WORD..]
 # runs crates/PROGRAM/out/PROGRAM with these words. Input, output and status are the program's own.
 # If the program isn't built, or is older than one of its sources, it is proved and built first.
 # Progress goes to standard error, and the report on each crate to
-# crates/PROGRAM/out/proving/CRATE.log. Status 70 says that it couldn't be built.
+# crates/PROGRAM/out/proving/CRATE.log. Status 70 says that the program couldn't be built.
 
 root=$(dirname "$(dirname "$(readlink -f "${BASH_SOURCE[0]}")")")
 
-# The kilobytes that the check of one crate may take.
+# How many kilobytes of memory the check of one crate may need.
 memory_of_a_check=$((5 * 1024 * 1024))
 
-# What is under way: for each process its crate, and the second in which it began.
+# The checks that are running: the crate of each process, and the second in which it started.
 declare -A under_way=() began=()
-# The crates that wait, in the order in which they should begin, and the crates that are proved. For
-# each crate the crates that it cites, and the checksum of what its proof rests on.
+# The crates that wait, in the order in which they should start. Then the crates that are proved,
+# the crates that each crate cites, and the checksum of everything on which each crate's proof
+# depends.
 declare -a waiting=()
 declare -A cites=() is_proved=() sums=()
-# A process that ends soon, while a crate waits for memory.
+# A process that ends soon, to wait for while a crate waits for memory.
 pause=
 
 say() { printf '%s: %s\n' "$launched" "$1" >&2; }
 
-# The crates that a program is built from, its own included, each with the crates of this repository
-# that it cites. The crate with the longest chain of crates up to the program comes first, so each
-# comes after the crates that it cites.
+# The crates from which a program is built, including its own, each with the crates of this
+# repository that it cites. The crate with the longest chain of crates up to the program comes
+# first, so each crate comes after the crates that it cites.
 plan() {
   awk -F'[: ]+' -v program="$1" '
     { line[NR] = $0; is_ours[$1] }
@@ -49,8 +50,9 @@ plan() {
     }' "$root/crates.txt"
 }
 
-# The checksum of what a crate's proof rests on: the kit, the crate's line in crates.txt, its sources
-# and proofs, and the checksums of the crates that it cites. Those have to be known.
+# The checksum of everything on which a crate's proof depends: the kit, the crate's line in
+# crates.txt, its sources and proofs, and the checksums of the crates that it cites. Those checksums
+# must be known.
 sum_of() {
   local crate=$1 kit=$2 cited
   {
@@ -62,13 +64,13 @@ sum_of() {
   } | sha256sum
 }
 
-# Whether an earlier launch has proved a crate as it is now.
+# Whether an earlier launch has proved this crate as it is now.
 was_proved() { [ "$(cat "$root/crates/$1/out/proved" 2>/dev/null)" = "${sums[$1]}" ]; }
 
-# Keeps that a crate is proved as it was when the launch began.
+# Records that a crate is proved as it was when the launch started.
 keep_proved() { mkdir -p "$root/crates/$1/out" && echo "${sums[$1]}" >"$root/crates/$1/out/proved"; }
 
-# Whether a program is older than one of its sources, or isn't there.
+# Whether a program doesn't exist, or is older than one of its sources.
 is_old() {
   local program=$root/crates/$1/out/$1 crate
   local -a folders=()
@@ -78,8 +80,8 @@ is_old() {
   [ -n "$(find "${folders[@]}" -name out -prune -o \( -name '*.rt' -o -name '*.antt' \) -newer "$program" -print -quit)" ]
 }
 
-# Runs `rt COMMAND..` in a crate's folder, in a session of its own, so that it can be ended with all
-# that it started.
+# Runs `rt COMMAND..` in a crate's folder. It gets a session of its own, so that it can be stopped
+# together with everything that it started.
 begin() {
   local crate=$1 log=$2 input=$3
   (cd "$root/crates/$crate" && exec setsid rt "${@:4}") <"$input" >"$log" 2>&1 &
@@ -87,7 +89,7 @@ begin() {
   began[$!]=$SECONDS
 }
 
-# Ends everything that is under way, and the launcher.
+# Stops all running checks, and then the launcher.
 stop() {
   local process
   trap '' INT TERM HUP
@@ -100,8 +102,8 @@ stop() {
 
 free_memory() { awk '/^MemAvailable:/ { free = $2 } END { print free + 0 }' /proc/meminfo; }
 
-# Whether memory allows one more check. A check that began less than a minute ago hasn't taken all
-# the memory yet that it needs.
+# Whether there is memory for one more check. A check that started less than a minute ago hasn't
+# allocated all its memory yet.
 has_memory() {
   local process checks=1
   for process in "${!under_way[@]}"; do
@@ -110,7 +112,7 @@ has_memory() {
   (($(free_memory) >= checks * memory_of_a_check))
 }
 
-# Finds the first crate that waits for no other: sets `next` to its place in `waiting`, or to
+# Finds the first crate that waits for no other crate. Sets `next` to its place in `waiting`, or to
 # nothing.
 find_next() {
   local at crate
@@ -124,8 +126,8 @@ find_next() {
   next=
 }
 
-# Begins checks until the lanes are full, memory is short or no crate can begin. If nothing is under
-# way, one begins in any case.
+# Starts checks until the lanes are full, memory is short or no crate can start. If no check is
+# running, it starts one in any case.
 begin_more() {
   local lanes=$1 logs=$2 next
   while find_next; [ -n "$next" ] && ((${#under_way[@]} < lanes)); do
@@ -143,10 +145,9 @@ time_since() {
   if ((seconds < 60)); then echo "$seconds s"; else echo "$((seconds / 60)) min"; fi
 }
 
-# Proves the crates of a program in lanes: one for each two processors, and at least two. A crate
-# begins when the crates that it cites are proved. A crate that an earlier launch has proved isn't
-# asked again. After a failure no other crate begins, and the checks that are under way run to their
-# end.
+# Proves the crates of a program in lanes: one for every two processors, and at least two. A crate
+# starts when the crates that it cites are proved. A crate that an earlier launch has proved is
+# skipped. After a failure no other crate starts, and the running checks are completed.
 prove() {
   local program=$1 logs=$2 start=$SECONDS failed='' kit crate rest total lanes ended status
   kit=$(rt version)
@@ -179,8 +180,8 @@ prove() {
   [ -z "$failed" ]
 }
 
-# The words of a program's first run, one a line: those in its `args`. If one names a file in its
-# `data`, that file is meant.
+# The words for a program's first run, one per line, from its `args`. A word that names a file in
+# its `data` becomes that file's path.
 first_words() {
   local folder=$root/crates/$1 word
   [ -f "$folder/args" ] || return 0
@@ -198,7 +199,7 @@ build() {
   trap 'stop 143' TERM
   trap 'stop 129' HUP
   prove "$program" "$logs" || return 1
-  # Machine code, and a first run.
+  # Generates machine code, by a first run.
   if [ -f "$root/crates/$program/stdin" ]; then input=$root/crates/$program/stdin; fi
   mapfile -t words < <(first_words "$program")
   begin "$program" "$logs/$program.log" "$input" run -- "${words[@]}"

@@ -1,5 +1,5 @@
-//! Time and memory of an office's commands, beside `wc -l` of the bytes that each reads, and beside
-//! a plain program, which has to give the same bytes.
+//! Time and memory of an office's commands, compared with `wc -l` on the bytes that each reads, and
+//! with a plain program, which has to give the same bytes.
 
 use crate::measure::{machine, run, Input, Spent};
 use std::collections::HashMap;
@@ -8,8 +8,8 @@ use std::io::{copy, BufRead, BufReader, Error, Result, Seek, SeekFrom, Write};
 
 const ROUNDS: usize = 5;
 
-/// A command: what STATE is before it, its words, the files that it reads, and how many bytes the
-/// texts of the states in its memory have.
+/// A command: what STATE is before it, its words, the files that it reads, and the total size of
+/// the texts of the states that it has in memory.
 struct Job<'a> {
     name: &'static str,
     before: Option<&'a str>,
@@ -17,12 +17,12 @@ struct Job<'a> {
     reads: Vec<&'a str>,
     states: u64,
     counting: Vec<f64>,
-    /// The runs of the program, and of the plain one.
+    /// The runs of the program, and the runs of the plain program.
     took: [Took; 2],
     lines: usize,
 }
 
-/// What a program's runs took.
+/// The costs of a program's runs.
 #[derive(Default)]
 struct Took {
     seconds: Vec<f64>,
@@ -44,7 +44,7 @@ fn median(values: &[f64]) -> f64 {
     values[values.len() / 2]
 }
 
-/// The paths of the states that the commands start from.
+/// The paths of the states with which the commands start.
 struct States {
     empty: String,
     full: String,
@@ -55,8 +55,8 @@ struct States {
     own: String,
 }
 
-/// Prints the table of an extract and an update of it, with these words before the plain program's
-/// own. The states are left in the folder.
+/// Prints the table for an extract and an update of it. These words come before the plain program's
+/// own words. The states are left in the folder.
 pub fn table(program: &str, plain: &[&str], extract: &str, update: &str, folder: &str) -> Result<()> {
     let states = make_states(program, extract, update, folder)?;
     let (place, date) = busiest(extract)?;
@@ -124,7 +124,7 @@ pub fn table(program: &str, plain: &[&str], extract: &str, update: &str, folder:
     print(&jobs)
 }
 
-/// Makes the states that the commands start from.
+/// Makes the states with which the commands start.
 fn make_states(program: &str, extract: &str, update: &str, folder: &str) -> Result<States> {
     let path = |name: &str| format!("{folder}/{name}.state");
     let states = States { empty: path("empty"), full: path("full"), update: path("update"), old: path("old"), own: path("own") };
@@ -142,7 +142,7 @@ fn make_states(program: &str, extract: &str, update: &str, folder: &str) -> Resu
     Ok(states)
 }
 
-/// Runs a command that has to succeed, and returns what it took and printed.
+/// Runs a command that has to succeed, and returns its costs and its output.
 fn done(words: &[&str]) -> Result<Spent> {
     let spent = run(words, Input::None)?;
     match (spent.status, &*spent.errors) {
@@ -170,7 +170,8 @@ fn busiest(extract: &str) -> Result<(String, String)> {
 }
 
 /// Runs both programs in turn. They have to print the same and leave the same STATE. This process
-/// holds no state in memory, because a process that it starts begins with its peak.
+/// itself holds no state in memory, because the peak of a process that it starts begins with its
+/// own.
 fn measure(job: &mut Job, programs: [&[&str]; 2], own: &str) -> Result<()> {
     let mut counting = 0.0;
     for path in &job.reads {

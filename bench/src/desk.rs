@@ -1,5 +1,5 @@
-//! Times of the program `desk`, which keeps a state in memory, beside the same things done by
-//! commands that read it each time, and beside the library's calls.
+//! Times of the program `desk`, which keeps a state in memory, compared with commands that read the
+//! state each time, and with calls of the library.
 
 use crate::measure::{machine, run, Input, Spent};
 use crate::random::Random;
@@ -12,10 +12,10 @@ use std::time::Instant;
 
 const ROUNDS: usize = 5;
 
-/// How many of the busiest places have their dockers printed one after the other.
+/// How many of the busiest places have their dockers printed, one after another.
 const PLACES: usize = 200;
 
-/// How many random requests are sent, and after how many of them memory is looked at first.
+/// The number of random requests. Next to it, after how many of them memory is measured first.
 const REQUESTS: usize = 10_000;
 const EARLY: usize = 100;
 
@@ -27,8 +27,8 @@ pub struct Programs<'a> {
     pub plain: &'a str,
 }
 
-/// The files that they read. STATE is the state of the extract, OTHER the state of its update, and
-/// OWN a copy of STATE that a command may write.
+/// The files of the programs. STATE is the state of the extract, OTHER is the state of its update,
+/// and OWN is a copy of STATE that a command may write.
 struct Files<'a> {
     update: &'a str,
     state: String,
@@ -58,7 +58,7 @@ impl Desk {
         Ok(Desk { process, input, output: BufReader::with_capacity(1 << 16, output) })
     }
 
-    /// Sends a request and reads its answer, as its header says.
+    /// Sends a request, and reads its answer by the answer's header.
     fn ask(&mut self, request: &str) -> Result<Answer> {
         let began = Instant::now();
         let input = self.input.as_mut().ok_or_else(|| Error::other("the desk's input is closed"))?;
@@ -82,7 +82,7 @@ impl Desk {
         Ok(Answer { status: status as u8, text, seconds })
     }
 
-    /// Sends a request that has to be done.
+    /// Sends a request that has to succeed.
     fn ask_done(&mut self, request: &str) -> Result<Answer> {
         let answer = self.ask(request)?;
         match answer.status {
@@ -91,7 +91,7 @@ impl Desk {
         }
     }
 
-    /// Bytes of resident memory, now and at most so far.
+    /// Bytes of resident memory: now, and at most so far.
     fn memory(&self) -> Result<[u64; 2]> {
         let text = fs::read_to_string(format!("/proc/{}/status", self.process.id()))?;
         let of = |name: &str| {
@@ -101,22 +101,22 @@ impl Desk {
         of("VmRSS:").zip(of("VmHWM:")).map(|(now, most)| [now, most]).ok_or_else(|| Error::other("the system tells no memory"))
     }
 
-    /// The seconds that it has been on a processor so far. It has one thread.
+    /// The processor seconds that the process has used so far. It has one thread.
     fn processor(&self) -> Result<f64> {
         let text = fs::read_to_string(format!("/proc/{}/schedstat", self.process.id()))?;
         let nanos = text.split(' ').next().and_then(|number| number.parse::<f64>().ok());
         nanos.map(|nanos| nanos / 1e9).ok_or_else(|| Error::other("the system tells no processor time"))
     }
 
-    /// Ends the input, and waits for the end of the process.
+    /// Ends the input, and waits until the process ends.
     fn end(mut self) -> Result<i32> {
         drop(self.input.take());
         Ok(self.process.wait()?.code().unwrap_or(-1))
     }
 }
 
-/// What is asked about: the places by the number of records that name them, the busiest first; some
-/// UIDs; and the day.
+/// The subjects of requests: the places by the number of records that name them, busiest first;
+/// some UIDs; and the day.
 struct Subjects {
     places: Vec<String>,
     uids: Vec<String>,
@@ -139,8 +139,8 @@ fn subjects(extract: &str, day: &str) -> Result<Subjects> {
     Ok(Subjects { places: places.into_iter().map(|(_, place)| place).collect(), uids, day: day.to_string() })
 }
 
-/// Random requests: dockers and trains of random places, UIDs and days, the list of files, and what
-/// is refused. A day is one of the fortnight from the extract's.
+/// Random requests: dockers and trains of random places, UIDs and days, the list of files, and
+/// requests that are refused. The days are the fortnight from the extract's day on.
 fn random_requests(subjects: &Subjects, seed: u64) -> Vec<String> {
     let mut random = Random::of(&[seed, 77]);
     let one = |random: &mut Random| {
@@ -157,12 +157,12 @@ fn random_requests(subjects: &Subjects, seed: u64) -> Vec<String> {
     (0..REQUESTS).map(|_| one(&mut random)).collect()
 }
 
-/// Times by the clock and on a processor, a pair for each round.
+/// Times by the clock and on the processor, a pair for each round.
 #[derive(Default)]
 struct Times(Vec<[f64; 2]>);
 
 impl Times {
-    /// The least by the clock, and the least on a processor.
+    /// The least time by the clock, and the least on the processor.
     fn best(&self) -> [f64; 2] {
         [0, 1].map(|at| self.0.iter().map(|pair| pair[at]).fold(f64::INFINITY, f64::min))
     }
@@ -173,13 +173,13 @@ fn best(times: &[f64]) -> f64 {
     times.iter().copied().fold(f64::INFINITY, f64::min)
 }
 
-/// Prints a row of a table: a time, and its ratio to each of some others.
+/// Prints a row of a table: a time, and its ratio to each of some other times.
 fn row(what: &str, seconds: f64, beside: &[f64]) {
     let ratios: String = beside.iter().map(|other| format!(" {:.2} |", seconds / other)).collect();
     println!("| {what} | {seconds:.4} |{ratios}");
 }
 
-/// Prints the tables of an extract and an update of it, on a day.
+/// Prints the tables for an extract and an update of it, on a day.
 pub fn tables(programs: &Programs, extract: &str, update: &str, folder: &str, day: &str, seed: u64) -> Result<()> {
     let path = |name: &str| format!("{folder}/{name}.state");
     let files = Files { update, state: path("full"), other: path("update"), own: path("own") };
@@ -201,8 +201,8 @@ pub fn tables(programs: &Programs, extract: &str, update: &str, folder: &str, da
     takes(programs, &files)
 }
 
-/// The first answer of a desk beside the commands that print the same, and beside the library's
-/// reading of the whole state; and then the dockers of the busiest places.
+/// The first answer of a desk, compared with the commands that print the same, and with the
+/// library's reading of the whole state. Then the dockers of the busiest places.
 fn first_answers(programs: &Programs, files: &Files, subjects: &Subjects) -> Result<()> {
     let Subjects { places, day, .. } = subjects;
     let place = places.first().ok_or_else(|| Error::other("the extract has no location"))?;
@@ -252,7 +252,7 @@ fn first_answers(programs: &Programs, files: &Files, subjects: &Subjects) -> Res
     Ok(())
 }
 
-/// Random requests to one desk: their times, and its memory between them.
+/// Random requests to one desk: their times, and the desk's memory in between.
 fn random_answers(programs: &Programs, files: &Files, subjects: &Subjects, seed: u64) -> Result<()> {
     let mut desk = Desk::start(&[programs.desk, &files.state])?;
     desk.ask_done("files")?;
@@ -292,8 +292,8 @@ fn random_answers(programs: &Programs, files: &Files, subjects: &Subjects, seed:
     Ok(())
 }
 
-/// `take` of the update by a desk, beside the library's calls and the commands. All leave the same
-/// state.
+/// `take` of the update by a desk, compared with calls of the library and with the commands. All
+/// have to leave the same state.
 fn takes(programs: &Programs, files: &Files) -> Result<()> {
     let Files { update, state, other, own } = files;
     let (mut taken, mut joins, mut making) = (Vec::new(), Vec::new(), Vec::new());

@@ -11,7 +11,7 @@ use std::os::unix::fs::FileExt;
 
 pub struct Flip {
     pub offset: usize,
-    /// Both count from 1. The line end is column 81.
+    /// Both numbers count from 1. The line end is column 81.
     pub record: u64,
     pub column: usize,
     pub old: u8,
@@ -31,14 +31,14 @@ const DECIDING: [usize; 36] = [
     1, 1, 2, 2, 2, 3, 3, 10, 11, 12, 13, 14, 15, 16, 17, 18, 19, 20, 21, 22, 23, 24, 25, 26, 27, 28, 29, 30, 31, 38, 47, 73, 80,
     80, 81, 81,
 ];
-/// Bytes that mean something in some column.
+/// Bytes that have a meaning in some column.
 const TELLING: &[u8] = b"  00112345999ABCDFHILNNOOPPRSTUXZ";
 
 impl Flip {
-    /// Draws a byte and its new value. Equally often, the byte is anywhere; or in a record of a
-    /// kind that is drawn first. Or it is in such a record, at a column that decides something in
-    /// some kind. Or it is a time of a call past midnight, or the same column of one of the two
-    /// records after it.
+    /// Draws a byte and its new value, in one of four ways that are equally likely. The byte may be
+    /// anywhere. It may be in a record of a kind that is drawn first. It may be in such a record,
+    /// at a column that decides something in some kind of record. Or it is in a time of a call
+    /// after midnight, or in the same column of one of the two records after it.
     pub fn draw(text: &[u8], random: &mut Random) -> Flip {
         let mut offset = random.below(text.len());
         let identity = *random.pick(&IDENTITIES);
@@ -73,8 +73,8 @@ fn start_of_line(before: &[u8]) -> usize {
     before.iter().rposition(|&byte| byte == b'\n').map_or(0, |at| at + 1)
 }
 
-/// The byte at column 1 or 2 of an identity whose other letter is the record's; if there is none,
-/// of any identity.
+/// A byte for column 1 or 2 that makes another identity together with the record's other letter. If
+/// there is none, the byte of any identity.
 fn other_kind(text: &[u8], offset: usize, column: usize, random: &mut Random) -> u8 {
     let other = text.get(if column == 1 { offset + 1 } else { offset - 1 });
     let alike: Vec<u8> =
@@ -85,8 +85,8 @@ fn other_kind(text: &[u8], offset: usize, column: usize, random: &mut Random) ->
     *random.pick(&alike)
 }
 
-/// The start of the first such record from an offset on; if there is none, from the text's
-/// beginning.
+/// The start of the first wanted record from an offset on. If there is none, the search continues
+/// at the beginning of the text.
 fn next_record(text: &[u8], offset: usize, wanted: impl Fn(&[u8]) -> bool) -> Option<usize> {
     let from = |mut start: usize| loop {
         let line = &text[start..];
@@ -123,8 +123,8 @@ struct Tally {
     unlike: usize,
 }
 
-/// Gives the program the file as it is, and then with one flip at a time. Returns whether each
-/// answer was the plain reader's. At the end the file is as it was.
+/// Gives the program the file unchanged, and then with one flip at a time. Returns whether each
+/// answer was the plain reader's. At the end the file is unchanged.
 pub fn compare(program: &str, path: &str, seed: u64, flips: usize) -> Result<bool> {
     let mut text = fs::read(path)?;
     let file = OpenOptions::new().write(true).open(path)?;
@@ -163,7 +163,7 @@ pub fn compare(program: &str, path: &str, seed: u64, flips: usize) -> Result<boo
 }
 
 /// Whether the program prints this line: on standard output with status 0 if the file is accepted,
-/// else on standard error with status 1.
+/// otherwise on standard error with status 1.
 fn agrees(program: &str, path: &str, line: &str, accepted: bool, what: &str) -> Result<bool> {
     let spent = run(&[program, "check", path], Input::None)?;
     let wanted = if accepted { (0, line, "") } else { (1, "", line) };

@@ -1,6 +1,6 @@
-//! A plain reader of the grammar of CIF files. It keeps no line. It counts records and changes, or
-//! names the first record at fault and its cause. It shares no code with the program, so that the
-//! two can be compared.
+//! A plain reader of the grammar of CIF files, which keeps no lines. It counts records and changes,
+//! or names the first record at fault and its cause. It shares no code with the program, so that
+//! the two can be compared.
 
 use std::fmt;
 use std::io::{Read, Result as Done};
@@ -15,7 +15,7 @@ pub enum Cause {
     Byte(usize),
     Kind,
     Place,
-    /// The first column of the leftmost checked field that isn't good.
+    /// The first column of the leftmost checked field that is bad.
     Field(usize),
     Midnights,
     NoEnd,
@@ -47,8 +47,8 @@ impl fmt::Display for Cause {
     }
 }
 
-/// The line that the program prints for an answer: on standard output if the file is accepted, else
-/// on standard error.
+/// The line that the program prints for an answer: on standard output if the file is accepted,
+/// otherwise on standard error.
 pub fn line_of(answer: &Answer) -> String {
     match answer {
         Ok(counts) => format!("accepted: {} records, {} changes\n", counts.records, counts.changes),
@@ -56,8 +56,8 @@ pub fn line_of(answer: &Answer) -> String {
     }
 }
 
-/// The first column of the leftmost field that isn't good. All fields are judged before one of them
-/// is looked for, because a processor can't foresee a branch for each.
+/// The first column of the leftmost bad field. All fields are judged before the leftmost bad one is
+/// looked for, because the processor can't predict a branch for each field.
 macro_rules! first_bad {
     ($line:expr, $(($column:expr, $check:expr)),+) => {{
         let line: &Line = $line;
@@ -90,7 +90,7 @@ enum Kind {
 }
 
 fn kind(line: &Line) -> Option<Kind> {
-    // The most common first.
+    // The most common kinds come first.
     Some(match &line[..2] {
         b"LI" => Kind::Call,
         b"HD" => Kind::Header,
@@ -108,7 +108,7 @@ fn kind(line: &Line) -> Option<Kind> {
     })
 }
 
-/// Where in a file the next record comes.
+/// The place in a file at which the next record comes.
 #[derive(Clone, Copy, PartialEq, Eq)]
 enum Place {
     Start,
@@ -124,12 +124,13 @@ pub struct Judge {
     limit: u64,
     counts: Counts,
     place: Place,
-    /// The schedule may be without a journey.
+    /// Whether the schedule may be without a journey.
     journey_optional: bool,
-    /// The schedule is a deletion: only the kind and the place of its lines after BS are checked.
+    /// Whether the schedule is a deletion. Then only the kinds and places of its lines after BS are
+    /// checked.
     deletion: bool,
-    /// The half minutes of the journey's last event, 0 before the first one, and how often the
-    /// times fell so far.
+    /// The half minutes of the journey's last event (0 before the first), and how often the times
+    /// have fallen so far.
     last_event: u16,
     falls: u8,
 }
@@ -186,7 +187,8 @@ impl Judge {
         Ok(())
     }
 
-    /// Where the record after one of this kind comes; none if no record of this kind can come here.
+    /// The place of the record after one of this kind; none if no record of this kind can come
+    /// here.
     fn next(&self, kind: Kind) -> Option<Place> {
         let unit = match kind {
             Kind::Tiploc | Kind::Amended | Kind::Deleted | Kind::Association => Some(Place::BetweenUnits),
@@ -257,7 +259,7 @@ impl Judge {
                 return false;
             }
             Kind::Origin | Kind::Terminus => &[11],
-            // Arrival, pass, departure.
+            // In the order arrival, pass, departure.
             Kind::Call => &[11, 21, 16],
             _ => return false,
         };
@@ -273,7 +275,7 @@ impl Judge {
     }
 }
 
-/// Judges the lines of one schedule in turn, as a state's text has them.
+/// Judges the lines of one schedule in turn, in the form that a state's text has.
 pub struct ScheduleJudge(Judge);
 
 impl ScheduleJudge {
@@ -283,8 +285,8 @@ impl ScheduleJudge {
         ScheduleJudge(judge)
     }
 
-    /// Whether the schedule can go on with this line. The first line is a basic schedule, and no
-    /// other is.
+    /// Whether the schedule can continue with this line. The first line is a basic schedule, and no
+    /// other line is.
     pub fn line(&mut self, line: &[u8]) -> bool {
         let judge = &mut self.0;
         let first = judge.counts.records == 0;
@@ -296,7 +298,7 @@ impl ScheduleJudge {
         goes_on && judge.record(line).is_ok()
     }
 
-    /// Whether the lines are a schedule.
+    /// Whether the lines are a whole schedule.
     pub fn complete(&self) -> bool {
         let Judge { place, journey_optional, .. } = self.0;
         place == Place::BetweenUnits || journey_optional && matches!(place, Place::AfterBasic | Place::AfterExtra)
@@ -332,7 +334,7 @@ fn changes(kind: Kind, line: &Line) -> u64 {
 #[derive(Clone, Copy)]
 enum Check {
     OneOf(&'static [u8]),
-    /// The first character isn't a space.
+    /// A text whose first character isn't a space.
     Tiploc,
     TiplocOrBlank,
     /// YYMMDD.
@@ -374,15 +376,14 @@ impl Check {
     }
 }
 
-/// The number of two characters, if they are digits, and whether they are.
+/// The number in two characters, and whether both are digits.
 #[inline(always)]
 fn two(digits: &[u8]) -> (u16, bool) {
     let (tens, ones) = (digits[0].wrapping_sub(b'0'), digits[1].wrapping_sub(b'0'));
     (u16::from(tens) * 10 + u16::from(ones), (tens < 10) & (ones < 10))
 }
 
-/// Whether this is a day of the calendar. The years are 1960 to 2059, and every fourth is a leap
-/// year.
+/// Whether this is a day of the calendar. The years are 1960 to 2059; every fourth is a leap year.
 fn is_date(year: &[u8], month: &[u8], day: &[u8]) -> bool {
     const LENGTHS: [u16; 13] = [0, 31, 28, 31, 30, 31, 30, 31, 31, 30, 31, 30, 31];
     let ((year, is_year), (month, is_month), (day, is_day)) = (two(year), two(month), two(day));
@@ -401,7 +402,7 @@ fn is_time(field: &[u8]) -> bool {
     is_clock(field) & ((field[4] == b' ') | (field[4] == b'H'))
 }
 
-/// The half minutes of a field that was judged before; none if it is spaces.
+/// The half minutes in a field that was already judged; none if the field is spaces.
 #[inline(always)]
 pub fn judged_time(field: &[u8]) -> Option<u16> {
     let digit = |at: usize| u16::from(field[at] & 0x0F);
@@ -452,7 +453,7 @@ pub fn judge_stream(source: &mut impl Read, limit: u64) -> Done<Answer> {
     Ok(judge.finish())
 }
 
-/// Judges each line that ends in a line feed, and returns how many bytes they have.
+/// Judges each line that has its line feed, and returns the number of bytes of these lines.
 fn take_lines(judge: &mut Judge, text: &[u8]) -> Result<usize, Fault> {
     let mut used = 0;
     while let Some(end) = end_of_line(&text[used..]) {
@@ -462,7 +463,7 @@ fn take_lines(judge: &mut Judge, text: &[u8]) -> Result<usize, Fault> {
     Ok(used)
 }
 
-/// The index of the first line feed. Mostly 80 other bytes come before it.
+/// The index of the first line feed. It usually comes after 80 other bytes.
 pub fn end_of_line(text: &[u8]) -> Option<usize> {
     if text.len() > 80 && text[80] == b'\n' && text[..80].iter().fold(true, |none, &byte| none & (byte != b'\n')) {
         return Some(80);

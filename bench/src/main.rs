@@ -1,5 +1,5 @@
-//! Makes extracts, judges them with a plain reader, flips their bytes, and measures the program on
-//! them.
+//! The program of the bench: makes extracts, judges them with a plain reader, flips their bytes,
+//! and measures the program on them.
 
 mod commands;
 mod desk;
@@ -80,7 +80,7 @@ fn job(words: &[&str]) -> Option<Result<u8>> {
     })
 }
 
-/// Measures a desk, with this program as the plain one.
+/// Measures a desk. This program is the plain program.
 fn desk_tables(
     [docker, desk, state_times]: [&str; 3],
     path: &str,
@@ -97,7 +97,7 @@ fn own_path() -> Result<String> {
     path.into_string().map_err(|_| Error::other("this program's path isn't text"))
 }
 
-/// Prints what `docker check` would.
+/// Prints what `docker check` would print.
 fn judge_file(path: &str) -> Result<u8> {
     let answer = match path {
         "stdin" => judge::judge_stream(&mut std::io::stdin().lock(), judge::LIMIT)?,

@@ -1,4 +1,4 @@
-//! Extracts: the full one, and updates of it.
+//! Makes extracts: the full one, and updates of it.
 
 use crate::network::{self, Network};
 use crate::plan::{route, Plans, Route, Schedule, EXTRACT};
@@ -63,7 +63,7 @@ impl Extract {
 
     // ------------------------------------------------------------ associations
 
-    /// The association of this base UID, if it has one: partner, place and category.
+    /// The association whose base has this UID, if there is one: partner, place and category.
     fn association(&self, base: usize) -> Option<Association> {
         let mut random = self.plans.random(base, 1);
         let schedule = self.plans.of(base).into_iter().find(|schedule| schedule.stp == b'P')?;
@@ -143,7 +143,7 @@ impl Extract {
         self.out.put(&extra)
     }
 
-    /// A schedule. `revision` selects other times for the same schedule.
+    /// A schedule. Another `revision` gives the same schedule other times.
     fn schedule(&mut self, transaction: u8, number: usize, schedule: &Schedule, revision: u64) -> Result<()> {
         let route = route(&self.network, &mut self.plans.random(number, 2));
         self.basic(transaction, number, schedule, &route)?;
@@ -153,25 +153,25 @@ impl Extract {
         self.journey(number, schedule, &route, revision)
     }
 
-    /// The records from LO to LT, which pass midnight at most twice.
+    /// The records from LO to LT. They pass midnight at most twice.
     fn journey(&mut self, number: usize, schedule: &Schedule, route: &Route, revision: u64) -> Result<()> {
         let mut random = self.plans.random(number, 4 + schedule.variant * 1000 + revision);
         let change_at = if random.chance(1.2) { random.below(route.stops.len()) } else { 0 };
-        // Overlays and revisions leave some minutes earlier or later than the base.
+        // Overlays and revisions leave some minutes earlier or later than the base schedule.
         let mut time = route.departure;
         if schedule.variant > 0 || revision > 0 {
             time = (time + random.range(-16, 16)).max(0);
         }
         let stopping = if route.freight { 4 } else { random.range(25, 75) as u64 };
         let end = route.stops.len() - 1;
-        // Some freight trains stand at two places for most of a day each.
+        // Some freight trains wait at two places for most of a day each.
         let stays_at = if route.freight && end > 4 && random.chance(3.0) { [end / 3, 2 * end / 3] } else { [0, 0] };
         self.journeys += 1;
         self.locations += end + 1;
         for (at, &(place, suffix)) in route.stops.iter().enumerate() {
             let bits = random.next();
             let code = *self.network.code(place);
-            // Each use has its own bits.
+            // Each use has its own bits of the random number.
             let some = |shift: u32, of_64: u64| bits >> shift & 63 < of_64;
             let platform = [b"1  ", b"2  ", b"3  ", b"4  ", b"5  ", b"6  ", b"7A ", b"11 "][(bits >> 6 & 7) as usize];
             let track = [b"SL ", b"FL ", b"UM ", b"DM "][(bits >> 9 & 3) as usize];
@@ -189,7 +189,8 @@ impl Extract {
                 self.out.put(&record)?;
                 continue;
             }
-            // 1 to 6 minutes from place to place, in half minutes. Most of it depends on the road.
+            // 1 to 6 minutes from place to place, in half minutes. Most of the time depends on the
+            // line.
             let road = u64::from(place) * 7 + u64::from(route.stops[at - 1].0) * 3;
             time += 2 + (road % 8) as i32 + (bits >> 60 & 3) as i32;
             let stays = stays_at.contains(&at);
@@ -299,10 +300,10 @@ pub fn full(schedules: usize, seed: u64, out: &str) -> Result<()> {
     extract.finish()
 }
 
-/// An update, `day` days after the full extract of the seed `base`.
+/// An update, `day` days after the full extract with the seed `base`.
 pub fn update(schedules: usize, base: u64, seed: u64, day: i32, out: &str) -> Result<()> {
     let mut extract = Extract::new(base, schedules, out)?;
-    // The full extract has the letter A.
+    // The reference of the full extract has the letter A.
     let reference = |day: i32| {
         let mut reference = *b"DFROC1A";
         reference[6] += (day % 26) as u8;
@@ -317,12 +318,12 @@ pub fn update(schedules: usize, base: u64, seed: u64, day: i32, out: &str) -> Re
     }
     extract.changed_places(&mut random)?;
 
-    // Two in a hundred associations and schedules change, in the order of their UIDs.
+    // Two in a hundred associations and schedules are changed, in the order of their UIDs.
     let uids = extract.plans.uids;
     for base in some(&mut random, 1 + schedules / 8 / 10, uids) {
         extract.changed_association(base, &mut random)?;
     }
-    // The UIDs after the full extract's are new trains.
+    // Later UIDs than the full extract has are new trains.
     for number in some(&mut random, 1 + schedules / 50, uids + uids / 100 + 1) {
         extract.changed_schedule(number, seed, &mut random)?;
     }
@@ -334,7 +335,7 @@ fn some(random: &mut Random, count: usize, below: usize) -> BTreeSet<usize> {
 }
 
 impl Extract {
-    /// Changed places, renamed ones, deleted ones; the first four stay as they are.
+    /// Changed, renamed and deleted places. The first four places stay unchanged.
     fn changed_places(&mut self, random: &mut Random) -> Result<()> {
         let places = self.network.places.len();
         for at in 0..1 + places / 300 {
@@ -355,7 +356,7 @@ impl Extract {
         Ok(())
     }
 
-    /// The association of a base in the full extract, if it has one.
+    /// The associations of a base train in the full extract, if it has any.
     fn associations_of(&mut self, base: usize) -> Result<()> {
         let Some(mut association) = self.association(base) else {
             return Ok(());
@@ -363,7 +364,7 @@ impl Extract {
         let mut random = self.plans.random(base, 5);
         let transaction = random.weigh(&[(97, b'N'), (2, b'R'), (1, b'D')]);
         self.put_association(transaction, &association)?;
-        // Some don't hold on some days: a cancellation or an overlay.
+        // Some don't hold on certain days, because of a cancellation or an overlay.
         if random.chance(12.0) {
             let stp = *random.pick(b"CCO");
             if let Some(change) = Plans::change(std::slice::from_ref(&association.schedule), stp, &mut random) {
@@ -374,13 +375,13 @@ impl Extract {
         Ok(())
     }
 
-    /// A schedule of the full extract: mostly new, some revised, and some deleted and then new
-    /// again.
+    /// A schedule of the full extract. Most are new, some are revised, and some are deleted and
+    /// then new again.
     fn schedule_of_full(&mut self, number: usize, at: usize, schedule: &Schedule) -> Result<()> {
         let mut random = self.plans.random(number, 900 + at as u64);
         if random.chance(0.5) {
             self.schedule(b'D', number, schedule, 0)?;
-            // One in ten deletions has a journey nevertheless.
+            // One in ten deletions has a journey all the same.
             if schedule.has_journey() && random.chance(10.0) {
                 let route = route(&self.network, &mut self.plans.random(number, 2));
                 self.journey(number, schedule, &route, 0)?;

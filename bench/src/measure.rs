@@ -6,10 +6,10 @@ use std::io::{Error, Read, Result};
 use std::process::{Child, Command, Stdio};
 use std::time::Instant;
 
-/// What a program took and printed.
+/// The costs and the output of a program.
 pub struct Spent {
     pub seconds: f64,
-    /// Seconds on a processor, in the program and in the system for it.
+    /// Processor seconds of the program, and of the system on its behalf.
     pub processor: f64,
     /// Peak resident memory in bytes.
     pub memory: u64,
@@ -28,7 +28,7 @@ pub enum Input<'a> {
 
 #[repr(C)]
 struct Usage {
-    /// Seconds and millionths of the program, then of the system.
+    /// Seconds and microseconds of the program, then of the system.
     times: [c_long; 4],
     /// In units of 1024 bytes.
     peak_resident: c_long,
@@ -39,13 +39,12 @@ extern "C" {
     fn wait4(process: c_int, status: *mut c_int, options: c_int, usage: *mut Usage) -> c_int;
 }
 
-/// Waits until a program ends, and returns its exit status, its seconds on a processor and its peak
-/// memory.
+/// Waits until a program ends. Returns its exit status, its processor seconds and its peak memory.
 fn wait(child: &Child) -> Result<(i32, f64, u64)> {
     let mut usage = Usage { times: [0; 4], peak_resident: 0, others: [0; 13] };
     let mut status = 0;
-    // SAFETY: the child is this process's and wasn't waited for yet, and both pointers are valid
-    // during the call.
+    // SAFETY: the child belongs to this process and nobody has waited for it yet, and both pointers
+    // are valid during the call.
     let process = unsafe { wait4(child.id() as c_int, &mut status, 0, &mut usage) };
     if process < 0 {
         return Err(Error::last_os_error());
@@ -67,7 +66,7 @@ pub fn run(words: &[&str], input: Input) -> Result<Spent> {
         Some(pipe) => Stdio::from(pipe),
         None => Stdio::null(),
     };
-    // What `cat` prints is thrown away.
+    // The output of `cat` is thrown away.
     let keeps = words[0] != "cat";
     let mut child = start(words, stdin, if keeps { Stdio::piped() } else { Stdio::null() })?;
     let (mut output, mut errors) = (Vec::new(), Vec::new());
@@ -104,21 +103,21 @@ struct Row<'a> {
     name: &'static str,
     words: Vec<&'a str>,
     input: Input<'a>,
-    /// What it must print, if that is known.
+    /// The expected output, if it is known.
     wanted: Option<&'a str>,
     best: f64,
     best_processor: f64,
     memory: u64,
 }
 
-/// What is compared from file to file: the bytes, and for `check` of a file and of a pipe the
-/// seconds and the memory.
+/// What is compared from file to file: the number of bytes, and, for `check` of a file and of a
+/// pipe, the seconds and the memory.
 struct Growth {
     bytes: f64,
     checks: Vec<(f64, f64)>,
 }
 
-/// Prints a table for each file, and how the program's time grew from file to file.
+/// Prints a table for each file, and how the program's time grew from one file to the next.
 pub fn tables(program: &str, paths: &[&str]) -> Result<()> {
     println!("{}", machine());
     let mut before: Option<Growth> = None;
@@ -136,7 +135,7 @@ fn table(program: &str, path: &str) -> Result<Growth> {
     let bytes = fs::metadata(path)?.len();
     let own = std::env::current_exe()?;
     let own = own.to_str().ok_or_else(|| Error::other("this program's path isn't text"))?;
-    // The first reading also brings the file into the page cache.
+    // The first reading also loads the file into the page cache.
     let wanted = run(&[own, "judge", path], Input::None)?;
     if wanted.status != 0 {
         return Err(Error::other(format!("the plain reader refuses the extract: {}", wanted.errors)));
@@ -225,7 +224,7 @@ fn print_growth(before: &Growth, after: &Growth) {
     }
 }
 
-/// Processors and memory of the machine.
+/// The processors and the memory of the machine.
 pub fn machine() -> String {
     let processors = std::thread::available_parallelism().map_or(0, |count| count.get());
     let after = |path: &str, name: &str| {

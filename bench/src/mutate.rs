@@ -1,5 +1,4 @@
-//! Mutates files and states, and compares the program's answers with the plain program's, to the
-//! letter.
+//! Mutates files and states, and checks that the program's answers are exactly the plain program's.
 
 use crate::measure::{run, Input, Spent};
 use crate::plain::{answer, Answer};
@@ -9,7 +8,7 @@ use std::fmt::Display;
 use std::io::{Error, Result};
 use std::{fs, thread};
 
-/// Bytes that mean something in some column or part.
+/// Bytes that have a meaning in some column or part.
 const TELLING: &[u8] = b"  00112345999ABCDFHILNNOOPPRSTUXZ\n\r\x00\x01\x02\x03\xFF";
 
 /// What is mutated: a file to take, a state to merge, or a STATE of the older format to migrate.
@@ -30,7 +29,7 @@ impl Subject {
     }
 }
 
-/// Mutates a text in one way, and returns the name of that way.
+/// Mutates a text in one way, and returns the name of this way.
 fn mutate(text: &mut Vec<u8>, subject: Subject, random: &mut Random) -> &'static str {
     let way = random.below(9);
     if text.is_empty() {
@@ -68,7 +67,8 @@ fn mutate(text: &mut Vec<u8>, subject: Subject, random: &mut Random) -> &'static
     }
 }
 
-/// The starts of records: in a file what comes after a line feed, in a state the lines of bodies.
+/// The starts of records: in a file, the positions after line feeds; in a state, the lines of
+/// bodies.
 fn records(text: &[u8]) -> Vec<usize> {
     let begins = |at: &usize| {
         let identity = text.get(*at..*at + 2);
@@ -92,7 +92,7 @@ fn exchange(text: &mut [u8], random: &mut Random) -> &'static str {
     "records exchanged"
 }
 
-/// Drops a record, or repeats one.
+/// Drops a record, or repeats it.
 fn repeat(text: &mut Vec<u8>, subject: Subject, random: &mut Random) -> &'static str {
     let starts = records(text);
     if starts.is_empty() {
@@ -110,8 +110,8 @@ fn repeat(text: &mut Vec<u8>, subject: Subject, random: &mut Random) -> &'static
     "records repeated or dropped"
 }
 
-/// Changes the number of items or of entries, which has eight bytes, or the number of lines, the
-/// four bytes before a basic schedule.
+/// Changes a count: the number of items or of entries, which has eight bytes, or the number of
+/// lines, which is the four bytes before a basic schedule.
 fn change_count(text: &mut [u8], random: &mut Random) -> &'static str {
     let mut last_bytes: Vec<usize> = vec![11, 13];
     last_bytes.extend((4..text.len().saturating_sub(3)).filter(|&at| &text[at..at + 3] == b"BSN").map(|at| at - 1));
@@ -132,7 +132,7 @@ fn change_count(text: &mut [u8], random: &mut Random) -> &'static str {
     "counts changed"
 }
 
-/// For one subject, how many were mutated in each way, and how many had each answer.
+/// For one subject, how many texts were mutated in each way, and how many got each answer.
 #[derive(Default)]
 struct Tally {
     count: usize,
@@ -172,7 +172,7 @@ fn states_of(files: &[Vec<u8>]) -> Option<Vec<Vec<u8>>> {
     Some(states)
 }
 
-/// What is mutated, and the program that is asked.
+/// The texts that are mutated, and the program that is tested.
 struct Bench<'a> {
     program: &'a str,
     folder: &'a str,
@@ -182,8 +182,8 @@ struct Bench<'a> {
 }
 
 /// Compares this many mutations, half of them of these files and half of their states. Returns
-/// whether all answers are the same. Each mutation depends only on the seed and its own number, so
-/// it is the same on any number of processors.
+/// whether all answers are the same. Each mutation depends only on the seed and on its own number,
+/// so it is the same on any number of processors.
 pub fn compare(program: &str, folder: &str, seed: u64, count: usize, paths: &[&str]) -> Result<bool> {
     let files = paths.iter().map(fs::read).collect::<Result<Vec<_>>>()?;
     let states = states_of(&files).ok_or_else(|| Error::other("a file is refused as it is"))?;
@@ -203,7 +203,8 @@ pub fn compare(program: &str, folder: &str, seed: u64, count: usize, paths: &[&s
 }
 
 impl Bench<'_> {
-    /// Tries the mutations of one worker, in its own files: their numbers are `workers` apart.
+    /// Tries the mutations of one worker, in its own files. The numbers of these mutations are
+    /// `workers` apart.
     fn work(&self, first: usize, workers: usize, count: usize) -> Result<Tallies> {
         let mut tallies = Tallies::default();
         let (state, other) = (format!("{}/{first}.state", self.folder), format!("{}/{first}.other", self.folder));
@@ -232,7 +233,7 @@ impl Bench<'_> {
         Ok(tallies)
     }
 
-    /// Whether the program answers as the plain one does, and leaves the same STATE.
+    /// Whether the program answers like the plain one, and leaves the same STATE.
     fn agrees(&self, subject: Subject, paths: [&str; 2], own: &[u8], text: &[u8], tally: &mut Tally) -> Result<bool> {
         let [state, other] = paths;
         let (words, files) = match subject {

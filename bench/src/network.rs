@@ -65,7 +65,7 @@ impl Network {
         let mut sorted: Vec<u32> = (0..count as u32).collect();
         sorted.sort_unstable_by_key(|&at| places[at as usize].code);
 
-        // One place in forty is a hub. Hub k is met about k^-0.3 times as often as the first.
+        // One place in forty is a hub. Hub k is used about k^-0.3 times as often as the first.
         let hubs = (count / 40).max(8);
         let locals = count - hubs;
         let hub = |random: &mut Random| (random.unit().powf(1.0 / 0.7) * hubs as f64) as u32;
@@ -101,7 +101,7 @@ pub fn padded(text: &str) -> [u8; 7] {
     code
 }
 
-/// A place with a code of 4 to 7 letters made from its name, as planners do.
+/// A place with a code of 4 to 7 letters, made from its name as planners do it.
 pub fn place(random: &mut Random) -> Place {
     let (head, tail, end) = (random.pick(&HEADS), random.pick(&TAILS), random.pick(&ENDS));
     let name = format!("{head}{tail}{end}");

@@ -1,12 +1,12 @@
-//! What is planned under each UID. A plan depends only on the seed and the UID's number, so an
-//! update is made without the full extract before it.
+//! The plan of each UID's schedules. A plan depends only on the seed and on the number of the UID,
+//! so an update can be made without the full extract before it.
 
 use crate::network::Network;
 use crate::random::Random;
 
-/// 2024-06-09, a Sunday; the full extract is of this day, 21:00.
+/// 2024-06-09, a Sunday. The full extract is of this day, 21:00.
 pub const EXTRACT: i32 = 23536;
-/// The timetable: 2024-06-02 to 2024-12-14; the one before began on 2023-12-10.
+/// The timetable runs from 2024-06-02 to 2024-12-14. The one before began on 2023-12-10.
 const BEGIN: i32 = 23529;
 const END: i32 = 23724;
 const BEFORE: i32 = 23354;
@@ -18,7 +18,7 @@ pub struct Schedule {
     /// Monday is bit 0.
     pub days: u8,
     pub stp: u8,
-    /// Distinguishes the times of this schedule from the other times of its UID.
+    /// Distinguishes the times of this schedule from the times of the UID's other schedules.
     pub variant: u64,
 }
 
@@ -32,14 +32,14 @@ fn runs(days: u8, day: i32) -> bool {
     days >> ((day + 4) % 7) & 1 == 1
 }
 
-/// The first and last day in a range on which days run.
+/// The first and the last day within a range that are days run.
 fn trim(days: u8, first: i32, last: i32) -> Option<(i32, i32)> {
     let first = (first..=last).find(|&day| runs(days, day))?;
     let last = (first..=last).rev().find(|&day| runs(days, day))?;
     Some((first, last))
 }
 
-/// Days of the week, Monday is bit 0.
+/// Days run; Monday is bit 0.
 const DAYS: [(u32, u8); 16] = [
     (44, 0b0011111),
     (16, 0b0100000),
@@ -103,19 +103,19 @@ impl Plans {
         plan
     }
 
-    /// An overlay or cancellation that the plan of its UID doesn't have.
+    /// An overlay or a cancellation that the plan of its UID doesn't have.
     pub fn change(plan: &[Schedule], stp: u8, random: &mut Random) -> Option<Schedule> {
         let base = plan.iter().find(|s| matches!(s.stp, b'P' | b'N'))?;
         overlay(plan, base, stp, random)
     }
 
-    /// A new schedule of the short-term plan.
+    /// The schedules of a new train in the short-term plan.
     pub fn new_short_term(random: &mut Random) -> Vec<Schedule> {
         short_term(random)
     }
 }
 
-/// Permanent schedules of one UID with their overlays and cancellations.
+/// The permanent schedules of one UID, with their overlays and cancellations.
 fn permanent(random: &mut Random) -> Vec<Schedule> {
     let mut plan: Vec<Schedule> = Vec::new();
     let days = random.weigh(&DAYS);
@@ -137,7 +137,8 @@ fn permanent(random: &mut Random) -> Vec<Schedule> {
         from = to + 1 + if random.chance(30.0) { random.range(1, 3) * 7 } else { 0 };
     }
     if plan.is_empty() {
-        // After the timetable's end, or between its days, it is a single day.
+        // If no days run lie within the timetable, the schedule is a single day: the timetable's
+        // last.
         let days = 1 << ((END + 4) % 7);
         plan.push(Schedule { first: END, last: END, days, stp: b'P', variant: 0 });
     }
@@ -155,21 +156,21 @@ fn permanent(random: &mut Random) -> Vec<Schedule> {
     plan
 }
 
-/// A change of some days of a schedule, under a key that is free.
+/// A change of some days of a schedule, under a key that isn't used yet.
 fn overlay(plan: &[Schedule], base: &Schedule, stp: u8, random: &mut Random) -> Option<Schedule> {
     let from = random.range(base.first, base.last);
     let to = from + random.weigh(&[(50, 0), (14, 1), (16, 4), (12, 11), (6, 25), (2, 60)]);
     let taken = |day: i32| plan.iter().any(|s| s.stp == stp && s.first == day);
     let first = (from..=base.last).find(|&day| runs(base.days, day) && !taken(day))?;
     let last = to.clamp(first, base.last);
-    // A change of less than a week names only its own days.
+    // A change of less than a week has only its own days as days run.
     let week = (first..=last).take(7).fold(0, |days, day| days | 1u8 << ((day + 4) % 7));
     let days = base.days & week;
     let (first, last) = trim(days, first, last)?;
     Some(Schedule { first, last, days, stp, variant: 20 + first as u64 })
 }
 
-/// Trains of the short-term plan.
+/// The schedules of a train in the short-term plan.
 fn short_term(random: &mut Random) -> Vec<Schedule> {
     let mut plan: Vec<Schedule> = Vec::new();
     let mut from = EXTRACT - 3 + random.range(0, 90);
@@ -196,11 +197,11 @@ pub struct Route {
     pub operator: [u8; 2],
 }
 
-/// Where the trains of a UID run.
+/// The route on which the trains of a UID run.
 pub fn route(network: &Network, random: &mut Random) -> Route {
     let freight = random.chance(18.0);
     let line = random.pick(&network.lines);
-    // A gamma distribution of shape 2.
+    // A gamma distribution with shape 2.
     let drawn = -(random.unit().max(1e-9).ln() + random.unit().max(1e-9).ln()) * 9.0;
     let length = (2 + drawn as usize).min(60).min(line.len());
     let start = random.below(line.len() - length + 1);
@@ -208,14 +209,14 @@ pub fn route(network: &Network, random: &mut Random) -> Route {
     if random.chance(50.0) {
         stops.reverse();
     }
-    // Out and part of the way back: places met again have the suffix 2.
+    // Out, and part of the way back. A place that is met again has the suffix 2.
     if length > 6 && length < 40 && random.chance(1.5) {
         let back = random.range(2, length as i32 / 2) as usize;
         for at in 2..2 + back {
             stops.push((stops[length - at].0, b'2'));
         }
     }
-    // Trains by hour of departure.
+    // The number of trains by hour of departure.
     let hour = if freight {
         random.below(24) as i32
     } else {

@@ -1,4 +1,4 @@
-//! SplitMix64: small, fast, and each stream is made from the numbers that name it.
+//! SplitMix64: small and fast. Each stream is determined by the numbers that name it.
 
 pub struct Random(u64);
 
@@ -19,12 +19,12 @@ impl Random {
         z ^ z >> 31
     }
 
-    /// Below `n`.
+    /// A number below `n`.
     pub fn below(&mut self, n: usize) -> usize {
         ((u128::from(self.next()) * n as u128) >> 64) as usize
     }
 
-    /// From `a` to `b`.
+    /// A number from `a` to `b`.
     pub fn range(&mut self, a: i32, b: i32) -> i32 {
         a + self.below((b - a + 1) as usize) as i32
     }
@@ -34,7 +34,7 @@ impl Random {
         self.unit() * 100.0 < percent
     }
 
-    /// From 0 to 1.
+    /// A number from 0 to 1.
     pub fn unit(&mut self) -> f64 {
         (self.next() >> 11) as f64 / (1u64 << 53) as f64
     }
@@ -43,7 +43,7 @@ impl Random {
         &from[self.below(from.len())]
     }
 
-    /// One of weighted choices.
+    /// One of several weighted choices.
     pub fn weigh<T: Copy>(&mut self, from: &[(u32, T)]) -> T {
         let total: u32 = from.iter().map(|(weight, _)| weight).sum();
         let mut at = self.below(total as usize) as u32;

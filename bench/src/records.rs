@@ -1,4 +1,4 @@
-//! Records as 80 columns and LF.
+//! Records of 80 columns and a line feed.
 
 use std::fs::File;
 use std::io::{Result, Write};
@@ -33,7 +33,7 @@ impl Out {
     }
 }
 
-/// One record; columns count from 1.
+/// One record. Columns count from 1.
 pub struct Record([u8; 81]);
 
 impl Record {
@@ -51,7 +51,7 @@ impl Record {
         self
     }
 
-    /// A scheduled time in half minutes of any day.
+    /// A scheduled time, given in half minutes from the midnight of any day.
     #[inline]
     pub fn time(&mut self, column: usize, half_minutes: i32) -> &mut Record {
         let [a, b, c, d] = clock(half_minutes);
@@ -92,7 +92,7 @@ fn clock(half_minutes: i32) -> [u8; 4] {
     [a, b, c, d]
 }
 
-/// Two-digit year, month and day of a number of days from 1960-01-01.
+/// The two-digit year, the month and the day of a day number.
 fn date(day: i32) -> [i32; 3] {
     let (mut day, mut year) = (day % 36525, 1960);
     loop {

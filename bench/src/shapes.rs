@@ -1,4 +1,4 @@
-//! Memory by the shape of a file: extracts with only one kind of change, beside one of national
+//! Memory for files of different shapes: extracts with only one kind of change, and one of national
 //! shape.
 
 use crate::make;
@@ -8,10 +8,10 @@ use crate::records::{Out, Record};
 use std::fs;
 use std::io::{Error, Result};
 
-/// About how many records a schedule of national shape has.
+/// About how many records there are per schedule in a file of national shape.
 const NATIONAL: usize = 18;
 
-/// A name of `WIDTH` letters, another one for each number.
+/// A name of `WIDTH` letters. Each number gives another name.
 pub fn letters<const WIDTH: usize>(mut number: usize) -> [u8; WIDTH] {
     let mut name = [b'A'; WIDTH];
     for letter in name.iter_mut().rev() {
@@ -37,14 +37,14 @@ fn rename(number: usize) -> Record {
     record
 }
 
-/// A call of the one schedule that has all of them: its first, its last, or one between.
+/// A call of the schedule that has all calls of the file: the first, the last, or one between them.
 fn call(number: usize, calls: usize) -> Record {
     let mut record = Record::new(if number == 0 { b"LO" } else { b"LI" });
     if number + 1 == calls {
         record = Record::new(b"LT");
     }
     record.at(3, &letters::<7>(number % 3000));
-    // All are on one day.
+    // All calls are on one day.
     let time = (number * 2880 / calls) as i32;
     if number == 0 || number + 1 == calls {
         record.time(11, time).public(16, None);
@@ -54,7 +54,7 @@ fn call(number: usize, calls: usize) -> Record {
     record
 }
 
-/// Writes a file of a shape, with this many records.
+/// Writes a file of this shape, with this many records.
 fn write(shape: &str, records: usize, seed: u64, path: &str) -> Result<()> {
     if shape == "national" {
         return make::full(records / NATIONAL, seed, path);

@@ -1,4 +1,4 @@
-//! Time and memory of the calls on states, by the program `state_times`.
+//! Time and memory of calls on states, measured by the program `state_times`.
 
 use crate::measure::{machine, run, Input, Spent};
 use std::collections::HashMap;
@@ -7,16 +7,16 @@ use std::io::{BufRead, BufReader, Error, Result};
 
 const ROUNDS: usize = 5;
 
-/// A stage: its name in the table, and its name in what the program prints on standard error.
+/// A stage: its name in the table, and its name in the program's output on standard error.
 struct Stage {
     name: &'static str,
     said: &'static str,
-    /// Whether its speed is in bytes of the text, and not of the extract.
+    /// Whether its speed is in bytes of the text, instead of the extract.
     of_text: bool,
     best: f64,
 }
 
-/// A run of the program, its stages, and how many bytes the states in its memory have.
+/// A run of the program, its stages, and the size of the states that it has in memory.
 struct Job<'a> {
     name: &'static str,
     words: Vec<&'a str>,
@@ -29,7 +29,7 @@ fn stage(name: &'static str, said: &'static str, of_text: bool) -> Stage {
     Stage { name, said, of_text, best: f64::INFINITY }
 }
 
-/// Prints the table of an extract and an update of it. The texts of their states are left in the
+/// Prints the table for an extract and an update of it. The texts of their states are left in the
 /// folder.
 pub fn table(program: &str, extract: &str, update: &str, folder: &str) -> Result<()> {
     let (text, other) = (format!("{folder}/full.state"), format!("{folder}/update.state"));
@@ -116,7 +116,7 @@ pub fn table(program: &str, extract: &str, update: &str, folder: &str) -> Result
 /// A TIPLOC that no extract has.
 const NOWHERE: &str = "ZZZZZZZ";
 
-/// The TIPLOC that most location records of an extract name, and the UID of most of its schedules.
+/// The TIPLOC that most location records of an extract name, and the UID with the most schedules.
 fn busiest(extract: &str) -> Result<(String, String)> {
     let (mut places, mut uids) = (HashMap::new(), HashMap::new());
     for line in BufReader::new(File::open(extract)?).split(b'\n') {
@@ -134,7 +134,7 @@ fn busiest(extract: &str) -> Result<(String, String)> {
     most(places).zip(most(uids)).ok_or_else(|| Error::other("the extract has no schedule"))
 }
 
-/// The day before which half of an extract's schedules end, as `YYYY-MM-DD`.
+/// The day, as `YYYY-MM-DD`, before which half of an extract's schedules end.
 fn middle_end(extract: &str) -> Result<String> {
     let mut ends = Vec::new();
     for line in BufReader::new(File::open(extract)?).split(b'\n') {
@@ -148,7 +148,7 @@ fn middle_end(extract: &str) -> Result<String> {
     Ok(format!("20{}-{}-{}", &middle[..2], &middle[2..4], &middle[4..6]))
 }
 
-/// What the program printed on standard error, if its run succeeded.
+/// The program's output on standard error, if its run succeeded.
 pub fn said_by(spent: &Spent) -> Result<&str> {
     match spent.status {
         0 => Ok(&spent.errors),
@@ -156,8 +156,8 @@ pub fn said_by(spent: &Spent) -> Result<&str> {
     }
 }
 
-/// The seconds that the program printed for a stage. The first line of its name counts, because a
-/// join reads two texts. For a walk, which is made often, the least counts.
+/// The seconds that the program printed for a stage. The first line with its name counts, because a
+/// join reads two texts. A walk is made several times, and the least time counts.
 pub fn seconds(said: &str, stage: &str) -> Option<f64> {
     let mut told = said.lines().filter_map(|line| line.strip_prefix(stage)?.strip_prefix(": "));
     let first = told.next()?;

@@ -1,4 +1,4 @@
-//! The plain reader on texts whose answer is known, and the shape of extracts.
+//! Tests of the plain reader on texts whose answers are known, and of the shape of extracts.
 
 use crate::flip::Flip;
 use crate::growth::shapes::{ledger, Makes, DATE, PLACE, SHAPES};
@@ -11,7 +11,7 @@ use std::io::{Read, Result};
 
 // ---------------------------------------------------------------- records
 
-/// A record of fields, each at its column.
+/// A record with these fields, each at its column.
 fn record(identity: &str, fields: &[(usize, &str)]) -> String {
     let mut line = format!("{identity:<80}");
     for (column, text) in fields {
@@ -89,7 +89,7 @@ fn text(records: &[String]) -> Vec<u8> {
     records.iter().flat_map(|record| format!("{record}\n").into_bytes()).collect()
 }
 
-/// Five records, one schedule.
+/// Five records with one schedule.
 fn small() -> Vec<String> {
     vec![header("U"), permanent(), origin("0900"), terminus("0930"), trailer()]
 }
@@ -108,7 +108,7 @@ impl Read for Bytewise<'_> {
     }
 }
 
-/// The answer, which doesn't depend on the pieces in which the text comes.
+/// The answer for a text. It must not depend on the pieces in which the text comes.
 fn judged(text: &[u8], limit: u64) -> Answer {
     let answer = judge_text(text, limit);
     assert_eq!(judge_stream(&mut Bytewise(text), limit).unwrap(), answer);
@@ -151,7 +151,7 @@ fn midnights() {
     accepted(&journey("0006"), 1);
     accepted(&journey("0005"), 1);
     accepted(&journey("0005H"), 1);
-    // The order is arrival, pass, departure, whatever the columns: the times fall twice in one
+    // The order is arrival, pass, departure, whatever the columns are: the times fall twice in one
     // record.
     let twice = call("2300", "0001", "0100");
     accepted(&[header("U"), permanent(), origin("2200"), twice.clone(), terminus("0930"), trailer()], 1);
@@ -185,7 +185,7 @@ fn limits() {
     assert_eq!(judged(&text(&small()), 5), counts);
     assert_eq!(judged(&text(&small()[..4]), 4), Err(Fault { record: 5, cause: Cause::NoEnd }));
     assert_eq!(judged(b"", 0), Err(Fault { record: 1, cause: Cause::NoEnd }));
-    // The record is after the trailer and above the limit: the fault is the limit.
+    // The record is after the trailer and also above the limit. The limit is the fault that counts.
     let longer = [&text(&small())[..], b"x"].concat();
     assert_eq!(judged(&longer, 5), Err(Fault { record: 6, cause: Cause::TooMany }));
 }
@@ -352,7 +352,7 @@ fn flips_change_one_byte() {
 
 // ---------------------------------------------------------------- the plain program
 
-/// The extracts of the example office, and what the plain program makes of them.
+/// The extracts of the example office, for the plain program.
 fn example(name: &str) -> Vec<u8> {
     fs::read(format!("{}/../examples/office/{name}", env!("CARGO_MANIFEST_DIR"))).unwrap()
 }
@@ -390,11 +390,11 @@ fn dockers_of_a_morning() {
 
 // ---------------------------------------------------------------- hostile shapes
 
-/// How many lines the docker of a shape with this many rows has, without its heading and its last
-/// line.
+/// How many lines the docker has, for a shape with this many rows. Its heading and its last line
+/// don't count.
 fn lines_of(shape: &str, rows: usize) -> usize {
     match shape {
-        // One of them runs.
+        // Only one of them runs.
         "schedules of one UID" | "schedules of one UID, from two states in turn" | "changes of one key" => 1,
         // The association and both its trains.
         "associations of one group" => 3,

@@ -1,11 +1,12 @@
 #!/usr/bin/python3
-"""Merges states by the workers of a Dask cluster. Whichever two are there first are merged next, so the tree differs from run to run.
+"""Merges states with the workers of a Dask cluster. The first two states that are there are merged next, so the tree differs from run to
+run.
 
   workers.py [--scheduler ADDRESS] DOCKER FOLDER TARGET STATE..
 
-DOCKER is the program. FOLDER is one that all workers share; the states lie where they can read them, plain or packed by zstd. Only names of
-files go through the cluster: a worker reads two states, merges them on a disk of its own, and puts the packed merge into FOLDER. TARGET is
-written plain. Without a scheduler's address three processes of this machine do it."""
+DOCKER is the program. FOLDER is a folder that all workers share. The states, plain or packed with zstd, must be where the workers can read
+them. Only file names go through the cluster: a worker reads two states, merges them on its own disk, and puts the packed merge into FOLDER.
+TARGET is written plain. Without the address of a scheduler, three processes of this machine do the work."""
 import argparse
 import contextlib
 import os
@@ -22,8 +23,8 @@ ZSTD = b"\x28\xb5\x2f\xfd"
 
 @contextlib.contextmanager
 def unpacked(name):
-    """The bytes of a state's file, packed or not, as a stream."""
-    # Without a buffer: a process that reads on begins where this one left off.
+    """The bytes of a state's file, unpacked if it is packed, as a stream."""
+    # Without a buffer, so that a process that continues reading loses nothing.
     with open(name, "rb", buffering=0) as file:
         if file.read(4) != ZSTD:
             file.seek(0)
@@ -36,8 +37,8 @@ def unpacked(name):
 
 
 def merged(program, folder, first, second):
-    """Puts the merge of two states into the folder, and gives its name. It may be done twice, as when a worker is lost: the states stay, and
-    each merge has a name of its own that it gets when it is whole."""
+    """Puts the merge of two states into the folder, and returns its name. It may be done twice, for example if a worker is lost: the states
+    stay, and each merge gets a name of its own once it is whole."""
     target = pathlib.Path(folder, f"{uuid.uuid4()}.zst")
     part = target.with_suffix(".part")
     with tempfile.TemporaryDirectory() as own:
@@ -62,7 +63,7 @@ def words():
 
 
 def merge_all(client, docker, folder, states):
-    """The name of the merge of all states: of two that are there a worker makes one, until there is one."""
+    """Returns the name of the merge of all states. As long as there are two, a worker merges them."""
     waiting, running, parents = list(states), as_completed(), {}
     while True:
         while len(waiting) > 1:
@@ -75,7 +76,7 @@ def merge_all(client, docker, folder, states):
         merge = next(running)
         waiting.append(merge.result())
         for name in parents.pop(merge.key):
-            # What the offices gave stays.
+            # The states of the offices stay.
             if name not in states:
                 pathlib.Path(name).unlink()
 
@@ -85,7 +86,7 @@ def main():
     docker = os.path.abspath(asked.docker) if "/" in asked.docker else asked.docker
     with contextlib.ExitStack() as open_now:
         folder = open_now.enter_context(tempfile.TemporaryDirectory(prefix="merging.", dir=asked.folder.resolve()))
-        # The workers may be other users' processes.
+        # The workers may run as other users.
         os.chmod(folder, 0o777)
         cluster = asked.scheduler or open_now.enter_context(LocalCluster(n_workers=3, threads_per_worker=1, dashboard_address=None))
         client = open_now.enter_context(Client(cluster))

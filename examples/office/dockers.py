@@ -1,11 +1,11 @@
-"""Asks for dockers of one STATE, and for what STATE is made of. There are two ways to ask, with one interface.
+"""Asks for dockers of one STATE, and for the files that STATE is made of. There are two ways to ask, with the same interface.
 
-If there is a program `desk`, one process of it answers every request: it loads STATE once, and renews it when STATE's file changed.
-Otherwise each request is a `docker` command of its own, which reads STATE again. For a national state that takes about a second and at most 60 MB
-of memory each time. Its answer is kept as long as STATE's file is the same one. Both ways give the same bytes.
+If there is a program `desk`, one process of it answers every request. It loads STATE once, and renews it after STATE's file has changed. Otherwise each
+request is a `docker` command, which reads STATE again; for a national state that takes about a second and at most 60 MB of memory. Its answer is kept as long
+as STATE's file is the same. Both ways give the same bytes.
 
-DOCKER names the program `docker`, and DESK the program `desk`. Without them the programs that ./install has put here are used. If there are none, it's
-the ones of the sources around this file, and then the ones that ./install has put elsewhere on the PATH."""
+DOCKER names the program `docker`, and DESK the program `desk`. Without them, the programs that ./install has put here are used. If there are none, the
+programs of the sources around this file are used, and then those that ./install has put elsewhere on the PATH."""
 import collections
 import datetime
 import os
@@ -20,44 +20,43 @@ from typing import NamedTuple, Optional
 HERE = pathlib.Path(__file__).resolve().parent
 NO_PROGRAM = "there is no program docker: build it by `./docker` or install it by `./install` of its sources, or name it in DOCKER"
 
-# One to seven bytes from 0x21 to 0x7E, as docker reads a TIPLOC; but a word that begins with a
-# hyphen is no TIPLOC.
+# A TIPLOC as docker reads it: one to seven bytes from 0x21 to 0x7E, of which the first isn't a hyphen.
 TIPLOC = re.compile(r"[!-,.-~][!-~]{0,6}")
-# Six such bytes, as `desk` reads a UID.
+# A UID as `desk` reads it: six such bytes.
 UID = re.compile(r"[!-~]{6}")
-# Fields by their names in docs/FORMATS.md, each with its first and its last column: in a line of `files`, and in a docker's heading. docs/columns compares
-# them with the page.
+# The columns of each field, first and last, by its name in docs/FORMATS.md. They are for a line of `files` and for the heading of a docker. docs/columns
+# compares them with that page.
 FILE = {
     "date of extract": (1, 10), "time of extract": (12, 15), "current file reference": (17, 23), "update indicator": (25, 25), "last file reference": (27, 33),
 }
 HEADING = {"description of the TIPLOC": (27, 52)}
-# The columns of a name in a line of `known`, and the first one of its value.
+# The columns of a name in a line of `known`, and the first column of its value.
 NAME = (1, 12)
 VALUE = 14
-# How many bytes of answers are kept between commands.
+# The most bytes of answers that are kept between commands.
 KEPT = 64 << 20
-# After how many seconds a process that gave no answer is ended.
+# The number of seconds after which a process that gives no answer is ended.
 PATIENCE = 300
-# The status of an answer where this way to ask doesn't know the request. No program has it.
+# The status of an answer if this way of asking doesn't know the request. No program has this status.
 UNKNOWN = 5
 # The status with which a desk refuses a line that it doesn't know.
 NO_REQUEST = 2
-# The status of an answer to good words that says that nobody knows the request.
+# The statuses of an answer which say that the request isn't known, if the words were good.
 LACKING = (UNKNOWN, NO_REQUEST)
-# What is asked once of each STATE; and of `permanent`, that a desk doesn't know it.
+# The lists that are asked for once until STATE changes. If a desk doesn't know `permanent`, that is kept too.
 LISTS = (("files",), ("known",), ("places",))
-# How many bytes of requests are sent together: no pipe takes less.
+# How many bytes of requests are sent together. Every pipe has room for as many.
 TOGETHER = 4096
 
 
 class Answer(NamedTuple):
-    """What docker answers: with status 0 what it writes to standard output, else its line of standard error."""
+    """An answer of docker: with status 0 what it writes to standard output, otherwise its line on standard error."""
     status: int
     text: bytes
 
 
 class Extract(NamedTuple):
-    """A file that counts in STATE, by its line of `files`."""
+    """A file that counts in STATE, from its line in `files`."""
     date: str
     time: str
     reference: str
@@ -70,8 +69,8 @@ class Extract(NamedTuple):
 
 
 class Coverage(NamedTuple):
-    """What `known` says of the days that STATE covers: the horizon, the day of the newest full extract, and the last day of the schedules that have an end.
-    Each is None if there is none. `schedules` is how many schedules there are."""
+    """The days that STATE covers, from `known`: the horizon, the day of the newest full extract, and the last day of the schedules that have an end. Each is
+    None if there is none. `schedules` is the number of schedules."""
     horizon: Optional[str]
     full: Optional[str]
     last: Optional[str]
@@ -83,7 +82,7 @@ def is_tiploc(word):
 
 
 def is_date(word):
-    """Whether a word is a day that docker reads."""
+    """Whether docker reads a word as a day."""
     try:
         return re.fullmatch(r"\d{4}-\d\d-\d\d", word, re.ASCII) is not None and 1960 <= datetime.date.fromisoformat(word).year <= 2059
     except ValueError:
@@ -95,53 +94,53 @@ def fields(line, columns):
 
 
 def extracts_of(text):
-    """The files that a text of `files` lists."""
+    """The files in a text of `files`."""
     lines = text.decode("ascii").split("\n")[:-1]
     return [Extract(*fields(line, FILE)) for line in lines]
 
 
 def coverage_of(text):
-    """The days that a text of `known` covers."""
+    """The days in a text of `known`."""
     found = {line[NAME[0] - 1:NAME[1]].strip(): line[VALUE - 1:] for line in text.decode("ascii").splitlines()}
     horizon, full = found.get("HORIZON", "NONE"), found.get("FULL")
     return Coverage(None if horizon == "NONE" else horizon, full and full[:10], found.get("LAST"), int(found["SCHEDULES"]))
 
 
 def missing(extracts):
-    """The updates that don't follow the file before them, each after the reference of the file that should stand there."""
+    """The updates that don't follow the file before them, each with the reference of the file that is missing before it."""
     before = [None, *(extract.reference for extract in extracts)]
     return [(extract.last, extract) for extract, last in zip(extracts, before) if extract.indicator == "U" and extract.last != last]
 
 
 def description_of(docker):
-    """What the heading of a docker says of the place: nothing where nobody knows the code."""
+    """The description of the place in a docker's heading; empty if nobody knows the code."""
     return fields(docker.decode("ascii"), HEADING)[0]
 
 
 def advice(line):
-    """What a fault's line means and what to do, from the table of causes, which has no numbers. Nothing where it has no such fault."""
+    """What a fault's line means and what to do, from the table of causes, whose lines have no numbers. Empty if the table has no such fault."""
     fault = re.sub(r"^usage: .*", "usage", re.sub(r"^docker: |: (record|offset) \d+| \d+$", "", line.strip()))
     causes = (HERE / "causes").read_text(encoding="utf-8").splitlines()
     return next((f"{means}. {what}" for name, means, what in (cause.split("\t") for cause in causes) if name == fault), "")
 
 
 def wrong_place(word):
-    """The answer to a word that is no place; None if it is one."""
+    """The refusal of a word that isn't a place; None if it is one."""
     return None if is_tiploc(word) else Answer(2, f"{word!r} is no place: a code has one to seven characters\n".encode())
 
 
 def wrong_day(word):
-    """The answer to a word that is no day; None if it is one."""
+    """The refusal of a word that isn't a day; None if it is one."""
     return None if is_date(word) else Answer(2, f"{word!r} is no day: write YYYY-MM-DD, from 1960 to 2059\n".encode())
 
 
 def wrong_train(uid, date):
-    """The answer to words that name no train on a day; None if they do."""
+    """The refusal of words that don't name a train and a day; None if they do."""
     return wrong_day(date) if UID.fullmatch(uid) else Answer(2, f"{uid!r} is no UID: it has six characters\n".encode())
 
 
 def identity(path):
-    """The identity of the file at a path: another file that takes its place has another."""
+    """The identity of the file at a path. A file that takes its place has another identity."""
     try:
         found = os.stat(path)
     except OSError:
@@ -150,9 +149,9 @@ def identity(path):
 
 
 class Reader:
-    """What both ways share: words are checked before they are sent, and one request is under way at a time."""
+    """The part that both ways of asking share: words are checked before they are sent, and only one request is asked at a time."""
 
-    # Whether it knows single trains.
+    # Whether single trains can be asked for.
     has_trains = False
 
     def __init__(self, program, state):
@@ -165,21 +164,21 @@ class Reader:
         return wrong_place(tiploc) or wrong_day(date) or self.ask(("print", tiploc, date))
 
     def permanent(self, tiploc, date):
-        """The docker of a place on a day without short-term schedules and associations. Only `desk` knows it, as `places`."""
+        """The docker of a place on a day without the short-term plan. Like `places`, only `desk` knows it."""
         if not self.has_trains:
             return Answer(UNKNOWN, b"what is permanent needs the program desk\n")
         return wrong_place(tiploc) or wrong_day(date) or self.ask(("permanent", tiploc, date))
 
     def files(self):
-        """The list of files that STATE is made of."""
+        """The list of the files that STATE is made of."""
         return self.ask(("files",))
 
     def places(self):
-        """The list of places. Only `desk` knows it; one of an older version refuses with NO_REQUEST."""
+        """The list of places. Only `desk` knows it; a desk of an older version refuses with NO_REQUEST."""
         return self.ask(("places",)) if self.has_trains else Answer(UNKNOWN, b"names need the program desk\n")
 
     def known(self):
-        """What STATE covers. Only `desk` knows it, as `places`."""
+        """What STATE covers. Like `places`, only `desk` knows it."""
         return self.ask(("known",)) if self.has_trains else Answer(UNKNOWN, b"the days that are covered need the program desk\n")
 
     def train(self, uid, date):
@@ -189,7 +188,7 @@ class Reader:
         return wrong_train(uid, date) or self.ask(("train", uid, date))
 
     def trains(self, wanted):
-        """The schedules of many UIDs, each with its day. They are asked for together."""
+        """The schedules of many UIDs, each on its day. They are asked for together."""
         if not self.has_trains:
             return [self.train(*one) for one in wanted]
         refused = [wrong_train(*one) for one in wanted]
@@ -197,11 +196,11 @@ class Reader:
         return [fault or next(answers) for fault in refused]
 
     def close(self):
-        """Ends what was started."""
+        """Ends the process that was started."""
 
 
 class Commands(Reader):
-    """One `docker` command for each request."""
+    """Asks with one `docker` command for each request."""
 
     def __init__(self, program, state):
         super().__init__(program, state)
@@ -216,8 +215,7 @@ class Commands(Reader):
                 self.seen = now
             if request not in self.kept:
                 answer = self.run(request)
-                # An answer isn't kept if it may be of a file that came meanwhile, or if another try
-                # may give a better one.
+                # An answer isn't kept if the file may have changed in the meantime, or if another try may give a better answer.
                 if now is None or identity(self.state) != now or answer.status > 1:
                     return answer
                 self.kept[request] = answer
@@ -226,7 +224,7 @@ class Commands(Reader):
             return self.kept[request]
 
     def at_hand(self, tiploc, date):
-        """The docker of a place, if asking for it reads no STATE."""
+        """The docker of a place, if it can be had without reading STATE."""
         with self.turn:
             return self.kept.get(("print", tiploc, date)) if identity(self.state) == self.seen else None
 
@@ -238,22 +236,21 @@ class Commands(Reader):
             return Answer(4, b"docker: no answer\n")
         if ended.returncode == 0:
             return Answer(0, ended.stdout)
-        # A process that a signal ended says nothing: most often the system ended it, because it was
-        # out of memory.
+        # A process that a signal ended says nothing. Most often the system ended it because memory ran out.
         return Answer(ended.returncode, ended.stderr) if 1 <= ended.returncode <= 4 else Answer(3, b"docker: ended by the system\n")
 
 
 class Ended(Exception):
-    """The process of `desk` is gone, or what it wrote is no answer."""
+    """The process of `desk` has ended, or what it wrote isn't an answer."""
 
 
 def line_of(request):
-    """A request as the line that `desk` reads."""
+    """A request as a line for `desk`."""
     return " ".join(request).encode("ascii") + b"\n"
 
 
 def together(requests):
-    """Parts of some requests. A pipe that is empty takes each part whole, so that to send it waits for nobody to read answers."""
+    """Divides requests into parts. An empty pipe has room for a whole part, so sending it never waits for a reader."""
     part, size = [], 0
     for request in requests:
         length = len(line_of(request))
@@ -267,8 +264,8 @@ def together(requests):
 
 
 class Desk(Reader):
-    """One process of `desk`, without --write, so that nothing that is asked changes STATE. It is started with the first request, and again
-    where it ended."""
+    """Asks one process of `desk`, without --write, so that no request changes STATE. The process is started at the first request, and again if it has
+    ended."""
 
     has_trains = True
 
@@ -283,11 +280,11 @@ class Desk(Reader):
         return self.tried(lambda: [self.kept(request) or self.answered(request)], 1)[0]
 
     def ask_all(self, requests):
-        """The answers to many requests. They are sent together, so that none waits for the answer to another."""
+        """The answers to many requests. All are sent before the first answer is read."""
         return self.tried(lambda: [answer for part in together(requests) for answer in self.exchange(part)], len(requests))
 
     def tried(self, asks, number):
-        """A number of answers, asked again if the process ended. If there is a fault, it is each answer."""
+        """This number of answers. They are asked for again if the process ends. If that fails too, each answer is the fault."""
         with self.turn:
             for _ in range(2):
                 try:
@@ -301,22 +298,22 @@ class Desk(Reader):
             return [Answer(4, b"desk: ended twice without an answer\n")] * number
 
     def at_hand(self, tiploc, date):
-        """The docker of a place, if asking for it reads no STATE: here always."""
+        """The docker of a place, if it can be had without reading STATE; here it always can."""
         return self.print_docker(tiploc, date)
 
     def kept(self, request):
-        """The list that a request asks for, if it was read since STATE changed, or that the process doesn't know the request."""
+        """The list that this request asks for, if it was read since STATE changed; or the answer that the process doesn't know the request."""
         return self.lists.get(request) or self.lists.get(request[:1])
 
     def answered(self, request):
-        """The answer of the process. A list is kept until STATE changes, and so is that there is none."""
+        """The answer of the process. A list is kept until STATE changes, and so is the answer that there is none."""
         answer = self.exchange([request])[0]
         if request in LISTS and answer.status in (0, NO_REQUEST) or request[0] == "permanent" and answer.status == NO_REQUEST:
             self.lists[request[:1]] = answer
         return answer
 
     def renewed(self):
-        """Sees to it that the process knows what STATE's file has now, and no more. The fault, if there is one."""
+        """Makes sure that the process knows exactly what STATE's file has now. Returns the fault if that fails."""
         now, known = identity(self.state), knowledge(self.state)
         if self.process is None or now != self.seen:
             self.lists.clear()
@@ -328,7 +325,7 @@ class Desk(Reader):
                 if answer.status != 0:
                     return answer
             else:
-                # Another state took its place. What is in memory would only join it.
+                # Another state took STATE's place. The process would join it with the state in memory.
                 self.end()
                 self.start()
         self.seen, self.knowledge = now, known
@@ -338,7 +335,7 @@ class Desk(Reader):
         self.process = subprocess.Popen([self.program, self.state], stdin=subprocess.PIPE, stdout=subprocess.PIPE, stderr=subprocess.PIPE)
 
     def exchange(self, requests):
-        """Sends requests, a line each, and reads their answers."""
+        """Sends requests, one per line, and reads their answers."""
         watch = threading.Timer(PATIENCE, self.process.kill)
         watch.start()
         try:
@@ -351,7 +348,7 @@ class Desk(Reader):
             watch.cancel()
 
     def read(self):
-        """Reads an answer: a header `STATUS LINES BYTES`, and that number of bytes."""
+        """Reads an answer: a header `STATUS LINES BYTES`, and then this number of bytes."""
         found = re.fullmatch(rb"([0-4]) (\d+) (\d+)\n", self.process.stdout.readline(64))
         if found is None:
             raise Ended
@@ -362,7 +359,7 @@ class Desk(Reader):
         return Answer(status, text)
 
     def end(self):
-        """Ends the process. If it ended by itself with a line on standard error, as where STATE is refused, that is its fault."""
+        """Ends the process. If it had ended by itself with a line on standard error, for example because STATE is refused, that line is the fault."""
         process, self.process = self.process, None
         if process is None:
             return None
@@ -370,7 +367,7 @@ class Desk(Reader):
             process.stdin.close()
         except OSError:
             pass
-        # It may have answers to write still. If nobody could read them, it would end with a fault.
+        # It may still write answers. If nobody could read them, it would end with a fault.
         try:
             process.wait(timeout=1)
         except subprocess.TimeoutExpired:
@@ -387,13 +384,13 @@ class Desk(Reader):
 
 
 class Knowledge(NamedTuple):
-    """What the head of a state's text says: its horizon and its ledger items."""
+    """The head of a state's text: its horizon and its ledger items."""
     horizon: int
     items: tuple
 
 
 def knowledge(path):
-    """What a state knows, by the head of its text; None if the file is no state."""
+    """What a state knows, from the head of its text; None if the file isn't a state."""
     try:
         with open(path, "rb") as text:
             head = text.read(14)
@@ -406,8 +403,8 @@ def knowledge(path):
 
 
 def grew(before, after):
-    """Whether a state has all that another had, so that their join is that state: no lower horizon, and each file that still counts. If
-    either can't be read, the answer is yes, and `desk` says what is wrong."""
+    """Whether the second state has all that the first had, so that joining both gives the second: its horizon is no lower, and it has each file that still
+    counts. If either can't be read, the answer is yes, and `desk` reports what is wrong."""
     if before is None or after is None:
         return True
     floor = next((item[:11] for item in after.items if item[11:12] == b"F"), b"")
@@ -415,7 +412,7 @@ def grew(before, after):
 
 
 def candidates():
-    """The pairs of programs `docker` and `desk` that there may be, the best first."""
+    """The pairs of programs `docker` and `desk` that may be used, the best first."""
     if named := os.environ.get("DOCKER"):
         yield named, f"{named}-desk"
         return
@@ -429,7 +426,7 @@ def candidates():
 
 
 def programs():
-    """The paths of the programs `docker` and `desk`, each None if there is none."""
+    """The paths of the programs `docker` and `desk`. Each is None if there is none."""
     for docker, desk in candidates():
         if found := shutil.which(docker):
             return found, shutil.which(os.environ.get("DESK") or desk)
@@ -437,7 +434,7 @@ def programs():
 
 
 def reader_of(state, docker: Optional[str] = None, desk: Optional[str] = None):
-    """The way that this machine has: `desk` if there is one, else `docker`."""
+    """The best way of asking on this machine: `desk` if there is one, otherwise `docker`."""
     found = programs()
     docker, desk = docker or found[0], desk or found[1]
     if docker is None and desk is None:
@@ -447,7 +444,7 @@ def reader_of(state, docker: Optional[str] = None, desk: Optional[str] = None):
 
 
 def version():
-    """The version that was installed."""
+    """The version that is installed."""
     path = HERE / "version"
     return path.read_text(encoding="utf-8").strip() if path.exists() else "of a checkout"
 
@@ -457,7 +454,7 @@ def say(text):
 
 
 def say_fault(subject, answer):
-    """Says a fault's line, and what to do."""
+    """Prints a fault's line, and what to do."""
     line = answer.text.decode().rstrip()
     say(f"{subject}: {line}")
     if told := advice(line):

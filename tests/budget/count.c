@@ -1,10 +1,10 @@
-// Preloaded under a program that callgrind runs. It counts growths of memory, and reads and writes.
-// A portion of the run ends when standard input is read, and at the end. At the end the program
-// leaves a line for each portion in the file that COUNTED names:
-//   how often memory grew, and the most bytes held at a time beyond what was held at first;
-//   the greatest request for memory, less the bytes that were read before it;
-//   how many reads there were, and of how many bytes; and how many writes, and of how many bytes.
-// callgrind leaves the instructions of each portion.
+// Preloaded into a program that callgrind runs. It counts memory growths, reads and writes. The run
+// is divided into portions: one ends at each read of standard input, and the last at the end of the
+// run. At the end, the file that COUNTED names gets a line for each portion:
+//   the number of growths, and the most bytes held at once beyond those held when it began;
+//   the greatest single request for memory, less the bytes that were read before it;
+//   the number of reads and of bytes read, and the number of writes and of bytes written.
+// callgrind counts the instructions of each portion.
 #include "../growth/growths.h"
 #include <fcntl.h>
 #include <limits.h>
@@ -64,10 +64,10 @@ ssize_t write(int to, const void *bytes, size_t size) {
   return took;
 }
 
-// Another name of the same call.
+// A second name of the same call.
 ssize_t __write(int to, const void *bytes, size_t size) { return write(to, bytes, size); }
 
-// What is wrapped is looked for before the program begins, so that it costs the program nothing.
+// Looks up the wrapped calls before the program starts, so that the lookups aren't counted.
 __attribute__((constructor)) static void begin(void) {
   free(realloc(malloc(1), 2));
   if (read(-1, NULL, 0) == 0 || write(-1, NULL, 0) == 0) abort();

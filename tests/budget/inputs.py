@@ -1,4 +1,4 @@
-"""The extract, the updates and the states over which the budget is measured. They are the same on
+"""The extract, the updates and the states with which the budget is measured. They are the same on
 every machine."""
 import pathlib
 import subprocess
@@ -8,20 +8,20 @@ import records
 
 UIDS = 3000
 PLACES = 700
-# The files that the ledger of a state knows before it takes one.
+# The number of files in the ledger of a state, before it takes another.
 LEDGER = 200
-# The day of the dockers, and the horizon that is set.
+# The day of the dockers, and the day that is set as a horizon.
 DAY = "2024-06-12"
 HORIZON = "2024-05-01"
 HUB = "ASHFELD"
-# What the text of a state begins with, and an older one.
+# How the text of a state begins: mark and horizon in the new format, the mark in the older one.
 MARK, OLD_MARK = b"DKS2\0\0", b"DKS1"
-# The numbers of two bytes: 2005-09-26 and 01:05.
+# A file's date and time, two bytes each: 2005-09-26 and 01:05.
 LONG_AGO = (16705).to_bytes(2, "big") + (65).to_bytes(2, "big")
 
 
 def mixed(number, salt, below):
-    """A number below a limit that looks random but is fixed by `number` and `salt`."""
+    """A number below `below` that looks random but is determined by `number` and `salt`."""
     hashed = (number * 2654435761 + salt * 40503 + 12345) & 0xFFFFFFFF
     hashed = ((hashed ^ hashed >> 15) * 0x2C1B3C6D) & 0xFFFFFFFF
     return ((hashed ^ hashed >> 12) * below) >> 32
@@ -41,7 +41,7 @@ def clock(half_minutes):
 
 
 def route(number):
-    """The places of a train: a stretch of a line of places, one time in five by the hub."""
+    """The places of a train: a stretch of a line of places. One train in five calls at the hub."""
     first, step = mixed(number, 1, PLACES), 1 + mixed(number, 2, 3)
     stops = 3 + mixed(number, 3, 26)
     at = [place_of(1 + (first + step * stop) % (PLACES - 1)) for stop in range(stops)]
@@ -51,7 +51,8 @@ def route(number):
 
 
 def journey(number, salt):
-    """The locations of a train, with a change en route in one of ten. Some trains pass midnight."""
+    """The locations of a train. One train in ten has a change en route. Some trains run past
+    midnight."""
     at, time = route(number), 2 * mixed(number, salt, 1400)
     lines = [records.origin(at[0], clock(time), "1", "FL")]
     for stop, place in enumerate(at[1:-1]):
@@ -66,7 +67,7 @@ def journey(number, salt):
 
 
 def base(number, salt=8, transaction="N"):
-    """A permanent schedule. A third of them ended before the horizon."""
+    """A permanent schedule. One in three ended before the horizon."""
     last = "240420" if mixed(number, 9, 3) == 0 else "241214"
     days = ("1111100", "1111111", "0000011", "1111110")[mixed(number, 10, 4)]
     train = f"{1 + mixed(number, 11, 9)}{'ABCM'[number % 4]}{number % 100:02}"
@@ -93,7 +94,7 @@ def link(number, last="241214"):
 
 
 def full():
-    """An extract in the order of national ones: places, associations, and schedules by UID."""
+    """An extract in the order of a national one: places, associations, and schedules by UID."""
     parts = [records.header("240609", "DFROC1A")]
     for number in range(PLACES):
         parts.append(records.place("TI", place_of(number), f"PLACE {number}"))
@@ -108,7 +109,7 @@ def full():
 
 
 def update(date, reference, turn):
-    """An update: some places change, and of every twentieth UID something is new."""
+    """An update that changes some places, and something of every twentieth UID."""
     parts = [records.header(date, reference)]
     for number in range(20 + turn, 50, 3):
         new = place_of(number).replace("X", "Y") if number % 2 else ""
@@ -132,13 +133,14 @@ def item(number):
 
 
 def ledger(first):
-    """The text of a state that knows files, every second number from the first one, and no more."""
+    """The text of a state that knows only files, with every second number starting with `first`."""
     items = [item(first + 2 * number) for number in range(LEDGER)]
     return MARK + LEDGER.to_bytes(8, "big") + b"".join(items) + bytes(8)
 
 
 def endless():
-    """Texts of states that are cut short, each named by a count in it that has no end."""
+    """Texts of states that are cut short. In each, one count is far too great; the text's name is
+    that count."""
     one = MARK + (1).to_bytes(8, "big") + item(0)
     stamp = item(0)[:11] + (2).to_bytes(4, "big")
     places = b"".join(
@@ -157,12 +159,12 @@ def endless():
 
 
 def docker(*words):
-    """Runs a command that has to succeed."""
+    """Runs a command, which has to succeed."""
     subprocess.run([programs.DOCKER, *words], check=True, stdin=subprocess.DEVNULL)
 
 
 def make(folder):
-    """Leaves all inputs in a folder, in which this process is."""
+    """Writes all inputs to this folder."""
     texts = {
         "full.cif": full(),
         "update.cif": update("240610", "DFROC1B", 0),

@@ -1,15 +1,15 @@
-// Preloaded under the program. The system calls that are wrapped here are counted from 1. If CALL
-// names one of them, only the calls of that name are counted.
-//   END_AT=N     the program is ended at the N-th of them, at a write in its middle
-//   FAIL_AT=N    the N-th of them fails, with EIO or the error that ERROR names
-//   INTERRUPT=1  each read and each write is interrupted once before it moves a byte
-//   UNLOCKED=1   each lock is granted, and holds nothing
-// The first time that one of these happens, the file that TOLD names is made, and has the call's
-// name. The file that WRONG names is made, with the call's name, if a call does one of these:
+// Preloaded into the program. It wraps system calls and counts them from 1. If CALL names one of
+// them, only the calls with that name are counted.
+//   END_AT=N     kills the program at call N; if the call is a write, after half of it
+//   FAIL_AT=N    makes call N fail, with EIO or the error that ERROR names
+//   INTERRUPT=1  interrupts each read and each write once before it moves a byte
+//   UNLOCKED=1   makes each lock succeed without locking anything
+// When one of these happens, the name of the call is written to the file that TOLD names. The name
+// of a call is written to the file that WRONG names if the call does one of these:
 //   it opens a file under the number of a standard stream
 //   it reads a file again after its end
 //   it writes nothing to a file
-//   it renames a file before all that was written is flushed
+//   it renames a file whose written bytes aren't all flushed
 #define _GNU_SOURCE
 #include <dlfcn.h>
 #include <errno.h>
@@ -25,13 +25,13 @@
 
 #define NEXT(name) ((__typeof__(&name))dlsym(RTLD_NEXT, #name))
 
-// Writes are followed for the files with the least numbers.
+// The lowest file descriptors, for which reads and writes are followed.
 enum { FOLLOWED = 64 };
 
 static long calls;
 static char is_unflushed[FOLLOWED], is_at_end[FOLLOWED];
 
-// Makes the file that a variable names, with a text, and by no call that is wrapped here.
+// Makes the file that a variable names, with this text, without any wrapped call.
 static void make(const char *variable, const char *text) {
   const char *name = getenv(variable);
   if (!name) return;
@@ -40,7 +40,7 @@ static void make(const char *variable, const char *text) {
   syscall(SYS_close, fd);
 }
 
-// Whether this variable has the number of the call at hand.
+// Whether this variable has the number of the current call.
 static int is_at(const char *variable) {
   const char *at = getenv(variable);
   return at && calls == atol(at);
@@ -51,7 +51,7 @@ static void end(void) {
   for (;;) pause();
 }
 
-// The error with which a call fails.
+// The error that a failing call reports.
 static int wanted_error(void) {
   const char *name = getenv("ERROR");
   if (name && !strcmp(name, "ENOSPC")) return ENOSPC;
@@ -59,10 +59,10 @@ static int wanted_error(void) {
   return EIO;
 }
 
-// What happens at a call.
+// What a wrapped call does.
 enum fate { PASSES, FAILS, ENDS };
 
-// The fate of a call, which is counted here if calls of its name count.
+// Decides what this call does. Counts the call if calls with its name are counted.
 static enum fate fate_of(const char *call) {
   const char *name = getenv("CALL");
   if (name && strcmp(name, call)) return PASSES;
@@ -72,7 +72,7 @@ static enum fate fate_of(const char *call) {
   return fate;
 }
 
-// Ends the program, or returns whether the call fails.
+// Kills the program, or returns whether the call has to fail.
 static int meets(enum fate fate) {
   if (fate == ENDS) end();
   if (fate == FAILS) errno = wanted_error();
@@ -81,7 +81,7 @@ static int meets(enum fate fate) {
 
 static int fails(const char *call) { return meets(fate_of(call)); }
 
-// Whether a read or a write is interrupted: every other one.
+// Whether this read or write is interrupted. Every second one is.
 static int is_interrupted(const char *call) {
   static int before;
   before = getenv("INTERRUPT") && !before;
@@ -90,12 +90,12 @@ static int is_interrupted(const char *call) {
   return before;
 }
 
-// Marks whether all that was written to a file is flushed.
+// Records whether a file has bytes that were written and aren't flushed.
 static void mark_unflushed(int fd, int unflushed) {
   if (fd > STDERR_FILENO && fd < FOLLOWED) is_unflushed[fd] = unflushed;
 }
 
-// Marks whether the end of a file was read. Nothing is to be read after it.
+// Records whether the end of a file was read. After that, another read is wrong.
 static void mark_end(int fd, int end) {
   if (fd < 0 || fd >= FOLLOWED) return;
   if (end && is_at_end[fd]) make("WRONG", "read");
@@ -118,7 +118,7 @@ ssize_t write(int fd, const void *from, size_t size) {
   return meets(fate) ? -1 : NEXT(write)(fd, from, size);
 }
 
-// Another name of the same call.
+// A second name of the same call.
 ssize_t __write(int fd, const void *from, size_t size) { return write(fd, from, size); }
 
 int open(const char *path, int flags, ...) {

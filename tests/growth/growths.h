@@ -1,12 +1,12 @@
-// The calls by which a program's memory grows, wrapped. What is preloaded includes this, and says
-// before each growth whether it is refused, and after it what became of it.
+// Wraps the calls by which a program's memory grows. A library that includes this file decides
+// before each growth whether it is refused, and gets the result of each growth.
 #define _GNU_SOURCE
 #include <dlfcn.h>
 #include <errno.h>
 #include <malloc.h>
 #include <stdlib.h>
 
-// The call that is wrapped.
+// The original of a wrapped call.
 #define NEXT(name)                                      \
   ({                                                    \
     static __typeof__(&name) next;                      \
@@ -16,7 +16,8 @@
 
 // Whether a growth to this many bytes is refused.
 static int is_refused(size_t size);
-// Takes note of a block that had `before` bytes, and returns it. It is NULL if there is no memory.
+// Gets the result of a growth: a block that had `before` bytes, or NULL if there is no memory.
+// Returns the block.
 static void *grown(size_t before, void *block);
 
 void *malloc(size_t size) { return is_refused(size) ? NULL : grown(0, NEXT(malloc)(size)); }

@@ -1,7 +1,7 @@
-// Preloaded under a program. The growth whose number is in GROWTH is refused, and no other. Growths
-// are counted from 1. The one that is refused leaves the file that REFUSED names. If CALL is set,
-// only the growths between the first write to standard output and the next count. At its end the
-// program leaves how many there were in the file that COUNTED names.
+// Preloaded into a program. It refuses one memory growth: the one whose number, counted from 1, is
+// in GROWTH. It then makes the file that REFUSED names. If CALL is set, only the growths between
+// the first two writes to standard output are counted. At the end of the program, the file that
+// COUNTED names gets the number of growths.
 #include "growths.h"
 #include <fcntl.h>
 #include <stdio.h>

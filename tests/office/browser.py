@@ -32,18 +32,18 @@ class Browser:
         return self.ask("/goog/cdp/execute", {"cmd": command, "params": words})
 
     def sized(self, width, height, is_phone=False):
-        """Gives the page this much room, on a screen or a phone's."""
+        """Sets the size of the page, on a screen or on a phone."""
         self.cdp("Emulation.setDeviceMetricsOverride", width=width, height=height, deviceScaleFactor=1, mobile=is_phone)
 
     def open(self, address):
         self.ask("/url", {"url": address})
 
     def run(self, script, *words):
-        """What the page returns for the body of a JavaScript function."""
+        """Runs the body of a JavaScript function in the page, and returns its result."""
         return self.ask("/execute/sync", {"script": script, "args": list(words)})
 
     def keys(self, text):
-        """Presses keys, one after the other. Those that make no letter have names above."""
+        """Presses keys one after another. Keys that make no letter have names above."""
         pressed = [{"type": kind, "value": key} for key in text for kind in ("keyDown", "keyUp")]
         self.ask("/actions", {"actions": [{"type": "key", "id": "keyboard", "actions": pressed}]})
 
@@ -54,7 +54,7 @@ class Browser:
         pathlib.Path(path).write_bytes(base64.b64decode(self.ask("/screenshot", method="GET")))
 
     def paper(self):
-        """The page as printed on A4, as PDF."""
+        """The page printed on A4, as PDF."""
         return base64.b64decode(self.ask("/print", {"page": {"width": 21.0, "height": 29.7}, "background": False}))
 
     def close(self):

@@ -1,4 +1,4 @@
-"""What the tests of station-office share: extracts of any size, and offices in folders of their own. DOCKER names the program, DESK the program `desk`."""
+"""Helpers for the tests of station-office: extracts of any size, and offices in folders of their own. DOCKER names the program, DESK the program `desk`."""
 import datetime
 import hashlib
 import os
@@ -20,7 +20,8 @@ def record(text, last=" "):
 
 
 def extract(reference, moment, last="", kind="F", schedules=10, prefix="A", departs="0900"):
-    """An extract made at a moment, `YYYY-MM-DDTHH:MM`: the timing points ASHFELD and BRAYTON if it is a full one, and a number of trains from one to the other."""
+    """An extract made at a moment `YYYY-MM-DDTHH:MM`. A full one has the timing points ASHFELD and BRAYTON. It has this number of trains from one to the
+    other."""
     at = datetime.datetime.fromisoformat(moment)
     lines = [record(f"HDTPS.UDFROC1.PD240609{at:%d%m%y%H%M}{reference:<7}{last:<7}{kind}A")]
     if kind == "F":
@@ -31,7 +32,7 @@ def extract(reference, moment, last="", kind="F", schedules=10, prefix="A", depa
 
 
 def docker(*words):
-    """What a docker command writes. It has to be done."""
+    """Runs a docker command, which has to succeed. Returns its output."""
     return subprocess.run([DOCKER, *map(str, words)], stdin=subprocess.DEVNULL, capture_output=True, check=True).stdout
 
 
@@ -50,7 +51,7 @@ class Place:
         self.run("new")
 
     def run(self, command, *words, status=0, force=False, now=NOW, **environment):
-        """Runs a command, and wants its status. What it wrote to standard output and standard error."""
+        """Runs a command, and checks its status. Returns its output and its messages."""
         options = ["--force"] * force + ["--now", now.isoformat(timespec="minutes")]
         ended = subprocess.run(
             [STATION, *options, command, str(self.state), *map(str, words)], stdin=subprocess.DEVNULL, capture_output=True, text=True, env={**os.environ, "MAX_AGE": "999", **environment}, check=False,
@@ -65,19 +66,19 @@ class Place:
         return self.folder / "in" / name
 
     def take(self, name, content, **how):
-        """Puts a file into in/, and takes what is there. What was said."""
+        """Puts a file into in/, and takes what is there. Returns the messages."""
         self.put(name, content)
         return self.run("take", **how)[1]
 
     def morning(self, status=0, **how):
-        """Does a morning. The dockers, and what was said."""
+        """Does a morning. Returns the dockers and the messages."""
         return self.run("morning", status=status, **how)
 
     def name(self):
         return self.folder.joinpath(f"{self.state.name}.name").read_text().strip()
 
     def sent(self):
-        """The file in swap/ that carries this office's name."""
+        """The file in swap/ with this office's name."""
         return self.folder / "swap" / f"{self.name()}.state.zst"
 
     def known(self):
@@ -90,7 +91,7 @@ class Place:
 
 
 class Offices(unittest.TestCase):
-    """Offices that share a folder."""
+    """Several offices that share a folder."""
 
     def setUp(self):
         folder = tempfile.TemporaryDirectory()
@@ -103,7 +104,7 @@ class Offices(unittest.TestCase):
         return Place(self, self.root / name, state or f"{name}.state", self.swap)
 
     def made_of(self, *contents):
-        """The bytes of the state that docker makes of some files."""
+        """The bytes of the state that docker makes of these files."""
         state = self.root / "expected.state"
         docker("new", state)
         for content in contents:
@@ -112,7 +113,7 @@ class Offices(unittest.TestCase):
         return state.read_bytes()
 
     def says(self, text, *parts):
-        """Whether one line says all these parts."""
+        """Checks that one line has all these parts."""
         self.assertTrue(any(all(part in line for part in parts) for line in text.splitlines()), (parts, text))
 
     def silent_on(self, text, *parts):

@@ -1,4 +1,5 @@
-"""Parts of tests/office/screen: what differs from the permanent timetable. The extract below has a train for each way to differ, and what a page has to say of it."""
+"""Parts of tests/office/screen: differences from the permanent timetable. The extract below has a train for each kind of difference, and the text that a page
+has to show for it."""
 import csv
 import datetime
 import html
@@ -22,11 +23,11 @@ import changes  # noqa: E402
 import dockers  # noqa: E402
 import lines  # noqa: E402
 
-# A folder for pictures to look at.
+# A folder for pictures that a person looks at.
 LOOKS = os.environ.get("LOOKS")
 
 ALL = "2406032412131111111"
-# The Wednesday of the pages, and the week around it from Monday to Friday.
+# The Wednesday of the pages, and its week from Monday to Friday.
 ONCE, WEEK = "2406122406120010000", "2406102406141111100"
 NEXT = "2024-06-13"
 NAMES = {"ASHFELD": "Ashfeld Junction", "BRAYTON": "Brayton", "CORHAM": "Corham Exchange", "DUNMERE": "Dunmere Town"}
@@ -82,27 +83,27 @@ def twice(uid, indicator, days, *calls):
 
 EXTRACT = extract(
     *(place(code, name) for code, name in (("ASHFELD", "ASHFELD JUNCTION"), ("BRAYTON", "BRAYTON"), ("CORHAM", "CORHAM EXCHANGE"), ("DUNMERE", "DUNMERE TOWN"))),
-    # 15 is joined by 16, which is cancelled; 17 divides into 18, but not on that day; 19 goes on as 20, and is cancelled.
+    # 15 is joined by 16, which is cancelled. 17 divides into 18, but not on that day. 20 is the next working of 19, which is cancelled.
     association("T00015", "T00016", "JJ", "P", ALL), association("T00017", "T00018", "VV", "P", ALL), association("T00017", "T00018", "VV", "C", ONCE),
     association("T00019", "T00020", "NP", "P", ALL),
-    # 21 is joined by 22 on that day only; of 23 the join is an overlay, and the same.
+    # 21 is joined by 22 on that day only. 23 has an overlay of its join that is the same.
     association("T00021", "T00022", "JJ", "N", ONCE), association("T00023", "T00024", "JJ", "P", ALL), association("T00023", "T00024", "JJ", "O", ONCE),
     through("T00001", "P", ALL, "0800", "0802"), cancelled("T00001", ONCE),
     through("T00002", "P", ALL, "0810", "0812"), through("T00002", "O", ONCE, "0815H", "0817", "3"),
-    # 3 goes round the junction; 4 runs on that day only; 5 is an overlay with the same call.
+    # 3 goes round the junction. 4 runs on that day only. 5 has an overlay with the same call.
     through("T00003", "P", ALL, "0820", "0822"), train("T00003", "O", ONCE, origin("CORHAM", "0730"), passes("DUNMERE", "0821"), end("BRAYTON", "0930")),
     through("T00004", "N", ONCE, "0830", "0832"),
     through("T00005", "P", ALL, "0840", "0842"), through("T00005", "O", ONCE, "0840", "0842"),
-    # 6 calls twice, and then once; 7 is an hour later at each call; 8 calls once more.
+    # 6 calls twice, and once on that day. 7 is an hour later at each call. 8 has one more call.
     twice("T00006", "P", ALL, ("0850", "1"), ("0950", "1")), twice("T00006", "O", ONCE, ("0951", "1")),
     twice("T00007", "P", ALL, ("1000", "1"), ("1100", "1")), twice("T00007", "O", ONCE, ("1100", "1"), ("1200", "1")),
     twice("T00008", "P", ALL, ("1010", "1")), twice("T00008", "O", ONCE, ("1010", "1"), ("1110", "1")),
-    # 9 stops where it passes, 10 passes where it stops, 11 ends there, and 12 starts there.
+    # 9 stops where it passes permanently, 10 passes where it stops, 11 ends here, and 12 starts here.
     train("T00009", "P", ALL, origin("CORHAM", "1230"), passes("ASHFELD", "1300H"), end("BRAYTON", "1330")), through("T00009", "O", ONCE, "1301", "1302", "2"),
     through("T00010", "P", ALL, "1310", "1312"), train("T00010", "O", ONCE, origin("CORHAM", "1230"), passes("ASHFELD", "1311", ""), end("BRAYTON", "1430")),
     through("T00011", "P", ALL, "1320", "1322"), train("T00011", "O", ONCE, origin("CORHAM", "1230"), end("ASHFELD", "1320", "1")),
     through("T00012", "P", ALL, "1330", "1332"), train("T00012", "O", ONCE, origin("ASHFELD", "1332", "1"), end("BRAYTON", "1430")),
-    # 13 has another identity all the week; 14 is added for the week, and cancelled on that day.
+    # 13 has another identity all week. 14 is added for the week, and cancelled on that day.
     through("T00013", "P", ALL, "1340", "1342"), through("T00013", "O", WEEK, "1340", "1342", identity="5Z13"),
     through("T00014", "N", WEEK, "1350", "1352"), cancelled("T00014", ONCE),
     short("T00015", "P", ALL, "1400"), train("T00016", "P", ALL, origin("CORHAM", "1300"), end("ASHFELD", "1355", "5")), cancelled("T00016", ONCE),
@@ -110,7 +111,7 @@ EXTRACT = extract(
     train("T00019", "P", ALL, origin("CORHAM", "1330"), end("ASHFELD", "1420", "5")), cancelled("T00019", ONCE), short("T00020", "P", ALL, "1430"),
     short("T00021", "P", ALL, "1440"), train("T00022", "P", ALL, origin("CORHAM", "1330"), end("ASHFELD", "1435", "5")),
     short("T00023", "P", ALL, "1450"), train("T00024", "P", ALL, origin("CORHAM", "1330"), end("ASHFELD", "1445", "5")),
-    # 25 comes after midnight, and is cancelled for the week; 26 is moved over midnight; 27 starts before midnight and is later all the week.
+    # 25 comes after midnight, and is cancelled for the week. 26 is moved across midnight. 27 starts before midnight, and is later all week.
     train("T00025", "P", ALL, origin("CORHAM", "2330"), stop("ASHFELD", "0020", "0022"), end("BRAYTON", "0100")), cancelled("T00025", WEEK),
     train("T00026", "P", ALL, origin("CORHAM", "2310"), stop("ASHFELD", "2350", "2351"), end("BRAYTON", "0030")),
     train("T00026", "O", ONCE, origin("CORHAM", "2310"), stop("ASHFELD", "0010", "0011"), end("BRAYTON", "0050")),
@@ -118,13 +119,13 @@ EXTRACT = extract(
     train("T00027", "O", WEEK, origin("CORHAM", "2300"), stop("ASHFELD", "0035", "0037", "4"), end("BRAYTON", "0110")),
     # 28 arrives before midnight and departs after it, and is cancelled.
     train("T00028", "P", ALL, origin("CORHAM", "2320"), stop("ASHFELD", "2358", "0003"), end("BRAYTON", "0030")), cancelled("T00028", ONCE),
-    # 30 passes, and goes another way on that day.
+    # 30 passes, and takes another route on that day.
     train("T00030", "P", ALL, origin("CORHAM", "1230"), passes("ASHFELD", "1500H"), end("BRAYTON", "1530")),
     train("T00030", "O", ONCE, origin("CORHAM", "1230"), end("BRAYTON", "1530")),
-    # 29 has ended before, and is cancelled all the same.
+    # 29 has ended before, and has a cancellation all the same.
     through("T00029", "P", "2406032406101111111", "1500", "1502"), cancelled("T00029", ONCE),
 )
-# What the page says of the rows that differ: the time, what happens, the UID, and the words.
+# What the page shows of the rows that differ: the time, what happens, the UID, and the text of the change.
 TOLD = [
     ("00:20", "arrives", "T00025", "cancelled"), ("00:22", "departs", "T00025", "cancelled"),
     ("00:35", "arrives", "T00027", "was 00:30, platform 1"), ("00:37", "departs", "T00027", "was 00:32, platform 1"),
@@ -151,7 +152,7 @@ TOLD = [
     ("23:50", "arrives", "T00026", "calls here on Thursday 13 June at 00:10"), ("23:51", "departs", "T00026", "calls here on Thursday 13 June at 00:10"),
     ("23:58", "arrives", "T00028", "cancelled"),
 ]
-# The same of the next day, as a page of another day than today says it.
+# The same for the next day, as a page shows it that isn't of today.
 TOLD_NEXT = [
     ("00:03", "departs", "T00028", "cancelled"),
     ("00:10", "arrives", "T00026", "was on Wednesday 12 June at 23:50"), ("00:11", "departs", "T00026", "was on Wednesday 12 June at 23:50"),
@@ -161,7 +162,7 @@ TOLD_NEXT = [
     ("13:50", "arrives", "T00014", "added"), ("13:52", "departs", "T00014", "added"),
 ]
 COUNTED = "5 cancelled, 2 not calling, 14 altered, 1 added"
-# The start days of the trains that start on another day than the page's.
+# The start days of the trains that don't start on the day of the page.
 STARTS = {"T00025": "2024-06-11", "T00027": "2024-06-11"}
 COLUMNS = "return [...document.querySelectorAll('#docker thead th')].map(head => head.textContent)"
 DECORATED = """return [...document.querySelectorAll('#docker tr[data-at]')].map(row => [row.className.includes('gone'),
@@ -172,7 +173,7 @@ SIZES = ((1920, 1080), (1366, 768), (768, 1024), (390, 844), (320, 640))
 
 
 def is_gone(words):
-    """Whether a row with these words stands for a train that isn't there."""
+    """Whether a row with this text stands for a train that isn't there."""
     return words != "" and not words.startswith(("was", "added"))
 
 
@@ -183,7 +184,7 @@ def rows_of_page(body):
 
 
 def told_of(rows):
-    """What is said of the rows that differ. The fourth cell from the end is the UID."""
+    """What a page shows of the rows that differ. The fourth cell from the end is the UID."""
     return [(row[0], row[1], row[-4], row[-1]) for _, row in rows if row[-1]]
 
 
@@ -201,7 +202,7 @@ def without_short_term(text):
 
 
 class Changed(Stated):
-    """An office whose extract has a train for each way to differ."""
+    """An office whose extract has a train for each kind of difference."""
 
     names = NAMES
     extract = EXTRACT
@@ -215,7 +216,7 @@ class Changed(Stated):
         run("take", cls.base, str(cls.folder / "permanent.cif"))
 
     def base_rows(self, day=DAY):
-        """The cells of the permanent docker. It is printed from a state without short-term records."""
+        """The cells of the permanent docker, which is printed from a state without short-term records."""
         return rows_of(run("print", self.base, "ASHFELD", day), self.names)
 
     def page(self, path):
@@ -225,10 +226,11 @@ class Changed(Stated):
 
 
 class Differing(Changed):
-    """What a page says of each train that differs."""
+    """What a page shows for each train that differs."""
 
     def test_rows(self):
-        """Each row that differs says how. The others are the docker's, and those that are gone are the permanent docker's. All are in the order of their times."""
+        """Each row that differs says how. The other rows are the docker's, and rows of missing trains are the permanent docker's. All rows are in order of
+        time."""
         for day, told in ((DAY, TOLD), (NEXT, TOLD_NEXT)):
             rows = rows_of_page(self.page(f"/ASHFELD/{day}"))
             self.assertEqual(told_of(rows), told)
@@ -239,7 +241,7 @@ class Differing(Changed):
             self.assertEqual([is_gone(row[-1]) for _, row in rows], ["gone" in kind for kind, _ in rows])
 
     def test_all(self):
-        """What is permanent is on the docker of the day, or the page says what became of it; and the other way round. Only an STP indicator may differ."""
+        """Each permanent line is on the day's docker, or the page says what became of it; and the other way round. Only the STP indicator may differ."""
         def bare(row):
             return row[:-1]
 
@@ -248,13 +250,13 @@ class Differing(Changed):
             plain = [bare(row[:-1]) for row in rows if not row[-1]]
             base = [bare(row) for row in self.base_rows(day)]
             self.assertEqual([row for row in plain if row not in base], [])
-            # A train whose lines are the same isn't spoken of.
+            # A train whose lines are equal isn't mentioned.
             spoken = {row[-4] for row in rows if row[-1]}
             own, others = ([row for row in some if row[-2] not in spoken] for some in (plain, base))
             self.assertEqual(own, others)
 
     def test_list(self):
-        """The count leads to a list of what differs. It needs no JavaScript."""
+        """The count is a link to a list of the differences. It needs no JavaScript."""
         page = self.page(f"/ASHFELD/{DAY}")
         self.assertIn(f'<p id="changes"><a href="/ASHFELD/{DAY}/changes">{COUNTED}</a></p>', page)
         rows = rows_of_page(self.page(f"/ASHFELD/{DAY}/changes"))
@@ -271,7 +273,7 @@ class Differing(Changed):
         self.assertIn(f'<a href="/ASHFELD/{DAY}/changes" aria-label="The day before', page)
 
     def test_nothing(self):
-        """Where nothing differs, a page says so, and has no column for it. A page of another place has its own."""
+        """If nothing differs, a page says so, and has no column for changes. A page of another place has its own changes."""
         day = "2024-06-20"
         page = self.page(f"/ASHFELD/{day}")
         self.assertIn('<p id="changes">As in the permanent timetable</p>', page)
@@ -280,7 +282,7 @@ class Differing(Changed):
         self.assertEqual(told_of(rows_of_page(self.page(f"/DUNMERE/{DAY}"))), [("08:21", "passes", "T00003", "added")])
 
     def test_not_covered(self):
-        """Of a day of which something is missing, no page says that nothing differs."""
+        """If something is missing of a day, no page says that nothing differs."""
         for day in ("2024-06-05", "2024-12-20"):
             page = self.page(f"/ASHFELD/{day}")
             self.assertIn('<p class="warning"', page)
@@ -288,7 +290,7 @@ class Differing(Changed):
         self.assertNotIn("Nothing differs", self.page("/ASHFELD/2024-12-20/changes"))
 
     def test_wall(self):
-        """The next trains have those that are cancelled in their places, today and tomorrow."""
+        """Among the next trains, cancelled ones stand in their places, today and tomorrow."""
         wall = self.browser(1920, 1080)
         wall.open(self.address("/ASHFELD"))
         seen = wall.run("""return [...document.querySelectorAll('#docker tr[data-at]')].filter(row => row.getBoundingClientRect().height)
@@ -301,7 +303,7 @@ class Differing(Changed):
                                              "return box.height && box.bottom <= arguments[0] })", bottom)), 20)
 
     def test_links(self):
-        """A row that is gone leads to the page of its train, on the day on which that starts."""
+        """The row of a missing train links to the page of its train, on the day on which the train starts."""
         body = self.page(f"/ASHFELD/{DAY}")
         links = re.findall(r'<tr class="P gone [a-z]+".*?<a href="([^"]*)">', body)
         self.assertEqual(links, [f"/train/{row[2]}/{STARTS.get(row[2], DAY)}" for row in TOLD if is_gone(row[3])])
@@ -309,7 +311,7 @@ class Differing(Changed):
             self.assertEqual("It is cancelled on this day." in self.page(link), row[3] == "cancelled", link)
 
     def test_struck(self):
-        """What is gone is struck through, and a word says what became of it, so that nobody needs colours."""
+        """A missing train is struck through, and a word says what became of it, so colours aren't needed."""
         made = self.browser(1366, 900)
         for path in PATHS[:2]:
             made.open(self.address(path))
@@ -320,7 +322,7 @@ class Differing(Changed):
                     self.assertNotIn("line-through", [*cells, change])
 
     def test_whole(self):
-        """Of the list of what differs nothing is folded away; and the page is renewed as any other."""
+        """In the list of differences nothing is folded away, and the page is renewed like any other."""
         made = self.browser(1366, 900)
         made.open(self.address(f"/ASHFELD/{DAY}/changes"))
         self.assertEqual(made.run("return [...document.querySelectorAll('#day tr')].filter(row => row.getBoundingClientRect().height).length"), len(TOLD))
@@ -351,7 +353,7 @@ class Differing(Changed):
         self.assertEqual(len(told["lines"]), len(self.rows()))
 
     def test_csv(self):
-        """A line that is gone has its UID and start, and what it was in columns of their own: nobody takes it for a train that runs."""
+        """The line of a missing train has its UID and start, and its permanent fields in columns of their own. So nobody takes it for a train that runs."""
         table = list(csv.DictReader(io.StringIO(self.ask(f"/ASHFELD/{DAY}.csv")[2].decode())))
         self.assertEqual([row["uid"] for row in table if row["change"]], [row[2] for row in TOLD])
         for row in table:
@@ -366,13 +368,13 @@ class Differing(Changed):
         self.assertEqual(sum(bool(row["time"]) for row in table), len(self.rows()))
 
     def test_alone(self):
-        """A page in a file has all of it, without a link."""
+        """A page saved in a file shows everything, without links."""
         ended = subprocess.run([OFFICE / "screen" / "serve", "--page", "ASHFELD", DAY, self.state], env={**os.environ, "DESK": self.desk}, capture_output=True, check=True)
         self.assertEqual(told_of(rows_of_page(ended.stdout.decode())), [(*row[:3], row[3].replace("today", "on this day")) for row in TOLD])
         self.assertIn(f'<p id="changes">{COUNTED}</p>'.encode(), ended.stdout)
 
     def test_everybody(self):
-        """The pages fit each screen, all their texts stand out, and the column has a name."""
+        """The pages fit each screen, all texts have enough contrast, and the column has a name."""
         made = self.made
         for path in PATHS:
             made.open(self.address(path))
@@ -393,7 +395,7 @@ class Differing(Changed):
             self.assertEqual([(role, name) for role, name in tree if role in ("link", "button", "columnheader", "table") and not re.search(r"\w", name)], [])
 
     def test_pictures(self):
-        """The pictures of the pages, at the sizes of screens."""
+        """The pictures of the pages, at the sizes of several screens."""
         for width, height in SIZES:
             made = self.browser(width, height, is_phone=width < 500)
             for name, path in (("changes", f"/ASHFELD/{DAY}/changes"), ("next", "/ASHFELD")):
@@ -407,14 +409,14 @@ class Differing(Changed):
 
 @unittest.skipUnless(knows(f"permanent ASHFELD {DAY}"), "there is no program desk that knows what is permanent")
 class RealDiffering(Differing):
-    """The same over the program."""
+    """The same tests with the real program `desk`."""
 
     desk = REAL
     test_everybody = test_pictures = None
 
 
 class Permanent(Changed):
-    """The request `permanent` of the stand-in: it answers what the docker of a state of the same extract without its short-term records is."""
+    """The stand-in's request `permanent`: its answer is the docker of a state of the same extract without short-term records."""
 
     def test_answers(self):
         reader = dockers.Desk(self.desk, self.state)
@@ -426,7 +428,7 @@ class Permanent(Changed):
         self.assertEqual(reader.permanent("ASHFELD", "2024-06-31").status, 2)
 
     def test_refusal(self):
-        """A day before the horizon is refused as `print` refuses it."""
+        """A day before the horizon is refused in the same way as by `print`."""
         state = self.folder / "late.state"
         state.write_bytes(pathlib.Path(self.state).read_bytes())
         run("horizon", str(state), "2024-06-11")
@@ -439,13 +441,13 @@ class Permanent(Changed):
 
 @unittest.skipUnless(knows(f"permanent ASHFELD {DAY}"), "there is no program desk that knows what is permanent")
 class RealPermanent(Permanent):
-    """The same of the program."""
+    """The same tests with the real program `desk`."""
 
     desk = REAL
 
 
 class NotPermanent(Changed):
-    """A desk that doesn't know what is permanent leaves all else as it was."""
+    """With a desk that doesn't know the request `permanent`, everything else is unchanged."""
 
     environment = {"OLD": "permanent"}
 
@@ -461,12 +463,12 @@ class NotPermanent(Changed):
         status, _, body = self.ask(f"/ASHFELD/{DAY}/changes")
         self.assertEqual(status, 501)
         self.assertIn(b"what differs needs a program desk that knows what is permanent", body)
-        # It is asked once, until STATE changes.
+        # The request is asked once, until STATE changes.
         self.assertEqual([line.split()[0] for line in (self.folder / "asked").read_text().splitlines()].count("permanent"), 1)
 
 
 class Poor(Changed):
-    """Where it can't be said what is cancelled, no page looks as if nothing were."""
+    """If it isn't known what is cancelled, no page looks as if nothing were cancelled."""
 
     environment = {"POOR": "permanent"}
 
@@ -479,7 +481,7 @@ class Poor(Changed):
 
 
 class NoDesk(Changed):
-    """Nor is anything said where there is no desk."""
+    """Without a desk, nothing is said about changes."""
 
     desk = "/nonexistent"
 
@@ -488,7 +490,7 @@ class NoDesk(Changed):
         self.assertEqual(self.ask(f"/ASHFELD/{DAY}/changes")[0], 501)
 
 
-# Trains at random, and what becomes of each, judged by their times.
+# Random trains, and what becomes of each, worked out from their times.
 
 CODES = ("ASHFELD", "BRAYTON", "CORHAM", "DUNMERE")
 
@@ -524,12 +526,12 @@ class Journey:
         self.records.append(text)
 
     def at(self, code, after):
-        """What the train does at a place, a number of days after its start."""
+        """What the train does at a place on the day that is `after` days after its start."""
         return [(kind, time % 1440, platform) for place, kind, time, platform in self.events if place == code and time // 1440 == after]
 
 
 class Drawn:
-    """A number of UIDs, each with a permanent schedule of all days, and some with others over it."""
+    """A number of UIDs, most of them with a permanent schedule on every day, and some with other schedules over it."""
 
     FIRST = datetime.date(2024, 6, 3)
 
@@ -547,13 +549,13 @@ class Drawn:
         self.text = extract(*text)
 
     def chosen(self, uid, start, indicators="CNOP"):
-        """The schedule that is chosen for a train: of those that run, the first by indicator, and of these the one that begins last."""
+        """The schedule that is chosen for a train: of those that run, the first by indicator, and among these the one that begins last."""
         day = (datetime.date.fromisoformat(start) - self.FIRST).days
         runs = [it for it in self.schedules[uid] if it[0] in indicators and it[1] <= day <= it[2]]
         return min(runs, key=lambda it: (it[0], -it[1]), default=("", 0, 0, None))
 
     def expected(self, code, date):
-        """By what it is: the trains that differ at a place on a day."""
+        """The trains that differ at a place on a day, by kind of difference."""
         found = {}
         for uid in self.schedules:
             for after in range(3):
@@ -577,7 +579,7 @@ class Drawn:
 
 
 class AtRandom(Changed):
-    """Each train that differs is found, on the day on which it started, and what becomes of it. No permanent line is lost."""
+    """Each train that differs is found, on the day on which it started, with what became of it. No permanent line is lost."""
 
     seeds = (0,)
 
@@ -599,7 +601,7 @@ class AtRandom(Changed):
             self.assertGreater(number, 500)
 
     def conserved(self, timetable, code, date, told):
-        """Each permanent line is on the docker too, or a line there stands for it, or it is gone."""
+        """Each permanent line is on the docker too, or a line there replaces it, or it is shown as missing."""
         own, base = ([line._replace(stp="") for line in lines.docker_of(timetable.text(command, date)).lines] for command in ("print", "permanent"))
         for number, change in told.of.items():
             own[number] = None
@@ -613,7 +615,7 @@ class AtRandom(Changed):
 
 @unittest.skipUnless(knows(f"permanent ASHFELD {DAY}"), "there is no program desk that knows what is permanent")
 class RealAtRandom(AtRandom):
-    """The same over the program, of more trains."""
+    """The same tests with the real program `desk`, and with more trains."""
 
     desk = REAL
     seeds = range(1, 9)

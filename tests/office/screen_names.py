@@ -18,7 +18,7 @@ import names as spelled  # noqa: E402
 
 TIPS = "return [...document.querySelectorAll('#day tr')].map(row => [...row.querySelectorAll('.from, .to')].map(cell => cell.title))"
 FOUND = "return [...document.querySelectorAll('#found a')].map(link => link.getAttribute('href'))"
-# Each description, and the name that is made of it.
+# Descriptions, and the names that are made from them.
 SPELLED = {
     "ASHFELD JUNCTION": "Ashfeld Junction", "LONDON KINGS CROSS": "London Kings Cross", "KING'S LYNN": "King's Lynn", "D'ARCY RD": "D'Arcy Rd",
     "BURTON-ON-TRENT": "Burton-on-Trent", "BETWS-Y-COED": "Betws-y-Coed", "CHESTER-LE-STREET": "Chester-le-Street", "THE HAWTHORNS": "The Hawthorns",
@@ -43,7 +43,7 @@ def extract(*records, date="070624", reference="DFROC1F", indicator="F", last="D
 
 
 class Stated(Seen):
-    """An office whose state is of one extract."""
+    """An office whose state knows one extract."""
 
     desk = STAND_IN
     extract = ""
@@ -55,7 +55,7 @@ class Stated(Seen):
 
     @classmethod
     def takes(cls, text):
-        """Makes STATE know this only."""
+        """Makes a STATE that knows only this extract."""
         (cls.folder / "own.cif").write_text(text)
         os.remove(cls.state)
         run("new", cls.state)
@@ -63,7 +63,7 @@ class Stated(Seen):
 
 
 class Spelling(unittest.TestCase):
-    """How names are written, and found."""
+    """How names are written and found."""
 
     def test_names(self):
         self.assertEqual({description: spelled.readable(description) for description in SPELLED}, SPELLED)
@@ -78,7 +78,7 @@ class Spelling(unittest.TestCase):
 
 
 class Names(Stated):
-    """The names of places, and the choice of codes."""
+    """The names of places, and the choice of codes instead."""
 
     names = {**NAMES, "ASHFELD": "Ashfeld & Holm Junction", "KINGS": "King's Ash"}
     extract = extract(
@@ -91,7 +91,7 @@ class Names(Stated):
         return {row[9]: row[7:9] for row in made.run(ROWS)}
 
     def test_rows(self):
-        """From and To are names, and their codes are tooltips. What has no name has its code."""
+        """From and To show names, with the codes as tooltips. A place without a name shows its code."""
         made = self.browser(1366, 900)
         made.open(self.address(f"/ASHFELD/{DAY}"))
         self.assertEqual(made.run(ROWS), self.rows())
@@ -114,7 +114,7 @@ class Names(Stated):
         made.cdp("Network.clearBrowserCookies")
 
     def test_choice(self):
-        """A link shows codes, with the names as tooltips; other pages then have them too, until a link shows the names again. It needs no script."""
+        """A link shows codes, with the names as tooltips. Other pages then do so too, until a link shows names again. No script is needed."""
         made = self.browser(1366, 900)
         for is_disabled in (False, True):
             made.cdp("Emulation.setScriptExecutionDisabled", value=is_disabled)
@@ -122,7 +122,7 @@ class Names(Stated):
             made.open(self.address(f"/ASHFELD/{DAY}"))
             for shown, cell, tip in (("codes", "BRAYTON", "Brayton"), ("names", "Brayton", "BRAYTON")):
                 if is_disabled:
-                    # Without scripts a link is followed by the keyboard.
+                    # Without scripts, a link is followed by the keyboard.
                     page = made.cdp("DOM.getDocument")["root"]["nodeId"]
                     made.cdp("DOM.focus", nodeId=made.cdp("DOM.querySelector", nodeId=page, selector="#naming-choice")["nodeId"])
                     made.keys(browser.ENTER)
@@ -140,7 +140,7 @@ class Names(Stated):
         return made.cdp("DOM.getOuterHTML", nodeId=root["nodeId"])["outerHTML"]
 
     def test_address(self):
-        """An address may choose, also without cookies. A page that only asks for a newer one chooses nothing."""
+        """An address may choose, even without cookies. A page that only asks for a newer version doesn't change the choice."""
         path = f"/ASHFELD/{DAY}"
         status, headers, body = self.ask(f"{path}?show=codes")
         self.assertIn(b'title="Brayton">BRAYTON<', body)
@@ -158,7 +158,7 @@ class Names(Stated):
             self.assertIn(b'title="BRAYTON">Brayton<', body)
 
     def test_renewal(self):
-        """When another docker comes, codes stay codes."""
+        """Codes stay codes when a new docker comes."""
         own = self.folder / "kept.state"
         shutil.copy(self.state, own)
         self.addCleanup(os.replace, own, self.state)
@@ -176,7 +176,7 @@ class Names(Stated):
         self.assertEqual({row[7] for row in rows}, {"ASHFELD", "BLANK"})
 
     def test_forms(self):
-        """.json and .csv have the names and the codes."""
+        """.json and .csv have both names and codes."""
         told = json.loads(self.ask(f"/ASHFELD/{DAY}.json")[2])
         self.assertEqual([told[name] for name in ("tiploc", "description", "name", "crs", "stanox")], ["ASHFELD", "ASHFELD & HOLM JUNCTION", "Ashfeld & Holm Junction", "ASF", "12345"])
         ends = {line["uid"]: [line[name] for name in ("origin", "origin_name", "destination", "destination_name")] for line in told["lines"]}
@@ -185,7 +185,7 @@ class Names(Stated):
         table = self.ask(f"/ASHFELD/{DAY}.csv")[2].decode().splitlines()
         self.assertIn(",start,origin_name,destination_name", table[0])
         self.assertTrue(all(row.split(",")[15] in ("Ashfeld & Holm Junction", "") for row in table[1:]))
-        # The text of docker is as it was, and a form has names also where pages have codes.
+        # docker's text is unchanged, and the other forms have names even if pages show codes.
         self.assertEqual(self.ask(f"/ASHFELD/{DAY}.txt")[2], self.docker())
         self.assertEqual(self.ask(f"/ASHFELD/{DAY}.csv", headers={"Cookie": "show=codes"})[2].decode().splitlines(), table)
 
@@ -196,19 +196,19 @@ class Names(Stated):
         self.assertEqual(listed, ["Ashfeld &amp; Holm Junction ASHFELD", "BLANK BLANK", "NOWHERE nobody knows this code"])
 
     def test_unknown(self):
-        """The page of a code that nobody knows leads to the search."""
+        """The page of an unknown code links to the search."""
         self.assertIn(b'<a href="/?q=ASF">Find a place by its name</a>', self.ask("/ASF")[2])
 
 
 @unittest.skipUnless(knows_places(), "there is no program desk that knows places")
 class RealNames(Names):
-    """The same over the program."""
+    """The same tests with the real program `desk`."""
 
     desk = REAL
 
 
 def network():
-    """An extract with 10,000 places, and schedules that call at some of them."""
+    """An extract with 10,000 places, and with schedules that call at some of them."""
     drawn = random.Random(3)
     first = [
         ("ASHFELD", "ASHFELD JUNCTION", "ASF"), ("BRASHLY", "BRASHLEY", "BSH"), ("CORASH", "CORHAM ASH", ""), ("ASHX", "DUNMERE", "ASX"), ("ELSTOW", "ELSTOW", "ASH"),
@@ -218,14 +218,14 @@ def network():
     made = [place(*one) for one in first]
     heads = [head for head in HEADS if head not in ("ASH", "KINGS")]
     made += [place(f"Q{number:05}", drawn.choice(heads) + drawn.choice(TAILS) + drawn.choice(ENDS), stanox=f"{number:05}") for number in range(10000 - len(first))]
-    # Of the two Manchesters Victoria has more trains, and of the places that begin with ASH the junction.
+    # Of the two Manchesters, Victoria has more trains; of the places that begin with ASH, the junction has.
     for number, (origin, end) in enumerate([("MNCRVIC", "ASHFELD")] * 3 + [("MNCRPIC", "ASHFELD"), ("CORASH", "FASHION"), ("CORASH", "Q00001")]):
         made.append(schedule(f"C{number:05}", origin, end))
     return extract(*made)
 
 
 class Search(Stated):
-    """The search for a place, among 10,000."""
+    """The search for a place among 10,000."""
 
     extract = network()
 
@@ -234,7 +234,8 @@ class Search(Stated):
         return re.findall(r'<li><a href="/([^"]*)"', body[body.index('id="found"'):])
 
     def test_order(self):
-        """First what is the CRS or the code, then names that begin so, then words, then any part; of equals the busier first."""
+        """First come equal CRS or TIPLOC codes, then names that begin with the text, then names with a word that does, then any part. Among equals the busier
+        place is first."""
         self.assertEqual(self.found("ash"), ["ELSTOW", "ASHFELD", "CORASH", "FASHION", "ASHX", "BRASHLY"])
         self.assertEqual(self.found("ashx"), ["ASHX"])
         self.assertEqual(self.found("ASHFELD"), ["ASHFELD"])
@@ -248,7 +249,7 @@ class Search(Stated):
         self.assertEqual([self.found(text) for text in ("zzzz", "%27", "manchester%20ash")], [[], [], []])
 
     def test_many(self):
-        """If many places are found, the first are shown, and how many there are."""
+        """If many places are found, the first ones are shown, with the number of all."""
         body = self.ask("/?q=junction")[2].decode()
         self.assertRegex(body, r'<p id="number" role="status">1 place</p>')
         self.assertEqual(len(self.found("jn")), 50)
@@ -258,7 +259,7 @@ class Search(Stated):
         self.assertIn('<a href="/Q0ZZ">The docker of the code Q0ZZ all the same</a>', body)
 
     def test_strange(self):
-        """Any text may be sought."""
+        """Any text may be searched for."""
         for text in ("%3Cscript%3E", "%22%3E", "%00", "%FF", "a" * 5000, "%0d%0a", "*", "(", "%F0%9F%9A%82", "a&q=b", "-", "a%20" * 1000):
             status, headers, body = self.ask(f"/?q={text}")
             self.assertEqual(status, 200, text)
@@ -273,7 +274,7 @@ class Search(Stated):
             self.answers_within(f"/?q={text}", 0.05)
 
     def waited(self, made, script, wanted):
-        """Waits until a script gives what is wanted."""
+        """Waits until a script returns this value."""
         for _ in range(100):
             if (got := made.run(script)) == wanted:
                 return
@@ -281,7 +282,7 @@ class Search(Stated):
         self.assertEqual(got, wanted)
 
     def test_keyboard(self):
-        """By keys only: places are found while one types, the arrows lead through them, and Enter opens one."""
+        """With the keyboard only: places are found while typing, the arrows move among them, and Enter opens one."""
         made = self.browser(1366, 900)
         made.open(self.address("/"))
         self.assertEqual(made.run("return document.activeElement.id"), "text")
@@ -300,13 +301,13 @@ class Search(Stated):
         self.assertEqual(made.run("return document.activeElement.id"), "text")
         made.keys(browser.DOWN + browser.ENTER)
         self.waited(made, "return location.pathname", "/MNCRPIC")
-        # One comes back to what was found.
+        # Going back shows the places found again.
         made.run("history.back()")
         self.waited(made, "return location.search", "?q=manchester+p")
         self.waited(made, FOUND, ["/MNCRPIC"])
 
     def test_enter(self):
-        """Enter opens the first place at once, of what is typed by then."""
+        """Enter opens the first place found for the text that is typed by then, without waiting."""
         for text, wanted in (("asf", "/ASHFELD"), ("victoria", "/MNCRVIC"), ("ash", "/ELSTOW")):
             made = self.browser(1366, 900)
             made.open(self.address("/"))
@@ -320,7 +321,7 @@ class Search(Stated):
         self.waited(made, "return document.getElementById('number')?.textContent", "No place has this in its name, its CRS or its TIPLOC")
 
     def test_emptied(self):
-        """Without a text there is the office's list again."""
+        """Without a text, the office's list is shown again."""
         made = self.browser(1366, 900)
         made.open(self.address("/"))
         before = made.run(FOUND)
@@ -331,7 +332,7 @@ class Search(Stated):
         self.assertEqual(made.run("return [location.search, document.getElementById('number').textContent]"), ["", ""])
 
     def test_no_script(self):
-        """Without JavaScript a form finds places."""
+        """Without JavaScript, a form finds places."""
         made = self.browser(1366, 900)
         made.cdp("Emulation.setScriptExecutionDisabled", value=True)
         self.addCleanup(made.cdp, "Emulation.setScriptExecutionDisabled", value=False)
@@ -349,7 +350,7 @@ class Search(Stated):
         self.assertNotIn("Enter opens", text)
 
     def test_server_gone(self):
-        """Where the server gives no answer, the page says so."""
+        """If the server doesn't answer, the page says so."""
         made = self.browser(1366, 900)
         made.open(self.address("/"))
         self.server.kill()
@@ -359,7 +360,7 @@ class Search(Stated):
         type(self).port = self.started()
 
     def test_everybody(self):
-        """The box has a name, a search and a live region are in the tree, and each place found has a name."""
+        """The box has a name, the accessibility tree has a search and a live region, and each place found has a name."""
         made = self.browser(390, 844, is_phone=True)
         made.open(self.address("/?q=ash"))
         tree = [(node["role"]["value"], node.get("name", {}).get("value", "")) for node in made.cdp("Accessibility.getFullAXTree")["nodes"] if not node.get("ignored")]
@@ -373,14 +374,14 @@ class Search(Stated):
 
 @unittest.skipUnless(knows_places(), "there is no program desk that knows places")
 class RealSearch(Search):
-    """The same over the program."""
+    """The same tests with the real program `desk`."""
 
     desk = REAL
     test_server_gone = test_enter = test_emptied = test_everybody = None
 
 
 class Covered(Stated):
-    """What a page says of days that STATE doesn't cover."""
+    """What a page says about days that STATE doesn't cover."""
 
     now = "2024-12-13T20:00"
     extract = extract(place("ASHFELD", "ASHFELD JUNCTION"), schedule("C00001", "ASHFELD", "BRAYTON"), schedule("C00002", "BRAYTON", "ASHFELD", at="2310"))
@@ -388,7 +389,7 @@ class Covered(Stated):
     early = "This day lies before the full extract DFROC1F of 2024-06-07 21:00. Trains that ran for the last time before it are missing here."
 
     def told(self, path):
-        """The warnings of a page."""
+        """The warnings on a page."""
         return [re.sub("<[^>]*>", "", found) for found in re.findall(r'<p class="warning[^>]*>(.*?)</p>', self.ask(path)[2].decode())]
 
     def test_days(self):
@@ -410,7 +411,7 @@ class Covered(Stated):
         self.picture(made, "uncovered")
 
     def test_no_end(self):
-        """Schedules without an end name no last day."""
+        """If schedules have no end, no last day is named."""
         own = self.folder / "kept.state"
         shutil.copy(self.state, own)
         self.addCleanup(os.replace, own, self.state)
@@ -421,7 +422,7 @@ class Covered(Stated):
         self.assertEqual(json.loads(self.ask("/ASHFELD/2030-06-01.json")[2])["covers"], {"horizon": "2024-06-11", "full": "2024-06-08", "last": None, "schedules": 1})
 
     def test_no_schedule(self):
-        """Where all schedules ended before the horizon, no day is covered."""
+        """If all schedules ended before the horizon, no day is covered."""
         own = self.folder / "all.state"
         shutil.copy(self.state, own)
         self.addCleanup(os.replace, own, self.state)
@@ -434,13 +435,13 @@ class Covered(Stated):
 
 @unittest.skipUnless(knows_places(), "there is no program desk that knows places")
 class RealCovered(Covered):
-    """The same over the program."""
+    """The same tests with the real program `desk`."""
 
     desk = REAL
 
 
 class Once(Office):
-    """What is asked of the desk."""
+    """Which requests a desk gets."""
 
     desk = STAND_IN
 
@@ -448,7 +449,7 @@ class Once(Office):
         return (self.folder / "asked").read_text().splitlines()
 
     def test_once(self):
-        """The names are read once when STATE changes, not for each page; so are the days that are covered, and the list of files."""
+        """The names are read once after STATE changes, not for each page. So are the days that are covered, and the list of files."""
         for path in ("/", "/?q=ash", f"/ASHFELD/{DAY}", "/ASHFELD", f"/ASHFELD/{DAY}.json", f"/CORHAM/{DAY}.csv", f"/train/C00001/{DAY}", "/?q=cor") * 3:
             self.assertEqual(self.ask(path)[0], 200)
         self.assertEqual([self.asked().count(request) for request in ("places", "known", "files")], [1, 1, 1])
@@ -459,7 +460,7 @@ class Once(Office):
 
 
 class OldDesk(Office):
-    """A desk of an older version has no names: pages have codes, as they had."""
+    """A desk of an older version has no names; pages show codes, as before."""
 
     desk = STAND_IN
     environment = {"OLD": "places known permanent"}
@@ -481,6 +482,6 @@ class OldDesk(Office):
         self.assertEqual((told["name"], told["crs"], told["covers"], told["warnings"]), ("Ashfeld Junction", "", None, []))
         self.assertEqual({line["origin_name"] for line in told["lines"]} | {told["description"]}, {"", "ASHFELD JUNCTION"})
         self.assertEqual(self.ask(f"/train/C00001/{DAY}")[0], 200)
-        # It is asked once, until STATE changes.
+        # The request is asked once, until STATE changes.
         asked = (self.folder / "asked").read_text().splitlines()
         self.assertEqual((asked.count("places"), asked.count("known")), (1, 1))

@@ -1,4 +1,5 @@
-"""Parts of tests/office/screen: the next trains over midnight, a server that stays open to others, the page of a train, other days, and a page for everybody."""
+"""Parts of tests/office/screen: the next trains across midnight, a server that serves all its clients, the page of a train, other days, and a page for
+everybody."""
 import gzip
 import json
 import os
@@ -16,11 +17,11 @@ from screens import CELLS, DAY, NAMES, REAL, SHOWN, STAND_IN, Office, Seen, know
 
 NEXT = "2024-06-13"
 AHEAD = f"return [...document.querySelectorAll('#next tr[data-at]')].map({CELLS})"
-# The tops of the rows that are to be seen, of both days, each with its time.
+# The tops of the visible rows of both days, each with its time.
 SEEN = """return [...document.querySelectorAll('#docker tr[data-at]')].filter(row => row.getBoundingClientRect().height)
     .map(row => [Number(row.dataset.at), row.cells[0].textContent, row.getBoundingClientRect().bottom])"""
 WIDTHS = (320, 360, 390, 480, 600, 701, 760, 761, 768, 800, 912, 1000, 1001, 1024, 1280, 1366, 1600, 1920, 2560, 3840)
-# The texts whose contrast is below 4.5 to 1. Past rows are unfolded before.
+# The texts whose contrast is below 4.5 to 1. Past rows are unfolded first.
 FAINT = """
 const light = colour => { const [r, g, b] = colour.match(/[\\d.]+/g).map(Number).map(part => part / 255).map(part => part <= .03928 ? part / 12.92 : ((part + .055) / 1.055) ** 2.4);
     return .2126 * r + .7152 * g + .0722 * b };
@@ -38,7 +39,7 @@ while (walker.nextNode()) {
 }
 return [...found];
 """
-# The elements that are wider than the page, or whose text is cut.
+# The elements that are wider than the page, or whose text is cut off.
 CUT = """return [...document.querySelectorAll('body *')].filter(it => !it.closest('.across, svg, caption, thead, #status, noscript') && it.checkVisibility()).filter(it => {
     const box = it.getBoundingClientRect();
     return box.width && (box.right > innerWidth + .5 || box.left < -.5 || it.scrollWidth > it.clientWidth + 1 && getComputedStyle(it).display !== 'inline') })
@@ -46,7 +47,7 @@ CUT = """return [...document.querySelectorAll('body *')].filter(it => !it.closes
 
 
 def waited(seconds, ask):
-    """What `ask` returns as soon as it returns something, within this many seconds."""
+    """Calls `ask` until it returns a value, for at most this many seconds. Returns that value."""
     end = time.monotonic() + seconds
     while not (answer := ask()) and time.monotonic() < end:
         time.sleep(0.2)
@@ -65,7 +66,7 @@ class Late(Seen):
     now = f"{DAY}T23:49"
 
     def test_coming(self):
-        """They go on with tomorrow's, after a line at midnight."""
+        """The next trains continue with tomorrow's, below a line at midnight."""
         wall = self.browser(1920, 1080)
         wall.open(self.address("/ASHFELD"))
         tomorrow = self.rows(day=NEXT)
@@ -85,7 +86,7 @@ class Late(Seen):
         self.picture(wall, "midnight")
 
     def test_day_alone(self):
-        """The docker of a day has that day only."""
+        """The docker of a day has only that day."""
         made = self.browser(1920, 1080)
         made.open(self.address(f"/ASHFELD/{DAY}"))
         self.assertIsNone(made.run("return document.getElementById('next')"))
@@ -108,12 +109,12 @@ class LateAndAlone(Seen):
 
 
 class Alive(Seen):
-    """Who else uses the server, and whether it is there."""
+    """Other clients of the server, and whether the server answers."""
 
     desk = STAND_IN
 
     def test_hung(self):
-        """If the server hangs, the wall says within seconds that it isn't renewed, and later that it is."""
+        """If the server hangs, the screen says within seconds that it isn't renewed, and later that it is again."""
         wall = self.browser(1920, 1080)
         wall.open(self.address("/ASHFELD"))
         self.assertEqual(wall.run("return document.getElementById('status').textContent"), "")
@@ -134,7 +135,7 @@ class Alive(Seen):
         return made
 
     def test_idle_and_slow(self):
-        """Idle connections and half requests shut nobody out."""
+        """Idle connections and half requests don't keep other clients out."""
         self.connections(550)
         self.connections(250, b"GET /ASHFELD HTTP/1.1\r\nHost: x\r\n")
         self.connections(50, b"POST / HTTP/1.1\r\nHost: x\r\nContent-Length: 60000\r\n\r\nx")
@@ -144,7 +145,7 @@ class Alive(Seen):
             self.assertLess(time.monotonic() - began, 3)
 
     def test_half_request_ends(self):
-        """A request that doesn't end is ended, also if a byte of it comes now and then; so is an idle connection."""
+        """A request that isn't completed is ended, even if a byte of it comes now and then. So is an idle connection."""
         half, idle = self.connections(1, b"GET /ASHFELD HTTP/1.1\r\n")[0], self.connections(1)[0]
         half.settimeout(1)
         ended = None
@@ -164,7 +165,7 @@ class Alive(Seen):
         self.assertEqual(idle.recv(1), b"")
 
     def is_ended(self, connection, seconds):
-        """Whether the server ends a connection within this many seconds, though nothing is read from it."""
+        """Whether the server closes a connection within this many seconds, although nothing is read from it."""
         def tried():
             try:
                 connection.sendall(b"GET / HTTP/1.1\r\n")
@@ -176,7 +177,7 @@ class Alive(Seen):
         return waited(seconds, tried)
 
     def test_readers_stop(self):
-        """Clients that read nothing of their answers hold nobody up, and are ended."""
+        """Clients that don't read their answers hold nobody up, and are disconnected."""
         slow = self.connections(8, b"GET /ASHFELD HTTP/1.1\r\nHost: x\r\n\r\n" * 3)
         many = self.connections(8, b"GET /ASHFELD HTTP/1.1\r\nHost: x\r\n\r\n" * 200)
         began = time.monotonic()
@@ -198,14 +199,14 @@ class Alive(Seen):
             self.assertEqual(self.ask(path, headers={"Accept-Encoding": "gzip", "If-None-Match": packed[1]["ETag"]})[0::2], (304, b""))
 
 
-# What names are made of.
+# The parts of names.
 HEADS = ("ASH", "BAR", "BRAD", "CHAT", "COL", "DON", "EAST", "FARN", "GRAN", "HAR", "KINGS", "LANG", "MAL", "NEW", "NOR", "OAK", "PEN", "RAD", "SAND", "STAN", "THORN", "WAL", "WEST", "YAR")
 TAILS = ("BOROUGH", "BRIDGE", "BURY", "BY", "CASTER", "COMBE", "FIELD", "FORD", "GATE", "HAM", "HURST", "LEY", "MERE", "MINSTER", "MOUTH", "PORT", "STEAD", "STOKE", "THORPE", "TON", "WELL", "WORTH")
 ENDS = ("", "", " JN", " NORTH JN", " SOUTH JN", " CENTRAL", " PARK", " ROAD", " SIDINGS", " DN LOOP", " UP LOOP", " FRT TERMINAL", " TOWN", " SIGNAL 47", " T&RSMD")
 
 
 class Busy(Office):
-    """A place as busy as a nation's busiest, with 3,000 rows, names at both ends of each, and hundreds that differ."""
+    """A place as busy as the busiest of a nation: 3,000 rows, with names at both ends of each, and hundreds of differences."""
 
     desk = STAND_IN
 
@@ -227,7 +228,7 @@ class Busy(Office):
 
             key, head = f"{drawn.choice('CGLWY')}{number:05}", f"POO{drawn.randrange(1, 6)}{drawn.choice('ABCFHLMNPS')}{drawn.randrange(100):02}"
             text += [record(f"BSN{key}2406032412131111111 {head}", drawn.choice("PPPPPPPN")), *calls(drawn.randrange(1, 25))]
-            # Of twenty trains one is cancelled on the day, one is at another platform then, and one all the week.
+            # Of twenty trains, one is cancelled on the day, one is at another platform that day, and one all week.
             match drawn.randrange(20):
                 case 0:
                     text.append(record(f"BSN{key}2406122406120010000", "C"))
@@ -239,7 +240,7 @@ class Busy(Office):
         run("take", cls.state, str(cls.folder / "national.cif"))
 
     def test_page(self):
-        """Its page has at most 200 KB on the wire, and comes within 0.3 s."""
+        """The page takes at most 200 KB on the wire, and comes within 0.3 s."""
         self.assertGreater(self.docker().count(b"\n"), 2800)
         body = self.answers_within("/ASHFELD", 0.3)
         self.assertLessEqual(len(body), 200000)
@@ -251,19 +252,19 @@ class Busy(Office):
 
 @unittest.skipUnless(knows(f"permanent ASHFELD {DAY}"), "there is no program desk that knows what is permanent")
 class RealBusy(Busy):
-    """The same over the program, which also compares the dockers of both days in little time."""
+    """The same tests with the real program `desk`, which also compares the dockers of both days in little time."""
 
     desk = REAL
 
     def test_first(self):
-        """The first page after STATE changed takes less than a second and a half of processor time."""
+        """The first page after a change of STATE takes less than a second and a half of processor time."""
         run("take", self.state, str(self.folder / "update.cif"))
         before = self.spent()
         self.assertEqual(self.ask("/ASHFELD")[0], 200)
         self.assertLess(self.spent() - before, 1.5)
 
 
-# A train that passes midnight, changes its identity, divides and is joined, and goes on as another the next day; one is altered, one is cancelled.
+# A train that runs past midnight, changes its identity, divides, is joined, and has a next working the next day. One train is altered, and one is cancelled.
 NIGHT = [
     record("HDTPS.UDFROC1.PD2406110706242100DFROC1FDFROC1EFA"),
     *(record(f"TI{code:<16}{name}") for code, name in (("ASHFELD", "ASHFELD JUNCTION"), ("BRAYTON", "BRAYTON"), ("CORHAM", "CORHAM EXCHANGE"), ("DUNMERE", "DUNMERE TOWN"), ("LONGEST", "LLANFAIRPWLLGWYNGYLLGOGERY"))),
@@ -317,7 +318,7 @@ class Trains(Seen):
         self.picture(made, "train")
 
     def test_from_a_row(self):
-        """Each row leads to its train, on the day on which it started."""
+        """Each row links to its train, on the day on which the train started."""
         made = self.browser(1366, 900)
         made.open(self.address(f"/DUNMERE/{NEXT}"))
         lines = self.docker("DUNMERE", NEXT).decode().split("\n")[1:-2]
@@ -329,13 +330,13 @@ class Trains(Seen):
         self.assertGreater(len({line[13:19] for line in lines}), 1)
         made.run("document.querySelector('#day .train a').click()")
         self.assertTrue(made.run("return location.pathname").startswith("/train/T0000"))
-        # An association's row leads to the other train, which starts the next day.
+        # The row of an association links to the other train, which starts the next day.
         made.open(self.address(f"/DUNMERE/{NEXT}"))
         link = made.run("return document.querySelector('#day .link a').getAttribute('href')")
         self.assertEqual(self.ask(link)[1]["Location"], f"/train/T00004/{NEXT}#DUNMERE")
 
     def test_other_side(self):
-        """An associated train says what it joins, divides from and comes from."""
+        """The page of an associated train says what it joins, what it divides from, or what it was before."""
         for uid, day, words in (("T00002", DAY, "joins 1M99 T00001"), ("T00003", DAY, "divides from 1M99 T00001"), ("T00004", NEXT, "comes from 1M99 T00001")):
             page = self.ask(f"/train/{uid}/{day}")[2].decode()
             found = [re.sub("<[^>]*>", "", row) for row in re.findall(r'<tr class="association">(.*?)</tr>', page, re.S)]
@@ -353,7 +354,7 @@ class Trains(Seen):
         self.assertIn("runs from 2024-06-12 to 2024-06-12, Wednesdays", page)
         page = self.ask(f"/train/T00006/{NEXT}")[2].decode()
         self.assertIn("13:00", page)
-        # A place that no extract names has its code.
+        # A place that no extract names shows its code.
         self.assertIn(f'<a href="/FARLEY/{NEXT}">FARLEY</a>', page)
         self.assertIn("No schedule of T00009 runs on this day.", self.ask(f"/train/T00009/{DAY}")[2].decode())
         for words in ("X/2024-06-12", "T0000%20/2024-06-12", "T00001/2024-06-31", "T00001/today", "T00001%0a/2024-06-12"):
@@ -369,13 +370,13 @@ class Trains(Seen):
 
 @unittest.skipUnless(REAL, "there is no program desk")
 class RealTrains(Trains):
-    """The same over the program."""
+    """The same tests with the real program `desk`."""
 
     desk = REAL
 
 
 class NoTrains(Office):
-    """Where there is no desk."""
+    """Pages without a desk."""
 
     def test_no_desk(self):
         status, _, body = self.ask(f"/train/C00001/{DAY}")
@@ -385,12 +386,12 @@ class NoTrains(Office):
 
 
 class Days(Seen):
-    """What a page says of its day."""
+    """What a page says about its day."""
 
     desk = STAND_IN
 
     def test_other_day(self):
-        """Another day doesn't look like today, and leads back to today."""
+        """A page of another day doesn't look like today's, and links back to today."""
         made = self.browser(1366, 900)
         made.open(self.address(f"/ASHFELD/{DAY}"))
         today = made.run("return getComputedStyle(document.body).backgroundColor")
@@ -406,7 +407,7 @@ class Days(Seen):
         self.assertEqual(made.run("return [location.pathname, document.documentElement.className]"), ["/ASHFELD", ""])
 
     def test_early_day(self):
-        """A day before the newest full extract says what is missing."""
+        """A page of a day before the newest full extract says what is missing."""
         for day, is_early in (("2024-06-06", True), ("2024-06-07", False), (DAY, False)):
             self.assertEqual(b'id="early"' in self.ask(f"/ASHFELD/{day}")[2], is_early, day)
         self.assertIn(b"This day lies before the full extract DFROC1F of 2024-06-07 21:00. Trains that ran for the last time before it are missing here.", self.ask("/ASHFELD/2024-06-06")[2])
@@ -422,7 +423,7 @@ class Days(Seen):
 
 
 class Everybody(Trains):
-    """A page for any screen, for paper, and for whoever doesn't see or has no JavaScript."""
+    """A page for any screen, for paper, and for readers who can't see it or have no JavaScript."""
 
     test_calls = test_from_a_row = test_other_side = test_days = test_start_days = None
 
@@ -437,7 +438,7 @@ class Everybody(Trains):
         self.assertTrue(waited(10, lambda: made.run("return [...document.querySelectorAll('.across')].every(it => it.querySelector('svg'))")))
 
     def test_widths(self):
-        """Nothing is wider than the screen, and no text is cut, from 320 pixels to 3840."""
+        """From 320 to 3840 pixels, nothing is wider than the screen, and no text is cut off."""
         made = self.made
         for path in self.pages:
             made.open(self.address(path))
@@ -452,7 +453,7 @@ class Everybody(Trains):
                     made.picture(pathlib.Path(os.environ["LOOKS"]) / f"{name}-{width}.png")
 
     def test_contrast(self):
-        """Each text stands out from what is under it by at least 4.5 to 1, on screens and on paper."""
+        """The contrast of each text with its background is at least 4.5 to 1, on screens and on paper."""
         for width in (390, 1366):
             made = self.browser(width, 900)
             for path in self.pages:
@@ -463,7 +464,7 @@ class Everybody(Trains):
                     self.assertEqual((path, media, made.run(FAINT)), (path, media, []))
 
     def test_tree(self):
-        """In the tree that a screen reader has, all that can be used and each column has a name, a table its caption, and renewals a live region."""
+        """In the accessibility tree, every control and every column has a name, a table has a caption, and renewals have a live region."""
         for width in (390, 1366):
             made = self.browser(width, 900)
             for path in self.pages[:3]:
@@ -497,7 +498,7 @@ class Everybody(Trains):
         self.assertEqual(len(sheets), 1)
 
     def test_no_script(self):
-        """Without JavaScript the age, the day and the time are there, each train, and a way to the next ones."""
+        """Without JavaScript, the page has the age, the day and the time, every train, and a link to the next ones."""
         made = self.browser(1366, 900)
         made.cdp("Emulation.setScriptExecutionDisabled", value=True)
         self.addCleanup(made.cdp, "Emulation.setScriptExecutionDisabled", value=False)

@@ -1,5 +1,5 @@
-"""What the tests of the screen share: an office with a server of its pages, and a browser. DOCKER names the program, DESK the program `desk`.
-SCREENS names a folder for the pictures."""
+"""Helpers for the tests of the screen: an office with a server of its pages, and a browser. DOCKER names the program, DESK the program `desk`. SCREENS names a
+folder for the pictures."""
 import http.client
 import os
 import pathlib
@@ -19,13 +19,13 @@ REAL = shutil.which(os.environ.get("DESK") or f"{DOCKER}-desk")
 PICTURES = os.environ.get("SCREENS")
 STAND_IN = str(HERE / "desk-of-docker")
 DAY = "2024-06-12"
-# The names of the busy day's places, as a page has them.
+# The names of the busy day's places, as pages show them.
 NAMES = {"ASHFELD": "Ashfeld Junction", "BRAYTON": "Brayton", "CORHAM": "Corham Exchange", "DUNMERE": "Dunmere Town", "ELSTOW": "Elstow South"}
 
-# What a page says for each kind, and for what an association leads to.
+# The words that a page shows for each kind of event, and for the link of an association.
 WORDS = {"A": "arrives", "P": "passes", "D": "departs", "J": "is joined", "V": "divides", "N": "goes on"}
 LEADS = {"J": "by", "V": "into", "N": "as"}
-# The cells of each row, without what differs.
+# The cells of each row, without the column of changes.
 CELLS = "row => [...row.cells].slice(0, row.cells.length - document.querySelectorAll('#docker thead .change').length).map(cell => cell.textContent)"
 ROWS = f"return [...document.querySelectorAll('#day tr')].map({CELLS})"
 SHOWN = "return [...document.querySelectorAll('#day tr')].map(row => row.getBoundingClientRect()).map(box => box.height ? [box.top, box.bottom] : null)"
@@ -36,7 +36,7 @@ def run(*words):
 
 
 def knows(request):
-    """Whether the program `desk` knows a request: one of an older version doesn't."""
+    """Whether the program `desk` knows a request. One of an older version may not."""
     if REAL is None:
         return False
     with tempfile.TemporaryDirectory() as folder:
@@ -49,7 +49,7 @@ def knows_places():
 
 
 def rows_of(text, names=None):
-    """The cells that a page has to have of each line of a docker's text, by its columns. What has no name has its code."""
+    """The cells that a page must show for each line of a docker's text, by its columns. A place without a name shows its code."""
     rows, names = [], names or {}
     for line in text.decode("ascii").split("\n")[1:-2]:
         at, kind, train, uid, stp = line[0:5], line[6], line[8:12].strip(), line[13:19].strip(), line[20]
@@ -65,10 +65,10 @@ def rows_of(text, names=None):
 
 
 class Office(unittest.TestCase):
-    """A folder with a state of the busy day, and a server on it whose clock stands at 08:55 of that day."""
+    """A folder with the state of the busy day, and a server on it whose clock shows 08:55 of that day."""
 
     desk = "/nonexistent"
-    # Whether single trains are known, and so the start days; the names of places; and what else the server's environment has.
+    # Whether the desk knows single trains, and so their start days; the names of places; and what else the server's environment has.
     has_trains = False
     names = {}
     environment = {}
@@ -124,12 +124,13 @@ class Office(unittest.TestCase):
             connection.close()
 
     def spent(self):
-        """The seconds of processor time that the server has had."""
+        """The seconds of processor time that the server has used."""
         fields = pathlib.Path(f"/proc/{self.server.pid}/stat").read_text().rsplit(")", 1)[1].split()
         return (int(fields[11]) + int(fields[12])) / os.sysconf("SC_CLK_TCK")
 
     def answers_within(self, path, seconds):
-        """Asks a page several times, and gives the last one. The best time counts. Where other programs have all processors, what counts is the server's processor time."""
+        """Asks for a page several times, and returns the last answer. The best time counts. If other programs take all processors, the server's processor time
+        counts."""
         times, before = [], self.spent()
         for _ in range(12):
             began = time.monotonic()
@@ -145,12 +146,12 @@ class Office(unittest.TestCase):
         return run("print", self.state, place, day)
 
     def rows(self, place="ASHFELD", day=DAY):
-        """The cells that a page has to have of a docker."""
+        """The cells that a page must show for a docker."""
         return rows_of(self.docker(place, day), self.names)
 
 
 class Seen(Office):
-    """An office and a browser."""
+    """An office with a browser."""
 
     @classmethod
     def setUpClass(cls):

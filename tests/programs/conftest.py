@@ -1,4 +1,5 @@
-"""Where each case runs, and which of them may be skipped."""
+"""Fixtures: the folder in which each case runs, and what it needs. Also which cases may be
+skipped."""
 import pathlib
 import tempfile
 
@@ -11,7 +12,7 @@ from skips import may_be_skipped  # noqa: E402
 
 @pytest.fixture(autouse=True)
 def folder(monkeypatch):
-    """A new folder, in which the case runs. Any user may enter it."""
+    """A new folder in which the case runs. Any user may enter it."""
     with tempfile.TemporaryDirectory() as name:
         path = pathlib.Path(name)
         path.chmod(0o755)
@@ -21,7 +22,7 @@ def folder(monkeypatch):
 
 @pytest.fixture(scope="session")
 def work():
-    """A folder for what many cases use."""
+    """A folder for things that many cases use."""
     with tempfile.TemporaryDirectory() as name:
         path = pathlib.Path(name)
         path.chmod(0o755)
@@ -30,13 +31,14 @@ def work():
 
 @pytest.fixture(scope="session")
 def device(work):
-    """The library under which each call of the system fails, ends the program or is interrupted."""
+    """The library that makes a system call fail, kills the program at it, or interrupts it."""
     return programs.build_library("device/device.c", work / "device.so")
 
 
 @pytest.fixture(scope="session")
 def meeting(work):
-    """The library under which something meets a program at one of its calls of the file system."""
+    """The library that runs something else just before one of the program's calls of the file
+    system."""
     return programs.build_library("programs/meet.c", work / "meet.so")
 
 
@@ -47,22 +49,22 @@ def pytest_configure():
 
 
 def time_limit(item):
-    """The seconds that a case may take, if it says so."""
+    """The number of seconds that a case may take, if the case has a limit of its own."""
     marker = item.get_closest_marker("timeout")
     return marker.args[0] if marker else 0
 
 
 def pytest_collection_modifyitems(items):
-    """What may take long begins first, so that nothing has to wait for it at the end."""
+    """Cases that may take long start first, so that the run doesn't wait for them at its end."""
     items.sort(key=time_limit, reverse=True)
 
 
 @pytest.hookimpl(hookwrapper=True)
 def pytest_runtest_makereport(item):
-    """A case that is skipped has failed, unless the list has it."""
+    """A case that is skipped counts as failed, unless the list allows it."""
     outcome = yield
     report = outcome.get_result()
-    # xdist puts the name of a group after the case's name.
+    # xdist appends the name of a group to the case's name.
     name = item.nodeid.removesuffix("@alone")
     if report.skipped and name not in may_be_skipped():
         report.outcome = "failed"

@@ -1,8 +1,7 @@
-// Preloaded under a program, so that something else meets it at one of its calls of the file
-// system. The calls that are wrapped here are counted from 1. Just before the call whose number is
-// in MEET_AT, the shell runs what MEET says. The file that CALLS names gets a line for each call,
-// with the call's name and the names of files that it is about. Where the shell ran, it gets a line
-// `met` with the status of the shell.
+// Preloaded into a program, to run something else just before one of its calls of the file system.
+// The wrapped calls are counted from 1. Before the call whose number is in MEET_AT, the shell runs
+// the line in MEET. The file that CALLS names gets a line for each call, with its name and the
+// names of its files. Where the shell ran, it gets a line `met` with the shell's status.
 #define _GNU_SOURCE
 #include <dlfcn.h>
 #include <errno.h>
@@ -18,7 +17,7 @@
 
 #define NEXT(name) ((__typeof__(&name))dlsym(RTLD_NEXT, #name))
 
-// Writes a line to the file that CALLS names, by no call that is wrapped here.
+// Writes a line to the file that CALLS names, without any wrapped call.
 static void note(const char *format, ...) {
   char line[12288];
   va_list parts;
@@ -30,7 +29,7 @@ static void note(const char *format, ...) {
   syscall(SYS_close, fd);
 }
 
-// Notes a call and, if it is the one for it, lets the shell meet the program first.
+// Records a call. If it is the call in MEET_AT, runs the shell first.
 static void meet(const char *call, const char *first, const char *second) {
   static long calls;
   int error = errno;
@@ -52,7 +51,7 @@ ssize_t write(int fd, const void *from, size_t size) {
   return NEXT(write)(fd, from, size);
 }
 
-// Another name of the same call.
+// A second name of the same call.
 ssize_t __write(int fd, const void *from, size_t size) { return write(fd, from, size); }
 
 int open(const char *path, int flags, ...) {

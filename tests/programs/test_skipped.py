@@ -1,4 +1,4 @@
-"""The list of what may be skipped names cases that are there, each with a reason."""
+"""The list of cases that may be skipped names only existing cases, each with a reason."""
 import re
 
 from skips import FOLDER, may_be_skipped

@@ -13,13 +13,13 @@ use std::io::{Error, Result};
 /// The greatest ratio that passes.
 const RATIO: f64 = 2.6;
 
-/// Seconds on a processor that the smaller number of rows should take. Below this no ratio is
+/// The processor seconds that the smaller number of rows should take. For shorter times no ratio is
 /// printed.
 const WANTED: f64 = 0.03;
 const FLOOR: f64 = 0.02;
 
-/// How often each is measured; and how often at most if the ratio is too great, because other work
-/// on the machine can double a time.
+/// How often each command is measured. If the ratio is too great, it is measured again, at most
+/// `MOST_ROUNDS` times in all, because other work on the machine can double a time.
 const ROUNDS: usize = 2;
 const MOST_ROUNDS: usize = 6;
 
@@ -48,7 +48,7 @@ const fn command(name: &'static str, before: Option<&'static str>, words: &'stat
     Command { name, before, words }
 }
 
-/// The files of a shape, in the sizes that were asked for.
+/// The files of a shape, in the sizes that were needed.
 struct Folder<'a> {
     shape: &'a Shape,
     path: &'a str,
@@ -56,7 +56,7 @@ struct Folder<'a> {
 }
 
 impl Folder<'_> {
-    /// The path of the file that a word names. Any other word stays as it is.
+    /// The path of the file that a word names. Other words are unchanged.
     fn path(&self, word: &str, rows: usize) -> String {
         match word {
             "STATE" => format!("{}/own.state", self.path),
@@ -65,7 +65,7 @@ impl Folder<'_> {
         }
     }
 
-    /// Makes the files that the commands start from, with this many rows.
+    /// Makes the files with which the commands start, with this many rows.
     fn make(&mut self, rows: usize) -> Result<()> {
         if !self.made.insert(rows) {
             return Ok(());
@@ -91,7 +91,7 @@ impl Folder<'_> {
         answer.state.ok_or_else(|| Error::other(format!("{}: {}", self.shape.name, answer.errors)))
     }
 
-    /// The seconds on a processor of a command on this many rows, and what it printed.
+    /// The processor seconds of a command on this many rows, and its output.
     fn seconds(&mut self, program: &[&str], command: &Command, rows: usize) -> Result<(f64, String)> {
         self.make(rows)?;
         let own = self.path("STATE", rows);
@@ -107,7 +107,8 @@ impl Folder<'_> {
         }
     }
 
-    /// How many rows make a command take long enough to be measured, up to the most of the shape.
+    /// The number of rows on which a command takes long enough to be measured, but at most the most
+    /// rows of the shape.
     fn rows(&mut self, program: &[&str], command: &Command) -> Result<usize> {
         let mut rows = self.shape.least;
         loop {
@@ -121,7 +122,7 @@ impl Folder<'_> {
         }
     }
 
-    /// The least seconds of some rounds, with this many rows and with twice as many.
+    /// The least seconds of several rounds, with this many rows and with twice as many.
     fn growth(&mut self, program: &[&str], command: &Command, rows: usize) -> Result<[f64; 2]> {
         let mut least = [f64::INFINITY; 2];
         for round in 0..MOST_ROUNDS {
@@ -149,7 +150,7 @@ impl Folder<'_> {
         }
     }
 
-    /// Whether the shape has what a command reads.
+    /// Whether the shape has the files that a command reads.
     fn has(&self, command: &Command) -> bool {
         matches!(self.shape.makes, Makes::File(_)) || !command.words.contains(&"FILE")
     }
@@ -183,7 +184,7 @@ pub fn tables(program: &str, path: &str, words: &[&str]) -> Result<bool> {
     Ok(over.is_empty())
 }
 
-/// Prints the row of a command. Returns whether the program's time doesn't grow too fast.
+/// Prints the row of a command. Returns whether the program's time grows slowly enough.
 fn row(folder: &mut Folder, programs: [&[&str]; 2], command: &Command) -> Result<bool> {
     let mut rows = folder.rows(programs[0], command)?;
     folder.agree(programs, command, rows)?;
@@ -192,8 +193,8 @@ fn row(folder: &mut Folder, programs: [&[&str]; 2], command: &Command) -> Result
         rows *= 2;
         own = folder.growth(programs[0], command, rows)?;
     }
-    // A busy spell, or a step as when an allocator begins to ask the system for each block, doesn't
-    // show again with twice the rows.
+    // A busy moment of the machine doesn't recur with twice the rows. Nor does a step in the time,
+    // such as when an allocator begins to ask the system for each block.
     if own[1] > RATIO * own[0] {
         rows *= 2;
         own = folder.growth(programs[0], command, rows)?;

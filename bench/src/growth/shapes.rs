@@ -1,4 +1,4 @@
-//! Files and states of hostile shapes. The program accepts them all, and they would take it long if
+//! Files and states of hostile shapes. The program accepts all of them, and they would take long if
 //! its work grew with the square.
 
 use crate::plan::EXTRACT;
@@ -6,21 +6,21 @@ use crate::records::{Out, Record};
 use crate::shapes::letters;
 use std::io::Result;
 
-/// The place at which all meet, the day of the docker (2059-12-30), and the next day.
+/// The place at which all trains meet, the day of the docker (2059-12-30), and the next day.
 pub const PLACE: &str = "MEETING";
 pub const DATE: &str = "2059-12-30";
 pub const HORIZON: &str = "2059-12-31";
 const DAY: i32 = 36_523;
 
-/// How many first days a key may have. All are before the docker's day, so each schedule runs on
-/// it.
+/// The number of first days that a key may have. All are before the docker's day, so each schedule
+/// runs on that day.
 const FIRSTS: usize = 36_000;
 const STPS: &[u8; 3] = b"PNO";
 
-/// A shape, for any number of rows.
+/// A shape that can be made with any number of rows.
 pub struct Shape {
     pub name: &'static str,
-    /// How many rows are tried first, and the most.
+    /// The number of rows that is tried first, and the greatest number.
     pub least: usize,
     pub most: usize,
     pub makes: Makes,
@@ -29,7 +29,7 @@ pub struct Shape {
 pub enum Makes {
     /// Writes the units of a file, or of a newer one.
     File(fn(&mut Out, usize, bool) -> Result<()>),
-    /// A ledger with an entry for each of its items; the newer state has items between these.
+    /// A ledger with an entry for each of its items. The newer state has items between these.
     Ledger,
 }
 
@@ -84,8 +84,8 @@ fn uid(kind: u8, number: usize) -> [u8; 6] {
     [kind, a, b, c, d, e]
 }
 
-/// A basic schedule from a first day on. Some end on the docker's day, so that they lapse under a
-/// horizon.
+/// A basic schedule from this first day on. Some end on the docker's day, so that they lapse under
+/// a horizon.
 fn basic(uid: &[u8; 6], first: usize, stp: u8) -> Record {
     let mut record = Record::new(b"BS");
     record.at(3, b"N").at(4, uid).yymmdd(10, first as i32).at(16, b"999999").days(22, 0x7F).at(33, b"1A00").at(80, &[stp]);
@@ -95,7 +95,7 @@ fn basic(uid: &[u8; 6], first: usize, stp: u8) -> Record {
     record
 }
 
-/// The first or the last location of a journey.
+/// The origin or the terminus of a journey.
 fn end(identity: &[u8; 2], place: &[u8], time: usize) -> Record {
     let mut record = Record::new(identity);
     record.at(3, place).time(11, time as i32).public(16, None);
@@ -108,15 +108,15 @@ fn call(place: &[u8], suffix: u8, time: usize) -> Record {
     record
 }
 
-/// A schedule that leaves the place.
+/// A schedule whose train leaves the place.
 fn leaves(out: &mut Out, uid: &[u8; 6], first: usize, stp: u8) -> Result<()> {
     out.put(&basic(uid, first, stp))?;
     out.put(&end(b"LO", PLACE.as_bytes(), 1200))?;
     out.put(&end(b"LT", b"BEYOND", 1300))
 }
 
-/// The first day and the STP indicator of the key with this number in one UID or group. If that is
-/// full, the next is begun: the last number says how many are full.
+/// The first day and the STP indicator of the key with this number in one UID or group. When that
+/// is full, the next one begins: the last number says how many are full.
 fn of_one(number: usize) -> (usize, u8, usize) {
     (number / 3 % FIRSTS, STPS[number % 3], number / 3 / FIRSTS)
 }
@@ -146,7 +146,7 @@ fn one_uid(out: &mut Out, rows: usize, _: bool) -> Result<()> {
     })
 }
 
-/// Every other row is in the newer file.
+/// Every second row is in the newer file.
 fn two_states(out: &mut Out, rows: usize, newer: bool) -> Result<()> {
     (0..rows).try_for_each(|number| {
         let (first, stp, before) = of_one(2 * number + usize::from(newer));
@@ -154,7 +154,7 @@ fn two_states(out: &mut Out, rows: usize, newer: bool) -> Result<()> {
     })
 }
 
-/// One key that is new, revised and deleted in turn, and is put at the end.
+/// One key that is put, revised and deleted in turn, and that is put at the end.
 fn one_key(out: &mut Out, rows: usize, _: bool) -> Result<()> {
     for number in 0..rows {
         let left = (rows - 1 - number) % 3;
@@ -186,7 +186,7 @@ fn both_ends(out: &mut Out, rows: usize, _: bool) -> Result<()> {
 
 // ---------------------------------------------------------------- calls and places
 
-/// A schedule of this many calls. The place of each depends on its number.
+/// A schedule with this many calls. The place of each call depends on its number.
 fn calls(out: &mut Out, rows: usize, place: impl Fn(usize) -> [u8; 7]) -> Result<()> {
     out.put(&basic(&uid(b'A', 0), 0, b'P'))?;
     out.put(&end(b"LO", PLACE.as_bytes(), 1200))?;
@@ -203,7 +203,7 @@ fn many_places(out: &mut Out, rows: usize, _: bool) -> Result<()> {
 }
 
 /// Places that share one slot of the memo in which `cif_change` keeps where it last found a place.
-/// The slot is the highest sixteen bits of a product.
+/// The slot is given by the highest sixteen bits of a product.
 fn one_slot(out: &mut Out, rows: usize, _: bool) -> Result<()> {
     let slot = |code: &[u8; 7]| {
         let [a, b, c, d, e, f, g] = *code;
@@ -230,7 +230,7 @@ fn one_group(out: &mut Out, rows: usize, _: bool) -> Result<()> {
     leaves(out, &uid(b'B', 0), 0, b'P')
 }
 
-/// One pair of trains, whose base train calls twice.
+/// One pair of trains. The base train calls twice.
 fn two_suffixes(out: &mut Out, rows: usize, _: bool) -> Result<()> {
     for number in 0..rows {
         let (first, stp, before) = of_one(number / 6 * 3 + number % 3);
@@ -262,7 +262,7 @@ fn partners(out: &mut Out, rows: usize, suffix: u8) -> Result<()> {
     (0..rows).try_for_each(|number| out.put(&link(&uid(b'A', 0), &uid(b'B', number), 0, suffix, b'P')))
 }
 
-/// A base train that calls there after as many other calls as it has partners.
+/// A base train that calls at the place after other calls, as many as it has partners.
 fn behind(out: &mut Out, rows: usize, other: &Record) -> Result<()> {
     partners(out, rows, b'2')?;
     out.put(&basic(&uid(b'A', 0), 0, b'P'))?;
@@ -287,11 +287,11 @@ fn base_of_schedules(out: &mut Out, rows: usize, newer: bool) -> Result<()> {
 
 // ---------------------------------------------------------------- ledgers
 
-/// The text of a state of this many files, each of which deleted a TIPLOC; or of as many files
-/// between those.
+/// The text of a state that knows this many files, each of which deleted a TIPLOC. If `between`,
+/// its files lie between the files of the other state.
 pub fn ledger(files: usize, between: bool) -> Vec<u8> {
     let count = (files as u64).to_be_bytes();
-    // Two files a minute, from 1984 on.
+    // Two files per minute, from 1984 on.
     let stamp = |number: usize| {
         let moment = 9_000 * 1440 + number;
         let letter = if between { b'B' } else { b'A' };

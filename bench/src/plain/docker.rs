@@ -1,4 +1,4 @@
-//! The docker of an excerpt.
+//! Makes the docker of an excerpt.
 
 use super::excerpt::{Calls, Event, Excerpt, Link, Train, DAYS, TODAY};
 use super::fields::{at, iso, pair};
@@ -6,16 +6,16 @@ use super::key::{Item, FILE_STAMP};
 use std::cmp::Reverse;
 use std::collections::HashMap;
 
-/// A line as it is printed, of 56 columns and a line feed.
+/// A printed line of 56 columns, with its line feed.
 type Text = [u8; 57];
 
 struct Line {
-    /// Time, kind, UID, start day, number of the event, associated UID.
+    /// The sort key: time, kind, UID, start day, number of the event, associated UID.
     order: (u16, usize, [u8; 6], usize, u64, [u8; 6]),
     text: Text,
 }
 
-/// A line of spaces with some texts, each from its column on. Columns count from 1.
+/// A line of spaces with these texts, each from its column on. Columns count from 1.
 fn columns<const N: usize>(texts: &[(usize, &[u8])]) -> [u8; N] {
     let mut line = [b' '; N];
     line[N - 1] = b'\n';
@@ -79,8 +79,8 @@ fn kind_rank(kind: u8) -> usize {
     b"APJVND".iter().position(|&letter| letter == kind).unwrap_or(6)
 }
 
-/// The row that counts on the day with this index. Of the rows that run then it is the one with the
-/// least STP indicator and, among equals, the latest first day. None if that is a cancellation.
+/// The row that is chosen on the day with this index. Of the rows that run, it has the lowest STP
+/// indicator and, among equal ones, the latest first day. None if the chosen row is a cancellation.
 fn chosen<T>(rows: &[T], index: usize, choice: impl Fn(&T) -> (u8, u8, u16)) -> Option<&T> {
     let running = rows.iter().filter(|row| choice(row).0 >> index & 1 == 1);
     let best = running.min_by_key(|row| {
@@ -90,14 +90,14 @@ fn chosen<T>(rows: &[T], index: usize, choice: impl Fn(&T) -> (u8, u8, u16)) -> 
     best.filter(|row| choice(row).1 != b'C')
 }
 
-/// The train of a UID on each of the days.
+/// The train of a UID on each of the days, if it runs.
 type Running<'a> = [Option<&'a Train>; DAYS];
 
 fn running(rows: &[Train]) -> Running<'_> {
     std::array::from_fn(|index| chosen(rows, index, |train| (train.runs, train.stp, train.first)))
 }
 
-/// The trains by UID. Whatever was looked up for a UID once is kept.
+/// The trains by UID. The result of each lookup is kept.
 struct Trains<'a> {
     rows: &'a [Train],
     known: HashMap<[u8; 6], Running<'a>>,
@@ -113,7 +113,7 @@ impl<'a> Trains<'a> {
     }
 }
 
-/// The text of the docker.
+/// The text of a docker.
 pub fn docker(excerpt: &Excerpt) -> String {
     let mut lines = Vec::new();
     for rows in excerpt.trains.chunk_by(|one, other| one.uid == other.uid) {
@@ -122,7 +122,7 @@ pub fn docker(excerpt: &Excerpt) -> String {
         }
     }
     let mut trains = Trains { rows: &excerpt.trains, known: HashMap::new() };
-    // Base UID, associated UID and base suffix. In the key, the first days come between them.
+    // Base UID, associated UID and base suffix. In the key, the first day comes between them.
     let group = |link: &Link| (at::<12>(&link.key, 1), link.key[22]);
     let mut links: Vec<&Link> = excerpt.links.iter().collect();
     links.sort_by_key(|link| group(link));
@@ -156,7 +156,7 @@ fn add_events(lines: &mut Vec<Line>, running: &Running) {
     }
 }
 
-/// The line of a group of associations whose base train starts on the day with this index.
+/// The line of a group of associations, for a base train that starts on the day with this index.
 fn link_line(trains: &mut Trains, rows: &[&Link], index: usize) -> Option<Line> {
     let link = chosen(rows, index, |link| (link.runs, link.key[23], pair(&link.key, 13)))?;
     let kind = match &link.category {

@@ -1,4 +1,5 @@
-//! What the docker of one place and day is made of, taken from changes or entries as they are read.
+//! The material of the docker of one place and day, collected from changes or entries while they
+//! are read.
 
 use super::fields::{at, pair, LAST_DAY};
 use super::keeper::{Act, Keeper};
@@ -6,16 +7,16 @@ use super::key::{Key, Stamp, ASSOCIATION, SCHEDULE, TIPLOC};
 use crate::judge::judged_time;
 use std::collections::HashSet;
 
-/// How many days count: from three days before the docker's day to the day after it. Trains of a
-/// docker start on that day or on the two days before, and an associated train up to a day before
-/// or after its base.
+/// The number of days that count: from three days before the docker's day to the day after it.
+/// Trains on a docker start on that day or on the two days before. An associated train starts at
+/// most one day before or after its base train.
 pub const DAYS: usize = 5;
 
-/// The index of the docker's day among them.
+/// The index of the docker's day among these days.
 pub const TODAY: usize = 3;
 
 /// An event at the place: its record, its kind and time, the train's identity there, and how often
-/// the times fell before it.
+/// the times have fallen before it.
 pub struct Event {
     pub number: u64,
     pub kind: u8,
@@ -25,7 +26,7 @@ pub struct Event {
     pub line: [u8; 80],
 }
 
-/// The events of a train at the place, and where it begins and ends.
+/// The events of a train at the place, and the train's origin and destination.
 #[derive(Default)]
 pub struct Calls {
     pub origin: Option<[u8; 7]>,
@@ -35,7 +36,8 @@ pub struct Calls {
     pub firsts: Vec<usize>,
 }
 
-/// A schedule, the days on which it runs, and its calls at the place. A deleted one runs on none.
+/// A schedule, the days on which it runs, and its calls at the place. A deleted schedule runs on no
+/// day.
 pub struct Train {
     pub uid: [u8; 6],
     pub first: u16,
@@ -59,25 +61,25 @@ pub struct Excerpt {
     pub description: Option<[u8; 26]>,
     pub links: Vec<Link>,
     pub trains: Vec<Train>,
-    /// For a state, whose keys come in order: the UIDs that associations name. They come before the
-    /// schedules.
+    /// Only for a state, whose keys come in order: the UIDs that associations name. Associations
+    /// come before the schedules.
     partners: Option<HashSet<[u8; 6]>>,
-    /// The walk over the schedule whose lines are coming.
+    /// The walk over the schedule whose lines are being read.
     walk: Option<Walk>,
 }
 
 impl Excerpt {
-    /// For a file, in which a key may come more than once.
+    /// Starts an excerpt of a file, in which a key may come more than once.
     pub fn of_file(place: [u8; 7], day: u16) -> Excerpt {
         Excerpt { place, day, description: None, links: Vec::new(), trains: Vec::new(), partners: None, walk: None }
     }
 
-    /// For a state.
+    /// Starts an excerpt of a state.
     pub fn of_state(place: [u8; 7], day: u16) -> Excerpt {
         Excerpt { partners: Some(HashSet::new()), ..Excerpt::of_file(place, day) }
     }
 
-    /// The associations and the trains in order, with what came last for each key.
+    /// The associations and the trains in order, each with the last change of its key.
     pub fn finish(mut self) -> Excerpt {
         self.close();
         self.links.sort_by(|one, other| one.key.cmp(&other.key));
@@ -94,7 +96,7 @@ impl Excerpt {
         }
     }
 
-    /// On which of the days something runs that has this first and last day and these marks.
+    /// The days, as bits, on which a row runs that has this first and last day and these days run.
     fn runs(&self, first: u16, last: u16, marks: &[u8]) -> u8 {
         let mut runs = 0;
         for index in 0..DAYS as u16 {
@@ -131,15 +133,16 @@ impl Excerpt {
         if self.partners.is_some() && train.runs == 0 {
             return;
         }
-        // Its lines are needed if it starts on the day or on one of the two days before.
+        // The lines are needed if the schedule starts on the docker's day or on one of the two days
+        // before.
         if train.runs & 0b1110 > 0 {
             self.walk = Some(Walk::new(train.identity));
         }
         self.trains.push(train);
     }
 
-    /// If keys come in order, drops the trains of the UID before as soon as another UID comes,
-    /// unless the docker needs them.
+    /// If keys come in order, drops the trains of the last UID when another UID comes, unless the
+    /// docker needs them.
     fn forget_before(&mut self, uid: &[u8; 6]) {
         let (Some(partners), Some(last)) = (&self.partners, self.trains.last()) else { return };
         if last.uid == *uid || partners.contains(&last.uid) {
@@ -152,7 +155,7 @@ impl Excerpt {
     }
 }
 
-/// Whether two rows have one key. The later one replaces the earlier.
+/// Whether two rows have the same key. Then the later one replaces the earlier one.
 fn replaces<T, K: PartialEq>(later: &mut T, earlier: &mut T, key: impl Fn(&T) -> K) -> bool {
     let same = key(later) == key(earlier);
     if same {
@@ -245,7 +248,7 @@ impl Walk {
         });
     }
 
-    /// The calls at the place; none if there are none.
+    /// The calls at the place; `None` if there are none.
     fn finish(self) -> Option<Calls> {
         (!self.calls.events.is_empty()).then_some(self.calls)
     }

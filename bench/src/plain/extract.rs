@@ -8,11 +8,11 @@ use super::Stop;
 use crate::judge::{Judge, LIMIT};
 use std::io::Read;
 
-/// Gives a keeper the changes of records that were judged before.
+/// Passes the changes of records that were already judged to a keeper.
 struct Changes<'a, K> {
     item: Item,
     record: u32,
-    /// Whether the lines that are coming belong to a schedule that was put.
+    /// Whether the lines being read belong to a schedule that was put.
     open: bool,
     keeper: &'a mut K,
 }
@@ -41,7 +41,7 @@ impl<K: Keeper> Changes<'_, K> {
         }
     }
 
-    /// Takes a record that is a unit by itself, or the header or the trailer.
+    /// Takes a record that is a whole unit, or the header or the trailer.
     fn single(&mut self, line: &[u8]) {
         match &line[..2] {
             b"HD" => self.item = key::item(line),
@@ -59,8 +59,8 @@ impl<K: Keeper> Changes<'_, K> {
         }
     }
 
-    /// What a line does that has its end date at this index. It is kept with the transaction of a
-    /// new record.
+    /// The change of a line that has its end date at this index. The line is kept with the
+    /// transaction of a new record.
     fn change_or_delete(&mut self, key: &Key, line: &[u8], end_at: usize) {
         if line[2] == b'D' {
             return self.change(key, Act::Delete);
@@ -72,7 +72,7 @@ impl<K: Keeper> Changes<'_, K> {
     }
 }
 
-/// Reads a file to its end or its fault, and returns its ledger item.
+/// Reads a file until its end or its first fault, and returns its ledger item.
 pub fn read(from: impl Read, keeper: &mut impl Keeper) -> Result<Item, Stop> {
     let mut source = Source::new(from);
     let mut judge = Judge::new(LIMIT);

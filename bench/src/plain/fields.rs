@@ -1,6 +1,6 @@
 //! Fields of records, as numbers and bytes.
 
-/// The number for no end, of an end date or of what has no end date.
+/// The day number that stands for no end: of an end date, or of something without an end date.
 pub const NO_END: u16 = 65_535;
 
 /// The number of the last day, 2059-12-31.
@@ -24,8 +24,8 @@ fn two(digits: &[u8]) -> u16 {
 
 const BEFORE_MONTH: [u16; 12] = [0, 31, 59, 90, 120, 151, 181, 212, 243, 273, 304, 334];
 
-/// The day number of a year of two digits, a month and a day, which are a date. Every fourth year
-/// is a leap year; 1960 is the first.
+/// The day number of a year of two digits, a month and a day, which must be a date. Every fourth
+/// year is a leap year, from 1960 on.
 fn number(year: &[u8], month: &[u8], day: &[u8]) -> u16 {
     let years = (two(year) + 40) % 100;
     let month = usize::from(two(month)) - 1;
@@ -52,7 +52,7 @@ pub fn end(field: &[u8]) -> u16 {
     }
 }
 
-/// The day number of a date YYYY-MM-DD; none unless it is a date from 1960 to 2059.
+/// The day number of a date YYYY-MM-DD; none if it isn't a date from 1960 to 2059.
 pub fn iso_number(date: &str) -> Option<u16> {
     let bytes = date.as_bytes();
     let digits = |from: usize, to: usize| bytes.get(from..to).filter(|part| part.iter().all(u8::is_ascii_digit));

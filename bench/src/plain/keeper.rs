@@ -1,22 +1,22 @@
-//! What files and states are read into.
+//! The interface through which files and states are read.
 
 use super::key::{Key, Stamp};
 
-/// What becomes of a key.
+/// A change of a file, or an entry of a state, without its key.
 #[derive(Clone, Copy)]
 pub enum Act<'a> {
     Delete,
     Lapse,
-    /// The last day of what is put, and its bytes. For a schedule these are its first line.
+    /// The last day of what is put, and its bytes. For a schedule, the bytes are its first line.
     Put(u16, &'a [u8]),
 }
 
-/// Is given the changes of a file or the entries of a state as they are read, and keeps what it
+/// Receives the changes of a file or the entries of a state while they are read, and keeps what it
 /// needs of them.
 pub trait Keeper {
     fn change(&mut self, key: &Key, stamp: &Stamp, act: Act);
 
-    /// The next line of the schedule that was put last.
+    /// The next line of the last schedule that was put.
     fn line(&mut self, line: &[u8]);
 }
 

@@ -1,15 +1,16 @@
-//! Keys, stamps and ledger items as the bytes of a state's text. These have the same order as what
-//! they mean.
+//! Keys, stamps and ledger items as the bytes of a state's text. Comparing the bytes gives the same
+//! order as comparing what they mean.
 
 use super::fields::{day, day_first};
 
-/// A tag and the key after it, with zeros at the end.
+/// A tag and the key after it, padded with zeros at the end.
 pub type Key = [u8; 24];
 
-/// Day, minute and reference of a file, and the number of a record in it.
+/// The day, minute and reference of a file, and the number of a record in it.
 pub type Stamp = [u8; 15];
 
-/// Day, minute and reference of a file, its update indicator, and the reference of the last file.
+/// The day, minute and reference of a file, its update indicator, and the reference of the last
+/// file.
 pub type Item = [u8; 19];
 
 pub const FILE_STAMP: usize = 11;
@@ -18,7 +19,7 @@ pub const TIPLOC: u8 = 1;
 pub const ASSOCIATION: u8 = 2;
 pub const SCHEDULE: u8 = 3;
 
-/// How many bytes a key with this tag has, the tag included.
+/// The number of bytes of a key with this tag, including the tag.
 pub fn width(tag: u8) -> usize {
     match tag {
         TIPLOC => 8,

@@ -1,7 +1,7 @@
 //! The program written plainly, without proofs: for the same words it gives the same bytes. It
-//! reads each source once. It keeps nothing of it, or an excerpt, if that is enough; otherwise it
-//! keeps the entries in one arena. Its answers and its times are compared with the program's. It
-//! doesn't check words, and it doesn't read standard input.
+//! reads each source once. Of a source it keeps nothing, or only an excerpt, if that is enough;
+//! otherwise it keeps the entries in one arena. Its answers and its times are compared with the
+//! program's. It doesn't check words, and doesn't read standard input.
 
 mod docker;
 mod excerpt;
@@ -21,8 +21,7 @@ use std::fs::{self, File};
 use std::io::{self, BufWriter, Read};
 use text::{Format, StateFault};
 
-/// What a command answers: its status, its standard output, its standard error, and what STATE
-/// becomes.
+/// The answer of a command: its status, its standard output, its standard error, and the new STATE.
 #[derive(Debug, Default, PartialEq, Eq)]
 pub struct Answer {
     pub status: u8,
@@ -31,7 +30,7 @@ pub struct Answer {
     pub state: Option<Vec<u8>>,
 }
 
-/// Why a command isn't done: a device failed, or this line goes to standard error.
+/// Why a command isn't done: a device failed, or this line is written to standard error.
 pub enum Stop {
     Device(io::Error),
     Refused(String),
@@ -55,13 +54,13 @@ impl From<StateFault> for Stop {
     }
 }
 
-/// What a command prints, or what STATE becomes.
+/// What a command prints, or the new STATE.
 enum Done {
     Printed(String),
     Kept(State),
 }
 
-/// Does what the words ask for. The files come in the order of the words.
+/// Does what the words ask for. The files are in the order of the words.
 fn perform<R: Read>(words: &[&str], files: Vec<R>) -> Result<Done, Stop> {
     let mut files = files.into_iter();
     let mut file = || files.next().expect("a file for each path");
@@ -104,7 +103,7 @@ fn check(mut file: impl Read) -> Result<String, Stop> {
     Ok(line_of(&Ok(counts)))
 }
 
-/// The state whose text is in a file.
+/// Reads the state whose text is in a file.
 fn own(file: impl Read, format: Format) -> Result<State, Stop> {
     let mut state = State::default();
     (state.horizon, state.ledger) = text::read(file, format, &mut state.table)?;
@@ -121,7 +120,7 @@ fn take(state: impl Read, file: impl Read) -> Result<State, Stop> {
     Ok(state)
 }
 
-/// The docker of a state, unless the day is before the horizon plus three days.
+/// The docker of a state. Refuses a day before the horizon plus three days.
 fn print(file: impl Read, place: [u8; 7], day: u16) -> Result<String, Stop> {
     let mut excerpt = Excerpt::of_state(place, day);
     let (horizon, _) = text::read(file, Format::Dks2, &mut excerpt)?;
@@ -131,7 +130,7 @@ fn print(file: impl Read, place: [u8; 7], day: u16) -> Result<String, Stop> {
     Ok(docker::docker(&excerpt.finish()))
 }
 
-/// What a command answers, given the bytes of its files in the order of its words.
+/// The answer of a command, given the bytes of its files in the order of its words.
 pub fn answer(words: &[&str], files: &[Vec<u8>]) -> Answer {
     match perform(words, files.iter().map(Vec::as_slice).collect()) {
         Ok(Done::Printed(output)) => Answer { output, ..Answer::default() },

@@ -1,12 +1,11 @@
-//! Bytes that are read piece by piece, and taken line by line or part by part.
+//! Reads bytes piece by piece, to be taken line by line or part by part.
 
 use crate::judge::end_of_line;
 use std::io::{Read, Result};
 
 const ROOM: usize = 1 << 18;
 
-/// How many bytes of a line are looked at, at most. No record has more than 80 and a carriage
-/// return.
+/// How many bytes of a line are looked at, at most. A record has 80, and perhaps a carriage return.
 const LONGEST: usize = 82;
 
 pub struct Source<R> {
@@ -14,7 +13,7 @@ pub struct Source<R> {
     buffer: Vec<u8>,
     begin: usize,
     end: usize,
-    /// How many bytes were taken.
+    /// How many bytes were taken so far.
     pub used: u64,
 }
 
@@ -23,7 +22,7 @@ impl<R: Read> Source<R> {
         Source { from, buffer: vec![0; ROOM], begin: 0, end: 0, used: 0 }
     }
 
-    /// Whether this many bytes are left. If so, they are in the buffer afterwards.
+    /// Whether this many bytes are left. If so, they are in the buffer after the call.
     #[inline]
     pub fn has(&mut self, length: usize) -> Result<bool> {
         if self.end - self.begin < length {
@@ -32,7 +31,7 @@ impl<R: Read> Source<R> {
         Ok(self.end - self.begin >= length)
     }
 
-    /// Reads until this many bytes are in the buffer, or to the end.
+    /// Reads until this many bytes are in the buffer, or until the end.
     fn fill(&mut self, length: usize) -> Result<()> {
         self.buffer.copy_within(self.begin..self.end, 0);
         self.end -= self.begin;
@@ -46,7 +45,7 @@ impl<R: Read> Source<R> {
         Ok(())
     }
 
-    /// The next bytes, which are in the buffer already.
+    /// The next bytes, which must already be in the buffer.
     #[inline]
     pub fn take(&mut self, length: usize) -> &[u8] {
         let begin = self.begin;
@@ -55,8 +54,8 @@ impl<R: Read> Source<R> {
         &self.buffer[begin..begin + length]
     }
 
-    /// The next line without its line feed. A line that is too long for a record is cut, but not so
-    /// short that it could be one.
+    /// The next line without its line feed. A line that is too long for a record is cut, but
+    /// remains too long.
     pub fn line(&mut self) -> Result<Option<&[u8]>> {
         self.has(LONGEST)?;
         let ahead = &self.buffer[self.begin..self.end.min(self.begin + LONGEST)];

@@ -1,4 +1,4 @@
-//! What an office knows, from the newest full extract on: a ledger item for each file, and the
+//! What an office knows from the newest full extract on: a ledger item for each file, and the
 //! greatest entry for each key.
 
 use super::keeper::{Act, Keeper};
@@ -14,7 +14,7 @@ pub const LAPSED: u8 = 2;
 /// How many bytes of an entry come before its body: its stamp and its op.
 const HEAD: usize = 16;
 
-/// A key, where its entry is in the arena, and the day on which that ends.
+/// A key, the position of its entry in the arena, and the last day of what it puts.
 #[derive(Clone, Copy)]
 struct Row {
     key: Key,
@@ -23,7 +23,7 @@ struct Row {
     end: u16,
 }
 
-/// The entries in one arena, each with stamp, op and body, and a row for each.
+/// The entries in one arena, each with its stamp, op and body, and a row for each entry.
 #[derive(Default)]
 pub struct Table {
     arena: Vec<u8>,
@@ -53,7 +53,8 @@ impl Keeper for Table {
 }
 
 impl Table {
-    /// Sorts the changes of a file, and leaves the last one for each key, which is the greatest.
+    /// Sorts the changes of a file, and keeps only the last change of each key, which is the
+    /// greatest.
     pub fn sort(&mut self) {
         self.rows.sort_by(|one, other| one.key.cmp(&other.key));
         self.rows.dedup_by(|later, earlier| {

@@ -1,18 +1,18 @@
-//! A session on the real devices.
+//! Runs a session on the real devices.
 use docker_desk::serve;
 use docker_host::{Host, InputDevice, OutputDevice, RealFolder, hold_standard};
 use docker_program::{Fault, JobFault, own_words, tell};
 use std::process::ExitCode;
 
-/// Serves a desk with the program's words, standard input, output and error, and returns its exit
-/// status.
+/// Serves a session with the words, the standard streams and the files that the system gives the
+/// program. Returns the exit status.
 pub fn run(rt: &HostRuntime) -> ExitCode {
     let _standard = hold_standard(rt);
     ExitCode::from(serve_own_words(rt))
 }
 
-/// Serves what the program's own words ask for, if they can be had. A word that is no text asks for
-/// as little as no words do.
+/// Serves a session with the words that the system gives the program. If a word isn't valid UTF-8,
+/// it serves a session without words, which ends with the usage line.
 fn serve_own_words(rt: &HostRuntime) -> u8 {
     match own_words(rt).and_then(|words| serve_strings(rt, words.as_slice())) {
         Ok(status) => status,
@@ -21,13 +21,14 @@ fn serve_own_words(rt: &HostRuntime) -> u8 {
     }
 }
 
-/// Serves a desk with these words. Returns `Memory` if there is no room to pass them on.
+/// Serves a session with these words. Fails with `Memory` if there is no memory for the list of
+/// borrowed words.
 fn serve_strings(rt: &HostRuntime, words: &[String]) -> Result<u8, JobFault> {
     let words: Vec<&str> = words.iter().map(|word| word.as_str()).collect(rt.alloc())?;
     Ok(serve_words(rt, words.as_slice()))
 }
 
-/// Serves a desk with these words instead of the program's own.
+/// Serves a session with these words on the real devices.
 fn serve_words(rt: &HostRuntime, words: &[&str]) -> u8 {
     let mut host = Host {
         input: InputDevice::stdin(rt),

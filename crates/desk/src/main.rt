@@ -1,4 +1,4 @@
-//! `desk`: keeps what an office knows in memory, and answers one request a line.
+//! The program `desk`: keeps an office's state in memory, and answers one request per line.
 #![tactic(auto)]
 
 mod host;

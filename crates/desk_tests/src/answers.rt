@@ -1,4 +1,4 @@
-//! The bytes of answers.
+//! Tests of the bytes of answers.
 ghost use Rattle.std.specs.Prelude.{◌<◌};
 
 use crate::compare::{same, same_in};
@@ -11,13 +11,13 @@ use docker_office::{StateCause, StateFault};
 use std::alloc::Global;
 use std::process::Abort;
 
-/// More bytes than an answer of these rows has.
+/// More bytes than any answer here has.
 const ROOM: usize = 1000;
 
-/// A status, a text, and the bytes of the answer with them.
+/// A row: a status, a text, and the bytes of the answer.
 type Row = (u8, &'static str, &'static str);
 
-/// Asserts the bytes of the answer with a status and a text.
+/// Asserts the bytes of the answer in this row.
 fn is_answer(rt: &impl Abort, alloc: Global, row: &Row) {
     let (status, text, bytes) = *row;
     let mut kept = Kept::new(alloc, ROOM).expect(rt, "room");
@@ -26,7 +26,8 @@ fn is_answer(rt: &impl Abort, alloc: Global, row: &Row) {
     same_in(rt, text, kept.bytes(), bytes.as_bytes());
 }
 
-/// Answers with their lines and bytes counted: no text, text without a line feed, and lines.
+/// Rows of answers whose lines and bytes are counted: without a text, with a text that has no line
+/// feed, and with lines.
 const COUNTED: &[Row] = &[
     (0, "", "0 0 0\n"),
     (4, "", "4 0 0\n"),
@@ -63,17 +64,17 @@ pub(crate) fn answers(rt: &impl Abort, alloc: Global, answer: &Answer, wanted: &
     same(rt, kept.bytes(), wanted.as_bytes());
 }
 
-/// Asserts the bytes of the answer to a request that is refused.
+/// Asserts the bytes of the answer to a refused request.
 fn refuses(rt: &impl Abort, alloc: Global, fault: OfficeFault, wanted: &str) {
     answers(rt, alloc, &Answer::Refused(fault), wanted);
 }
 
-/// A file that is refused at this record.
+/// The fault of a file that is refused at this record.
 fn file_fault(number: u32, cause: FileCause) -> OfficeFault {
     OfficeFault::File(FileFault { number, cause })
 }
 
-/// A state that is refused at this offset.
+/// The fault of a state that is refused at this offset.
 fn state_fault(at: u64, cause: StateCause) -> OfficeFault {
     OfficeFault::State(StateFault { at, cause })
 }
@@ -104,7 +105,7 @@ fn answers_to_refused_requests(rt: HostRuntime) {
     refuses(&rt, alloc, state_fault(0, StateCause::Mark), mark);
 }
 
-/// Pieces, and the answer with their bytes as its text.
+/// Writes pieces on a page, and checks the answer that has the page as its text.
 #[test]
 fn an_answer_with_a_text(rt: HostRuntime) {
     let mut page = Page::new(rt.alloc());
@@ -115,8 +116,8 @@ fn an_answer_with_a_text(rt: HostRuntime) {
     answers(&rt, rt.alloc(), &Answer::Text(page), "0 2 8\none\ntwo\n");
 }
 
-/// Writes the usage answer to a sink that takes one byte per write and fails at this write. Returns
-/// the result and the sink.
+/// Writes the usage answer to a sink that takes one byte per write. Only the write with this number
+/// fails. Returns the result and the sink.
 fn broken_at(rt: &impl Abort, alloc: Global, write: u64) -> (Result<(), Failed>, Fuse<Kept>)
     requires { 0 < write }
 {
@@ -126,8 +127,8 @@ fn broken_at(rt: &impl Abort, alloc: Global, write: u64) -> (Result<(), Failed>,
     (done, sink)
 }
 
-/// Asserts that a sink that fails at this write has the bytes before it, and that the failure is
-/// reported.
+/// Asserts that a sink whose write with this number fails has the bytes before it, and that the
+/// failure is reported.
 fn stops_at(rt: &impl Abort, alloc: Global, write: u64, bytes: &str)
     requires { 0 < write }
 {

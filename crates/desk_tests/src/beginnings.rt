@@ -1,4 +1,4 @@
-//! Sessions that can't begin.
+//! Tests of sessions that can't begin.
 
 ghost use Rattle.std.specs.Prelude.{◌≡◌};
 
@@ -16,15 +16,15 @@ use std::process::Abort;
 /// The input of a session that can't begin.
 const INPUT: &[u8] = b"files\nsave\n";
 
-/// The line for words that name no session.
+/// The line that reports words that aren't the words of a session.
 const USAGE_LINE: &str = "\
 desk: usage: [--write] STATE, and then a line for each request: print TIPLOC DATE \
 | permanent TIPLOC DATE | train UID DATE | files | places | known | renew \
 | with --write take FILE | merge OTHER | horizon DATE | save
 ";
 
-/// Asserts the status and the line of faults of a session over this folder that can't begin. It
-/// reads nothing of its input, answers nothing, and leaves this text in the file `S`.
+/// Asserts the status and the reported line of a session over this folder that can't begin. It must
+/// read no input, write no answer, and leave this text in the file `S`.
 fn can_t_begin(
     rt: &impl Abort,
     alloc: Global,
@@ -49,13 +49,13 @@ fn can_t_begin(
     same(rt, text_of(&host.folder), text);
 }
 
-/// Asserts the line of faults of a session that can't begin because its state's file has this text.
+/// Asserts the reported line of a session that can't begin because the file `S` has this text.
 fn refuses_text(rt: &impl Abort, alloc: Global, words: &[&str], text: &[u8], line: &str) {
     let folder = shelf_with(rt, alloc, "S", text);
     can_t_begin(rt, alloc, words, folder, (1, line, text));
 }
 
-/// Words that name no session.
+/// Words that aren't the words of a session.
 const OTHER_WORDS: &[&[&str]] = &[
     &[],
     &[""],

@@ -1,5 +1,5 @@
-//! Rows compare values with these functions, which end the test if the values differ. An assertion
-//! in its own function is proved once for all rows.
+//! Comparisons for tests: each ends the test if two values differ. An assertion in a function of
+//! its own is proved once for all tests.
 
 use std::fmt::Debug;
 use std::process::Abort;
@@ -9,7 +9,7 @@ pub(crate) fn same<T: PartialEq + Debug + Drop>(rt: &impl Abort, got: T, wanted:
     assert_eq!(rt; got, wanted);
 }
 
-/// Asserts that two values are equal, in a row with this name.
+/// Asserts that two values are equal. The message of a failure has this name.
 pub(crate) fn same_in<T: PartialEq + Debug + Drop>(rt: &impl Abort, name: &str, got: T, wanted: T) {
     assert_eq!(rt; got, wanted, "{name}");
 }

@@ -1,4 +1,4 @@
-//! What a desk prints, and the desks that the rows begin with.
+//! Tests of what a desk prints, and the desks with which tests start.
 
 use crate::answers::answers;
 use crate::compare::same;
@@ -12,7 +12,7 @@ use docker_office::Office;
 use std::alloc::Global;
 use std::process::Abort;
 
-/// The desk of an office that reads this state.
+/// A desk whose office has read this state.
 pub(crate) fn desk_of(rt: &impl Abort, alloc: Global, state: Parts) -> Desk {
     let text = state_text(rt, alloc, state);
     let mut office = Office::new(alloc);
@@ -26,14 +26,14 @@ pub(crate) fn day_of(rt: &impl Abort, date: &str) -> Day {
     Day::from_iso(date).expect(rt, "a day")
 }
 
-/// Asserts the bytes of a desk's answer to a request for the docker of Ashfeld on a day.
+/// Asserts the answer of a desk to a request for the docker of Ashfeld on this day.
 pub(crate) fn prints(rt: &impl Abort, alloc: Global, desk: &Desk, date: &str, wanted: &str) {
     let place = Tiploc::from_text("ASHFELD").expect(rt, "a TIPLOC");
     answers(rt, alloc, &desk.print(&place, day_of(rt, date)), wanted);
 }
 
-/// Asserts, of a desk that isn't used any more, whether something is unsaved, and the state that it
-/// saves.
+/// Asserts whether a desk has unsaved changes, and which state it then saves. The desk isn't used
+/// after that.
 pub(crate) fn ends(rt: &impl Abort, alloc: Global, mut desk: Desk, unsaved: bool, state: Parts) {
     same(rt, desk.is_unsaved(), unsaved);
     let mut folder = shelf_with(rt, alloc, "S", b"");

@@ -1,6 +1,6 @@
-//! The answers, and the lines of faults, that the rows expect, worked out by hand.
+//! The answers and the reported lines that tests expect, worked out by hand.
 
-/// The line that answers a line that asks for nothing: 217 bytes.
+/// The usage line, which answers a line that isn't a request: 217 bytes.
 pub(crate) const USAGE: &str = "\
 2 1 217
 desk: usage: [--write] STATE, and then a line for each request: print TIPLOC DATE \
@@ -8,7 +8,7 @@ desk: usage: [--write] STATE, and then a line for each request: print TIPLOC DAT
 | with --write take FILE | merge OTHER | horizon DATE | save
 ";
 
-/// The answer of the desk that knows the morning train, for Ashfeld on 10 June.
+/// The docker of Ashfeld on 10 June, from a desk that knows the morning train.
 pub(crate) const ANSWER_0900: &str = "\
 0 3 171
 DOCKER ASHFELD 2024-06-10                               
@@ -16,7 +16,7 @@ DOCKER ASHFELD 2024-06-10
 END                                                     
 ";
 
-/// The answer of the desk that knows the morning train and its overlay.
+/// The docker of Ashfeld on 10 June, from a desk that knows the morning train and its overlay.
 pub(crate) const ANSWER_OVERLAID: &str = "\
 0 3 171
 DOCKER ASHFELD 2024-06-10                               
@@ -24,7 +24,7 @@ DOCKER ASHFELD 2024-06-10
 END                                                     
 ";
 
-/// The answer for Ashfeld on 10 June, once the revision is known.
+/// The docker of Ashfeld on 10 June, from a desk that knows the revision.
 pub(crate) const ANSWER_0905: &str = "\
 0 3 171
 DOCKER ASHFELD 2024-06-10                               
@@ -32,14 +32,14 @@ DOCKER ASHFELD 2024-06-10
 END                                                     
 ";
 
-/// The answer for Ashfeld on 18 June, when nothing happens there.
+/// The docker of Ashfeld on 18 June, when no train calls there.
 pub(crate) const ANSWER_18_JUNE: &str = "\
 0 2 114
 DOCKER ASHFELD 2024-06-18                               
 END                                                     
 ";
 
-/// The answer for a day before the horizon plus three days.
+/// The answer to a request for a day that the horizon refuses.
 pub(crate) const DAY_REFUSED: &str = "\
 1 1 52
 docker: day refused: before horizon plus three days
@@ -48,22 +48,22 @@ docker: day refused: before horizon plus three days
 /// The answer to a request that was done and has no text.
 pub(crate) const DONE: &str = "0 0 0\n";
 
-/// The answer to a request whose file, or store, fails.
+/// The answer to a request whose file can't be read or stored.
 pub(crate) const FAILED: &str = "4 1 22\ndocker: device failed\n";
 
-/// The line of a session whose own device fails.
+/// The line that reports that the input or the output of a session failed.
 pub(crate) const DEVICE: &str = "docker: device failed\n";
 
-/// The line of a session that ends with changes that weren't saved.
+/// The line that reports unsaved changes at the end of a session.
 pub(crate) const UNSAVED: &str = "desk: changes not saved\n";
 
-/// The lines of a session whose own device fails while changes aren't saved.
+/// The lines that report a failed input or output and unsaved changes.
 pub(crate) const DEVICE_UNSAVED: &str = "docker: device failed\ndesk: changes not saved\n";
 
-/// The answer to `files`, if the morning train is known.
+/// The answer to `files` of a desk that knows the morning train.
 pub(crate) const FILES: &str = "0 1 34\n2024-06-09 2100 DFROC1A U DFROC1Z\n";
 
-/// The answer to `files`, once the revision is known too.
+/// The answer to `files` of a desk that knows the revision too.
 pub(crate) const BOTH_FILES: &str = "\
 0 2 68
 2024-06-09 2100 DFROC1A U DFROC1Z

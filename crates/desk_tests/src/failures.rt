@@ -1,4 +1,4 @@
-//! Sessions with a device that fails.
+//! Tests of sessions with a device that fails.
 ghost use Rattle.std.specs.Prelude.{◌<◌};
 
 use crate::compare::same;
@@ -14,8 +14,8 @@ use docker_host::{Fails, Host};
 use std::alloc::Global;
 use std::process::Abort;
 
-/// Asserts that an output with room for this many bytes has the first bytes of the answers to two
-/// requests, and that nothing more is read then.
+/// Asserts that an output with room for this many bytes gains exactly these first bytes of the
+/// answers to two requests, and that nothing more is read after that.
 fn output_has_room_for(rt: &impl Abort, alloc: Global, bytes: usize) {
     let mut host = Host {
         input: Bytes::new(b"files\nprint ASHFELD 2024-06-10\nfiles\n", 1),
@@ -40,8 +40,8 @@ fn an_output_that_fails(rt: HostRuntime) {
     output_has_room_for(&rt, rt.alloc(), 219);
 }
 
-/// Asserts the status, the answers and the lines of faults of a session that may write, whose input
-/// gives one byte per read and fails at only this read.
+/// Asserts the status, the answers and the reported lines of a session that may write. Its input
+/// gives one byte per read, and only the read with this number fails.
 fn input_fails_at(rt: &impl Abort, alloc: Global, read: u64, answers: &[&str], end: (u8, &str))
     requires { 0 < read }
 {
@@ -68,7 +68,7 @@ fn an_input_that_fails(rt: HostRuntime) {
     input_fails_at(&rt, rt.alloc(), 16, &[DONE, both], (1, UNSAVED));
 }
 
-/// Asserts that a session goes on if its folder fails at this call whenever it saves.
+/// Asserts that a session continues if its folder fails at this call of each save.
 fn store_fails(rt: &impl Abort, alloc: Global, fails: Fails) {
     let mut folder = shelf_of_morning(rt, alloc);
     folder.fail(fails);

@@ -1,5 +1,5 @@
-//! Worked rows of a desk: the lines that it reads, what they ask for, how it answers, what it does
-//! with files, and whole sessions. This crate holds only tests.
+//! Tests of a desk by worked examples: the lines that it reads, the requests in them, its answers,
+//! what it does with files, and whole sessions. The crate holds only tests.
 #![tactic(auto)]
 
 #[cfg(test)]

@@ -1,4 +1,4 @@
-//! The lines of an input that comes in pieces of several sizes.
+//! Tests of the lines of an input, which comes in pieces of several sizes.
 ghost use Rattle.std.specs.Prelude.{◌<◌};
 
 use crate::compare::same;
@@ -7,13 +7,13 @@ use docker_desk::{Ahead, Asked, next_line};
 use std::alloc::Global;
 use std::process::Abort;
 
-/// The kind of a line, and its bytes if it can be a request.
+/// The kind of a line, and its bytes if it has the form of a request.
 type Told<'a> = (&'static str, &'a [u8]);
 
-/// A line that can be a request.
+/// A line with the form of a request.
 const LINE: &str = "line";
 
-/// A line that is too long, or has a byte that no line has.
+/// A line that is too long, or that has a byte that isn't printable.
 const BAD: Told<'static> = ("bad", b"");
 
 /// The bytes after the last line feed.
@@ -22,7 +22,7 @@ const CUT: Told<'static> = ("cut", b"");
 /// The end of the input.
 const END: Told<'static> = ("end", b"");
 
-/// A text, and its lines in order.
+/// A row: a text, and its lines in their order.
 type Row = (&'static [u8], &'static [Told<'static>]);
 
 /// Asserts that the next line of a source is this one.
@@ -36,8 +36,7 @@ fn is_next(rt: &impl Abort, ahead: &mut Ahead, source: &mut Bytes<'_>, wanted: T
     }
 }
 
-/// Asserts that these are the lines of a text that comes in pieces of at most `step` bytes, and
-/// that its end follows them.
+/// Asserts that a text in pieces of at most `step` bytes has exactly these lines.
 fn are_lines(rt: &impl Abort, text: &[u8], step: usize, lines: &[Told<'_>])
     requires { 0 < step }
 {
@@ -50,7 +49,7 @@ fn are_lines(rt: &impl Abort, text: &[u8], step: usize, lines: &[Told<'_>])
     same(rt, source.left().len(), 0);
 }
 
-/// Asserts that these are the lines of a text, whatever the size of its pieces.
+/// Asserts that a text has these lines, whatever the size of its pieces.
 fn are_lines_in_pieces(rt: &impl Abort, text: &[u8], lines: &[Told<'_>]) {
     are_lines(rt, text, 1, lines);
     are_lines(rt, text, 2, lines);
@@ -58,14 +57,14 @@ fn are_lines_in_pieces(rt: &impl Abort, text: &[u8], lines: &[Told<'_>]) {
     are_lines(rt, text, 10_000, lines);
 }
 
-/// Asserts that each of these texts has its lines.
+/// Asserts that the text of each row has the row's lines.
 fn have_lines(rt: &impl Abort, rows: &[Row]) {
     for (text, lines) in rows {
         are_lines_in_pieces(rt, text, lines);
     }
 }
 
-/// Texts of whole lines, empty ones among them.
+/// Rows of whole lines, some of them empty.
 const WHOLE: &[Row] = &[
     (b"", &[]),
     (b"files\n", &[(LINE, b"files")]),
@@ -77,7 +76,7 @@ const WHOLE: &[Row] = &[
     (b" ~\n", &[(LINE, b" ~")]),
 ];
 
-/// Texts with a byte that no line has. The line after it is read.
+/// Rows with a byte that isn't printable. The line after the bad line is read.
 const OTHER_BYTES: &[Row] = &[
     (b"files\r\nsave\n", &[BAD, (LINE, b"save")]),
     (b"fi\tles\nsave\n", &[BAD, (LINE, b"save")]),
@@ -89,7 +88,7 @@ const OTHER_BYTES: &[Row] = &[
     (b"\xff\n\xff\n", &[BAD, BAD]),
 ];
 
-/// Texts whose last line has no line feed.
+/// Rows whose last line has no line feed.
 const CUTS: &[Row] = &[
     (b"save", &[CUT]),
     (b"files\nsave", &[(LINE, b"files"), CUT]),
@@ -105,7 +104,7 @@ fn lines_of_texts(rt: HostRuntime) {
     have_lines(&rt, CUTS);
 }
 
-/// This many letters.
+/// A text of this many letters.
 fn letters(rt: &impl Abort, alloc: Global, many: usize) -> Vec<u8> {
     let mut text = Vec::new(alloc);
     for _ in 0..many {
@@ -114,8 +113,7 @@ fn letters(rt: &impl Abort, alloc: Global, many: usize) -> Vec<u8> {
     text
 }
 
-/// Asserts that a line of this many letters is read whole or, if it is too long, to its line feed.
-/// Then the line after it is read.
+/// Asserts that a line of this many letters is whole or bad, and that the line after it is read.
 fn is_line_of(rt: &impl Abort, alloc: Global, many: usize, is_whole: bool) {
     let long = letters(rt, alloc, many);
     let mut text = letters(rt, alloc, many);
@@ -128,7 +126,7 @@ fn is_line_of(rt: &impl Abort, alloc: Global, many: usize, is_whole: bool) {
     are_lines_in_pieces(rt, text.as_slice(), &[first, (LINE, b"save".as_slice())]);
 }
 
-/// Asserts that this many letters without a line feed are a line that is cut.
+/// Asserts that this many letters without a line feed are a cut line.
 fn is_cut_of(rt: &impl Abort, alloc: Global, many: usize) {
     let text = letters(rt, alloc, many);
     are_lines_in_pieces(rt, text.as_slice(), &[CUT]);
@@ -149,7 +147,7 @@ fn lines_of_many_bytes(rt: HostRuntime) {
     is_cut_of(&rt, alloc, 5000);
 }
 
-/// A thousand lines, so that some cross the end of a piece.
+/// A text of a thousand lines. Some lines cross the end of a piece.
 fn many_lines(rt: &impl Abort, alloc: Global) -> Vec<u8> {
     let mut text = Vec::new(alloc);
     for _ in 0..1000 {
@@ -164,8 +162,8 @@ fn a_thousand_lines(rt: HostRuntime) {
     are_lines_in_pieces(&rt, text.as_slice(), &[(LINE, b"renew".as_slice()); 1000]);
 }
 
-/// Reads one line from a source that gives one byte per read, and fails at only this read. Returns
-/// how often the source failed, and whether reading the line failed.
+/// Reads one line from a source that gives one byte per read; only the read with this number fails.
+/// Returns how often the source failed, and whether reading the line failed.
 fn read_with_fuse(text: &[u8], read: u64) -> (u64, bool)
     requires { 0 < read }
 {

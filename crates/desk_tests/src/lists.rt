@@ -1,4 +1,4 @@
-//! The lists of what is known, as a desk answers them.
+//! Tests of the requests `places` and `known`.
 
 use crate::answers::answers;
 use crate::desks::{day_of, desk_of};
@@ -7,22 +7,22 @@ use docker_desk::Desk;
 use std::alloc::Global;
 use std::process::Abort;
 
-/// The timing points of the state with timing points. The morning train calls at Ashfeld and at
-/// Brayton, which is deleted.
+/// The timing points of the state `PLACES_STATE`. The morning train calls at Ashfeld and Brayton;
+/// Brayton is deleted.
 const PLACES: &str = "\
 0 2 112
 ASHFELD ASF 87701 ASHFELD JUNCTION                    1
 CORHAM            CORHAM EXCHANGE                     0
 ";
 
-/// The timing points once the morning train has lapsed.
+/// The timing points after the morning train has lapsed.
 const PLACES_LAPSED: &str = "\
 0 2 112
 ASHFELD ASF 87701 ASHFELD JUNCTION                    0
 CORHAM            CORHAM EXCHANGE                     0
 ";
 
-/// What the state with timing points knows, before and after its horizon is set.
+/// What is known in the state `PLACES_STATE`, before and after a horizon is set.
 const KNOWN: &str = "\
 0 6 124
 HORIZON      NONE
@@ -42,7 +42,7 @@ ASSOCIATIONS 0
 PLACES       2
 ";
 
-/// What is known of an update without timing points.
+/// What is known of an update that has no timing points.
 const KNOWN_MORNING: &str = "\
 0 5 87
 HORIZON      NONE
@@ -52,7 +52,7 @@ ASSOCIATIONS 0
 PLACES       0
 ";
 
-/// What is known of no file.
+/// What is known of no files.
 const KNOWN_NOTHING: &str = "\
 0 4 63
 HORIZON      NONE
@@ -61,7 +61,7 @@ ASSOCIATIONS 0
 PLACES       0
 ";
 
-/// Asserts the bytes of a desk's answers to the requests for both lists.
+/// Asserts the answers of a desk to `places` and `known`.
 fn lists(rt: &impl Abort, alloc: Global, desk: &Desk, places: &str, known: &str) {
     answers(rt, alloc, &desk.places(), places);
     answers(rt, alloc, &desk.known(), known);

@@ -1,10 +1,10 @@
-//! An input that says whether it was read past its end.
+//! An input that records whether it was read past its end.
 ghost use Rattle.std.specs.Prelude.{None};
 
 use cif_line::{Failed, Source};
 
-/// A source that gives at most 100 bytes per read. It notes that its end was reported, and that it
-/// was read after that. It never fails.
+/// A source that gives at most 100 bytes per read. It records whether it has reported its end, and
+/// whether it was read after that. It never fails.
 #[derive(Drop)]
 pub(crate) struct Marked<'a> {
     rest: &'a [u8],
@@ -13,7 +13,7 @@ pub(crate) struct Marked<'a> {
 }
 
 impl<'a> Marked<'a> {
-    /// A source of this text.
+    /// Makes a source of this text.
     pub(crate) fn new(text: &'a [u8]) -> Marked<'a> {
         Marked {
             rest: text,
@@ -22,7 +22,7 @@ impl<'a> Marked<'a> {
         }
     }
 
-    /// Whether the text was read to its end, and whether it was read again after that.
+    /// Whether the source has reported its end, and whether it was read after that.
     pub(crate) fn is_read_past(&self) -> (bool, bool) {
         (self.ended, self.passed)
     }

@@ -1,4 +1,4 @@
-//! Dockers without the short-term plan, as a desk answers them.
+//! Tests of dockers without the short-term plan.
 
 use crate::answers::answers;
 use crate::desks::{day_of, desk_of, prints};
@@ -9,14 +9,14 @@ use docker_desk::Desk;
 use std::alloc::Global;
 use std::process::Abort;
 
-/// Asserts the bytes of a desk's answer to a request for the permanent docker of Ashfeld on a day.
+/// Asserts the answer of a desk to a request for the permanent docker of Ashfeld on this day.
 fn keeps(rt: &impl Abort, alloc: Global, desk: &Desk, date: &str, wanted: &str) {
     let place = Tiploc::from_text("ASHFELD").expect(rt, "a TIPLOC");
     answers(rt, alloc, &desk.permanent(&place, day_of(rt, date)), wanted);
 }
 
-/// An overlay is on the docker, and on the permanent docker the train that it replaces. Both are
-/// refused on the same days.
+/// The docker has the overlay, and the permanent docker has the train that the overlay replaces.
+/// Both are refused on the same days.
 #[test]
 fn answers_without_the_short_term_plan(rt: HostRuntime) {
     let alloc = rt.alloc();

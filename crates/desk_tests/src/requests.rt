@@ -1,4 +1,4 @@
-//! What lines ask for.
+//! Tests of the requests in lines.
 
 use crate::compare::same_in;
 use cif_line::{Bytes, Day, Tiploc};
@@ -6,23 +6,23 @@ use docker_desk::{Ahead, Asked, Request, next_line, request_in};
 use std::alloc::Global;
 use std::process::Abort;
 
-/// A line, and the words of its request, with one space between two of them.
+/// A row: a line, and the words of its request, separated by one space.
 type Row = (&'static str, &'static str);
 
-/// Adds a word after a space.
+/// Appends a space and a word.
 fn add(rt: &impl Abort, text: &mut Vec<u8>, word: &[u8]) {
     text.push(b' ').expect(rt, "room");
     text.extend_from_slice(word).expect(rt, "room");
 }
 
-/// Adds the words of a request that names a timing point and a day.
+/// Appends the words of a request for a timing point and a day.
 fn add_place_and_day(rt: &impl Abort, text: &mut Vec<u8>, verb: &[u8], place: &Tiploc, day: &Day) {
     text.extend_from_slice(verb).expect(rt, "room");
     add(rt, text, place.bytes());
     add(rt, text, &day.iso());
 }
 
-/// Adds the words of a request that names a day. Adds nothing for any other request.
+/// Appends the words of a request that names a day. Appends nothing for any other request.
 fn add_dated(rt: &impl Abort, text: &mut Vec<u8>, request: &Request<'_>) {
     match request {
         Request::Print { place, day } => add_place_and_day(rt, text, b"print", place, day),
@@ -42,8 +42,8 @@ fn add_dated(rt: &impl Abort, text: &mut Vec<u8>, request: &Request<'_>) {
     }
 }
 
-/// The first word of a request that names no day, and the file that the request names. An empty
-/// word for any other request.
+/// The verb of a request that names no day, and the file that it names, if it names one. The verb
+/// is empty for any other request.
 fn file_words<'a>(request: &Request<'a>) -> (&'static str, Option<&'a str>) {
     match request {
         Request::Take(file) => ("take", Some(*file)),
@@ -57,7 +57,7 @@ fn file_words<'a>(request: &Request<'a>) -> (&'static str, Option<&'a str>) {
     }
 }
 
-/// The words of a request, with one space between two of them.
+/// The words of a request, separated by one space.
 fn words_of(rt: &impl Abort, alloc: Global, request: &Request<'_>) -> Vec<u8> {
     let mut text = Vec::new(alloc);
     add_dated(rt, &mut text, request);
@@ -69,7 +69,7 @@ fn words_of(rt: &impl Abort, alloc: Global, request: &Request<'_>) -> Vec<u8> {
     text
 }
 
-/// The words of the request that the first line of a text makes. No byte if it asks for nothing.
+/// The words of the request in the first line of a text; empty if the line isn't a request.
 fn asked_by(rt: &impl Abort, alloc: Global, text: &[u8], may_write: bool) -> Vec<u8> {
     let mut source = Bytes::new(text, 4096);
     match next_line(&mut Ahead::new(), &mut source) {
@@ -82,8 +82,8 @@ fn asked_by(rt: &impl Abort, alloc: Global, text: &[u8], may_write: bool) -> Vec
     }
 }
 
-/// Asserts that a line makes the request with these words, or asks for nothing if there are no
-/// words.
+/// Asserts that a line is the request with these words. If there are no words, asserts that the
+/// line isn't a request.
 fn asks(rt: &impl Abort, alloc: Global, line: &str, may_write: bool, words: &str) {
     let mut text = Vec::new(alloc);
     text.extend_from_slice(line.as_bytes()).expect(rt, "room");
@@ -92,7 +92,7 @@ fn asks(rt: &impl Abort, alloc: Global, line: &str, may_write: bool, words: &str
     same_in(rt, line, asked.as_slice(), words.as_bytes());
 }
 
-/// Requests that every desk does.
+/// Rows of requests that every desk allows.
 const READING: &[Row] = &[
     ("print ASHFELD 2024-06-10", "print ASHFELD 2024-06-10"),
     ("  print  ELM   1960-01-01 ", "print ELM     1960-01-01"),
@@ -114,8 +114,8 @@ const READING: &[Row] = &[
     ("renew ", "renew"),
 ];
 
-/// Requests that only a desk that may write does. A file's name is all that stands after the first
-/// word and its spaces.
+/// Rows of requests that only a desk that may write allows. The name of a file is everything after
+/// the verb and its spaces.
 const WRITING: &[Row] = &[
     ("take F2", "take F2"),
     (" take   F2", "take F2"),
@@ -132,7 +132,7 @@ const WRITING: &[Row] = &[
     ("  save ", "save"),
 ];
 
-/// Lines that ask for nothing.
+/// Lines that aren't requests.
 const NOTHING: &[&str] = &[
     "",
     "   ",
@@ -184,14 +184,14 @@ const NOTHING: &[&str] = &[
     "print\u{7e}ASHFELD 2024-06-10",
 ];
 
-/// Asserts what each of these lines asks a desk.
+/// Asserts the request of each row's line.
 fn ask(rt: &impl Abort, alloc: Global, rows: &[Row], may_write: bool) {
     for (line, words) in rows {
         asks(rt, alloc, line, may_write, words);
     }
 }
 
-/// Asserts that each of these lines asks for nothing.
+/// Asserts that these lines aren't requests.
 fn ask_nothing(rt: &impl Abort, alloc: Global, lines: &[&str]) {
     for line in lines {
         asks(rt, alloc, line, false, "");

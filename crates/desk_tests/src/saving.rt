@@ -1,4 +1,4 @@
-//! How a desk saves what it knows, and how it sees what others saved.
+//! Tests of how a desk saves its state, and how it renews it after others saved.
 
 use crate::compare::same;
 use crate::desks::{desk_of, ends, prints};
@@ -13,7 +13,7 @@ use docker_office::{StateCause, StateFault};
 use std::alloc::Global;
 use std::process::Abort;
 
-/// A desk that read the morning train, then took its revision, and hasn't saved it.
+/// A desk that has read the morning train and taken its revision, and hasn't saved.
 fn desk_with_revision(rt: &impl Abort, alloc: Global) -> Desk {
     let mut desk = desk_of(rt, alloc, MORNING_STATE);
     let file = file_text(rt, alloc, REVISION);
@@ -21,7 +21,7 @@ fn desk_with_revision(rt: &impl Abort, alloc: Global) -> Desk {
     desk
 }
 
-/// Asserts what a desk returns when it saves, and whether something is unsaved then.
+/// Saves, and asserts the result and whether the desk then has unsaved changes.
 fn saves(
     rt: &impl Abort,
     desk: &mut Desk,
@@ -35,7 +35,7 @@ fn saves(
     same(rt, desk.is_unsaved(), unsaved);
 }
 
-/// Asserts the state that a file has, and how often the folder failed.
+/// Asserts the state in the file `S`, and how often the folder has failed.
 fn holds(rt: &impl Abort, alloc: Global, folder: &Shelf, state: Parts, failures: u64) {
     let text = state_text(rt, alloc, state);
     same(rt, text_of(folder), text.as_slice());
@@ -57,14 +57,13 @@ fn a_desk_takes_prints_saves_and_goes_on(rt: HostRuntime) {
     ends(&rt, alloc, desk, false, BOTH_STATE);
 }
 
-/// Another command puts this state in the file `S`.
+/// Puts this state in the file `S`, as another command would.
 fn puts(rt: &impl Abort, alloc: Global, folder: &mut Shelf, state: Parts) {
     let text = state_text(rt, alloc, state);
     put(rt, folder, "S", text.as_slice());
 }
 
-/// Asserts what a desk returns when it renews what it knows from the file `S`, and whether
-/// something is unsaved then.
+/// Renews from the file `S`, and asserts the result and whether the desk then has unsaved changes.
 fn renews(
     rt: &impl Abort,
     desk: &mut Desk,
@@ -78,7 +77,8 @@ fn renews(
     same(rt, desk.is_unsaved(), unsaved);
 }
 
-/// What is found out of a file that holds the desk's state, and of one that holds another.
+/// The results of renewing from a file that holds the desk's state, and from one that holds another
+/// state.
 const SAME: Result<Compared, OfficeFault> = Ok(Compared::Same);
 
 const OTHER: Result<Compared, OfficeFault> = Ok(Compared::Other);
@@ -125,7 +125,7 @@ fn another_command_saves_the_same(rt: HostRuntime) {
     ends(&rt, alloc, desk, false, BOTH_STATE);
 }
 
-/// The fault of a text that has no mark of a state.
+/// The fault of a text without a state's mark.
 const NO_MARK: StateFault = StateFault {
     at: 0,
     cause: StateCause::Mark,
@@ -147,8 +147,8 @@ fn a_file_that_is_no_state_any_more(rt: HostRuntime) {
     ends(&rt, alloc, desk, false, MORNING_STATE);
 }
 
-/// Asserts that a folder that fails at this call leaves the file and the desk as they were, and
-/// that the desk saves once the folder doesn't fail.
+/// Asserts that a save with a folder that fails at this call leaves the file and the desk
+/// unchanged, and that the next save succeeds.
 fn fails_once(rt: &impl Abort, alloc: Global, fails: Fails) {
     let mut folder = shelf_of(rt, alloc, MORNING_STATE);
     let mut seen = folder.look("S");

@@ -1,14 +1,14 @@
-//! The words and the sinks of the sessions.
+//! Words and sinks for the tests of sessions.
 ghost use Rattle.std.specs.Prelude.{◌≡◌};
 
 use cif_line::Kept;
 use std::alloc::Global;
 use std::process::Abort;
 
-/// The words of a session that may write.
+/// The words of a session in which the desk may write.
 pub(crate) const WRITING: &[&str] = &["--write", "S"];
 
-/// The words of a session that may not write.
+/// The words of a session in which the desk may not write.
 pub(crate) const READING: &[&str] = &["S"];
 
 /// A sink with room for this many bytes.
@@ -18,7 +18,7 @@ pub(crate) fn room(rt: &impl Abort, alloc: Global, bytes: usize) -> Kept
     Kept::new(alloc, bytes).expect(rt, "room")
 }
 
-/// These texts, one after the other.
+/// These texts, joined.
 pub(crate) fn joined(rt: &impl Abort, alloc: Global, texts: &[&str]) -> Vec<u8> {
     let mut all = Vec::new(alloc);
     for text in texts {

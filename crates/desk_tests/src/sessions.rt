@@ -1,4 +1,4 @@
-//! Whole sessions: their words, the lines that they are asked, and how they end.
+//! Tests of whole sessions: their words, their lines, and how they end.
 ghost use Rattle.std.specs.Prelude.{◌<◌};
 
 use crate::compare::same_in;
@@ -13,8 +13,8 @@ use docker_host::Host;
 use std::alloc::Global;
 use std::process::Abort;
 
-/// A session over the state of the morning train: its words, its input, the answers, the line of
-/// faults, its status, and the state that its file then has.
+/// A row: a session over the state of the morning train, by its words and its input. It has the
+/// answers, the reported line, the status, and the state that the file then has.
 type Row = (
     &'static [&'static str],
     &'static str,
@@ -24,7 +24,8 @@ type Row = (
     Parts,
 );
 
-/// Asserts what a session does if its input comes in pieces of at most `step` bytes.
+/// Asserts that a session goes as its row says if its input comes in pieces of at most `step`
+/// bytes.
 fn goes_in_pieces(rt: &impl Abort, alloc: Global, row: &Row, step: usize)
     requires { 0 < step }
 {
@@ -44,7 +45,7 @@ fn goes_in_pieces(rt: &impl Abort, alloc: Global, row: &Row, step: usize)
     same_in(rt, input, text_of(&host.folder), kept.as_slice());
 }
 
-/// Asserts what each of these sessions does.
+/// Asserts that each session goes as its row says.
 fn go(rt: &impl Abort, alloc: Global, rows: &[Row]) {
     for row in rows {
         goes_in_pieces(rt, alloc, row, 1);
@@ -53,7 +54,7 @@ fn go(rt: &impl Abort, alloc: Global, rows: &[Row]) {
     }
 }
 
-/// Sessions that only read.
+/// Rows of sessions that only read.
 const READ: &[Row] = &[
     (READING, "", &[], "", 0, MORNING_STATE),
     (
@@ -82,7 +83,7 @@ const READ: &[Row] = &[
     ),
 ];
 
-/// Sessions that change what is known.
+/// Rows of sessions that change the state.
 const CHANGED: &[Row] = &[
     (
         WRITING,
@@ -118,7 +119,7 @@ const CHANGED: &[Row] = &[
     ),
 ];
 
-/// Sessions that end with changes that weren't saved.
+/// Rows of sessions that end with unsaved changes.
 const LEFT_UNSAVED: &[Row] = &[
     (WRITING, "take F2\n", &[DONE], UNSAVED, 1, MORNING_STATE),
     (WRITING, "merge S2\n", &[DONE], UNSAVED, 1, MORNING_STATE),
@@ -148,7 +149,7 @@ const LEFT_UNSAVED: &[Row] = &[
     ),
 ];
 
-/// Sessions with requests that are refused. What was refused is no change.
+/// Rows of sessions with refused requests, which change nothing.
 const REFUSED: &[Row] = &[
     (
         WRITING,
@@ -196,7 +197,7 @@ fn sessions_that_write(rt: HostRuntime) {
     go(&rt, rt.alloc(), REFUSED);
 }
 
-/// Asserts that a session reads this input to its end, and never again after that.
+/// Asserts that a session reads this input to its end, and doesn't read it again after that.
 fn is_read_once(rt: &impl Abort, alloc: Global, input: &str) {
     let mut host = Host {
         input: Marked::new(input.as_bytes()),

@@ -1,4 +1,4 @@
-//! Folders in memory.
+//! Folders in memory for the tests.
 ghost use Rattle.std.specs.Prelude.{◌≡◌};
 
 use crate::records::*;
@@ -6,7 +6,7 @@ use docker_host::Shelf;
 use std::alloc::Global;
 use std::process::Abort;
 
-/// Puts a text in a file, as another command does.
+/// Puts a text in a file, as another command would.
 pub(crate) fn put(rt: &impl Abort, shelf: &mut Shelf, name: &str, text: &[u8])
     ensures { shelf.new.failures ≡ shelf.old.failures }
 {
@@ -22,7 +22,7 @@ pub(crate) fn shelf_with(rt: &impl Abort, alloc: Global, name: &str, text: &[u8]
     shelf
 }
 
-/// A shelf with the file `S`, which has this state.
+/// A shelf with the file `S`, which holds this state.
 pub(crate) fn shelf_of(rt: &impl Abort, alloc: Global, state: Parts) -> Shelf
     ensures { result.failures ≡ 0 }
 {
@@ -30,7 +30,7 @@ pub(crate) fn shelf_of(rt: &impl Abort, alloc: Global, state: Parts) -> Shelf
     shelf_with(rt, alloc, "S", text.as_slice())
 }
 
-/// The shelf of the sessions: the state of the morning train, its revision, that revision without
+/// The shelf of most sessions: the state of the morning train, its revision, this revision without
 /// its trailer, and the state of the revision.
 pub(crate) fn shelf_of_morning(rt: &impl Abort, alloc: Global) -> Shelf
     ensures { result.failures ≡ 0 }
@@ -45,7 +45,7 @@ pub(crate) fn shelf_of_morning(rt: &impl Abort, alloc: Global) -> Shelf
     shelf
 }
 
-/// The text of the file `S`. It is empty if there is no such file.
+/// The text of the file `S`; empty if there is no such file.
 pub(crate) fn text_of(shelf: &Shelf) -> &[u8] {
     match shelf.text("S") {
         Some(text) => text,

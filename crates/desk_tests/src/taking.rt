@@ -1,4 +1,4 @@
-//! What a desk takes and receives, and what it then knows.
+//! Tests of what a desk takes and receives, and what it then knows.
 
 ghost use Rattle.std.specs.Prelude.{◌≡◌};
 
@@ -15,14 +15,14 @@ use docker_office::{StateCause, StateFault};
 use std::alloc::Global;
 use std::process::Abort;
 
-/// What a desk returns when it takes the file `F2` of a shelf.
+/// The result when a desk takes the file `F2` of a shelf.
 fn take(desk: &mut Desk, shelf: &mut Shelf) -> Result<(), OfficeFault>
     requires { shelf.old.failures ≡ 0 }
 {
     desk.take("F2", shelf)
 }
 
-/// What a desk returns when it takes the file `F2`, which has this text.
+/// The result when a desk takes a file with this text.
 pub(crate) fn taken(
     rt: &impl Abort,
     alloc: Global,
@@ -32,8 +32,7 @@ pub(crate) fn taken(
     take(desk, &mut shelf_with(rt, alloc, "F2", text))
 }
 
-/// What a desk returns when it receives the state in a file, on a shelf whose file `S2` has this
-/// text.
+/// The result when a desk receives the state in a file with this text.
 fn received(
     rt: &impl Abort,
     alloc: Global,
@@ -86,7 +85,7 @@ fn a_state_is_received(rt: HostRuntime) {
     ends(&rt, alloc, desk, true, BOTH_STATE);
 }
 
-/// Asserts that a desk refuses this text of another state, at this offset and for this cause.
+/// Asserts that a desk refuses a state with this text for this fault.
 fn refuses_state(rt: &impl Abort, alloc: Global, desk: &mut Desk, text: &[u8], fault: StateFault) {
     let fault = OfficeFault::State(fault);
     same(rt, received(rt, alloc, desk, "S2", text), Err(fault));

@@ -1,4 +1,4 @@
-//! The schedule of a UID on a day, as a desk answers it.
+//! Tests of the request `train`: the schedule of a UID on a day.
 
 use crate::answers::answers;
 use crate::desks::{day_of, desk_of};
@@ -9,7 +9,7 @@ use docker_desk::Desk;
 use std::alloc::Global;
 use std::process::Abort;
 
-/// The morning train on 10 June: the second record of the update of 9 June has put its schedule.
+/// The morning train on 10 June. The second record of the update of 9 June put its schedule.
 const RUNS: &str = "\
 0 5 405
 TRAIN  C10001  2024-06-10 P RUNS      2024-06-09 2100 DFROC1A          2        
@@ -19,7 +19,7 @@ LTBRAYTON 0930 09322  FL
 END                                                                             
 ";
 
-/// The revision of the morning train, from the second record of the update of 10 June.
+/// The revision of the morning train, which the second record of the update of 10 June put.
 const REVISED: &str = "\
 0 5 405
 TRAIN  C10001  2024-06-10 P RUNS      2024-06-10 2100 DFROC1B          2        
@@ -29,21 +29,21 @@ LTBRAYTON 0930 09322  FL
 END                                                                             
 ";
 
-/// No schedule of C10001 runs on 15 June, a Saturday.
+/// The answer if no schedule of C10001 runs that day: 15 June, a Saturday.
 const NONE_RUNS: &str = "\
 0 2 162
 TRAIN  C10001  2024-06-15   NONE                                                
 END                                                                             
 ";
 
-/// No schedule of another UID is known.
+/// The answer if no schedule of the UID is known.
 const UNKNOWN: &str = "\
 0 2 162
 TRAIN  C10009  2024-06-10   NONE                                                
 END                                                                             
 ";
 
-/// Asserts the bytes of a desk's answer to a request for a train on a day.
+/// Asserts the answer of a desk to a request for a train on a day.
 fn answers_train(
     rt: &impl Abort,
     alloc: Global,

@@ -1,4 +1,5 @@
-//! `docker`: prints station dockers from CIF extracts.
+//! The program `docker`: prints the docker of a timing point from CIF extracts, and keeps what is
+//! known of them in a state.
 #![tactic(auto)]
 
 use docker_program::run;

@@ -1,4 +1,4 @@
--- How `clap` reads the first word, which names a subcommand, and the words after it.
+-- How `clap` reads a command whose first word names a subcommand. Its definitions walk over the words; the walk stops at the subcommand's name.
 use Rattle.std.proofs.Common.{◌≡◌, ◌∙◌, ◌++◌, cond, true, false, refl, sym, ap, ap₂, List, [], ◌∷◌, Some, None, is_some, codes, option_map}
 use Rattle.std.specs.List.{find, fold}
 use Rattle.std.specs.Option.{option_map_or}
@@ -16,26 +16,26 @@ use Rattle.docker_cmd.specs.Words.{is_plain_word}
 use Rattle.docker_cmd.proofs.PlainWords.{plain_walk_fault}
 use Rattle.docker_cmd.proofs.RequiredWords.{built_top}
 
--- the program with these subcommands, once `clap` has built it
+-- the program with these subcommands, after `clap` has built it
 abbrev pub built_with : List Shape → App
 built_with subs = record { top = built_top; subs = subs }
 
--- the walk after it has stopped at a subcommand's name, with these words for the subcommand
+-- the walk's state after it stopped at a subcommand's name, with the words that it left to the subcommand
 abbrev after_name : Text → List Text → Walk
 after_name name words = record (walk_from nothing_held) { stopped = Some (name, words) }
 
--- after a subcommand, no word is a fault of the program's own level
+-- once the walk has stopped at a subcommand's name, later words add no fault at the program's own level
 no_later_fault : (names : Names) (name : Text) (seen words : List Text) → walk_fault built_top names (after_name name seen) words ≡ []
 unfolding walk_fault walked
 no_later_fault names name seen [] = refl
 no_later_fault names name seen (word ∷ words) = no_later_fault names name (seen ++ word ∷ []) words
 
--- if there are no further faults, the faults stay as they are
+-- adding no further faults leaves the list of faults unchanged
 or_else_none : (kinds : Kinds) → or_else kinds [] ≡ kinds
 or_else_none [] = refl
 or_else_none (k ∷ kinds) = refl
 
--- the program's faults, from the faults of the walk and from where it ended
+-- all faults of a command, given the faults of the walk and the state in which the walk ended
 abbrev faults_at : List Shape → Kinds → Walk → Kinds
 faults_at subs kinds w = or_else kinds
     (or_else (entered_fault (built_with subs) w.stopped)
@@ -43,13 +43,12 @@ faults_at subs kinds w = or_else kinds
     (or_else (defaults_fault (settled [] w.held).rows [])
     (check_fault built_top (finished [] w.held) (is_some (entered (built_with subs) w.stopped))))))
 
--- if there is no word, the fault is a missing subcommand
+-- a command without words has one fault: the subcommand is missing
 pub no_word : (subs : List Shape) → built_fault (built_with subs) nothing_held [] ≡ kind.MissingSubcommand ∷ []
 unfolding walk_fault defaults_fault
 no_word subs = refl
 
--- if the first word is plain and names no subcommand, there are two faults: an unknown argument and
--- an invalid subcommand
+-- if the first word is plain and names no subcommand, there are two faults: an unknown argument and an invalid subcommand
 pub unnamed_fault : (subs : List Shape) (word : Text) (words : List Text) → is_plain_word word ≡ true
     → subcommand_met (names_of (built_with subs)) idle word ≡ None
     → built_fault (built_with subs) nothing_held (word ∷ words) ≡ kind.UnknownArgument ∷ kind.InvalidSubcommand ∷ []
@@ -63,7 +62,7 @@ module _ (subs : List Shape) (s : Shape) (name : Text) (words : List Text)
   abbrev names : Names
   names = names_of (built_with subs)
 
-  -- the name is met as a subcommand
+  -- the first word is recognised as a subcommand's name
   named_met : word_met [] names false idle 1 name nothing_held ≡ (nothing_held, subcommand name)
   named_met = ap (λ o. subcommand_or_other [] o idle 1 name nothing_held) met
 
@@ -83,12 +82,12 @@ module _ (subs : List Shape) (s : Shape) (name : Text) (words : List Text)
       ∙ ap (λ b. cond b (kind.DisplayHelp ∷ kind.InvalidSubcommand ∷ []) []) (and-false (bytes_eq name (codes "help"))) in
       λ i. or_else (word_part i) (step_fault built_top 1 (named_met i).0 (named_met i).1)
 
-  -- the walk over the name and the words after it has no fault
+  -- the walk over the name and the words after it finds no fault
   named_walk_fault : walk_fault built_top names (walk_from nothing_held) (name ∷ words) ≡ []
   unfolding walk_fault
   named_walk_fault = ap₂ or_else named_turn (ap (λ w. walk_fault built_top names w words) named_walked ∙ no_later_fault names name [] words)
 
-  -- after its name, the faults are the subcommand's
+  -- the faults of the command are the faults that the subcommand finds in the words after its name
   pub named_fault : built_fault (built_with subs) nothing_held (name ∷ words) ≡ level_fault s [] nothing_held words false []
   unfolding defaults_fault
   named_fault =
@@ -97,7 +96,7 @@ module _ (subs : List Shape) (s : Shape) (name : Text) (words : List Text)
       (check_fault built_top [] (is_some (option_map (λ x. rows_at x words) found)))) under
       ∙ or_else_none (level_fault s [] nothing_held words false [])
 
-  -- after its name, the matches are the subcommand's
+  -- the matches of the command are the subcommand's matches for the words after its name
   pub named_rows : entered (built_with subs) (walk [] names nothing_held (name ∷ words)).stopped ≡ Some (rows_at s words)
   named_rows =
       ap (λ (w : Walk). entered (built_with subs) w.stopped) named_walk ∙ ap (option_map (λ x. rows_at x words)) under

@@ -1,4 +1,4 @@
--- The words that are found at some ids, one after the other.
+-- Looking up the words of several ids, one id after another.
 use Rattle.std.proofs.Common.{◌≡◌, ◌∙◌, ◌<◌, ◌+◌, ℕ, List, [], ◌∷◌, ◌++◌, length, drop, Some, None, option_map, refl, sym, ap, append_assoc, slice_index_or}
 use Rattle.std.specs.Prelude.{Option, option_and_then}
 use Rattle.std.specs.Borrow.{Bor}
@@ -7,11 +7,12 @@ use Rattle.clap.specs.Walk.{Row, first_of}
 use Rattle.docker_cmd.specs.Words.{Text, texts}
 use Rattle.docker_cmd.specs.Grammar.{found_words}
 
--- the words of all ids are the words found before id `i`, and then those from id `i` on
+-- looking up all ids gives `found`, the words of the ids before `i`, followed by the words of the ids from `i` on. If a word is missing from `i` on, it gives
+-- None
 abbrev pub HasFound : List (Bor Text) → List Row → ℕ → List Text → Type 0
 HasFound ids rows i found = found_words (texts ids) rows ≡ option_map (λ rest. found ++ rest) (found_words (texts (drop i ids)) rows)
 
--- before the first id no word is found
+-- before the first id, no words have been found
 pub none_yet : (ids : List (Bor Text)) (rows : List Row) → HasFound ids rows 0 []
 none_yet ids rows = by (found_words (texts ids) rows)
   where
@@ -19,18 +20,18 @@ none_yet ids rows = by (found_words (texts ids) rows)
     by None = refl
     by (Some words) = refl
 
--- the words that were found, then the word of id `i`, if there is one, and then the later words
+-- the words found before id `i`, then this word of id `i`, then the words of later ids; None if any of these is missing
 abbrev with_word : List (Bor Text) → List Row → ℕ → List Text → Option Text → Option (List Text)
 with_word ids rows i found here = option_map (λ rest. found ++ rest)
     (option_and_then (λ word. option_map (λ words. word ∷ words) (found_words (texts (drop (i + 1) ids)) rows)) here)
 
--- after the words found before id `i` come the word of id `i` and the words of later ids
+-- the words of all ids are the words found before id `i`, the word of id `i`, and the words of later ids
 one_on : (ids : List (Bor Text)) (rows : List Row) (i : ℕ) (d : Bor Text) (found : List Text) → i < length ids → HasFound ids rows i found
     → found_words (texts ids) rows ≡ with_word ids rows i found (first_of (slice_index_or ids i d).now rows)
 one_on ids rows i d found within has =
     has ∙ ap (λ left. option_map (λ rest. found ++ rest) (found_words (texts left) rows)) (drop_more ids i d within)
 
--- if id `i` has a word, that word is found after the words of the ids before it
+-- if id `i` has a word, this word is appended to the words found before
 pub one_more : (ids : List (Bor Text)) (rows : List Row) (i : ℕ) (d : Bor Text) (found : List Text) (word : Text) → i < length ids
     → first_of (slice_index_or ids i d).now rows ≡ Some word → HasFound ids rows i found → HasFound ids rows (i + 1) (found ++ word ∷ [])
 one_more ids rows i d found word within here has =
@@ -41,7 +42,7 @@ one_more ids rows i d found word within here has =
     by None = refl
     by (Some words) = ap Some (sym (append_assoc found (word ∷ []) words))
 
--- if id `i` has no word, no words are found for the ids
+-- if id `i` has no word, looking up all ids gives None
 pub none_here : (ids : List (Bor Text)) (rows : List Row) (i : ℕ) (d : Bor Text) (found : List Text) → i < length ids
     → first_of (slice_index_or ids i d).now rows ≡ None → HasFound ids rows i found → found_words (texts ids) rows ≡ None
 none_here ids rows i d found within never has = one_on ids rows i d found within has ∙ ap (with_word ids rows i found) never

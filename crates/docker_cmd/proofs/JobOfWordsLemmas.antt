@@ -26,13 +26,13 @@ asks_nothing words s behind names nothing = λ job is.
     let one = same_subcommand s (subcommand_of job.task) (ap first_word same) in
     nothing job.task (sym one) (subst (AreWordsOf job.task) (sym (ap other_words same)) is.required)
 
--- ---- words that `clap` doesn't get to see
+-- ---- words that `clap` doesn't parse
 
 -- if a word isn't plain, the words name no job
 pub no_plain_job : (words : List Text) → list_all is_plain_word words ≡ false → NameNoJob words
 no_plain_job words never = λ job is. true≢false (sym is.plain ∙ never)
 
--- if there are too many words or too few, they name no task of the subcommand
+-- if the number of words is wrong, they name no task of the subcommand
 pub miscounted : (s : Subcommand) (words ids : List (Bor Text)) → texts ids ≡ ids_of s → (length words ≡ length ids → ⊥) → AskNothing s (texts words)
 miscounted s words ids are never = λ task same is.
     let required = words_counted task (texts words) is ∙ ap (λ (t : Subcommand). length (ids_of t)) same in
@@ -45,8 +45,7 @@ unnamed_job (word ∷ words) d some none = λ job is.
     let never : None ≡ Some (subcommand_of job.task) = none ∙ ap subcommand_named (ap first_word is.whole) ∙ named_back (subcommand_of job.task) in
     cc
 
--- if plain words begin with a subcommand's name, they name a job if and only if the other words
--- name a task of it
+-- if plain words begin with a subcommand's name, they name a job if and only if the words after the name name a task of it
 pub behind_asks : (words : List (Bor Text)) (d : Bor Text) (s : Subcommand) (test : Bool) → 1 ≤ length words
     → Some s ≡ subcommand_named (slice_index_or words 0 d).now → list_all is_plain_word (texts words) ≡ true
     → ((test ≡ false) ↔ AskNothing s (texts (take (length words - 1) (drop 1 words)))) → (test ≡ false) ↔ NameNoJob (texts words)

@@ -1,5 +1,4 @@
--- `clap` accepts just the words that name a subcommand, and finds the subcommand and the words
--- after it.
+-- `clap` accepts words if and only if they name a subcommand. Then it finds that subcommand and the words after it.
 use Rattle.std.proofs.Common.{◌≡◌, ◌∙◌, ◌⊎◌, ◌||◌, inl, inr, Bool, cond, true, false, refl, sym, ap, subst}
 use Rattle.std.proofs.Common.{List, [], ◌∷◌, length, map, Some, None, option_map, true≢false, arith}
 use Rattle.std.specs.Prelude.{option_and_then}
@@ -19,12 +18,12 @@ use Rattle.docker_cmd.proofs.RequiredWords.{count_fault, leaf_fault, paired, row
 use Rattle.docker_cmd.proofs.Rows.{known, leaf_of, leaves, named_back}
 use Rattle.docker_cmd.proofs.TaskWords.{first_word, other_words, same_subcommand}
 
--- the words are a subcommand's name, and then as many words as it requires
+-- the words are the subcommand's name, followed by as many words as it requires
 pub record AreRequired (words : List Text) (s : Subcommand) (behind : List Text) : Type 0 where
   pub whole : words ≡ name_of s ∷ behind
   pub count : length behind ≡ length (ids_of s)
 
--- `clap` finds that subcommand and the words after it
+-- the words name a subcommand, and `clap` finds it and the words after it
 pub record Takes (words : List Text) : Type 0 where
   pub subcommand : Subcommand
   pub behind : List Text
@@ -41,14 +40,14 @@ pub record Refuses (words : List Text) : Type 0 where
 abbrev pub Judged : List Text → Type 0
 Judged words = Takes words ⊎ Refuses words
 
--- ---- how many words there are
+-- ---- the number of words
 
--- there are as many words as required, or there is a fault for their number
+-- there are as many words as ids, or there is a fault for the number of words
 abbrev IsCounted : List Text → List Text → Type 0
 IsCounted ids words = ((length words ≡ length ids) × (count_fault ids words ≡ []))
     ⊎ ((length words ≡ length ids → ⊥) × (is_empty (count_fault ids words) ≡ false))
 
--- either the words are as many as required, or there is a fault for their number
+-- the number of words is right, or there is a fault for it
 counted : (ids words : List Text) → IsCounted ids words
 counted [] [] = inl (refl, refl)
 counted [] (word ∷ words) = inr ((λ same. omega (arith, same)), refl)
@@ -60,26 +59,26 @@ counted (id ∷ ids) (word ∷ words) = by (counted ids words)
     by (inr never) = inr ((λ same. never.0 (omega (arith, same))), never.1)
 
 module _ (s : Subcommand) (words : List Text) (plain : list_all is_plain_word words ≡ true) where
-  -- after a name, the only faults are for the number of words
+  -- after a subcommand's name, the only faults are for the number of words
   fault_at_name : fault_of docker_app (name_of s ∷ words) ≡ count_fault (ids_of s) words
   fault_at_name =
       let k = known s in
       named_fault leaves (leaf_of s) (name_of s) words k.met k.under ∙ leaf_fault (name_of s) (ids_of s) words k.fits k.fresh plain
 
-  -- after a name, the words are found at their ids
+  -- after a subcommand's name, each word is looked up at its id
   found_at_name : found_in (subcommand_of docker_app (name_of s ∷ words)) ≡ found_at (name_of s) (paired (ids_of s) words)
   found_at_name =
       let k = known s in
       ap found_in (named_rows leaves (leaf_of s) (name_of s) words k.met k.under)
       ∙ ap (found_at (name_of s)) (rows_found (name_of s) (ids_of s) words k.fits k.fresh plain)
 
-  -- if there are as many words as required, all of them are found
+  -- if there are as many words as required, each is found
   words_at_name : length words ≡ length (ids_of s) → found_at (name_of s) (paired (ids_of s) words) ≡ Some (pair_of s words)
   words_at_name count =
       ap (option_and_then (λ t. option_map (pair_of t) (found_words (ids_of t) (paired (ids_of s) words)))) (named_back s)
       ∙ ap (option_map (pair_of s)) ((known s).found words count)
 
-  -- after a name, the words are accepted or refused by their number
+  -- words after a subcommand's name are accepted or refused by their number
   named_judged : Judged (name_of s ∷ words)
   named_judged = elim (counted (ids_of s) words) [
     | inl is ↦ inl (record {
@@ -99,24 +98,24 @@ module _ (s : Subcommand) (words : List Text) (plain : list_all is_plain_word wo
 
 -- ---- words of any kind
 
--- the word isn't the name of any of these subcommands
+-- the word is the name of none of these subcommands
 abbrev IsNoneOf : Text → List Subcommand → Type 0
 IsNoneOf word [] = Unit {0}
 IsNoneOf word (s ∷ ss) = (bytes_eq (name_of s) word ≡ false) × IsNoneOf word ss
 
--- if a word is no name of these subcommands, no subcommand answers to it
+-- if the word is the name of none of these subcommands, `clap` finds none of them for it
 none_answers : (word : Text) (ss : List Subcommand) → IsNoneOf word ss → find (answers_to word) (map label_of (map leaf_of ss)) ≡ None
 none_answers word [] none = refl
 none_answers word (s ∷ ss) none =
     ap (λ b. cond (b || false) (Some (name_of s, [])) (find (answers_to word) (map label_of (map leaf_of ss)))) none.0
     ∙ none_answers word ss none.1
 
--- if a word is no name of these subcommands, no subcommand is found for it
+-- if the word is the name of none of these subcommands, a search by name finds none
 none_found : (word : Text) (ss : List Subcommand) → IsNoneOf word ss → find (λ s. bytes_eq (name_of s) word) ss ≡ None
 none_found word [] none = refl
 none_found word (s ∷ ss) none = ap (λ b. cond b (Some s) (find (λ t. bytes_eq (name_of t) word) ss)) none.0 ∙ none_found word ss none.1
 
--- if a word isn't in the table of subcommands, it isn't a subcommand's name
+-- if the word is the name of no subcommand in the table, it isn't any subcommand's name
 no_name : (word : Text) (s : Subcommand) → IsNoneOf word subcommands → word ≡ name_of s → ⊥
 unfolding subcommand_named
 no_name word s none is =
@@ -132,7 +131,7 @@ unnamed_judged word words plain none =
       names_none = λ s behind are. no_name word s none (ap first_word are.whole);
     })
 
--- plain words are accepted or refused, whether or not the first one names one of these subcommands
+-- if plain words are accepted or refused when the first names none of these subcommands, they are accepted or refused in any case
 by_name : (word : Text) (words : List Text) → list_all is_plain_word words ≡ true → (ss : List Subcommand) → (IsNoneOf word ss → Judged (word ∷ words))
     → Judged (word ∷ words)
 by_name word words plain [] unnamed = unnamed tt

@@ -1,4 +1,4 @@
--- Reading the job line byte by byte, and what the bytes that were read say about the text.
+-- Reading the job line byte by byte: what the bytes read so far say about the source's text.
 use Rattle.std.proofs.Common.{◌≡◌, ℕ, ◌<◌, ◌≤◌, ◌≢◌, List, [], ◌∷◌, ◌++◌, length, Bool, true, false, refl, sym, ◌∙◌, ap}
 use Rattle.std.proofs.Common.{subst, arith, append_assoc, length-append, append-nil, Some, None, inl, inr, get_or}
 use Rattle.std.specs.Prelude.{Option, option_map, ◌&&◌, ◌⊎◌, nat_le}
@@ -16,7 +16,7 @@ use Rattle.docker_cmd.specs.JobLine.{ReadsLine, HasNoLine, HasNoJob, HasJob, Rea
 abbrev pub ArePrintable : List ℕ → Type 0
 ArePrintable = AllByRecursion (λ b. is_printable b ≡ true)
 
--- a text has no line of printable bytes if a byte before its first line feed isn't printable
+-- a text doesn't begin with a line of printable bytes if some byte before its first line feed isn't printable
 clash : (a b : List ℕ) (x : ℕ) (r s : List ℕ) → ArePrintable a → ArePrintable b → is_printable x ≡ false → x ≢ 10 → a ++ x ∷ r ≡ b ++ 10 ∷ s → ⊥
 clash [] [] x r s a_good b_good bad other same = other (cc)
 clash [] (z ∷ b) x r s a_good b_good bad other same =
@@ -39,7 +39,7 @@ ended (y ∷ a) [] s good same =
     cc
 ended (y ∷ a) (z ∷ b) s good same = ended a b s good.1 (cc)
 
--- a text's first line is no shorter than the printable bytes with which the text begins
+-- if a text begins with `a`, all of it printable, its first line is at least as long as `a`
 long : (a b r s : List ℕ) → ArePrintable a → length b < length a → a ++ r ≡ b ++ 10 ∷ s → ⊥
 long [] b r s good short same = absurd (omega arith)
 long (y ∷ a) [] r s good short same =
@@ -48,17 +48,17 @@ long (y ∷ a) [] r s good short same =
     cc
 long (y ∷ a) (z ∷ b) r s good short same = long a b r s good.1 (omega arith) (cc)
 
--- printable bytes and one more printable byte are all printable
+-- printable bytes stay printable with one more printable byte at the end
 pub printable_more : (line : List ℕ) (b : ℕ) → ArePrintable line → is_printable b ≡ true → ArePrintable (line ++ b ∷ [])
 printable_more [] b good here = (here, tt)
 printable_more (y ∷ line) b good here = (good.0, printable_more line b good.1 here)
 
--- if a line was read and then a byte, the line with that byte at its end was read
+-- if the bytes of a line were read and then one more byte, the line with this byte at its end was read
 pub reads_on : (old now new : Option (List ℕ)) (line : List ℕ) (b : ℕ) → Reads old line now → Reads now (b ∷ []) new → Reads old (line ++ b ∷ []) new
 reads_on old now None line b first then_one = first ∙ ap (option_map (λ rest. line ++ rest)) then_one
 reads_on old now (Some rest) line b first then_one = first ∙ ap (option_map (λ rest. line ++ rest)) then_one ∙ ap Some (sym (append_assoc line (b ∷ []) rest))
 
--- a text of printable bytes without a line feed has no line
+-- a text of printable bytes without a line feed has no job line
 pub no_line_at_end : (old now : Option (List ℕ)) (line : List ℕ) → Reads old line now → IsEnd now → ArePrintable line → HasNoLine old
 no_line_at_end None now line read end good = tt
 no_line_at_end (Some text) None line read end good = cc
@@ -67,7 +67,7 @@ no_line_at_end (Some text) (Some rest) line read end good = λ other behind is.
     let whole : text ≡ line = same ∙ ap (λ r. line ++ r) end ∙ append-nil line in
     ended line other behind good (sym whole ∙ is.whole)
 
--- a text has no line if its first byte that isn't printable isn't a line feed
+-- a text has no job line if its first byte that isn't printable isn't a line feed
 pub no_line_at : (old now new : Option (List ℕ)) (line : List ℕ) (b : ℕ) → Reads old line now → Reads now (b ∷ []) new → ArePrintable line
     → is_printable b ≡ false → b ≢ 10 → HasNoLine old
 no_line_at old now new line b first feed good bad other = by old new (reads_on old now new line b first feed)
@@ -80,7 +80,7 @@ no_line_at old now new line b first feed good bad other = by old new (reads_on o
         clash line found b rest behind good (recursion_from_All _ found is.line_text.printable) bad other
         (sym (append_assoc line (b ∷ []) rest) ∙ sym same ∙ is.whole)
 
--- a text that begins with more than 255 printable bytes has no line
+-- a text that begins with more than 255 printable bytes has no job line
 pub no_line_behind : (old new : Option (List ℕ)) (line : List ℕ) → Reads old line new → ArePrintable line → 255 < length line → HasNoLine old
 no_line_behind None new line read good long_line = tt
 no_line_behind (Some text) None line read good long_line = cc
@@ -89,7 +89,7 @@ no_line_behind (Some text) (Some rest) line read good long_line = λ found behin
     let short : length found ≤ 255 = is.line_text.short in
     long line found rest behind good (omega arith) (sym same ∙ is.whole)
 
--- if 255 printable bytes aren't followed by a line feed, the text has no line
+-- a text has no job line if it begins with 255 printable bytes and no line feed follows them
 pub no_line_full : (old now new : Option (List ℕ)) (line : List ℕ) (b : ℕ) → Reads old line now → Reads now (b ∷ []) new → ArePrintable line
     → length line ≡ 255 → b ≢ 10 → HasNoLine old
 no_line_full old now new line b first feed good full other = by (is_printable b) refl
@@ -99,7 +99,7 @@ no_line_full old now new line b first feed good full other = by (is_printable b)
         (omega (arith, length-append line (b ∷ [])))
     by false here = no_line_at old now new line b first feed good here other
 
--- two lines that end at a text's first line feed are equal
+-- a text has at most one first line: two lines that it begins with, each followed by a line feed, are equal
 one_line : (a b r s : List ℕ) → ArePrintable a → ArePrintable b → a ++ 10 ∷ r ≡ b ++ 10 ∷ s → a ≡ b
 one_line [] [] r s a_good b_good same = refl
 one_line [] (z ∷ b) r s a_good b_good same =
@@ -115,7 +115,7 @@ one_line (y ∷ a) (z ∷ b) r s a_good b_good same =
     let rest : a ≡ b = one_line a b r s a_good.1 b_good.1 (cc) in
     cc
 
--- if a line's words name no job, the text that begins with the line has no job
+-- if the words of a source's job line name no job, the source's text names no job
 pub no_job_on_line : (old new : Option (List ℕ)) (line : List ℕ) → ReadsLine old line new → NameNoJob (words_in line) → HasNoJob old
 no_job_on_line None new line read none = tt
 no_job_on_line (Some text) new line read none = λ other behind is.
@@ -140,16 +140,16 @@ printable_small b good = by (leb_tells b 126) good
 pub line_ascii : (line : List ℕ) → AllPass is_printable line → IsAscii line
 line_ascii line good = IsAscii-from_all line (λ k d within. printable_small (get_or line k d) (good k d within))
 
--- if a line's words name a job, the text that begins with the line has a job
+-- if the words of a source's job line name a job, the source's text names a job
 pub job_on_line : (old new : Option (List ℕ)) (line : List ℕ) → ReadsLine old line new → ¬ NameNoJob (words_in line) → HasJob old
 job_on_line None new line read some = tt
 job_on_line (Some text) new line read some = (line, (read.0, (read.1, some)))
 
--- if a line of at most 256 bytes was read, at most 256 bytes were read
+-- if the bytes read are a line of at most 256 bytes, at most 256 bytes were read
 pub reads_few : (old now new : Option (List ℕ)) (line : List ℕ) → Reads old line now → new ≡ now → length line ≤ 256 → ReadsAtMost 256 old new
 reads_few old now new line read same few = record { lost = line; few = few; read = subst (Reads old line) (sym same) read }
 
--- if a line of at most 255 bytes and one more byte were read, at most 256 bytes were read
+-- if the bytes read are a line of at most 255 bytes and one more byte, at most 256 bytes were read
 pub reads_one_more : (old now new : Option (List ℕ)) (line : List ℕ) (b : ℕ) → Reads old line now → Reads now (b ∷ []) new → length line ≤ 255
     → ReadsAtMost 256 old new
 reads_one_more old now new line b first then_one few =

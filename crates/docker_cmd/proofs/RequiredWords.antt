@@ -1,4 +1,4 @@
--- How `clap` reads the words after a subcommand that requires some.
+-- How `clap` reads the words after a subcommand's name, if the subcommand requires some.
 use Rattle.std.proofs.Common.{◌≡◌, ◌∙◌, ◌+◌, ◌&&◌, ◌||◌, ℕ, Bool, cond, true, false, not, min, map, refl, sym, ap}
 use Rattle.std.proofs.Common.{subst, true≢false, List, [], ◌∷◌, ◌++◌, Some, None, append_assoc, append-nil}
 use Rattle.std.specs.List.{find, fold, list_all, list_any}
@@ -21,32 +21,32 @@ use Rattle.docker_cmd.specs.Words.{is_plain_word}
 use Rattle.docker_cmd.specs.Grammar.{docker_shape, required_rule, words_shape}
 use Rattle.docker_cmd.proofs.PlainWords.{at, plain_turn, plain_walked}
 
--- the program's own level, once `clap` has built it
+-- the program's own level, after `clap` has built it
 abbrev pub built_top : Shape
 built_top = record docker_shape { is_leaf = false; is_built = true }
 
--- one of the program's subcommands, once `clap` has built it
+-- a subcommand of the program, after `clap` has built it
 abbrev pub leaf : Text → List Text → Shape
 leaf name ids = built_leaf (inherited built_top (words_shape name ids))
 
--- the rule of a required word, once its subcommand is built
+-- the rule of a required word at this position, after `clap` has built the subcommand
 abbrev pub placed : ℕ → Text → Rule
 placed position id = with_index position (filled (required_rule id))
 
--- the next position
+-- the position after this one; it stops at the greatest `usize`
 abbrev pub next : ℕ → ℕ
 next position = min (position + 1) usize_max
 
--- from this position on, the rules have just these ids
+-- the rules at the positions from this one on are the rules of exactly these ids
 abbrev pub Fits : List Rule → ℕ → List Text → Type 0
 Fits c position [] = arg_by_index c position ≡ None
 Fits c position (id ∷ ids) = (arg_by_index c position ≡ Some (placed position id)) × (arg_by_id c id ≡ Some (placed position id)) × Fits c (next position) ids
 
--- the row of a required word that was found
+-- the row of a required word, after the word was found on the command line
 abbrev pub row : Text → Text → Row
 row id word = record { id = id; values = word ∷ []; count = None; source = Some CommandLine; reading = reading_by (new_rule id) }
 
--- each of these ids differs from the others and has no row yet
+-- these ids differ from each other, and no row has one of them
 abbrev pub Fresh : List Row → List Text → Type 0
 Fresh rows [] = Unit {0}
 Fresh rows (id ∷ ids) = (has_row id rows ≡ false) × ((word : Text) → Fresh (rows ++ row id word ∷ []) ids)
@@ -64,7 +64,7 @@ neither : (a b : Bool) → (a || b) ≡ false → (a ≡ false) × (b ≡ false)
 neither true b e = absurd (true≢false e)
 neither false b e = (refl, e)
 
--- a change at an id that has no row adds one at the end
+-- if no row has this id, a change at the id appends the rows that are given for that case
 at_new : (id : Text) (change : Row → List Row) (missing rows : List Row) → has_row id rows ≡ false → at_row id change missing rows ≡ rows ++ missing
 at_new id change missing [] fresh = refl
 at_new id change missing (r ∷ rows) fresh =
@@ -77,16 +77,16 @@ used_new position id word rows fresh =
     ap (with_values id (reading_by (new_rule id)) CommandLine (word ∷ [])) (at_new id (λ _. []) [] rows fresh ∙ append-nil rows)
     ∙ at_new id (more_values CommandLine (word ∷ [])) (row id word ∷ []) rows fresh
 
--- the words that a walk holds at its end become these rows, without a fault
+-- at the end of the walk, what it holds becomes these rows without a fault
 record Settles (s : Shape) (h : Held) (rows : List Row) : Type 0 where
   rows_are : settled_rows s.rules h.pending h.rows ≡ rows
   no_fault : settle_fault s.rules s.args_override_self h ≡ []
 
--- a walk holds these rows, and a required word that has no row yet
+-- the walk holds these rows, and a required word that has no row yet
 abbrev holding : List Row → Text → Text → ℕ → Held
 holding rows id word skip = record { rows = rows; pending = Some (id, word ∷ []); skip = skip }
 
--- the required word that a walk holds becomes its row
+-- at the end of the walk, the required word that it holds gets its own row
 settles_new : (s : Shape) (position : ℕ) (id word : Text) (rows : List Row) (skip : ℕ) → arg_by_id s.rules id ≡ Some (placed position id)
     → has_row id rows ≡ false
     → Settles s (holding rows id word skip) (rows ++ row id word ∷ [])
@@ -96,13 +96,13 @@ settles_new s position id word rows skip found fresh = record {
       ∙ ap (λ b. or_else (cond (b && not s.args_override_self) (kind.ArgumentConflict ∷ []) []) []) fresh;
 }
 
--- the walk takes a required word as the value of its place
+-- the walk takes a required word as the value of its position
 at_positional : (c : List Rule) (position : ℕ) (id word : Text) (h : Held)
     → to_positional c (Some (placed position id)) word (at h position) h ≡ at (holding (settled_rows c h.pending h.rows) id word h.skip) (next position)
 at_positional c position id word h =
     ap (λ b. at (pushed id word (cond b h (settled c h))) (next position)) (and-false (is_pending (placed position id) h.pending))
 
--- after a required word the walk holds this word
+-- after a required word, the walk holds this word
 placed_walked : (s : Shape) (position : ℕ) (id word : Text) (h : Held) (rows : List Row) → arg_by_index s.rules position ≡ Some (placed position id)
     → Settles s h rows → is_plain_word word ≡ true → walked s.rules [] (at h position) word ≡ at (holding rows id word h.skip) (next position)
 placed_walked s position id word h rows found settles plain =
@@ -111,7 +111,7 @@ placed_walked s position id word h rows found settles plain =
     ∙ at_positional s.rules position id word h
     ∙ ap (λ rs. at (holding rs id word h.skip) (next position)) settles.rows_are
 
--- a required word has no fault
+-- a required word in its position is no fault
 placed_fault : (s : Shape) (position : ℕ) (id word : Text) (rest : List Text) (h : Held) (rows : List Row)
     → arg_by_index s.rules position ≡ Some (placed position id)
     → Settles s h rows → is_plain_word word ≡ true
@@ -126,20 +126,20 @@ placed_fault s position id word rest h rows found settles plain =
 
 -- ---- all words of a subcommand
 
--- the fault if there are more words than are required
+-- the fault for more words than are required
 abbrev surplus_fault : List Text → List Text → Kinds
 surplus_fault [] [] = []
 surplus_fault [] (word ∷ words) = kind.UnknownArgument ∷ []
 surplus_fault (id ∷ ids) [] = []
 surplus_fault (id ∷ ids) (word ∷ words) = surplus_fault ids words
 
--- whether there are fewer words than are required
+-- whether fewer words are given than are required
 abbrev is_short : List Text → List Text → Bool
 is_short [] words = false
 is_short (id ∷ ids) [] = true
 is_short (id ∷ ids) (word ∷ words) = is_short ids words
 
--- the walk over the words has a fault only if there are too many
+-- the walk over the words finds a fault only if there are too many
 words_fault : (s : Shape) (position : ℕ) (ids words : List Text) (h : Held) (rows : List Row) → stray_fault s ≡ kind.UnknownArgument ∷ []
     → Fits s.rules position ids → Fresh rows ids
     → Settles s h rows → list_all is_plain_word words ≡ true → walk_fault s [] (at h position) words ≡ surplus_fault ids words
@@ -155,7 +155,7 @@ words_fault s position (id ∷ ids) (word ∷ words) h rows stray fits fresh set
     ∙ words_fault s (next position) ids words (holding rows id word h.skip) (rows ++ row id word ∷ []) stray fits.2 (fresh.1 word)
     (settles_new s position id word rows h.skip fits.1 fresh.0) (both _ _ plain).1
 
--- what the walk over the words holds at its end becomes all words, each with its id
+-- at the end of the walk over the words, what it holds becomes one row for each word, with the word's id
 words_held : (s : Shape) (position : ℕ) (ids words : List Text) (h : Held) (rows : List Row) → Fits s.rules position ids → Fresh rows ids
     → Settles s h rows → list_all is_plain_word words ≡ true → Settles s (fold (walked s.rules []) (at h position) words).held (rows ++ paired ids words)
 words_held s position [] [] h rows fits fresh settles plain = subst (Settles s h) (sym (append-nil rows)) settles
@@ -175,7 +175,7 @@ words_held s position (id ∷ ids) (word ∷ words) h rows fits fresh settles pl
 
 -- ---- the end of the walk
 
--- a choice between equal rows gives these rows
+-- if both branches of a choice are the same rows, the choice gives these rows
 same_rows : (id : Text) (rows : List Row) → cond (has_row id rows) rows rows ≡ rows
 same_rows id rows = go (has_row id rows)
   where
@@ -197,7 +197,7 @@ no_default_fault position (id ∷ ids) rows =
     ap (λ b. or_else (cond b [] []) (defaults_fault (with_default rows (placed position id)) rest)) (or-true (has_row id rows))
     ∙ ap (λ rs. defaults_fault rs rest) (same_rows id rows) ∙ no_default_fault (next position) ids rows
 
--- an id without a row among the first rows is given only by the others
+-- if the first rows have no row of an id, the id is given if and only if the other rows give it
 not_given : (id : Text) (rows rest : List Row) → has_row id rows ≡ false → is_given id (rows ++ rest) ≡ is_given id rest
 not_given id [] rest fresh = refl
 not_given id (r ∷ rows) rest fresh =
@@ -205,7 +205,7 @@ not_given id (r ∷ rows) rest fresh =
     ap (λ b. option_map_or (λ (x : Row). explicit_source x.source) (cond b (Some r) (find (λ x. bytes_eq x.id id) (rows ++ rest))) false) parts.0
     ∙ not_given id rows rest parts.1
 
--- an id is given by its own row
+-- an id is given if it has a row
 given_here : (id word : Text) (rest : List Row) → is_given id (row id word ∷ rest) ≡ true
 given_here id word rest =
     ap (λ b. option_map_or (λ (x : Row). explicit_source x.source) (cond b (Some (row id word)) (find (λ x. bytes_eq x.id id) rest)) false)
@@ -228,27 +228,27 @@ missing position (id ∷ ids) (word ∷ words) rows fresh =
 
 -- ---- a whole subcommand
 
--- the faults if the number of words is wrong
+-- the faults for a wrong number of words
 abbrev pub count_fault : List Text → List Text → Kinds
 count_fault ids words = or_else (surplus_fault ids words) (cond (is_short ids words) (kind.MissingRequiredArgument ∷ []) [])
 
 module _ (name : Text) (ids words : List Text) (fits : Fits (leaf name ids).rules 1 ids) (fresh : Fresh [] ids)
     (plain : list_all is_plain_word words ≡ true) where
-  -- what the walk holds at the end of the words
+  -- what the walk holds after the last word
   end : Held
   end = (walk (leaf name ids).rules [] nothing_held words).held
 
-  -- what the walk holds at its end becomes the words, each with its id
+  -- after the last word, what the walk holds becomes one row for each word, with the word's id
   settles_end : Settles (leaf name ids) end (paired ids words)
   unfolding end
   settles_end = words_held (leaf name ids) 1 ids words nothing_held [] fits fresh (record { rows_are = refl; no_fault = refl }) plain
 
-  -- the matches are the rows of the words, each with its id
+  -- the subcommand's matches are one row for each word, with the word's id
   pub rows_found : rows_after (leaf name ids).rules [] words ≡ paired ids words
   unfolding end
   rows_found = ap (λ rows. fold with_default rows (leaf name ids).rules) settles_end.rows_are ∙ no_defaults 1 ids (paired ids words)
 
-  -- the only faults are for the number of words
+  -- the subcommand's only faults are for the number of words
   pub leaf_fault : level_fault (leaf name ids) [] nothing_held words false [] ≡ count_fault ids words
   unfolding end
   leaf_fault =

@@ -1,4 +1,4 @@
--- The rows of the table of subcommands: what holds for each.
+-- The facts about the table of subcommands that hold for each of its rows.
 use Rattle.std.proofs.Common.{◌≡◌, ℕ, List, [], ◌∷◌, length, map, Some, refl, codes, arith}
 use Rattle.std.specs.Prelude.{⊤}
 use Rattle.std.specs.List.{find}
@@ -13,7 +13,7 @@ use Rattle.docker_cmd.specs.Grammar.{found_words}
 use Rattle.docker_cmd.proofs.FirstWord.{built_with}
 use Rattle.docker_cmd.proofs.RequiredWords.{Fits, Fresh, leaf, paired}
 
--- a subcommand is found by its name
+-- searching for a subcommand's name finds this subcommand
 pub named_back : (s : Subcommand) → subcommand_named (name_of s) ≡ Some s
 unfolding subcommand_named
 named_back New = refl
@@ -28,20 +28,20 @@ named_back Migrate = refl
 
 -- ---- the number of words
 
--- a list that has just one word has length 1
+-- a list with exactly one word has length 1
 one_counted : (Holds : Text → Type 0) (words : List Text) → OfOne Holds words → length words ≡ 1
 one_counted Holds [] is = absurd is
 one_counted Holds (a ∷ []) is = refl
 one_counted Holds (a ∷ b ∷ words) is = absurd is
 
--- a list that has just two words has length 2
+-- a list with exactly two words has length 2
 two_counted : (Holds : Text → Text → Type 0) (words : List Text) → OfTwo Holds words → length words ≡ 2
 two_counted Holds [] is = absurd is
 two_counted Holds (a ∷ []) is = absurd is
 two_counted Holds (a ∷ b ∷ []) is = refl
 two_counted Holds (a ∷ b ∷ c ∷ words) is = absurd is
 
--- a list that has just three words has length 3
+-- a list with exactly three words has length 3
 three_counted : (Holds : Text → Text → Text → Type 0) (words : List Text) → OfThree Holds words → length words ≡ 3
 three_counted Holds [] is = absurd is
 three_counted Holds (a ∷ []) is = absurd is
@@ -61,7 +61,7 @@ words_counted files_task words is = one_counted _ words is
 words_counted (horizon_task day) words is = two_counted _ words is
 words_counted migrate_task words is = one_counted _ words is
 
--- ---- what a subcommand's words have to be, whatever its task
+-- ---- what the words after a subcommand have to be
 
 -- these two words name a timing point and a day
 pub record NameBoth (tiploc date : Text) : Type 0 where
@@ -70,13 +70,13 @@ pub record NameBoth (tiploc date : Text) : Type 0 where
   pub place_is : NamesPlace tiploc place
   pub day_is : NamesDay date day
 
--- these two words name a state that can be written anew, and a day
+-- these two words name a state that can be replaced, and a day
 pub record NameHorizon (state date : Text) : Type 0 where
   pub stored : NamesStored state
   pub day : ℕ
   pub day_is : NamesDay date day
 
--- these are the words of one of the subcommand's tasks
+-- these words have the form that each task of the subcommand requires
 abbrev pub Suit : Subcommand → List Text → Type 0
 Suit New = OfOne (λ state. NamesStored state)
 Suit Check = OfOne (λ file. ⊤)
@@ -88,14 +88,14 @@ Suit Files = OfOne (λ state. ⊤)
 Suit Horizon = OfTwo (λ state date. NameHorizon state date)
 Suit Migrate = OfOne (λ state. NamesStored state)
 
--- if the two words have a property, they have each weaker one
+-- if two words have a property, they have any weaker property
 two_weaker : (P Q : Text → Text → Type 0) → ((a b : Text) → P a b → Q a b) → (words : List Text) → OfTwo P words → OfTwo Q words
 two_weaker P Q so [] is = is
 two_weaker P Q so (a ∷ []) is = is
 two_weaker P Q so (a ∷ b ∷ []) is = so a b is
 two_weaker P Q so (a ∷ b ∷ c ∷ words) is = is
 
--- if the three words have a property, they have each weaker one
+-- if three words have a property, they have any weaker property
 three_weaker : (P Q : Text → Text → Text → Type 0) → ((a b c : Text) → P a b c → Q a b c) → (words : List Text) → OfThree P words → OfThree Q words
 three_weaker P Q so [] is = is
 three_weaker P Q so (a ∷ []) is = is
@@ -103,7 +103,7 @@ three_weaker P Q so (a ∷ b ∷ []) is = is
 three_weaker P Q so (a ∷ b ∷ c ∷ []) is = so a b c is
 three_weaker P Q so (a ∷ b ∷ c ∷ d ∷ words) is = is
 
--- the words of a task suit its subcommand
+-- the words that name a task have the form that the task's subcommand requires
 pub suit : (task : TaskView) (words : List Text) → AreWordsOf task words → Suit (subcommand_of task) words
 suit new_task words is = is
 suit check_task words is = is
@@ -117,7 +117,7 @@ suit files_task words is = is
 suit (horizon_task day) words is = two_weaker _ _ (λ a b named. record { stored = named.0; day = day; day_is = named.1 }) words is
 suit migrate_task words is = is
 
--- ---- the words that are found at the ids
+-- ---- the words that are found at ids
 
 -- one word is found at its id
 one_found : (a : Text) → ((x : Text) → found_words (a ∷ []) (paired (a ∷ []) (x ∷ [])) ≡ Some (x ∷ []))
@@ -143,17 +143,16 @@ three_found a b c found (x ∷ y ∷ []) three = absurd (omega (arith, three))
 three_found a b c found (x ∷ y ∷ z ∷ []) three = found x y z
 three_found a b c found (x ∷ y ∷ z ∷ w ∷ words) three = absurd (omega (arith, three))
 
--- ---- the subcommands as `clap` has them
+-- ---- the subcommands as `clap` describes them
 
--- a subcommand, once `clap` has built it
+-- a subcommand, after `clap` has built it
 abbrev pub leaf_of : Subcommand → Shape
 leaf_of s = leaf (name_of s) (ids_of s)
 
 abbrev pub leaves : List Shape
 leaves = map leaf_of subcommands
 
--- for a subcommand: its ids have their positions and differ, its name is met, and its words are
--- found
+-- what is known of each subcommand: its ids differ and have their positions, `clap` recognises its name, and its words are found at their ids
 pub record IsKnown (s : Subcommand) : Type 0 where
   pub fits : Fits (leaf_of s).rules 1 (ids_of s)
   pub fresh : Fresh [] (ids_of s)
@@ -161,7 +160,7 @@ pub record IsKnown (s : Subcommand) : Type 0 where
   pub under : find (λ x. answers_to (name_of s) (label_of x)) leaves ≡ Some (leaf_of s)
   pub found : (words : List Text) → length words ≡ length (ids_of s) → found_words (ids_of s) (paired (ids_of s) words) ≡ Some words
 
--- each subcommand has these properties
+-- this is known of every subcommand
 pub known : (s : Subcommand) → IsKnown s
 known New = record { fits = (refl, refl, refl); fresh = (refl, λ a. tt); met = refl; under = refl; found = one_found (codes "STATE") (λ x. refl) }
 known Check = record { fits = (refl, refl, refl); fresh = (refl, λ a. tt); met = refl; under = refl; found = one_found (codes "FILE") (λ x. refl) }

@@ -1,4 +1,4 @@
--- What a job has of its sources, from what was read of them.
+-- What a task has made of its sources, derived from what was read from them.
 use Rattle.std.proofs.Common.{◌≡◌, ℕ, [], ◌∷◌, ◌⊎◌, Option, None, refl, sym, ◌∙◌, ap, subst, Some}
 use Rattle.cif_laws.proofs.lists.Membership.{Contains-single, nil-Contains}
 use Rattle.docker_model.specs.file.File.{most_records}
@@ -16,7 +16,7 @@ use Rattle.docker_cmd.specs.Writes.{Output}
 use Rattle.docker_cmd.specs.Prepared.{DeviceBytes, HasNoSource, HasReadToEnd, HasSecondSource, IsContentOf, IsOfOneFile, IsPreparedFor}
 use Rattle.docker_cmd.specs.Prepared.{IsReadOf, IsStateOf, IsWhyRefused, IsWrittenOf, ReadView, ReadsFew, file_read, office_read, under}
 
--- the empty state is the summary of no file, with no horizon
+-- the state that knows nothing is the summary of no files, with no horizon
 no_files : IsSummary [] 0 no_state
 no_files = record {
   horizon_is = refl;
@@ -28,7 +28,7 @@ no_files = record {
   entries = λ key entry. (λ among. absurd (nil-Contains (key, entry) among), λ told. absurd (nil-Contains told.1.is.file told.1.is.kept.among));
 }
 
--- an office that knew no file and takes one has the state of this file, whose live table is plain
+-- if an office that knew nothing takes one file, its state is the summary of this file, and the live table is the file's plain table
 of_one_file : (left : DeviceBytes) (state : State) → TakesFile most_records left no_state state → IsOfOneFile left (office_read state)
 of_one_file left state takes =
     let summary : IsSummary (takes.file ∷ []) 0 state =
@@ -45,7 +45,7 @@ of_one_file left state takes =
           (λ one two is_one is_two same. sym (Contains-single takes.file one is_one) ∙ Contains-single takes.file two is_two);
     }
 
--- if a task's source is a file that an office takes, it has read the state of this one file
+-- if a task's source is a file that an office takes, what the task has read is the state of this one file
 pub read_one_file : (task : TaskView) (first second : DeviceBytes) (read : ReadView) → sources_of task ≡ taken_file → IsReadOf task first second read
     → IsOfOneFile first read
 read_one_file new_task first second read is reads = let never : ⊥ = cc in absurd never
@@ -61,7 +61,7 @@ read_one_file files_task first second read is reads = let never : ⊥ = cc in ab
 read_one_file (horizon_task day) first second read is reads = let never : ⊥ = cc in absurd never
 read_one_file migrate_task first second read is reads = let never : ⊥ = cc in absurd never
 
--- `check` is the only task whose source is a file that is just checked
+-- `check` is the only task that only checks a file
 checked : (task : TaskView) → sources_of task ≡ checked_file → task ≡ check_task
 checked new_task is = let never : ⊥ = cc in absurd never
 checked check_task is = refl
@@ -73,7 +73,7 @@ checked files_task is = let never : ⊥ = cc in absurd never
 checked (horizon_task day) is = let never : ⊥ = cc in absurd never
 checked migrate_task is = let never : ⊥ = cc in absurd never
 
--- the state of a task's sources, under the horizon that the task sets, is the task's state
+-- a task's state is the state read from its sources, after the task's horizon was set
 state_of : (task : TaskView) (first second : DeviceBytes) (state : State) → IsStateOf (sources_of task) first second state
     → IsReadOf task first second (under (horizon_of task) (office_read state))
 state_of new_task first second state is = is
@@ -86,14 +86,14 @@ state_of files_task first second state is = is
 state_of (horizon_task day) first second state is = record { own = state; reads = is; raised = refl }
 state_of migrate_task first second state is = is
 
--- the content of a task's sources, under the horizon that the task sets, is what the task reads
+-- what a task has read is the content of its sources, after the task's horizon was set
 read_of : (task : TaskView) (first second : DeviceBytes) (read : ReadView) → IsContentOf (sources_of task) first second read
     → IsReadOf task first second (under (horizon_of task) read)
 read_of task first second (file_read file) is =
     subst (λ task. IsReadOf task first second (under (horizon_of task) (file_read file))) (sym (checked task is.0)) (refl, is.1)
 read_of task first second (office_read state) is = state_of task first second state is
 
--- a task's output can be written of the state of its sources
+-- a task's output can be written from the state of its sources
 state_written_of : (task : TaskView) (first second : DeviceBytes) (state : State) → IsStateOf (sources_of task) first second state
     → IsWrittenOf (output_of task) (office_read state)
 state_written_of new_task first second state is = λ same. cc
@@ -106,19 +106,19 @@ state_written_of files_task first second state is = λ same. cc
 state_written_of (horizon_task day) first second state is = λ same. cc
 state_written_of migrate_task first second state is = λ same. cc
 
--- a task's output can be written of the content of its sources
+-- a task's output can be written from the content of its sources
 written_of : (task : TaskView) (first second : DeviceBytes) (read : ReadView) → IsContentOf (sources_of task) first second read
     → IsWrittenOf (output_of task) read
 written_of task first second (file_read file) is = ap output_of (checked task is.0)
 written_of task first second (office_read state) is = state_written_of task first second state is
 
--- an output that can be written of a content can be written of it under a horizon
+-- setting a horizon on a content doesn't change which outputs can be written from it
 still_written : (output : Output) (horizon : Option ℕ) (read : ReadView) → IsWrittenOf output read → IsWrittenOf output (under horizon read)
 still_written output None read is = is
 still_written output (Some day) (file_read file) is = is
 still_written output (Some day) (office_read state) is = is
 
--- a task's output can be written of the content of its sources under the task's horizon
+-- a task's output can be written from the content of its sources after the task's horizon was set
 pub held_written : (task : TaskView) (sources : Sources) (horizon : Option ℕ) (first second : DeviceBytes) (own made : ReadView) → sources ≡ sources_of task
     → made ≡ under horizon own → IsContentOf sources first second own → IsWrittenOf (output_of task) made
 held_written task sources horizon first second own made same_sources same_made content =
@@ -126,7 +126,7 @@ held_written task sources horizon first second own made same_sources same_made c
     (still_written (output_of task) horizon own
     (written_of task first second own (subst (λ s. IsContentOf s first second own) same_sources content)))
 
--- the content of a task's sources under the task's horizon is what the task has read
+-- the content of a task's sources, after the task's horizon was set, is what the task has read
 pub task_read : (task : TaskView) (sources : Sources) (horizon : Option ℕ) (first left second second_left : DeviceBytes) (own made : ReadView)
     → sources ≡ sources_of task → horizon ≡ horizon_of task → made ≡ under horizon own
     → ReadsFew sources first left second second_left (IsContentOf sources first second own × HasReadToEnd sources left second_left)
@@ -142,14 +142,14 @@ task_read task sources horizon first left second second_left own made same_sourc
       ends = (subst (λ read. IsReadOf task first second read) (sym is) (read_of task first second own moved.ends.0), moved.ends.1);
     }
 
--- if some sources are refused, equal sources are refused for the same reason
+-- a reason why some sources were refused is a reason for equal sources too
 pub refused_for : (sources others : Sources) (first left second second_left : DeviceBytes) (fault : OfficeFault) → sources ≡ others
     → ReadsFew sources first left second second_left (IsWhyRefused sources first left second second_left fault)
     → ReadsFew others first left second second_left (IsWhyRefused others first left second second_left fault)
 refused_for sources others first left second second_left fault same reads =
     subst (λ s. ReadsFew s first left second second_left (IsWhyRefused s first left second second_left fault)) same reads
 
--- if the task of a job has read something, the job is prepared with it
+-- if a job's task has read something, the job with what it has read is the prepared job
 pub prepared_read : (job : JobView) (first left second second_left : DeviceBytes) (read : ReadView)
     → ReadsFew (sources_of job.task) first left second second_left (IsReadOf job.task first second read × HasReadToEnd (sources_of job.task) left second_left)
     → ReadsFew (sources_of job.task) first left second second_left
@@ -157,9 +157,9 @@ pub prepared_read : (job : JobView) (first left second second_left : DeviceBytes
 prepared_read job first left second second_left read reads =
     record { first_few = reads.first_few; second_few = reads.second_few; ends = ((refl, reads.ends.0), reads.ends.1) }
 
--- ---- a task that holds a part of what it has read
+-- ---- a task that keeps only a part of what it has read
 
--- if a task has read something, an equal task has read it
+-- if a task has read something, an equal task has read the same
 pub read_of_task : (asked task : TaskView) (first left second second_left : DeviceBytes) (read : ReadView) → asked ≡ task
     → ReadsFew (sources_of task) first left second second_left (IsReadOf task first second read × HasReadToEnd (sources_of task) left second_left)
     → ReadsFew (sources_of asked) first left second second_left (IsReadOf asked first second read × HasReadToEnd (sources_of asked) left second_left)
@@ -167,11 +167,11 @@ read_of_task asked task first left second second_left read is reads =
     subst (λ t. ReadsFew (sources_of t) first left second second_left (IsReadOf t first second read × HasReadToEnd (sources_of t) left second_left))
     (sym is) reads
 
--- if a task has a source, an equal task has one
+-- if a task has a source, an equal task has one too
 pub some_of_task : (P : Type 0) (asked task : TaskView) → asked ≡ task → ¬ HasNoSource (sources_of task) → HasNoSource (sources_of asked) → P
 some_of_task P asked task is some none = absurd (some (subst (λ t. HasNoSource (sources_of t)) is none))
 
--- if a second source was read only after the first, this holds for equal sources too
+-- if a second source was read only after a good first one, the same holds for equal sources
 pub second_for : {First Good Kept : Type 0} (sources others : Sources) → sources ≡ others → First ⊎ (HasSecondSource sources × Good × Kept)
     → First ⊎ (HasSecondSource others × Good × Kept)
 second_for {First} {Good} {Kept} sources others same order = subst (λ s. First ⊎ (HasSecondSource s × Good × Kept)) same order

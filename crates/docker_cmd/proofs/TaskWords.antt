@@ -1,4 +1,4 @@
--- The words that a subcommand requires, and the task that they ask for.
+-- The words that a subcommand requires, and the task that they name.
 use Rattle.std.proofs.Common.{◌≡◌, ◌∙◌, ℕ, List, [], ◌∷◌, length, Bool, true, false, cond, Some, None}
 use Rattle.std.proofs.Common.{refl, sym, ap, subst, codes, arith, slice_index_or, true≢false}
 use Rattle.std.specs.Prelude.{Option, option_map}
@@ -13,25 +13,25 @@ use Rattle.docker_cmd.specs.Words.{NamesDay, NamesPlace, NamesStored, Text, text
 use Rattle.docker_cmd.specs.Job.{IsTaskOf}
 use Rattle.docker_cmd.proofs.Rows.{NameBoth, Suit, named_back, suit}
 
--- the first of these words
+-- the first of these words, or an empty word if there is none
 abbrev pub first_word : List Text → Text
 first_word [] = []
 first_word (word ∷ words) = word
 
--- the words after the first
+-- all words except the first
 abbrev pub other_words : List Text → List Text
 other_words [] = []
 other_words (word ∷ words) = words
 
 -- ---- names
 
--- subcommands with equal names are equal
+-- subcommands with the same name are equal
 pub same_subcommand : (s t : Subcommand) → name_of s ≡ name_of t → s ≡ t
 same_subcommand s t same =
     let found : Some s ≡ Some t = sym (named_back s) ∙ ap subcommand_named same ∙ named_back t in
     cc
 
--- the subcommand that is found for a name has that name
+-- if a search by name finds a subcommand, the subcommand has that name
 found_name : (word : Text) (s : Subcommand) (ss : List Subcommand) → find (λ t. bytes_eq (name_of t) word) ss ≡ Some s → word ≡ name_of s
 found_name word s [] found = absurd (cc)
 found_name word s (t ∷ ss) found = by (bytes_eq (name_of t) word) refl found (found_name word s ss)
@@ -43,28 +43,28 @@ found_name word s (t ∷ ss) found = by (bytes_eq (name_of t) word) refl found (
         sym ((bytes_eq-Decides (name_of t) word).0 same) ∙ ap name_of this
     by false differ found rest = rest found
 
--- a name that finds a subcommand is that subcommand's name
+-- if the table has a subcommand for a word, the word is that subcommand's name
 pub name_back : (word : Text) (s : Subcommand) → subcommand_named word ≡ Some s → word ≡ name_of s
 unfolding subcommand_named
 name_back word s found = found_name word s subcommands found
 
--- ---- what the words ask for
+-- ---- the task that the words name
 
--- words that don't suit the subcommand name no task
+-- words without the form that the subcommand requires name no task of it
 nothing_asked : (s : Subcommand) (words : List Text) → ¬ Suit s words → IsTaskOf s words None
 nothing_asked s words never = λ task same is. never (subst (λ t. Suit t words) same (suit task words is))
 
--- the same words name the same task with an equal subcommand
+-- if words name this task for a subcommand, they name it for an equal subcommand too
 pub asked : (s t : Subcommand) (words : List Text) (r q : Option Task) → t ≡ s → q ≡ r → IsTaskOf s words (option_map task_meant r)
     → IsTaskOf t words (option_map task_meant q)
 asked s t words r q same result is =
     subst (λ o. IsTaskOf t words (option_map task_meant o)) (sym result) (subst (λ u. IsTaskOf u words (option_map task_meant r)) (sym same) is)
 
--- the task, unless its state is standard input, which can't be written anew
+-- the task, or None if its state is named `stdin`
 abbrev pub unless_stdin : Text → Task → Option Task
 unless_stdin state task = cond (bytes_eq state (codes "stdin")) None (Some task)
 
--- the words name the task unless its state is standard input
+-- the words name the task unless its state is named `stdin`; then they name no task
 tested : (s : Subcommand) (words : List Text) (state : Text) (task : Task) → subcommand_of (task_meant task) ≡ s
     → (NamesStored state → AreWordsOf (task_meant task) words) → (Suit s words → NamesStored state)
     → IsTaskOf s words (option_map task_meant (unless_stdin state task))
@@ -74,7 +74,7 @@ tested s words state task same holds back = by (bytes_eq state (codes "stdin")) 
     by true is = nothing_asked s words (λ suits. back suits ((bytes_eq-Decides state (codes "stdin")).0 is))
     by false is = (same, holds (λ stdin. true≢false (sym ((bytes_eq-Decides state (codes "stdin")).1 stdin) ∙ is)))
 
--- if the only word is the state's name, the words name the task unless the state is standard input
+-- if the only word names the state, the words name the task unless this word is `stdin`
 pub state_alone : (s : Subcommand) (task : Task) → subcommand_of (task_meant task) ≡ s
     → ((state : Text) → NamesStored state → AreWordsOf (task_meant task) (state ∷ [])) → ((state : Text) → Suit s (state ∷ []) → NamesStored state)
     → (words : List (Bor Text)) (d : Bor Text) → length words ≡ 1
@@ -83,8 +83,7 @@ state_alone s task same holds back [] d one = absurd (omega (arith, one))
 state_alone s task same holds back (a ∷ []) d one = tested s (a.now ∷ []) a.now task same (holds a.now) (back a.now)
 state_alone s task same holds back (a ∷ b ∷ words) d one = absurd (omega (arith, one))
 
--- if the first of two words is the state's name, the words name the task unless the state is
--- standard input
+-- if the first of two words names the state, the words name the task unless this word is `stdin`
 pub state_first : (s : Subcommand) (task : Task) (words : List (Bor Text)) (d e : Bor Text) → subcommand_of (task_meant task) ≡ s
     → ((state : Text) → NamesStored state → AreWordsOf (task_meant task) (state ∷ (slice_index_or words 1 e).now ∷ []))
     → ((state other : Text) → Suit s (state ∷ other ∷ []) → NamesStored state) → length words ≡ 2
@@ -94,7 +93,7 @@ state_first s task (a ∷ []) d e same holds back two = absurd (omega (arith, tw
 state_first s task (a ∷ b ∷ []) d e same holds back two = tested s (a.now ∷ b.now ∷ []) a.now task same (holds a.now) (back a.now b.now)
 state_first s task (a ∷ b ∷ c ∷ words) d e same holds back two = absurd (omega (arith, two))
 
--- if the last two of three words name a timing point and a day, the words name the task for both
+-- if the last two of three words name a timing point and a day, the words name the task for this timing point and day
 pub both_behind : (s : Subcommand) (task : TaskView) (place : List ℕ) (day : ℕ) (words : List (Bor Text)) (d e : Bor Text) → subcommand_of task ≡ s
     → ((first tiploc date : Text) → NamesPlace tiploc place → NamesDay date day → AreWordsOf task (first ∷ tiploc ∷ date ∷ [])) → length words ≡ 3
     → NamesPlace (slice_index_or words 1 d).now place → NamesDay (slice_index_or words 2 e).now day → IsTaskOf s (texts words) (Some task)
@@ -104,7 +103,7 @@ both_behind s task place day (a ∷ b ∷ []) d e same holds three place_is day_
 both_behind s task place day (a ∷ b ∷ c ∷ []) d e same holds three place_is day_is = (same, holds a.now b.now c.now place_is day_is)
 both_behind s task place day (a ∷ b ∷ c ∷ f ∷ words) d e same holds three place_is day_is = absurd (omega (arith, three))
 
--- if the last two of three words don't name a timing point and a day, the words name no task
+-- if the last two of three words don't name both a timing point and a day, the words name no task
 pub not_both_behind : (s : Subcommand) (words : List (Bor Text)) (d e : Bor Text)
     → ((first tiploc date : Text) → Suit s (first ∷ tiploc ∷ date ∷ []) → NameBoth tiploc date) → length words ≡ 3
     → ((place : List ℕ) (day : ℕ) → NamesPlace (slice_index_or words 1 d).now place → ¬ NamesDay (slice_index_or words 2 e).now day)

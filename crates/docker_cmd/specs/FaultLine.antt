@@ -12,7 +12,7 @@ use Rattle.docker_office.specs.declared.fault.OfficeFault.TheVariants as office
 use Rattle.docker_cmd.specs.declared.fault.Fault.{Fault}
 use Rattle.docker_cmd.specs.declared.fault.Fault.TheVariants.{Job, Office}
 
--- the exit status: 1 for refused input, 2 for usage, 3 for out of memory, 4 for a failed device
+-- the exit status for a fault: 1 for refused input, 2 for usage, 3 for out of memory, 4 for a failed device
 abbrev pub status_of : Fault → ℕ
 status_of (Job job.Usage) = 2
 status_of (Job job.Memory) = 3
@@ -24,37 +24,37 @@ status_of (Office office.Source) = 4
 status_of (Office office.Sink) = 4
 status_of (Office office.Memory) = 3
 
--- the exit status for an office's result: 0, or the fault's status
+-- the exit status for the result of an office's call: 0 on success, otherwise the fault's status
 abbrev pub result_status : {A : Type 0} → Result A OfficeFault → ℕ
 result_status (Ok answer) = 0
 result_status (Err fault) = status_of (Office fault)
 
--- how often devices failed, before and after: once more exactly if the status is 4
+-- the number of device failures grew by one if the exit status is 4, and is unchanged otherwise
 abbrev pub IsCounted : (status before after : ℕ) → Type 0
 IsCounted status before after = CountsFailure (status ≡ 4) before after
 
--- the line for a refused file
+-- the line that reports a refused file
 abbrev pub file_line : FileFault → List ℕ
 file_line fault = codes "docker: file refused: record " ++ decimal fault.number ++ codes ": " ++ cause_text fault.cause ++ codes "\n"
 
--- the line for a refused state
+-- the line that reports a refused state
 abbrev pub state_line : StateFault → List ℕ
 state_line fault =
     codes "docker: state refused: offset " ++ decimal fault.at ++ codes ": " ++ state_text.cause_text fault.cause ++ codes "\n"
 
--- the line for a day that is refused: it is less than three days after the horizon
+-- the line that reports a refused day: a day before the horizon plus three days
 abbrev pub day_line : List ℕ
 day_line = codes "docker: day refused: before horizon plus three days\n"
 
--- the line for out of memory
+-- the line that reports out of memory
 abbrev pub memory_line : List ℕ
 memory_line = codes "docker: want of memory\n"
 
--- the line for a failed device
+-- the line that reports a failed device
 abbrev pub device_line : List ℕ
 device_line = codes "docker: device failed\n"
 
--- the line for this fault
+-- the line that reports this fault
 abbrev pub fault_line : Fault → List ℕ
 fault_line (Job job.Usage) = usage_line
 fault_line (Job job.Memory) = memory_line

@@ -10,8 +10,7 @@ pub record JobView : Type 0 where
   pub task : TaskView
   pub words : List Text
 
--- the words name this job: they are its subcommand, and then the words of its task. None of them is
--- empty or begins with a hyphen
+-- the words name this job: they are the name of its subcommand, followed by words that name its task. No word is empty or begins with a hyphen
 pub record IsJobOf (words : List Text) (job : JobView) : Type 0 where
   pub plain : IsTrue (list_all is_plain_word words)
   pub whole : words ≡ name_of (subcommand_of job.task) ∷ job.words
@@ -21,21 +20,21 @@ pub record IsJobOf (words : List Text) (job : JobView) : Type 0 where
 abbrev pub NameNoJob : List Text → Type 0
 NameNoJob words = (job : JobView) → ¬ IsJobOf words job
 
--- the subcommand has no task with these words
+-- these words name no task of the subcommand
 abbrev pub AskNothing : Subcommand → List Text → Type 0
 AskNothing subcommand words = (task : TaskView) → subcommand_of task ≡ subcommand → ¬ AreWordsOf task words
 
--- the subcommand's task with these words, or None if it has none
+-- these words name this task of the subcommand; None says that they name no task of it
 abbrev pub IsTaskOf : Subcommand → List Text → Option TaskView → Type 0
 IsTaskOf subcommand words (Some task) = (subcommand_of task ≡ subcommand) × AreWordsOf task words
 IsTaskOf subcommand words None = AskNothing subcommand words
 
--- the words are plain: this subcommand's name, and then as many words as it requires
+-- the words name this subcommand: its name is followed by as many words as it requires, and no word is empty or begins with a hyphen
 pub record NamesSubcommand (words : List Text) (subcommand : Subcommand) (behind : List Text) : Type 0 where
   pub plain : IsTrue (list_all is_plain_word words)
   pub whole : words ≡ name_of subcommand ∷ behind
   pub count : length behind ≡ length (ids_of subcommand)
 
--- the words name no subcommand in this way
+-- the words name no subcommand
 abbrev pub NameNoSubcommand : List Text → Type 0
 NameNoSubcommand words = (subcommand : Subcommand) (behind : List Text) → ¬ NamesSubcommand words subcommand behind

@@ -5,23 +5,22 @@ use Rattle.docker_model.specs.records.Record.{is_printable}
 use Rattle.cif_device.specs.Device.{Reads, IsEnd}
 use Rattle.docker_cmd.specs.Job.{JobView, IsJobOf, NameNoJob}
 
--- a job line has at most 255 bytes, all printable
+-- these bytes can be a job line: there are at most 255, and all are printable
 pub record IsLineText (line : List ℕ) : Type 0 where
   pub short : length line ≤ 255
   pub printable : AllPass is_printable line
 
--- the text is this line, its line feed, and then the rest
+-- the text begins with this job line and its line feed, and then comes the rest
 pub record IsJobLine (text line rest : List ℕ) : Type 0 where
   pub whole : text ≡ line ++ 10 ∷ rest
   pub line_text : IsLineText line
 
--- the line and its line feed were read from the source, which has the rest left, if it can name its
--- bytes
+-- a job line was read from a source. If the source can name its bytes, they began with the line and its line feed, and the rest is left
 abbrev pub ReadsLine : Option (List ℕ) → List ℕ → Option (List ℕ) → Type 0
 ReadsLine None line new = IsLineText line
 ReadsLine (Some text) line new = (rest : List ℕ) × IsJobLine text line rest × (new ≡ Some rest)
 
--- the source's bytes, if they are known, don't begin with a job line
+-- the source's bytes don't begin with a job line. This says nothing of a source that can't name its bytes
 abbrev pub HasNoLine : Option (List ℕ) → Type 0
 HasNoLine None = ⊤
 HasNoLine (Some text) = (line rest : List ℕ) → ¬ IsJobLine text line rest
@@ -30,35 +29,34 @@ HasNoLine (Some text) = (line rest : List ℕ) → ¬ IsJobLine text line rest
 abbrev pub is_space : ℕ → Bool
 is_space byte = byte == 32
 
--- a piece as a word, or no word if it is empty
+-- the words that one piece of a line gives: the piece itself, or none if it is empty
 abbrev pub word_or_none : List ℕ → List (List ℕ)
 word_or_none piece = if length piece == 0 then [] else piece ∷ []
 
--- the words of a line: the pieces between its spaces, without the empty ones
+-- the words of a line: the pieces between its spaces, without the empty ones. For example, `a  b` has the words `a` and `b`
 abbrev pub words_in : List ℕ → List (List ℕ)
 words_in line = filter (λ word. not (length word == 0)) (slice_split is_space line)
 
--- one byte was read, or None at the end
+-- one byte was read from a source; None says that the source is at its end
 abbrev pub ReadsByte : Option (List ℕ) → Option ℕ → Option (List ℕ) → Type 0
 ReadsByte old None new = IsEnd old × (new ≡ old)
 ReadsByte old (Some byte) new = Reads old (byte ∷ []) new
 
--- a line that names this job was read from the source, which has the rest left, if it can name its
--- bytes
+-- a job line that names this job was read from a source. If the source can name its bytes, they began with the line and its line feed, and the rest is left
 abbrev pub ReadsJob : Option (List ℕ) → JobView → Option (List ℕ) → Type 0
 ReadsJob old job new = (line : List ℕ) × ReadsLine old line new × IsJobOf (words_in line) job
 
--- the source's bytes, if they are known, don't begin with a job line that names a job
+-- the source's bytes don't begin with a job line that names a job. This says nothing of a source that can't name its bytes
 abbrev pub HasNoJob : Option (List ℕ) → Type 0
 HasNoJob None = ⊤
 HasNoJob (Some text) = (line rest : List ℕ) → IsJobLine text line rest → NameNoJob (words_in line)
 
--- the source's bytes, if they are known, begin with a job line that names a job
+-- the source's bytes begin with a job line that names a job. This says nothing of a source that can't name its bytes
 abbrev pub HasJob : Option (List ℕ) → Type 0
 HasJob None = ⊤
 HasJob (Some text) = (line : List ℕ) × ((rest : List ℕ) × (IsJobLine text line rest × (¬ NameNoJob (words_in line))))
 
--- at most `most` bytes were read
+-- at most `most` bytes were read from the source
 pub record ReadsAtMost (most : ℕ) (old new : Option (List ℕ)) : Type 0 where
   pub lost : List ℕ
   pub few : length lost ≤ most

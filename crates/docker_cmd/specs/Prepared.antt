@@ -28,51 +28,51 @@ use Rattle.docker_cmd.specs.CheckLine.{count_line}
 abbrev pub most_bytes : ℕ
 most_bytes = 1099511627776
 
--- the bytes that a device has left, or took; None if it can't name them
+-- the bytes that a source has left or that a sink has taken; None if the device can't name them
 abbrev pub DeviceBytes : Type 0
 DeviceBytes = Option (List ℕ)
 
--- what was read: the counts of a file, or the state of an office
+-- what was read: the counts of a file, or an office's state
 pub data ReadView : Type 0 where
   file_read : (file : FileCounted) → ReadView
   office_read : (state : State) → ReadView
 
--- a job, and what it has read
+-- a job with what it has read
 pub record PreparedView : Type 0 where
   pub job : JobView
   pub read : ReadView
 
--- there is no source
+-- the task reads nothing
 abbrev pub HasNoSource : Sources → Type 0
 HasNoSource sources = sources ≡ no_source
 
--- there is a second source
+-- the task reads a second source
 abbrev pub HasSecondSource : Sources → Type 0
 HasSecondSource sources = (sources ≡ state_and_file) ⊎ (sources ≡ two_states)
 
--- a source held the text of a state
+-- a source held the text of some state
 abbrev pub HoldsSomeState : DeviceBytes → Type 0
 HoldsSomeState left = (state : State) × ReadsState dks_2 most_bytes left state
 
--- an office with the state that the first source held took the file that the second held
+-- this is the state in the first source, after its office took the file in the second
 pub record TakesBehind (first second : DeviceBytes) (state : State) : Type 0 where
   pub own : State
   pub reads : ReadsState dks_2 most_bytes first own
   pub takes : TakesFile most_records second own state
 
--- an office with the state that the first source held received the state that the second held
+-- this is the state in the first source, after its office received the state in the second
 pub record JoinsBehind (first second : DeviceBytes) (state : State) : Type 0 where
   pub own : State
   pub reads : ReadsState dks_2 most_bytes first own
   pub joins : JoinsState dks_2 most_bytes second own state
 
--- the state that the source held, after a horizon was set
+-- this is the state in the source, after its horizon was raised to this day
 pub record RaisesState (day : ℕ) (first : DeviceBytes) (state : State) : Type 0 where
   pub own : State
   pub reads : ReadsState dks_2 most_bytes first own
   pub raised : state ≡ raise_horizon day own
 
--- the state of the office that has read these sources. A file that is only checked gives none
+-- this is the state that an office has after it has read these sources. A file that is only checked gives no state
 abbrev pub IsStateOf : Sources → DeviceBytes → DeviceBytes → State → Type 0
 IsStateOf no_source first second state = state ≡ no_state
 IsStateOf checked_file first second state = ⊥
@@ -81,30 +81,28 @@ IsStateOf (one_state format) first second state = ReadsState format most_bytes f
 IsStateOf state_and_file first second state = TakesBehind first second state
 IsStateOf two_states first second state = JoinsBehind first second state
 
--- what was read of these sources: the counts of a file that is only checked, otherwise a state
+-- this is the content of these sources: counts for a file that is only checked, otherwise a state
 abbrev pub IsContentOf : Sources → DeviceBytes → DeviceBytes → ReadView → Type 0
 IsContentOf sources first second (file_read file) = (sources ≡ checked_file) × CountsText most_records first file
 IsContentOf sources first second (office_read state) = IsStateOf sources first second state
 
--- the state of the office that a task has made of its sources: `horizon` raises its horizon.
--- `check` makes none
+-- this is the state that a task makes of its sources. `horizon` raises its horizon, and `check` makes no state
 abbrev pub IsStateReadBy : TaskView → DeviceBytes → DeviceBytes → State → Type 0
 IsStateReadBy (horizon_task day) first second state = RaisesState day first state
 IsStateReadBy task first second state = IsStateOf (sources_of task) first second state
 
--- what a task has read: `check` the counts of the file whose text its source held, others a state
+-- this is what a task has made of its sources: `check` the counts of its file, any other task a state
 abbrev pub IsReadOf : TaskView → DeviceBytes → DeviceBytes → ReadView → Type 0
 IsReadOf task first second (file_read file) = (task ≡ check_task) × CountsText most_records first file
 IsReadOf task first second (office_read state) = IsStateReadBy task first second state
 
--- what was read, after a horizon was set on its state, if there is one
+-- what was read, after this horizon was set on its state; None sets no horizon
 abbrev pub under : Option ℕ → ReadView → ReadView
 under None read = read
 under (Some day) (file_read file) = file_read file
 under (Some day) (office_read state) = office_read (raise_horizon day state)
 
--- the state is the state of one file, whose text the source held, and its live table is the plain
--- table of this file
+-- what was read is the state of one file, the one whose text the source held. The state's live table is the plain table of that file
 pub record IsOfOneFile (left : DeviceBytes) (read : ReadView) : Type 0 where
   pub text : List ℕ
   pub held : Held left text
@@ -115,8 +113,7 @@ pub record IsOfOneFile (left : DeviceBytes) (read : ReadView) : Type 0 where
   pub summary : IsSummary (file ∷ []) 0 state
   pub plain : IsPlainTable (file ∷ []) (live_table state)
 
--- the fault is the fault of the source that should have held a file. If a state comes before it,
--- that one is good
+-- this is the fault of the file that the sources should have held. If a state comes before the file, that state is good
 abbrev pub RefusesFileOf : Sources → DeviceBytes → DeviceBytes → FileFault → Type 0
 RefusesFileOf no_source first second fault = ⊥
 RefusesFileOf checked_file first second fault = RefusesText most_records first fault
@@ -125,8 +122,7 @@ RefusesFileOf (one_state format) first second fault = ⊥
 RefusesFileOf state_and_file first second fault = HoldsSomeState first × RefusesText most_records second fault
 RefusesFileOf two_states first second fault = ⊥
 
--- the fault is the fault of a source that should have held a state. If there are two such sources,
--- it is the first one's, or the second one's after a good first one
+-- this is the fault of a state that the sources should have held. Of two states it is the fault of the first, or the fault of the second after a good first one
 abbrev pub RefusesStateOf : Sources → DeviceBytes → DeviceBytes → StateFault → Type 0
 RefusesStateOf no_source first second fault = ⊥
 RefusesStateOf checked_file first second fault = ⊥
@@ -136,12 +132,12 @@ RefusesStateOf state_and_file first second fault = RefusesState dks_2 most_bytes
 RefusesStateOf two_states first second fault =
     RefusesState dks_2 most_bytes first fault ⊎ (HoldsSomeState first × RefusesState dks_2 most_bytes second fault)
 
--- memory ran out for a state in this format
+-- memory ran out while a state in this format was read
 abbrev pub WantsForState : Format → DeviceBytes → DeviceBytes → Type 0
 WantsForState format old new = WantsMemory format most_at_once most_bytes old new
 
--- memory ran out for what the sources hold: for the first, and nothing of the second was read, or
--- for the second after a good first one. For a file that is only checked it ran out before reading
+-- memory ran out while these sources were read. It ran out for the first source, and nothing of the second was read; or it ran out for the second, after the
+-- first held a good state. A file that is only checked needs memory only before its first byte is read
 abbrev pub WantsFor : Sources → DeviceBytes → DeviceBytes → DeviceBytes → DeviceBytes → Type 0
 WantsFor no_source old new second_old second_new = ⊥
 WantsFor checked_file old new second_old second_new = Reads old [] new
@@ -152,15 +148,15 @@ WantsFor state_and_file old new second_old second_new =
 WantsFor two_states old new second_old second_new =
     (WantsForState dks_2 old new × (second_new ≡ second_old)) ⊎ (HoldsSomeState old × WantsForState dks_2 second_old second_new)
 
--- nothing of a file is read after the piece that decides the answer
+-- no more of a file is read after the piece that decides the answer
 abbrev pub ReadsFewOfFile : DeviceBytes → DeviceBytes → Type 0
 ReadsFewOfFile old new = ReadsNoFurther most_at_once most_records old new
 
--- nothing of a state is read after the piece that decides the answer
+-- no more of a state is read after the piece that decides the answer
 abbrev pub ReadsFewOfState : Format → DeviceBytes → DeviceBytes → Type 0
 ReadsFewOfState format old new = ReadsOnePieceMore format most_at_once most_bytes old new
 
--- the most that is read of the first source
+-- the first source is read no further than the piece that decides the answer; without a source, nothing is read
 abbrev pub ReadsFewOfFirst : Sources → DeviceBytes → DeviceBytes → Type 0
 ReadsFewOfFirst no_source old new = new ≡ old
 ReadsFewOfFirst checked_file old new = ReadsFewOfFile old new
@@ -169,7 +165,7 @@ ReadsFewOfFirst (one_state format) old new = ReadsFewOfState format old new
 ReadsFewOfFirst state_and_file old new = ReadsFewOfState dks_2 old new
 ReadsFewOfFirst two_states old new = ReadsFewOfState dks_2 old new
 
--- the most that is read of the second source: nothing if the first held no state
+-- the second source is read no further than the piece that decides the answer, and not at all if the first held no state
 abbrev pub ReadsFewOfSecond : Sources → DeviceBytes → DeviceBytes → DeviceBytes → Type 0
 ReadsFewOfSecond no_source first old new = new ≡ old
 ReadsFewOfSecond checked_file first old new = new ≡ old
@@ -178,7 +174,7 @@ ReadsFewOfSecond (one_state format) first old new = new ≡ old
 ReadsFewOfSecond state_and_file first old new = (new ≡ old) ⊎ (HoldsSomeState first × ReadsFewOfFile old new)
 ReadsFewOfSecond two_states first old new = (new ≡ old) ⊎ (HoldsSomeState first × ReadsFewOfState dks_2 old new)
 
--- the file that is read is at its end
+-- if there is a file among these sources, it was read to its end
 abbrev pub HasReadToEnd : Sources → DeviceBytes → DeviceBytes → Type 0
 HasReadToEnd no_source first second = ⊤
 HasReadToEnd checked_file first second = IsEnd first
@@ -187,7 +183,7 @@ HasReadToEnd (one_state format) first second = ⊤
 HasReadToEnd state_and_file first second = IsEnd second
 HasReadToEnd two_states first second = ⊤
 
--- why two sources were refused, by what they held and have left. `Sink` and `Lapsed` can't occur
+-- this fault is a reason to refuse these sources, given what they held and what is left of them. `Sink` and `Lapsed` can't occur
 abbrev pub IsWhyRefused : Sources → DeviceBytes → DeviceBytes → DeviceBytes → DeviceBytes → OfficeFault → Type 0
 IsWhyRefused sources first left second second_left (office.File fault) = RefusesFileOf sources first second fault
 IsWhyRefused sources first left second second_left (office.State fault) = RefusesStateOf sources first second fault
@@ -196,47 +192,47 @@ IsWhyRefused sources first left second second_left office.Memory = WantsFor sour
 IsWhyRefused sources first left second second_left office.Lapsed = ⊥
 IsWhyRefused sources first left second second_left office.Sink = ⊥
 
--- the outcome of reading two sources: a value for which this holds, and a file was read to its end;
--- or why they were refused
+-- reading the sources ended with a value that has this property, and any file was read to its end. Or it ended with a fault that is a reason to refuse the
+-- sources
 abbrev pub EndsReading : {A : Type 0} → (A → Type 0) → Sources → DeviceBytes → DeviceBytes → DeviceBytes → DeviceBytes → Result A OfficeFault → Type 0
 EndsReading IsMade sources first left second second_left (Ok made) = IsMade made × HasReadToEnd sources left second_left
 EndsReading IsMade sources first left second second_left (Err fault) = IsWhyRefused sources first left second second_left fault
 
--- two sources were read in their order, no further than the answer needs, with this outcome
+-- the sources were read in their order, no further than the answer needs, and this outcome holds
 pub record ReadsFew (sources : Sources) (first left second second_left : DeviceBytes) (Ends : Type 0) : Type 0 where
   pub first_few : ReadsFewOfFirst sources first left
   pub second_few : ReadsFewOfSecond sources first second second_left
   pub ends : Ends
 
--- two sources were read in this way, and this is the result
+-- the sources were read no further than the answer needs, and the result is a value with this property or a fault
 abbrev pub ReadsSources : {A : Type 0} → (A → Type 0) → Sources → DeviceBytes → DeviceBytes → DeviceBytes → DeviceBytes → Result A OfficeFault → Type 0
 ReadsSources IsMade sources first left second second_left result =
     ReadsFew sources first left second second_left (EndsReading IsMade sources first left second second_left result)
 
--- the sources were read, and the result has what they held
+-- the sources were read no further than the answer needs, and the result is their content or a fault
 abbrev pub ReadsContent : {A : Type 0} → (A → ReadView) → Sources → DeviceBytes → DeviceBytes → DeviceBytes → DeviceBytes → Result A OfficeFault → Type 0
 ReadsContent meant sources first left second second_left result =
     ReadsSources (λ made. IsContentOf sources first second (meant made)) sources first left second second_left result
 
--- the sources of a task were read, and the result has what the task has read of them
+-- a task's sources were read no further than the answer needs, and the result is what the task makes of them or a fault
 abbrev pub ReadsTask : {A : Type 0} → (A → ReadView) → TaskView → DeviceBytes → DeviceBytes → DeviceBytes → DeviceBytes → Result A OfficeFault → Type 0
 ReadsTask meant task first left second second_left result =
     ReadsSources (λ made. IsReadOf task first second (meant made)) (sources_of task) first left second second_left result
 
--- it holds this job, and what the job has read of its sources
+-- the prepared job has this job and what the job has made of its sources
 abbrev pub IsPreparedFor : JobView → DeviceBytes → DeviceBytes → PreparedView → Type 0
 IsPreparedFor job first second prepared = (prepared.job ≡ job) × IsReadOf job.task first second prepared.read
 
--- the sources of a job were read
+-- a job's sources were read no further than the answer needs, and the result is the prepared job or a fault
 abbrev pub ReadsInOrder : JobView → DeviceBytes → DeviceBytes → DeviceBytes → DeviceBytes → Result PreparedView OfficeFault → Type 0
 ReadsInOrder job first left second second_left result =
     ReadsSources (IsPreparedFor job first second) (sources_of job.task) first left second second_left result
 
--- neither of two sources failed, by the count of their failures before and after
+-- the failure counts of two sources are unchanged
 abbrev pub HaveNotFailed : ℕ → ℕ → ℕ → ℕ → Type 0
 HaveNotFailed first first_now second second_now = (first_now ≡ first) × (second_now ≡ second)
 
--- one of the two failed once, if that is why they were refused; otherwise neither did
+-- for the fault `Source`, one of two sources failed once more; for any other fault neither did
 abbrev pub FailsBy : ℕ → ℕ → ℕ → ℕ → OfficeFault → Type 0
 FailsBy first first_now second second_now (office.File fault) = HaveNotFailed first first_now second second_now
 FailsBy first first_now second second_now (office.State fault) = HaveNotFailed first first_now second second_now
@@ -245,49 +241,49 @@ FailsBy first first_now second second_now office.Memory = HaveNotFailed first fi
 FailsBy first first_now second second_now office.Lapsed = ⊥
 FailsBy first first_now second second_now office.Sink = ⊥
 
--- how often they failed, by the result of reading them
+-- two sources were read with this result. If the result is the fault `Source`, their failure counts grew by one in all; otherwise the counts are unchanged
 abbrev pub CountsSources : {A : Type 0} → Result A OfficeFault → ℕ → ℕ → ℕ → ℕ → Type 0
 CountsSources (Ok made) first first_now second second_now = HaveNotFailed first first_now second second_now
 CountsSources (Err fault) first first_now second second_now = FailsBy first first_now second second_now fault
 
--- what is written for the office's state: its docker text, its files text, or its own text
+-- this is the text to write of a state: a docker, the list of its files, or the state's own text
 abbrev pub IsStateOutput : Output → State → List ℕ → Type 0
 IsStateOutput counts_written state text = ⊥
 IsStateOutput (docker_written place day) state text = IsDockerText (live_table state) place day text
 IsStateOutput files_written state text = text ≡ files_text state.ledger
 IsStateOutput state_written state text = text ≡ state_text dks_2 state
 
--- the text of an output
+-- this is the text of the output
 abbrev pub IsOutputText : Output → ReadView → List ℕ → Type 0
 IsOutputText output (file_read file) text = (output ≡ counts_written) × (text ≡ count_line file.record_count file.change_count)
 IsOutputText output (office_read state) text = IsStateOutput output state text
 
--- such an output can be written from what was read: counts of a file, all else of a state
+-- this output can be written from what was read: counts from a file, anything else from a state
 abbrev pub IsWrittenOf : Output → ReadView → Type 0
 IsWrittenOf output (file_read file) = output ≡ counts_written
 IsWrittenOf output (office_read state) = output ≢ counts_written
 
--- the sink gained the text of an output
+-- the sink has gained the text of this output
 pub record GainsText (output : Output) (read : ReadView) (old new : DeviceBytes) : Type 0 where
   pub text : List ℕ
   pub is : IsOutputText output read text
   pub gained : Takes old text new
 
--- the sink gained a proper prefix of the text
+-- the sink has gained a proper prefix of the text of this output
 pub record GainsTextPart (output : Output) (read : ReadView) (old new : DeviceBytes) : Type 0 where
   pub text : List ℕ
   pub is : IsOutputText output read text
   pub gained : TakesPart old text new
 
--- the sink gained the text that a job writes
+-- the sink has gained the text that the job writes
 abbrev pub GainsOutput : PreparedView → DeviceBytes → DeviceBytes → Type 0
 GainsOutput prepared old new = GainsText (output_of prepared.job.task) prepared.read old new
 
--- the sink gained a proper prefix of the text that a job writes
+-- the sink has gained a proper prefix of the text that the job writes
 abbrev pub GainsPart : PreparedView → DeviceBytes → DeviceBytes → Type 0
 GainsPart prepared old new = GainsTextPart (output_of prepared.job.task) prepared.read old new
 
--- it is a docker, and the office's state refuses its day
+-- the output is a docker of a day that the state's horizon refuses
 abbrev pub IsRefusedDocker : Output → ReadView → Type 0
 IsRefusedDocker output (file_read file) = ⊥
 IsRefusedDocker counts_written (office_read state) = ⊥
@@ -295,7 +291,7 @@ IsRefusedDocker (docker_written place day) (office_read state) = IsDayRefused st
 IsRefusedDocker files_written (office_read state) = ⊥
 IsRefusedDocker state_written (office_read state) = ⊥
 
--- the job prints a docker, and its day is refused
+-- the job prints a docker of a day that the state's horizon refuses
 abbrev pub IsRefused : PreparedView → Type 0
 IsRefused prepared = IsRefusedDocker (output_of prepared.job.task) prepared.read
 
@@ -310,8 +306,8 @@ IsDocker state_written = ⊥
 abbrev pub PrintsDocker : PreparedView → Type 0
 PrintsDocker prepared = IsDocker (output_of prepared.job.task)
 
--- the outcome of writing an output to a sink. It gained the text; or it failed, and gained a proper
--- prefix of it; or a docker can't be made, and the sink is unchanged
+-- writing an output to a sink ended with this result. On success the sink has gained the text. If the sink failed, it has gained a proper prefix of the text.
+-- If a docker can't be made, the sink is unchanged
 abbrev pub EndsEmitting : {K : Type 0} → (K → DeviceBytes) → (K → ℕ) → Output → ReadView → K → K → Result ⊤ OfficeFault → Type 0
 EndsEmitting taken failures output read old new (Ok done) =
     GainsText output read (taken old) (taken new) × (failures new ≡ failures old)

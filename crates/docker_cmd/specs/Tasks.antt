@@ -1,4 +1,4 @@
--- The table of subcommands, with a row for each, and their tasks.
+-- The table of subcommands, and the tasks that they do.
 use Rattle.std.specs.Prelude.{ℕ, List, [], ◌∷◌, ◌++◌, Option, Some, None, codes, map, ⊤}
 use Rattle.std.specs.List.{find}
 use Rattle.std.specs.Str.{bytes_eq}
@@ -12,21 +12,21 @@ use Rattle.docker_cmd.specs.declared.tasks.Subcommand.TheVariants.{New, Check, D
 use Rattle.docker_cmd.specs.declared.tasks.Task.{Task}
 use Rattle.docker_cmd.specs.declared.tasks.Task.TheVariants as task
 
--- a row: a subcommand's name, the ids of the words after it, and what it reads
+-- a row of the table: a subcommand's name, the names of the words after it, and what it reads
 pub record Row : Type 0 where
   pub name : Text
   pub ids : List Text
   pub reads : Sources
 
--- the row with these columns
+-- makes a row of these columns
 abbrev pub row : Text → List Text → Sources → Row
 row name ids reads = record { name = name; ids = ids; reads = reads }
 
--- a row of the code as the definitions have it
+-- the definitions' row for a row of the code
 abbrev pub row_meant : code.Row → Row
 row_meant given = row given.name.now (map (λ id. id.now) given.ids.now) (sources_meant given.reads)
 
--- the table of subcommands
+-- the table of subcommands: the row of each
 abbrev pub row_of : Subcommand → Row
 row_of New = row (codes "new") (codes "STATE" ∷ []) no_source
 row_of Check = row (codes "check") (codes "FILE" ∷ []) checked_file
@@ -46,19 +46,19 @@ subcommands = New ∷ Check ∷ Day ∷ Take ∷ Merge ∷ Print ∷ Files ∷ H
 abbrev pub name_of : Subcommand → Text
 name_of subcommand = (row_of subcommand).name
 
--- the ids of the words after it, as a usage line has them
+-- the names of the words after a subcommand, as the usage line shows them
 abbrev pub ids_of : Subcommand → List Text
 ids_of subcommand = (row_of subcommand).ids
 
--- the subcommand with this name
+-- the subcommand with this name, if there is one
 unfoldable pub subcommand_named : Text → Option Subcommand
 subcommand_named name = find (λ subcommand. bytes_eq (name_of subcommand) name) subcommands
 
--- the usage line
+-- the usage line: each subcommand's name and the words that it requires
 abbrev pub usage_line : Text
 usage_line = codes "docker: usage: " ++ with_bars (map (λ subcommand. usage_with (name_of subcommand) (ids_of subcommand)) subcommands) ++ codes "\n"
 
--- a task: what a job is to do, with the timing point and the day number that its words name
+-- a task: what a job does, with the timing point and the day number that its words name
 pub data TaskView : Type 0 where
   new_task : TaskView
   check_task : TaskView
@@ -70,7 +70,7 @@ pub data TaskView : Type 0 where
   horizon_task : (day : ℕ) → TaskView
   migrate_task : TaskView
 
--- a task as the definitions have it
+-- the definitions' task for a task of the code
 abbrev pub task_meant : Task → TaskView
 task_meant task.New = new_task
 task_meant task.Check = check_task
@@ -107,7 +107,7 @@ day_of (print_task place day) = Some day
 day_of (horizon_task day) = Some day
 day_of _ = None
 
--- these words, after the subcommand, name this task
+-- the words after the subcommand name this task
 abbrev pub AreWordsOf : TaskView → List Text → Type 0
 AreWordsOf new_task = OfOne (λ state. NamesStored state)
 AreWordsOf check_task = OfOne (λ file. ⊤)
@@ -119,11 +119,11 @@ AreWordsOf files_task = OfOne (λ state. ⊤)
 AreWordsOf (horizon_task day) = OfTwo (λ state date. NamesStored state × NamesDay date day)
 AreWordsOf migrate_task = OfOne (λ state. NamesStored state)
 
--- what this task reads
+-- what a task reads
 abbrev pub sources_of : TaskView → Sources
 sources_of task = (row_of (subcommand_of task)).reads
 
--- what this task writes
+-- what a task writes
 abbrev pub output_of : TaskView → Output
 output_of new_task = state_written
 output_of check_task = counts_written
@@ -135,7 +135,7 @@ output_of files_task = files_written
 output_of (horizon_task day) = state_written
 output_of migrate_task = state_written
 
--- the horizon that this task sets on the state that it reads, if it sets one
+-- the horizon that a task sets on the state that it reads; None if it sets none
 abbrev pub horizon_of : TaskView → Option ℕ
 horizon_of (horizon_task day) = Some day
 horizon_of _ = None

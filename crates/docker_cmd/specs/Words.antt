@@ -1,4 +1,4 @@
--- Words, and what they can name. A word is the bytes of a text.
+-- The words of a command, and what they can name. A word is a list of bytes.
 use Rattle.std.specs.Prelude.{◌≡◌, ◌≢◌, ℕ, ◌==◌, ◌≤◌, ◌-◌, ◌++◌, Bool, false, not, List, [], ◌∷◌, length, codes, map}
 use Rattle.std.specs.Borrow.{Bor}
 use Rattle.std.specs.List.{flat_map}
@@ -6,53 +6,53 @@ use Rattle.docker_model.specs.records.Date.{last_day}
 use Rattle.docker_model.specs.records.PrintedTime.{spaces, day_text}
 use Rattle.cif_line.specs.Tiploc.{IsTiplocText}
 
--- the bytes of a word, or of a file's name
+-- the bytes of a word or of a file's name
 abbrev pub Text : Type 0
 Text = List ℕ
 
--- the texts of words
+-- the bytes of each of these words
 abbrev pub texts : List (Bor Text) → List Text
 texts = map (λ word. word.now)
 
--- the word isn't empty, and doesn't begin with a hyphen (45)
+-- whether a word is allowed on the command line: it isn't empty, and doesn't begin with a hyphen (45)
 abbrev pub is_plain_word : Text → Bool
 is_plain_word [] = false
 is_plain_word (byte ∷ bytes) = not (byte == 45)
 
--- the word names a file that can be written anew, so it isn't standard input
+-- the word names a file that can be replaced, so it isn't `stdin`
 abbrev pub NamesStored : Text → Type 0
 NamesStored word = word ≢ codes "stdin"
 
--- the word names this timing point: it is the code without trailing spaces
+-- the word names this timing point: it is the TIPLOC without its trailing spaces
 pub record NamesPlace (word : Text) (place : List ℕ) : Type 0 where
   pub code : IsTiplocText word
   pub padded : place ≡ word ++ spaces (7 - length word)
 
--- the word names this day: it is the date
+-- the word names this day: it is the date, such as 2026-03-29
 pub record NamesDay (word : Text) (day : ℕ) : Type 0 where
   pub within : day ≤ last_day
   pub written : word ≡ day_text day
 
--- there is one word, for which this holds
+-- the list has exactly one word, and this holds for it
 abbrev pub OfOne : (Text → Type 0) → List Text → Type 0
 OfOne Holds (first ∷ []) = Holds first
 OfOne Holds _ = ⊥
 
--- there are two words, for which this holds
+-- the list has exactly two words, and this holds for them
 abbrev pub OfTwo : (Text → Text → Type 0) → List Text → Type 0
 OfTwo Holds (first ∷ second ∷ []) = Holds first second
 OfTwo Holds _ = ⊥
 
--- there are three words, for which this holds
+-- the list has exactly three words, and this holds for them
 abbrev pub OfThree : (Text → Text → Text → Type 0) → List Text → Type 0
 OfThree Holds (first ∷ second ∷ third ∷ []) = Holds first second third
 OfThree Holds _ = ⊥
 
--- a subcommand's name and the ids of its words, as a usage line has them
+-- a subcommand's part of the usage line: its name, and the names of its words
 abbrev pub usage_with : Text → List Text → Text
 usage_with name ids = name ++ flat_map (λ id. 32 ∷ id) ids
 
--- these texts, with a bar between every two
+-- these texts, joined by ` | `
 abbrev pub with_bars : List Text → Text
 with_bars [] = []
 with_bars (last ∷ []) = last

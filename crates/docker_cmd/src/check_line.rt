@@ -6,10 +6,11 @@ use arrayvec::ArrayVec;
 use fixed_text::put;
 use itoa::Buffer;
 
-/// Such a line, with its line feed. It has room for any two counts.
+/// The line with its line feed. It has room for any two counts.
 pub(crate) type CheckText = ArrayVec<u8, 64>;
 
-/// The line for a file with `records` records, including header and trailer, and `changes` changes.
+/// The line for a file of `records` records, including header and trailer, that makes `changes`
+/// changes.
 pub(crate) fn check_line(records: u32, changes: u64) -> CheckText
     ensures { result.items ≡ count_line records changes }
 {

@@ -1,16 +1,16 @@
-//! Why the program ends without having done its job.
+//! The faults that end the program before its job is done.
 use crate::job_fault::JobFault;
 use docker_office::OfficeFault;
 use thiserror::Error;
 
-/// A fault that ends the program. It is displayed as the fault that it holds; `fault_text` gives
-/// its line on standard error.
+/// A fault that ends the program. `Display` shows the fault inside; `fault_text` gives the line
+/// that the program writes to standard error.
 #[derive(Clone, Copy, PartialEq, Eq, Debug, Error)]
 pub enum Fault {
-    /// There is no job, for this reason.
+    /// There is no job to do, for this reason.
     #[error("{0}")]
     Job(JobFault),
-    /// The job is refused, for this reason.
+    /// The job was refused or couldn't be finished, for this reason.
     #[error("{0}")]
     Office(OfficeFault),
 }

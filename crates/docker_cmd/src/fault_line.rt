@@ -1,4 +1,4 @@
-//! The exit status of a fault, and its line on standard error.
+//! How the program reports a fault: its exit status and its line on standard error.
 ghost use Rattle.std.specs.Prelude.{◌≡◌, ◌+◌, ◌≤◌, ◌++◌, [], decimal};
 ghost use Rattle.arrayvec.specs.ArrayVec.{array_vec_len};
 ghost use Rattle.cif_change.specs.Cause.{cause_text};
@@ -13,10 +13,11 @@ use docker_office::{OfficeFault, StateFault};
 use fixed_text::put;
 use itoa::Buffer;
 
-/// The line for a fault, with its line feed.
+/// The line that reports a fault, with its line feed.
 pub type FaultText = ArrayVec<u8, 192>;
 
-/// The exit status: 1 for refused input, 2 for usage, 3 for out of memory, 4 for a failed device.
+/// The exit status for a fault: 1 for refused input, 2 for usage, 3 for out of memory, 4 for a
+/// failed device.
 pub fn status(fault: &Fault) -> u8
     ensures { result ≡ status_of fault.now }
 {
@@ -28,7 +29,7 @@ pub fn status(fault: &Fault) -> u8
     }
 }
 
-/// The line for a fault on standard error.
+/// The line that reports a fault on standard error.
 pub fn fault_text(fault: &Fault) -> FaultText
     ensures { result.items ≡ fault_line fault.now }
 {
@@ -60,7 +61,7 @@ fn put_number(text: &mut FaultText, number: u64)
     put(text, Buffer::new().format(number).as_bytes());
 }
 
-/// Appends the line for a refused file.
+/// Appends the line that reports a refused file.
 fn put_file_fault(text: &mut FaultText, fault: &FileFault)
     requires { text.old.items ≡ [] }
     ensures { text.new.items ≡ text.old.items ++ file_line fault.now }
@@ -72,7 +73,7 @@ fn put_file_fault(text: &mut FaultText, fault: &FileFault)
     put(text, b"\n");
 }
 
-/// Appends the name of a file's cause, and the column if it names one.
+/// Appends the name of a file's cause, and then a space and the column if the cause has one.
 fn put_cause(text: &mut FaultText, cause: &FileCause)
     requires { array_vec_len text.old ≤ 80 }
     ensures text { text.new.items ≡ text.old.items ++ cause_text cause.now }
@@ -85,7 +86,7 @@ fn put_cause(text: &mut FaultText, cause: &FileCause)
     }
 }
 
-/// Appends the line for a refused state.
+/// Appends the line that reports a refused state.
 fn put_state_fault(text: &mut FaultText, fault: &StateFault)
     requires { text.old.items ≡ [] }
     ensures { text.new.items ≡ text.old.items ++ state_line fault.now }

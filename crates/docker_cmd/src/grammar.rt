@@ -1,4 +1,4 @@
-//! The command line, as `clap` is given it.
+//! The command line as `clap` parses it: the subcommands and the words that each requires.
 ghost use Rattle.std.specs.Prelude.{◌≡◌, IfOk, [], false, map};
 ghost use Rattle.clap.specs.Words.{FailsBy, app_of, fault_of, rule_of, subcommand_of, subcommand_rows_of};
 ghost use Rattle.clap.specs.declared.builder.Command.TheViews.{out-Command as fields_of};
@@ -8,7 +8,7 @@ use crate::tasks::Subcommand;
 use clap::{Arg, ArgMatches, Command, Error};
 use std::alloc::{AllocError, Global};
 
-/// A word that has to come after a subcommand.
+/// The argument with this id, which is required.
 fn required_word<'a>(alloc: Global, id: &'a str) -> Arg<'a>
     ensures rule { rule_of result ≡ required_rule id.entry.now }
     ensures local { result.global ≡ false }
@@ -16,7 +16,7 @@ fn required_word<'a>(alloc: Global, id: &'a str) -> Arg<'a>
     Arg::new(alloc, id).required(true)
 }
 
-/// A subcommand, and the words that it requires.
+/// The subcommand with its required arguments.
 fn command_of<'a>(alloc: Global, subcommand: Subcommand) -> Result<Command<'a>, AllocError>
     ensures shape { IfOk result (λ c. app_of c
         ≡ record { top = shape_of subcommand; subs = [] }) }
@@ -29,8 +29,8 @@ fn command_of<'a>(alloc: Global, subcommand: Subcommand) -> Result<Command<'a>, 
     Ok(command)
 }
 
-/// The program without its subcommands: no word asks for help or the version, and a subcommand is
-/// required.
+/// The program without its subcommands. A subcommand is required, and there is no `--help`, `help`
+/// or `--version`.
 fn top<'a>(alloc: Global) -> Command<'a>
     ensures { app_of result ≡ record { top = docker_shape; subs = [] } }
 {
@@ -53,7 +53,7 @@ fn docker<'a>(alloc: Global) -> Result<Command<'a>, AllocError>
     Ok(docker)
 }
 
-/// The result of `clap` for these words.
+/// Parses the words with `clap`.
 pub(crate) fn matches<'a>(alloc: Global, words: &'a [&'a str]) -> Result<ArgMatches<'a>, Error>
     ensures subcommand { IfOk result (λ m.
         subcommand_rows_of m ≡ subcommand_of docker_app (map (λ w. w.now) words.entry.now)) }

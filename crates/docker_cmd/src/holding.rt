@@ -1,5 +1,5 @@
-//! What a job holds of what it has read: `day`, `print` and `files` hold no more of a file or a
-//! state than they write.
+//! What a job keeps in memory of what it reads. `day`, `print` and `files` keep only what they
+//! write of a file or a state.
 ghost use Rattle.std.specs.Prelude.{◌≡◌, ◌-◌, ◌^◌, ◌<◌, ◌⊎◌, IfOk};
 ghost use Rattle.docker_cmd.specs.Holding.{IsWrittenFrom, held_meant};
 ghost use Rattle.docker_cmd.specs.Prepared.{CountsSources, HasNoSource, HasSecondSource, HoldsSomeState, ReadsTask, output_of, sources_of};
@@ -12,18 +12,18 @@ use cif_line::Source;
 use docker_office::{LedgerOffice, OfficeFault, PlaceOffice};
 use std::alloc::Global;
 
-/// What a job holds.
+/// What a job keeps in memory.
 #[derive(Debug, Drop)]
 pub(crate) enum Holding {
-    /// All that it has read.
+    /// Everything that it has read: a file's counts or a whole state.
     Whole(Content),
-    /// What the docker that it prints is made of.
+    /// The excerpt from which it makes the docker that it prints.
     Place(PlaceOffice),
-    /// The ledger of a state.
+    /// Only the ledger of a state.
     Ledger(LedgerOffice),
 }
 
-/// Reads what a job reads, and holds what its output is made of.
+/// Reads a job's sources, and keeps what the job needs for its output.
 pub(crate) fn hold<S: Source, T: Source>(
     alloc: Global,
     job: &Job,
@@ -58,7 +58,7 @@ pub(crate) fn hold<S: Source, T: Source>(
     }
 }
 
-/// Reads what a job reads, and holds all of it.
+/// Reads a job's sources, and keeps everything.
 fn hold_all<S: Source, T: Source>(
     alloc: Global,
     job: &Job,

@@ -1,17 +1,17 @@
-//! Why words give no job.
+//! The faults of words that give no job.
 use std::alloc::AllocError;
 use thiserror::Error;
 
-/// Why words, or a line with words, give no job.
+/// Why the words, or the job line, give no job.
 #[derive(Clone, Copy, PartialEq, Eq, Debug, Error)]
 pub enum JobFault {
-    /// They aren't a subcommand and the words that it requires.
+    /// The words aren't a subcommand followed by the words that it requires.
     #[error("usage")]
     Usage,
     /// Out of memory: the allocator refused to grow.
     #[error("want of memory")]
     Memory,
-    /// The source of the line failed.
+    /// The source of the job line failed.
     #[error("device failed")]
     Source,
 }

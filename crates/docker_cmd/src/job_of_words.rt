@@ -1,4 +1,4 @@
-//! The job that words name.
+//! Finds the job that words name.
 ghost use Rattle.std.specs.Prelude.{◌≡◌, ◌≢◌, ◌↔◌, IfOk, false, Err, map, string_bytes};
 ghost use Rattle.docker_cmd.specs.Job.{AskNothing, IsJobOf, NameNoJob};
 ghost use Rattle.docker_cmd.specs.Words.{texts};
@@ -9,7 +9,7 @@ use crate::tasks::Subcommand;
 use crate::words::{are_plain, read_words};
 use std::alloc::{AllocError, Global};
 
-/// The job that the words name. Fails with `Usage` if they name none, and with `Memory` only if
+/// The job that the words name. Fails with `Usage` if they name no job. Fails with `Memory` only if
 /// they name one.
 pub fn job(alloc: Global, words: &[&str]) -> Result<Job, JobFault>
     ensures job { IfOk result (λ job. IsJobOf (texts words.now) job) }
@@ -23,8 +23,7 @@ pub fn job(alloc: Global, words: &[&str]) -> Result<Job, JobFault>
     }
 }
 
-/// The job that `clap` finds in the words. Memory may run out before it is clear whether they name
-/// one.
+/// The job that `clap` finds in the words. It may fail with `Memory` whether or not they name one.
 fn found_job(alloc: Global, words: &[&str]) -> Result<Job, JobFault>
     ensures job { IfOk result (λ job. IsJobOf (texts words.now) job) }
     ensures usage { (result ≡ Err JobFault.Usage) → NameNoJob (texts words.now) }
@@ -50,7 +49,7 @@ fn names_job(words: &[&str]) -> bool
     }
 }
 
-/// Whether a subcommand has a task with these words.
+/// Whether the words name a task of this subcommand.
 fn asks(subcommand: Subcommand, words: &[&str]) -> bool
     ensures { (result ≡ false) ↔ AskNothing subcommand (texts words.now) }
 {
@@ -60,7 +59,7 @@ fn asks(subcommand: Subcommand, words: &[&str]) -> bool
     subcommand.task(words).is_some()
 }
 
-/// Copies of the words, which may outlive the originals.
+/// Copies of the words that the job can own.
 fn owned_words(alloc: Global, words: &[&str]) -> Result<Vec<String>, AllocError>
     ensures { IfOk result (λ owned. map (λ word. string_bytes word) owned.items ≡ texts words.now) }
 {

@@ -1,4 +1,4 @@
-//! Jobs.
+//! A job, as the words of a command name it.
 ghost use Rattle.std.specs.Prelude.{◌≡◌, length, map, string_bytes};
 ghost use Rattle.docker_cmd.specs.Tasks.{day_of, ids_of, subcommand_of, task_meant, tiploc_of};
 
@@ -6,7 +6,7 @@ use crate::tasks::{Subcommand, Task};
 use cif_line::{Day, Tiploc};
 use std::marker::Model;
 
-/// A job: its task, and the words that name it.
+/// A job: what to do, and the words after the subcommand.
 #[derive(Debug, Drop)]
 pub struct Job {
     task: Task,
@@ -30,7 +30,7 @@ impl Model for Job {
 }
 
 impl Job {
-    /// The job with this task and the words that name it.
+    /// The job with this task and these words after the subcommand.
     pub(crate) fn new(task: Task, words: Vec<String>) -> Job
         requires { length words.items ≡ length (ids_of (subcommand_of (task_meant task))) }
         ensures task { result.task ≡ task_meant task }
@@ -53,7 +53,7 @@ impl Job {
         self.task.subcommand()
     }
 
-    /// The words after the subcommand, as many as it requires.
+    /// The words after the subcommand. There are exactly as many as the subcommand requires.
     pub fn words(&self) -> &[String]
         ensures words { map (λ word. string_bytes word) result.now ≡ self.now.words }
         ensures count { length result.now ≡ length (ids_of (subcommand_of self.now.task)) }
@@ -61,14 +61,14 @@ impl Job {
         self.words.as_slice()
     }
 
-    /// The timing point that the words name, if the subcommand has one.
+    /// The timing point that the words name; `None` if the subcommand takes no timing point.
     pub fn tiploc(&self) -> Option<Tiploc>
         ensures { result ≡ tiploc_of self.now.task }
     {
         self.task.tiploc()
     }
 
-    /// The day that the words name, if the subcommand has one.
+    /// The day that the words name; `None` if the subcommand takes no day.
     pub fn day(&self) -> Option<Day>
         ensures { result ≡ day_of self.now.task }
     {

@@ -1,5 +1,5 @@
-//! The program's commands: the jobs that words name, what a job reads and writes, and the texts of
-//! faults.
+//! The commands of the program: which job the words name, what a job reads and writes, and how a
+//! fault is reported.
 #![tactic(auto)]
 
 mod check_line;

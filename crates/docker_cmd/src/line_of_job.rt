@@ -1,4 +1,5 @@
-//! The job line. A program without words reads them from the first line of its standard input.
+//! The job line: a program that is started without words reads them from the first line of its
+//! standard input.
 ghost use Rattle.std.specs.Prelude.{◌≡◌, ◌+◌, ◌*◌, ◌-◌, ◌^◌, ◌<◌, ◌≤◌, ◌↔◌, ◌≢◌, ◌++◌, length, Some, IfOk, IsErr, OnErr, Err, MatchOption, IfSome};
 ghost use Rattle.std.specs.List.{position_or_len, before_first, after_first};
 ghost use Rattle.cif_device.specs.Device.{CountsFailure};
@@ -15,21 +16,21 @@ use cif_line::{Source, is_printable};
 use std::alloc::Global;
 use std::str;
 
-/// The most bytes of a job line, without its line feed.
+/// The most bytes of a job line, not counting its line feed.
 const LONGEST: usize = 255;
 
 /// A job line without its line feed.
 type JobLine = ArrayVec<u8, LONGEST>;
 
-/// The most words of a line, with a space between every two.
+/// The most words that a job line can have: words of one byte, each followed by one space.
 const MOST_WORDS: usize = 128;
 
 /// The words of a job line.
 type LineWords<'a> = ArrayVec<&'a str, MOST_WORDS>;
 
-/// The job that a source's first line names. The source is left after the line feed. Fails with
-/// `Usage` if there is no such line or it names no job, and with `Memory` only if it names one. At
-/// most 256 bytes are read.
+/// The job that the first line of a source names. On success the source is left just after the line
+/// feed. Fails with `Usage` if there is no such line, or if the line names no job. Fails with
+/// `Memory` only if the line names a job. Reads at most 256 bytes.
 pub fn job_line<S: Source>(alloc: Global, source: &mut S) -> Result<Job, JobFault>
     requires { S.failures source.old < 2 ^ 64 - 1 }
     ensures job { IfOk result (λ job. ReadsJob (S.left source.old) job (S.left source.new)) }
@@ -43,7 +44,7 @@ pub fn job_line<S: Source>(alloc: Global, source: &mut S) -> Result<Job, JobFaul
     job_of_line(alloc, line.as_slice())
 }
 
-/// The job that a line names.
+/// The job that a job line names.
 fn job_of_line(alloc: Global, line: &[u8]) -> Result<Job, JobFault>
     requires { IsLineText line.now }
     ensures job { IfOk result (λ job. IsJobOf (words_in line.now) job) }
@@ -55,7 +56,7 @@ fn job_of_line(alloc: Global, line: &[u8]) -> Result<Job, JobFault>
     job(alloc, words.as_slice())
 }
 
-/// A job line as text.
+/// A job line as text. All its bytes are printable, so it is valid UTF-8.
 pub fn text_of(line: &[u8]) -> &str
     requires { IsLineText line.now }
     ensures { result.now ≡ line.now }
@@ -66,7 +67,7 @@ pub fn text_of(line: &[u8]) -> &str
     }
 }
 
-/// Reads one byte. None at the end of the source.
+/// Reads one byte. Returns `None` at the end of the source.
 fn read_byte<S: Source>(source: &mut S) -> Result<Option<u8>, JobFault>
     requires { S.failures source.old < 2 ^ 64 - 1 }
     ensures byte { IfOk result (λ byte. ReadsByte (S.left source.old) byte (S.left source.new)) }
@@ -83,7 +84,7 @@ fn read_byte<S: Source>(source: &mut S) -> Result<Option<u8>, JobFault>
     }
 }
 
-/// The piece before the first space, and the text after that space. None if there is no space.
+/// The text before the first space and the text after it. `None` if there is no space.
 pub fn split_at_space(text: &str) -> Option<(&str, &str)>
     ensures pieces { MatchOption result (position_or_len is_space text.now
         ≡ length text.now) (λ parts.
@@ -96,7 +97,7 @@ pub fn split_at_space(text: &str) -> Option<(&str, &str)>
     text.split_once(' ')
 }
 
-/// Appends a piece, unless it is empty and so no word.
+/// Appends a piece of a line to the words, unless the piece is empty.
 fn push_word<'a>(words: &mut LineWords<'a>, piece: &'a str)
     requires { 0 < length piece.now → array_vec_len words.old < 128 }
     ensures word { texts words.new.items ≡ texts words.old.items ++ word_or_none piece.now }
@@ -108,7 +109,7 @@ fn push_word<'a>(words: &mut LineWords<'a>, piece: &'a str)
     }
 }
 
-/// The words of a line: its longest pieces without a space.
+/// The words of a line: the pieces between its spaces, without the empty ones.
 #[tactic(auto, using(crate::proofs::LineWords::words_at_space, crate::proofs::LineWords::words_without_space))]
 fn words_in(line: &str) -> LineWords<'_>
     requires { length line.now ≤ 255 }
@@ -125,8 +126,8 @@ fn words_in(line: &str) -> LineWords<'_>
     words
 }
 
-/// Reads a source's first line, and leaves the source after its line feed. Fails with `Usage` if
-/// the line is too long, has a byte that isn't printable, or has no line feed.
+/// Reads the first line of a source, and leaves the source just after the line feed. Fails with
+/// `Usage` if the line is too long, has a byte that isn't printable, or has no line feed.
 fn read_line<S: Source>(source: &mut S) -> Result<JobLine, JobFault>
     requires { S.failures source.old < 2 ^ 64 - 1 }
     ensures line { IfOk result (λ line. ReadsLine (S.left source.old) line.items

@@ -1,4 +1,4 @@
-//! What a job writes.
+//! Writes the output of a job.
 ghost use Rattle.std.specs.Prelude.{◌≡◌, ◌≢◌, ◌-◌, ◌^◌, ◌<◌, IfErr, OnErr, OnOk, Err};
 ghost use Rattle.cif_device.specs.Device.{CountsFailure, Takes, TakesPart};
 ghost use Rattle.docker_cmd.specs.Writes.{output_meant};
@@ -13,13 +13,14 @@ use cif_file::FileCount;
 use cif_line::{Sink, write_all};
 use docker_office::{LedgerOffice, Office, OfficeFault, PlaceOffice};
 
-/// Writes what the job prints, or the text of the state that is to be kept. `check` writes the line
-/// of its file's counts, `day` and `print` write the docker of their timing point on their day, and
-/// `files` writes the office's files. Any other job writes the text of the office's state.
+/// Writes what the job prints, or the text of the state that it stores. `check` writes the line
+/// with its file's counts. `day` and `print` write the docker of their timing point on their day.
+/// `files` lists the files that the office knows. Any other job writes the text of the office's
+/// state.
 ///
-/// It returns `Lapsed` for a docker of a day before the state's horizon plus three days, and
-/// `Memory` if room for a docker is refused: both before anything is written. With `Sink`, the sink
-/// has gained a proper prefix of the text.
+/// Returns `Lapsed` for a docker of a day before the state's horizon plus three days. Returns
+/// `Memory` if there is no memory for a docker. In both cases nothing is written. With `Sink`, the
+/// sink has gained a proper prefix of the text.
 pub fn emit<K: Sink>(prepared: &Prepared<'_>, sink: &mut K) -> Result<(), OfficeFault>
     requires { K.failures sink.old < 2 ^ 64 - 1 }
     ensures ends { EndsEmitting K.taken K.failures (output_of prepared.now.job.task)
@@ -36,7 +37,7 @@ pub fn emit<K: Sink>(prepared: &Prepared<'_>, sink: &mut K) -> Result<(), Office
     }
 }
 
-/// Writes the line of a file's counts.
+/// Writes the line with a file's counts.
 fn write_counts<K: Sink>(file: &FileCount, sink: &mut K) -> Result<(), OfficeFault>
     requires { K.failures sink.old < 2 ^ 64 - 1 }
     ensures { EndsEmitting K.taken K.failures counts_written (file_read file.now)
@@ -46,7 +47,7 @@ fn write_counts<K: Sink>(file: &FileCount, sink: &mut K) -> Result<(), OfficeFau
     write(sink, text.as_slice())
 }
 
-/// Writes the whole text, or a proper prefix of it if the sink fails.
+/// Writes the text. If the sink fails, it has taken a proper prefix of the text.
 fn write<K: Sink>(sink: &mut K, text: &[u8]) -> Result<(), OfficeFault>
     requires { K.failures sink.old < 2 ^ 64 - 1 }
     ensures whole { OnOk result (Takes (K.taken sink.old) text.now (K.taken sink.new)) }
@@ -58,7 +59,7 @@ fn write<K: Sink>(sink: &mut K, text: &[u8]) -> Result<(), OfficeFault>
     write_all(sink, text).map_err(|_| OfficeFault::Sink)
 }
 
-/// Writes an output of an office, which has no counts.
+/// Writes a docker, the list of files or the state's text, from an office that holds everything.
 fn write_office<K: Sink>(office: &Office, output: &Output, sink: &mut K) -> Result<(), OfficeFault>
     requires failures { K.failures sink.old < 2 ^ 64 - 1 }
     requires output { output_meant output.now ≢ counts_written }
@@ -74,7 +75,7 @@ fn write_office<K: Sink>(office: &Office, output: &Output, sink: &mut K) -> Resu
     }
 }
 
-/// Prints the docker of an office at a timing point for a day.
+/// Writes the docker for which the office was read.
 fn write_place<K: Sink>(office: &PlaceOffice, sink: &mut K) -> Result<(), OfficeFault>
     requires { K.failures sink.old < 2 ^ 64 - 1 }
     ensures ends { EndsEmitting K.taken K.failures (docker_written office.now.place office.now.day)
@@ -85,7 +86,7 @@ fn write_place<K: Sink>(office: &PlaceOffice, sink: &mut K) -> Result<(), Office
     office.print(sink)
 }
 
-/// Lists the files of a ledger.
+/// Writes the list of the files in a ledger.
 fn write_ledger<K: Sink>(office: &LedgerOffice, sink: &mut K) -> Result<(), OfficeFault>
     requires { K.failures sink.old < 2 ^ 64 - 1 }
     ensures { EndsEmitting K.taken K.failures files_written (office_read office.now)

@@ -1,4 +1,4 @@
-//! A job with what it has read.
+//! A job that has read its sources.
 ghost use Rattle.std.specs.Prelude.{◌≡◌, ◌-◌, ◌^◌, ◌<◌, ◌⊎◌, IfOk};
 ghost use Rattle.docker_cmd.specs.Holding.{IsWrittenFrom, held_meant};
 ghost use Rattle.docker_cmd.specs.Prepared.{CountsSources, HasNoSource, HasSecondSource, HoldsSomeState, IsOfOneFile, ReadsInOrder, output_of, sources_of, taken_file};
@@ -10,7 +10,7 @@ use docker_office::OfficeFault;
 use std::alloc::Global;
 use std::marker::Model;
 
-/// A job with what it has read.
+/// A job that has read its sources, and is ready to write.
 #[derive(Debug, Drop)]
 pub struct Prepared<'a> {
     job: &'a Job,
@@ -33,15 +33,15 @@ impl<'a> Model for Prepared<'a> {
 }
 
 impl<'a> Prepared<'a> {
-    /// The job.
+    /// The job that was prepared.
     pub(crate) fn job(&self) -> &'a Job
         ensures { result.now ≡ self.now.job }
     {
         self.job
     }
 
-    /// What it holds of what it has read: for `check` a file's counts, and for any other job an
-    /// office. An office may hold only the part that is written.
+    /// What the job keeps of its sources: the counts of a file for `check`, and an office for any
+    /// other job. The office may hold only what the job writes.
     pub(crate) fn held(&self) -> &Holding
         ensures held { self.now.read ≡ held_meant result.now }
         ensures written { IsWrittenFrom (output_of self.now.job.task) result.now }
@@ -50,15 +50,16 @@ impl<'a> Prepared<'a> {
     }
 }
 
-/// Reads a job's sources, in the order of its words. Returns the job with a file's counts, or with
-/// the office that was made. `new` reads nothing. `check` and `day` read FILE from the first
-/// source; `print`, `files`, `horizon` and `migrate` read STATE from it. `take` and `merge` read
-/// STATE from the first source and then FILE or OTHER from the second, unless the first holds no
-/// state. A source is read to its end, or to the piece that decides, which has at most 65,536
-/// bytes.
+/// Reads a job's sources, in the order of its words, and returns the job with the counts of its
+/// file or with an office. `new` reads nothing. `check` and `day` read FILE from the first source;
+/// `print`, `files`, `horizon` and `migrate` read STATE from it. `take` and `merge` read STATE from
+/// the first source. They read FILE or OTHER from the second, but only if the first held a state.
+/// Each source is read to its end, or to the piece that decides the answer. A piece has at most
+/// 65,536 bytes.
 ///
-/// Fails with `File` or `State` if a source doesn't hold a file or a state, with `Source` if one
-/// failed, and with `Memory` if memory ran out. Then nothing that was judged before is bad.
+/// Fails with `File` or `State` if a source doesn't hold a file or a state, with `Source` if a
+/// source failed, and with `Memory` if memory ran out. With `Memory`, no fault was found in what
+/// had been judged before.
 pub fn prepare<'a, S: Source, T: Source>(
     alloc: Global,
     job: &'a Job,

@@ -1,4 +1,4 @@
-//! Reads a job's sources.
+//! Reads the sources of a job.
 ghost use Rattle.std.specs.Prelude.{◌≡◌, ◌-◌, ◌^◌, ◌<◌, ◌⊎◌, ℕ};
 ghost use Rattle.docker_cmd.specs.Reads.{sources_meant};
 ghost use Rattle.docker_model.specs.state.StateText.{dks_1, dks_2};
@@ -19,14 +19,14 @@ pub const MOST_BYTES: u64 = 1_099_511_627_776;
 /// What a job has read.
 #[derive(Debug, Drop)]
 pub(crate) enum Content {
-    /// The counts of a file, which no office takes.
+    /// The counts of a file that was only checked.
     File(FileCount),
-    /// An office with what it took, received or reloaded.
+    /// An office with the state that it reloaded, took or received.
     Office(Office),
 }
 
 impl Content {
-    /// The content after a horizon was set on its office, if there is one.
+    /// The same content, after this horizon was set on its office. `None` sets no horizon.
     pub(crate) fn under(self, horizon: Option<Day>) -> Content
         ensures { content_meant result ≡ under horizon (content_meant self) }
     {
@@ -40,7 +40,7 @@ impl Content {
     }
 }
 
-/// Reads these sources, in their order, and returns what they held.
+/// Reads these sources in their order, and returns the result.
 pub(crate) fn read_content<S: Source, T: Source>(
     alloc: Global,
     sources: Sources,
@@ -70,7 +70,7 @@ pub(crate) fn read_content<S: Source, T: Source>(
     }
 }
 
-/// The counts of the file that a source holds.
+/// Checks the file that a source holds, and returns its counts.
 fn counts_of_file<S: Source>(alloc: Global, source: &mut S) -> Result<FileCount, OfficeFault>
     requires { S.failures source.old < 2 ^ 64 - 1 }
     ensures reads { (second : DeviceBytes) → ReadsContent file_read checked_file
@@ -81,7 +81,7 @@ fn counts_of_file<S: Source>(alloc: Global, source: &mut S) -> Result<FileCount,
     Ok(judge_file(alloc, source, MOST_RECORDS)?)
 }
 
-/// An office that took the file that a source holds, and nothing else.
+/// A new office that has taken the file in a source.
 fn office_of_file<S: Source>(alloc: Global, source: &mut S) -> Result<Office, OfficeFault>
     requires { S.failures source.old < 2 ^ 64 - 1 }
     ensures reads { (second : DeviceBytes) → ReadsContent office_read taken_file
@@ -94,7 +94,7 @@ fn office_of_file<S: Source>(alloc: Global, source: &mut S) -> Result<Office, Of
     Ok(office)
 }
 
-/// An office with the state that a source holds.
+/// An office with the state in a source.
 fn office_of_state<S: Source>(alloc: Global, source: &mut S) -> Result<Office, OfficeFault>
     requires { S.failures source.old < 2 ^ 64 - 1 }
     ensures { EndsReadingState S.left S.failures dks_2 most_bytes
@@ -105,7 +105,7 @@ fn office_of_state<S: Source>(alloc: Global, source: &mut S) -> Result<Office, O
     Ok(office)
 }
 
-/// An office with the state that a source holds in the older format.
+/// An office with the state in a source, in the older format.
 fn office_of_older_state<S: Source>(alloc: Global, source: &mut S) -> Result<Office, OfficeFault>
     requires { S.failures source.old < 2 ^ 64 - 1 }
     ensures { EndsReadingState S.left S.failures dks_1 most_bytes
@@ -116,7 +116,7 @@ fn office_of_older_state<S: Source>(alloc: Global, source: &mut S) -> Result<Off
     Ok(office)
 }
 
-/// An office with the state that the first source holds, which then took the file in the second.
+/// An office with the state in the first source, which has then taken the file in the second.
 fn office_of_state_and_file<S: Source, T: Source>(
     alloc: Global,
     first: &mut S,
@@ -136,8 +136,7 @@ fn office_of_state_and_file<S: Source, T: Source>(
     Ok(taker)
 }
 
-/// An office with the state that the first source holds, which then received the state in the
-/// second.
+/// An office with the state in the first source, which has then received the state in the second.
 fn office_of_two_states<S: Source, T: Source>(
     alloc: Global,
     first: &mut S,

@@ -1,4 +1,4 @@
-//! The table of subcommands, with a row for each, and their tasks.
+//! The table of subcommands, and the tasks that they do.
 ghost use Rattle.std.specs.Prelude.{◌≡◌, IfSome, IsNone, None, Some, codes, find, if◌then◌else◌, length, map, option_map};
 ghost use Rattle.std.specs.Option.{option_copied};
 ghost use Rattle.std.specs.Str.{bytes_eq};
@@ -38,16 +38,16 @@ pub enum Subcommand {
 /// A row of the table of subcommands.
 #[derive(Clone, Copy, Debug)]
 pub(crate) struct Row<'a> {
-    /// The name.
+    /// The subcommand's name.
     name: &'a str,
-    /// The ids of the words after it, all of them required.
+    /// The names of the words after the subcommand, as the usage line shows them. All are required.
     ids: &'a [&'a str],
-    /// What it reads, in the order of the words.
+    /// What the subcommand reads, in the order of its words.
     reads: Sources,
 }
 
 impl<'a> Row<'a> {
-    /// The row with these columns.
+    /// Makes a row of these columns.
     fn of(name: &'a str, ids: &'a [&'a str], reads: Sources) -> Row<'a>
         ensures name { result.name.now ≡ name.now }
         ensures ids { result.ids.now ≡ ids.now }
@@ -75,7 +75,7 @@ impl Subcommand {
         ]
     }
 
-    /// Its row in the table.
+    /// The subcommand's row in the table.
     pub(crate) fn row<'a>(self) -> Row<'a>
         ensures { row_meant result ≡ row_of self }
     {
@@ -92,28 +92,28 @@ impl Subcommand {
         }
     }
 
-    /// Its name, which is the first word.
+    /// The subcommand's name, which is the first word of a command.
     pub fn name<'a>(self) -> &'a str
         ensures { result.now ≡ name_of self }
     {
         self.row().name
     }
 
-    /// The ids of the words after it.
+    /// The names of the words after the subcommand, as the usage line shows them.
     pub(crate) fn ids<'a>(self) -> &'a [&'a str]
         ensures { map (λ id. id.now) result.now ≡ ids_of self }
     {
         self.row().ids
     }
 
-    /// Whether this is its name.
+    /// Whether the subcommand has this name.
     fn is_named(self, name: &str) -> bool
         ensures { result ≡ bytes_eq (name_of self) name.now }
     {
         self.name() == name
     }
 
-    /// The subcommand with this name.
+    /// The subcommand with this name, if there is one.
     #[tactic(auto, unfolding(crate::specs::Tasks::subcommand_named))]
     pub(crate) fn of_name(name: &str) -> Option<Subcommand>
         ensures { result ≡ subcommand_named name.now }
@@ -121,8 +121,9 @@ impl Subcommand {
         first_named(Subcommand::all(), name).copied()
     }
 
-    /// Its task with these words, which are as many as it requires. None if a state that has to be
-    /// written anew is `stdin`, or if a word that has to name a timing point or a day doesn't.
+    /// The subcommand's task with these words. There must be as many words as it requires. `None`
+    /// if the state that the task writes is named `stdin`, or if a word doesn't name a timing point
+    /// or a day where it must.
     pub(crate) fn task(self, words: &[&str]) -> Option<Task>
         requires { length words.now ≡ length (ids_of self) }
         ensures { IsTaskOf self (texts words.now) (option_map task_meant result) }
@@ -150,7 +151,7 @@ impl Subcommand {
     }
 }
 
-/// The usage line: the names and ids of the table.
+/// The usage line: each subcommand's name and the words that it requires.
 pub(crate) fn usage<'a>() -> &'a [u8]
     ensures { result.now ≡ usage_line }
 {
@@ -167,14 +168,14 @@ fn first_named<'a>(subcommands: &'a [Subcommand], name: &str) -> Option<&'a Subc
         .find(|subcommand| subcommand.is_named(name))
 }
 
-/// The task, unless its state is standard input, which can't be written anew.
+/// The task, unless its state is named `stdin`: a state on standard input can't be replaced.
 fn unless_stdin(state: &str, task: Task) -> Option<Task>
     ensures { result ≡ if bytes_eq state.now (codes "stdin") then None else Some task }
 {
     if state == "stdin" { None } else { Some(task) }
 }
 
-/// The timing point and the day that these words name.
+/// The timing point and the day that these words name; `None` if either word names none.
 fn place_and_day(tiploc: &str, date: &str) -> Option<(Tiploc, Day)>
     ensures pair { IfSome result (λ pair. NamesPlace tiploc.now pair.0 × NamesDay date.now pair.1) }
     ensures none { IsNone result → (place : _) (day : _) → NamesPlace tiploc.now place
@@ -185,7 +186,7 @@ fn place_and_day(tiploc: &str, date: &str) -> Option<(Tiploc, Day)>
     Some((place, day))
 }
 
-/// A task: what a job is to do, with the timing point and the day that its words name.
+/// A task: what a job does, with the timing point and the day that its words name.
 #[derive(Clone, Copy, PartialEq, Eq, Debug)]
 pub enum Task {
     /// `new`.
@@ -222,7 +223,7 @@ pub enum Task {
 }
 
 impl Task {
-    /// Its subcommand.
+    /// The subcommand that does this task.
     pub(crate) fn subcommand(self) -> Subcommand
         ensures { result ≡ subcommand_of (task_meant self) }
     {
@@ -239,7 +240,7 @@ impl Task {
         }
     }
 
-    /// The timing point, if it has one.
+    /// The timing point of the task, if it has one.
     pub(crate) fn tiploc(self) -> Option<Tiploc>
         ensures { result ≡ tiploc_of (task_meant self) }
     {
@@ -249,7 +250,7 @@ impl Task {
         }
     }
 
-    /// The day, if it has one.
+    /// The day of the task, if it has one.
     pub(crate) fn day(self) -> Option<Day>
         ensures { result ≡ day_of (task_meant self) }
     {
@@ -259,14 +260,14 @@ impl Task {
         }
     }
 
-    /// What it reads.
+    /// What the task reads.
     pub fn reads(self) -> Sources
         ensures { sources_meant result ≡ sources_of (task_meant self) }
     {
         self.subcommand().row().reads
     }
 
-    /// What it writes after that.
+    /// What the task writes once it has read its sources.
     pub fn writes(self) -> Output
         ensures { output_meant result ≡ output_of (task_meant self) }
     {
@@ -280,7 +281,7 @@ impl Task {
         }
     }
 
-    /// The horizon that it sets on the state that it has read, if it sets one.
+    /// The horizon that the task sets on the state that it has read; `None` if it sets none.
     pub fn horizon(self) -> Option<Day>
         ensures { result ≡ horizon_of (task_meant self) }
     {

@@ -1,4 +1,4 @@
-//! The subcommand that words name, and the words after it.
+//! Finds the subcommand that words name, and the words after it.
 ghost use Rattle.std.specs.Prelude.{◌≡◌, ◌≢◌, ◌≤◌, IfOk, Err, length, map, option_map};
 ghost use Rattle.std.specs.List.{list_all};
 ghost use Rattle.clap.specs.Words.{first_of, found_of, rows_of, subcommand_rows_of};
@@ -20,23 +20,24 @@ const MOST_WORDS: usize = 3;
 /// The words after a subcommand.
 pub(crate) type Behind<'a> = ArrayVec<&'a str, MOST_WORDS>;
 
-/// Whether a word may stand on the command line: it isn't empty, and doesn't begin with a hyphen.
+/// Whether the word is allowed on the command line: it isn't empty, and doesn't begin with a
+/// hyphen.
 fn is_plain(word: &str) -> bool
     ensures { result ≡ is_plain_word word.now }
 {
     !word.is_empty() && !word.starts_with('-')
 }
 
-/// Whether all words may stand on the command line.
+/// Whether every word is allowed on the command line.
 pub(crate) fn are_plain(words: &[&str]) -> bool
     ensures { result ≡ list_all (λ word. is_plain_word word.now) words.now }
 {
     words.iter().all(|word| is_plain(word))
 }
 
-/// The subcommand that the words name, and the words after it. No word may be empty or begin with a
-/// hyphen: there are no options, and `help` isn't a subcommand. Memory may run out before it is
-/// clear whether they name one.
+/// The subcommand that the words name, and the words after it. A word that is empty or begins with
+/// a hyphen is a usage error: there are no options, and `help` isn't a subcommand. This may fail
+/// with `Memory` even if the words name no subcommand.
 pub(crate) fn read_words<'a>(
     alloc: Global,
     words: &'a [&'a str],
@@ -55,7 +56,7 @@ pub(crate) fn read_words<'a>(
     }
 }
 
-/// The fault for an error of this kind from `clap`.
+/// The fault that reports an error of this kind from `clap`.
 fn fault_at(kind: ErrorKind) -> JobFault
     ensures usage { (result ≡ JobFault.Usage) → kind ≢ ErrorKind.OutOfMemory }
     ensures source { result ≢ JobFault.Source }
@@ -77,7 +78,7 @@ fn found_subcommand<'a>(found: &ArgMatches<'a>) -> Option<(Subcommand, Behind<'a
     Some((subcommand, words))
 }
 
-/// The words that `clap` found at these ids. None if an id has no word.
+/// The words that `clap` found for these arguments. `None` if one of them has no word.
 fn words_at<'a>(words: &ArgMatches<'a>, ids: &[&str]) -> Option<Behind<'a>>
     requires { length ids.now ≤ 3 }
     ensures { option_map (λ found. texts found.items) result
@@ -91,7 +92,7 @@ fn words_at<'a>(words: &ArgMatches<'a>, ids: &[&str]) -> Option<Behind<'a>>
     Some(found)
 }
 
-/// The word that `clap` found at this id.
+/// The word that `clap` found for this argument.
 fn word_at<'a>(words: &ArgMatches<'a>, id: &str) -> Option<&'a str>
     ensures { option_map (λ word. word.now) result
         ≡ first_of id.now (rows_of (found_of words.now)) }

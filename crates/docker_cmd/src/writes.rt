@@ -1,10 +1,10 @@
-//! The output of a task.
+//! The kinds of output that a task writes.
 use cif_line::{Day, Tiploc};
 
 /// What a task writes.
 #[derive(Clone, Copy, PartialEq, Eq, Debug)]
 pub enum Output {
-    /// A file's counts.
+    /// The line with a file's counts.
     Counts,
     /// The docker of a timing point on a day.
     Docker {
@@ -15,6 +15,6 @@ pub enum Output {
     },
     /// The list of the files that a state knows.
     Files,
-    /// A state's text, to the file that the first word names.
+    /// A state's text, which replaces the file that the first word names.
     State,
 }

@@ -1,4 +1,4 @@
--- The lines of an input, and their answers on the output.
+-- How a session answers the lines of its input on its output.
 use Rattle.std.specs.Prelude.{◌≡◌, ℕ, ◌+◌, ◌-◌, ◌^◌, ◌≤◌, ◌⊎◌, Bool, false, List, [], ◌∷◌, ◌++◌, length, map, Option, Some, None, ⊤}
 use Rattle.std.specs.List.{flat_map}
 use Rattle.cif_device.specs.Device.{Takes, TakesPart}
@@ -10,40 +10,40 @@ use Rattle.docker_desk.specs.declared.ending.Ending.TheVariants.{Ended, InputFai
 use Rattle.docker_desk.specs.SessionViews.{SessionView, Setting, Step}
 use Rattle.docker_desk.specs.Doing.{AreSteps, DoesLine}
 
--- the lines of steps
+-- the lines of these steps
 abbrev pub lines_of : List Step → List LineView
 lines_of = map (λ step. step.line)
 
--- the answers of steps
+-- the answers of these steps
 abbrev pub answers_of : List Step → List AnswerView
 answers_of = map (λ step. step.answer)
 
--- the bytes of the answers of steps
+-- the bytes of all answers of these steps
 abbrev pub answers_text : List Step → List ℕ
 answers_text = flat_map (λ step. answer_bytes step.answer)
 
--- the text begins with these lines, and then comes the rest
+-- the text begins with these lines, and `rest` follows them
 abbrev pub AreFirstLines : List ℕ → List LineView → List ℕ → Type 0
 AreFirstLines text [] rest = rest ≡ text
 AreFirstLines text (line ∷ lines) rest =
     (next : List ℕ) × (IsNextLine text line next × AreFirstLines next lines rest)
 
--- if the input's bytes can be named, they begin with these lines
+-- the input begins with these lines. This says nothing of an input that can't name its bytes
 abbrev pub BeginsWith : DeviceBytes → List LineView → Type 0
 BeginsWith None lines = ⊤
 BeginsWith (Some text) lines = (rest : List ℕ) × AreFirstLines text lines rest
 
--- if the input's bytes can be named, they are these lines
+-- the input consists of exactly these lines. This says nothing of an input that can't name its bytes
 abbrev pub HasLines : DeviceBytes → List LineView → Type 0
 HasLines None lines = ⊤
 HasLines (Some text) lines = AreLines text lines
 
--- if the input's bytes can be named, they are at least 2 ^ 64 - 1
+-- the input has at least 2 ^ 64 - 1 bytes. This says nothing of an input that can't name its bytes
 abbrev pub IsEndless : DeviceBytes → Type 0
 IsEndless None = ⊤
 IsEndless (Some text) = 2 ^ 64 - 1 ≤ length text
 
--- the output gained every answer but the last, and a proper prefix of the last
+-- the output gained every answer but the last, and a proper prefix of the last answer
 pub record BreaksOff (steps : List Step)
     (output output_now : DeviceBytes) : Type 0 where
   pub earlier : List Step
@@ -53,8 +53,8 @@ pub record BreaksOff (steps : List Step)
   pub told : Takes output (answers_text earlier) between
   pub part : TakesPart between (answer_bytes last.answer) output_now
 
--- which lines were answered, and what the output gained, by how the session ended. At the input's
--- end all lines were answered, otherwise its first lines
+-- says which lines were answered and what the output gained in a session that ended in this way. At the input's end all lines have been answered; otherwise
+-- only the first lines have
 abbrev pub EndsSession : Ending → DeviceBytes → List Step → DeviceBytes
     → DeviceBytes → Type 0
 EndsSession Ended input steps output output_now =
@@ -67,14 +67,14 @@ EndsSession InputEndless input steps output output_now =
 EndsSession OutputFailed input steps output output_now =
     BeginsWith input (lines_of steps) × BreaksOff steps output output_now
 
--- the lines of an input were answered on an output, and led from the point before to the one after
+-- the lines of an input were answered on an output. Their steps led from the point `before` to the point `after`, and the session then ended in this way
 pub record AnswersLines (setting : Setting) (before after : SessionView)
     (input output output_now : DeviceBytes) (ending : Ending) : Type 0 where
   pub steps : List Step
   pub are : AreSteps setting before steps after
   pub ends : EndsSession ending input steps output output_now
 
--- how often the input and the output failed, before and after
+-- says how the failure counts of input and output changed in a session that ended in this way
 abbrev pub CountsStreams : Ending → ℕ → ℕ → ℕ → ℕ → Type 0
 CountsStreams Ended input input_now output output_now = (input_now ≡ input) × (output_now ≡ output)
 CountsStreams InputFailed input input_now output output_now =
@@ -84,13 +84,13 @@ CountsStreams InputEndless input input_now output output_now =
 CountsStreams OutputFailed input input_now output output_now =
     (input_now ≡ input) × (output_now ≡ output + 1)
 
--- another line may come after this one
+-- another line may follow this one. None follows a line that is cut
 abbrev pub IsFollowed : LineView → Type 0
 IsFollowed (whole_line line) = ⊤
 IsFollowed bad_line = ⊤
 IsFollowed cut_line = ⊥
 
--- after one line: the session goes on, with that line answered, or it ends here
+-- one line was served with this outcome. None says that the line was answered and the session continues. Otherwise the session ended here in this way
 abbrev pub ServesNext : Setting → SessionView → SessionView → DeviceBytes → DeviceBytes
     → DeviceBytes → DeviceBytes → Option Ending → Type 0
 ServesNext setting before after input input_now output output_now None =
@@ -100,20 +100,19 @@ ServesNext setting before after input input_now output output_now None =
 ServesNext setting before after input input_now output output_now (Some ending) =
     AnswersLines setting before after input output output_now ending
 
--- how often the input and the output failed, before and after one line
+-- says how the failure counts of input and output changed while one line was served with this outcome
 abbrev pub CountsNext : Option Ending → ℕ → ℕ → ℕ → ℕ → Type 0
 CountsNext None input input_now output output_now = (input_now ≡ input) × (output_now ≡ output)
 CountsNext (Some ending) input input_now output output_now =
     CountsStreams ending input input_now output output_now
 
--- an input that hadn't reported its end isn't read past it. If the session goes on, the input still
--- hasn't reported it
+-- an input that hadn't reported its end before wasn't read past it. If the session continues, the input still hasn't reported its end
 abbrev pub StopsAtEnd : Option Ending → Bool → Bool → Bool → Bool → Type 0
 StopsAtEnd result ended ended_now passed passed_now =
     ended ≡ false → (passed_now ≡ passed) × (result ≡ None → ended_now ≡ false)
 
--- the output gained the answer, and the result is `next`; or the output failed, gained a proper
--- prefix of the answer, and the result is `OutputFailed`
+-- writing an answer to the output ended with this result. Either the answer was written, and the result is `next`. Or the output failed after a proper prefix
+-- of the answer, and the result is `OutputFailed`
 abbrev pub TellsAnswer : List ℕ → Option Ending → DeviceBytes → DeviceBytes → ℕ → ℕ → Option Ending
     → Type 0
 TellsAnswer told next output output_now failures failures_now result =

@@ -1,12 +1,11 @@
--- The view of a source that copies what is read, and of a sink that compares what is written.
+-- A source that keeps a copy of what is read from it, and a sink that compares what is written with a text.
 use Rattle.std.specs.Prelude.{◌≡◌, ◌≢◌, ℕ, Bool, List, [], ◌∷◌, ◌++◌, Option, Some, None, ⊤}
 use Rattle.docker_host.specs.History.{Bytes, Text}
 use Rattle.docker_desk.specs.declared.compared.Compared.{Compared}
 use Rattle.docker_desk.specs.declared.compared.Compared.TheVariants as compared
 
--- a source whose bytes are copied as they are read: what is left of it, and how often it has
--- failed. Then come whether it has reported its end, whether it was read past that, and the copy,
--- if there was memory for it
+-- a source that keeps a copy: its bytes left, its number of failures, whether it has reported its end, and whether it was read after that. `copy` is None if
+-- memory ran out for it
 pub record CopyView : Type 0 where
   pub left : Bytes
   pub failures : ℕ
@@ -14,29 +13,29 @@ pub record CopyView : Type 0 where
   pub passed : Bool
   pub copy : Option Text
 
--- a sink that compares what it is given with a text: the text, the bytes that it took, and how often
--- it has failed. It takes bytes as far as they are the text's, and one other byte
+-- a sink that compares what is written with a text: the text, the bytes that it accepted, and its number of failures. It accepts bytes as long as they are the
+-- text's, and the first byte that differs
 pub record MatchView : Type 0 where
   pub text : Text
   pub taken : Text
   pub failures : ℕ
 
--- the copy gained these bytes, or there is no copy any more
+-- the copy gained these bytes, or the copy was given up
 abbrev pub KeepsMore : Option Text → List ℕ → Option Text → Type 0
 KeepsMore old bytes None = ⊤
 KeepsMore None bytes (Some new) = ⊥
 KeepsMore (Some old) bytes (Some new) = new ≡ old ++ bytes
 
--- the first bytes of a text, and then another byte, if there is one
+-- these bytes, followed by the other byte if there is one
 abbrev pub with_other : Text → Option ℕ → Text
 with_other front None = front
 with_other front (Some other) = front ++ other ∷ []
 
--- the text doesn't begin with these bytes
+-- these bytes aren't a prefix of the text
 abbrev pub IsNoFront : Text → Text → Type 0
 IsNoFront front text = (more : List ℕ) → text ≢ front ++ more
 
--- what was found out of a copy: it is this text, or another; or it isn't known
+-- a copy and a text compare with this result: `Same` if the copy is the text, `Other` if it is another text. `Unknown` says nothing
 abbrev pub ComparesCopy : Compared → Option Text → Text → Type 0
 ComparesCopy compared.Same copy text = copy ≡ Some text
 ComparesCopy compared.Other None text = ⊥

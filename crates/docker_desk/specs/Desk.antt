@@ -1,4 +1,4 @@
--- What a desk knows, and what each request makes of it.
+-- What a desk knows, and what each request answers or changes.
 use Rattle.std.specs.Prelude.{◌≡◌, ◌≢◌, ◌<◌, ℕ, Bool, true, false, List, [], ◌∷◌, ◌++◌, Option, Some, None, Result, Ok, Err, ⊤}
 use Rattle.docker_model.specs.file.File.{most_records}
 use Rattle.docker_model.specs.state.State.{State, live_table}
@@ -24,13 +24,12 @@ use Rattle.docker_desk.specs.declared.compared.Compared.{Compared}
 use Rattle.docker_desk.specs.declared.compared.Compared.TheVariants as compared
 use Rattle.docker_desk.specs.Replies.{AnswerView, done_with, refused_for, no_request}
 
--- the state that a desk knows, and whether it may differ from the one that the state's file was
--- last seen to hold
+-- what a desk knows: its state, and whether it may have unsaved changes. It may if its state may differ from the state that its file was last seen to hold
 pub record DeskView : Type 0 where
   pub state : State
   pub unsaved : Bool
 
--- why a docker is refused: `Lapsed` if the horizon refuses its day, otherwise `Memory`
+-- a docker is refused with this fault: `Lapsed` if the horizon refuses its day, otherwise `Memory`
 abbrev pub IsDockerRefused : State → ℕ → OfficeFault → Type 0
 IsDockerRefused state day office.Lapsed = IsDayRefused state.horizon day
 IsDockerRefused state day office.Memory = ¬ IsDayRefused state.horizon day
@@ -39,27 +38,27 @@ IsDockerRefused state day (office.State fault) = ⊥
 IsDockerRefused state day office.Source = ⊥
 IsDockerRefused state day office.Sink = ⊥
 
--- the answer to a request for a docker
+-- this is an answer to `print` for a timing point and a day
 abbrev pub IsDockerAnswer : State → List ℕ → ℕ → AnswerView → Type 0
 IsDockerAnswer state place day (done_with text) =
     IsDockerText (live_table state) place day text × (¬ IsDayRefused state.horizon day)
 IsDockerAnswer state place day (refused_for fault) = IsDockerRefused state day fault
 IsDockerAnswer state place day no_request = ⊥
 
--- the answer has the docker of this table, or says that there was no memory for its text
+-- the answer has the docker of this table, or says that memory ran out for its text
 abbrev pub TellsDocker : Table → List ℕ → ℕ → AnswerView → Type 0
 TellsDocker live place day (done_with text) = IsDockerText live place day text
 TellsDocker live place day (refused_for fault) = fault ≡ office.Memory
 TellsDocker live place day no_request = ⊥
 
--- the answer to a request for a docker without the short-term plan. It is refused as a docker is
+-- this is an answer to `permanent`, which asks for a docker without the short-term plan. It is refused like a docker
 abbrev pub IsPermanentAnswer : State → List ℕ → ℕ → AnswerView → Type 0
 IsPermanentAnswer state place day (done_with text) =
     IsDockerText (permanent_table (live_table state)) place day text × (¬ IsDayRefused state.horizon day)
 IsPermanentAnswer state place day (refused_for fault) = IsDockerRefused state day fault
 IsPermanentAnswer state place day no_request = ⊥
 
--- why a train is refused: `Lapsed` if its day is before the horizon, otherwise `Memory`
+-- a train is refused with this fault: `Lapsed` if its day is before the horizon, otherwise `Memory`
 abbrev pub IsTrainRefused : State → ℕ → OfficeFault → Type 0
 IsTrainRefused state day office.Lapsed = day < state.horizon
 IsTrainRefused state day office.Memory = ¬ (day < state.horizon)
@@ -68,26 +67,26 @@ IsTrainRefused state day (office.State fault) = ⊥
 IsTrainRefused state day office.Source = ⊥
 IsTrainRefused state day office.Sink = ⊥
 
--- the answer to a request for a train
+-- this is an answer to `train` for a UID and a day
 abbrev pub IsTrainAnswer : State → List ℕ → ℕ → AnswerView → Type 0
 IsTrainAnswer state uid day (done_with text) =
     IsTrainText state uid day text × (¬ (day < state.horizon))
 IsTrainAnswer state uid day (refused_for fault) = IsTrainRefused state day fault
 IsTrainAnswer state uid day no_request = ⊥
 
--- the answer to a request for the files
+-- this is an answer to `files`
 abbrev pub IsFilesAnswer : State → AnswerView → Type 0
 IsFilesAnswer state (done_with text) = text ≡ files_text state.ledger
 IsFilesAnswer state (refused_for fault) = fault ≡ office.Memory
 IsFilesAnswer state no_request = ⊥
 
--- the answer to a request for the timing points
+-- this is an answer to `places`
 abbrev pub IsPlacesAnswer : State → AnswerView → Type 0
 IsPlacesAnswer state (done_with text) = IsPlacesText (live_table state) text
 IsPlacesAnswer state (refused_for fault) = fault ≡ office.Memory
 IsPlacesAnswer state no_request = ⊥
 
--- the answer to a request for what is known
+-- this is an answer to `known`
 abbrev pub IsKnownAnswer : State → AnswerView → Type 0
 IsKnownAnswer state (done_with text) = IsKnownText state text
 IsKnownAnswer state (refused_for fault) = fault ≡ office.Memory
@@ -95,7 +94,7 @@ IsKnownAnswer state no_request = ⊥
 
 -- ---- what is read
 
--- why a file isn't opened: its device failed, or memory ran out
+-- a file can't be opened for this fault: `Source` if its device failed, or `Memory`
 abbrev pub IsWhyUnopened : OfficeFault → Type 0
 IsWhyUnopened office.Source = ⊤
 IsWhyUnopened office.Memory = ⊤
@@ -104,8 +103,7 @@ IsWhyUnopened (office.State fault) = ⊥
 IsWhyUnopened office.Lapsed = ⊥
 IsWhyUnopened office.Sink = ⊥
 
--- why a file of which this was read isn't taken: its text is refused, its device failed, or memory
--- ran out. Then no record up to there is at fault
+-- a file isn't taken for this fault: its text is refused, its device failed, or memory ran out. If memory ran out, no record read until then is at fault
 abbrev pub RefusesToTake : Reading → OfficeFault → Type 0
 RefusesToTake read (office.File fault) = RefusesText most_records read.held fault
 RefusesToTake read office.Source = ⊤
@@ -114,8 +112,7 @@ RefusesToTake read (office.State fault) = ⊥
 RefusesToTake read office.Lapsed = ⊥
 RefusesToTake read office.Sink = ⊥
 
--- why no state is received from a file of which this was read: its text is refused, its device
--- failed, or memory ran out. Then no part up to there is bad
+-- no state is received from a file for this fault: its text is refused, its device failed, or memory ran out. If memory ran out, no part read until then is bad
 abbrev pub RefusesToReceive : Reading → OfficeFault → Type 0
 RefusesToReceive read (office.State fault) = RefusesState dks_2 most_bytes read.held fault
 RefusesToReceive read office.Source = ⊤
@@ -124,66 +121,61 @@ RefusesToReceive read (office.File fault) = ⊥
 RefusesToReceive read office.Lapsed = ⊥
 RefusesToReceive read office.Sink = ⊥
 
--- why a file isn't read: it wasn't opened; or it was, and `Refuses` holds for the reading and the
--- fault
+-- a file isn't read for this fault. None says that it couldn't be opened; otherwise it was opened, and `Refuses` holds of the reading and the fault
 abbrev pub IsWhyNot : (Reading → OfficeFault → Type 0) → OfficeFault → Option Reading → Type 0
 IsWhyNot Refuses fault (Some read) = Refuses read fault
 IsWhyNot Refuses fault None = IsWhyUnopened fault
 
--- the file was read to its end, and the state was joined with the file's
+-- the file was read to its end, and the old state was joined with the state of the file
 pub record TakesReading (old new : State) (read : Reading) : Type 0 where
   pub takes : TakesFile most_records read.held old new
   pub end : IsEnd read.left
 
--- how taking a file ends, by what was read of the file if it was opened. If it was refused, the
--- state is unchanged
+-- taking a file ended with this result. If the file couldn't be opened, there is no reading. A refusal leaves the state unchanged
 abbrev pub EndsTaking : State → State → Result ⊤ OfficeFault → Option Reading → Type 0
 EndsTaking old new (Ok done) read = HasOpened (TakesReading old new) read
 EndsTaking old new (Err fault) read = IsWhyNot RefusesToTake fault read × (new ≡ old)
 
--- how receiving the state of a file ends, by what was read of the file if it was opened. If it was
--- refused, the state is unchanged
+-- receiving the state in a file ended with this result. If the file couldn't be opened, there is no reading. A refusal leaves the state unchanged
 abbrev pub EndsReceiving : {A : Type 0} → State → State → Result A OfficeFault → Option Reading
     → Type 0
 EndsReceiving old new (Ok done) read =
     HasOpened (λ it. JoinsState dks_2 most_bytes it.held old new) read
 EndsReceiving old new (Err fault) read = IsWhyNot RefusesToReceive fault read × (new ≡ old)
 
--- how reading the state of a file ends, by what was read of the file if it was opened
+-- starting again from the state in a file ended with this result. If the file couldn't be opened, there is no reading
 abbrev pub EndsReloading : State → Result ⊤ OfficeFault → Option Reading → Type 0
 EndsReloading new (Ok done) read = HasOpened (λ it. ReadsState dks_2 most_bytes it.held new) read
 EndsReloading new (Err fault) read = IsWhyNot RefusesToReceive fault read
 
 -- ---- what is compared
 
--- the bytes are another text, if they are named
+-- these bytes are another text. This says nothing if they can't be named
 abbrev pub IsOtherText : Bytes → Text → Type 0
 IsOtherText None text = ⊤
 IsOtherText (Some bytes) text = bytes ≢ text
 
--- what was found out of a file: it held the text of this state, or another text, if its bytes can
--- be named; or nothing was found out
+-- a file and a state compare with this result: `Same` if the file held the state's text; `Other` if it held another text, as far as its bytes can be named.
+-- `Unknown` says nothing
 abbrev pub IsFound : Compared → State → Reading → Type 0
 IsFound compared.Same state read = IsText read.held (state_text dks_2 state)
 IsFound compared.Other state read = IsOtherText read.held (state_text dks_2 state)
 IsFound compared.Unknown state read = ⊤
 
--- how receiving the state of a file ends, and whether the file held the text of the state that the
--- office has after that, if it was found out
+-- receiving the state in a file, and comparing what the file held with the text of the new state, ended with this result
 abbrev pub EndsComparing : State → State → Result Compared OfficeFault → Option Reading → Type 0
 EndsComparing old new (Ok found) read =
     EndsReceiving old new (Ok found) read × HasOpened (IsFound found new) read
 EndsComparing old new (Err fault) read = EndsReceiving {A = Compared} old new (Err fault) read
 
--- the unsaved flag after a renewal: not set exactly if the file was found to hold the text of the
--- state
+-- the unsaved flag after a renewal: cleared if the file was found to hold the text of the new state, otherwise set
 abbrev pub unsaved_if : Compared → Bool
 unsaved_if compared.Same = false
 unsaved_if compared.Other = true
 unsaved_if compared.Unknown = true
 
--- what a desk knows after renewing from its state's file. Something is unsaved exactly if the file
--- wasn't found to hold the text of the state that the desk has then. A refusal changes nothing
+-- renewing a desk from its state's file ended with this result. The desk then has unsaved changes unless the file was found to hold the text of the new state.
+-- A refusal leaves the desk unchanged
 abbrev pub EndsRenewing : DeskView → DeskView → Result Compared OfficeFault → Option Reading
     → Type 0
 EndsRenewing old new (Ok found) read =
@@ -192,21 +184,20 @@ EndsRenewing old new (Err fault) read = IsWhyNot RefusesToReceive fault read × 
 
 -- ---- what is unsaved
 
--- the unsaved flag after a request that may change what is known: set if it was done, unchanged if
--- it was refused
+-- the unsaved flag after a request that may change the state: set if the request was done, unchanged if it was refused
 abbrev pub unsaved_by : Result ⊤ OfficeFault → Bool → Bool
 unsaved_by (Ok done) unsaved = true
 unsaved_by (Err fault) unsaved = unsaved
 
--- the number of the look after a request: `look` if it was done, otherwise the one before
+-- the number of the look after a request: `look` if the request was done, otherwise the number before
 abbrev pub look_by : {A : Type 0} → Result A OfficeFault → ℕ → ℕ → ℕ
 look_by (Ok done) look before = look
 look_by (Err fault) look before = before
 
 -- ---- what is written
 
--- how storing a text in a file ends, by a draft from the look with this number. The draft took the
--- file's place, or a device failed, or there was no memory for a draft
+-- storing a text in the named file, by a draft from the look with this number, ended with this result. The draft took the file's place, or a device failed, or
+-- there was no memory for a draft
 abbrev pub EndsStoring : (names_bytes : Bool) (name : Text) (look : ℕ) (text : List ℕ)
     (old new : List Event) → Result ⊤ OfficeFault → Type 0
 EndsStoring names_bytes name look text old new (Ok done) = IsStored names_bytes name look text old new
@@ -218,8 +209,7 @@ EndsStoring names_bytes name look text old new (Err office.Lapsed) = ⊥
 EndsStoring names_bytes name look text old new (Err (office.File fault)) = ⊥
 EndsStoring names_bytes name look text old new (Err (office.State fault)) = ⊥
 
--- how saving a text ends: like storing it, and once the draft took the file's place, the file is
--- looked at
+-- saving a text in the named file ended with this result. The text is stored, and if its draft took the file's place, the file is looked at again
 abbrev pub EndsSaving : (names_bytes : Bool) (name : Text) (look : ℕ) (text : List ℕ)
     (old new : List Event) → Result ⊤ OfficeFault → Type 0
 EndsSaving names_bytes name look text old new (Ok done) =

@@ -1,4 +1,4 @@
--- What each request does in a session, and how a session goes on from step to step.
+-- What each request does in a session, and how a session goes from step to step.
 use Rattle.std.specs.Prelude.{◌≡◌, ℕ, ◌+◌, Bool, true, false, List, [], ◌∷◌, length, Option, Some, None, Result, Ok, Err, ⊤}
 use Rattle.docker_model.specs.state.State.{State, raise_horizon}
 use Rattle.docker_model.specs.state.StateText.{dks_2, state_text}
@@ -14,13 +14,13 @@ use Rattle.docker_desk.specs.declared.compared.Compared.{Compared}
 use Rattle.docker_desk.specs.Replies.{AnswerView, done_with, no_request, refused_for, answer_status}
 use Rattle.docker_desk.specs.SessionViews.{SessionView, Setting, Step}
 
--- the answer to a request that was done and has no text, or was refused
+-- the answer to a request without a text, given its result: done, or refused for a fault
 abbrev pub answer_of : {A : Type 0} → Result A OfficeFault → AnswerView
 answer_of (Ok done) = done_with []
 answer_of (Err fault) = refused_for fault
 
--- a request to take a file or to receive a state. The named file is opened once, and what it held
--- then decides how the request ends
+-- `take` or `merge` leads from one point to the next with this answer. The named file is opened once, and what it then held decides the outcome. `Stops`
+-- limits how far the file is read, and `Ends` gives the outcome
 pub record Joins (name : Text) (Stops : Reading → Type 0)
     (Ends : State → State → Result ⊤ OfficeFault → Option Reading → Type 0)
     (before : SessionView) (answer : AnswerView) (after : SessionView) : Type 0 where
@@ -31,9 +31,8 @@ pub record Joins (name : Text) (Stops : Reading → Type 0)
   pub unsaved : after.desk.unsaved ≡ unsaved_by result before.desk.unsaved
   pub look : after.look ≡ before.look
 
--- a request to renew: the state's file is looked at and then opened once, and the state is joined
--- with the one whose text the file held then. If that is done, the point's look is the one right
--- before this opening
+-- `renew` leads from one point to the next with this answer. The state's file is looked at and then opened once, and the desk's state is joined with the state
+-- that the file then held. If this is done, later drafts are made from this look
 pub record Renews (setting : Setting) (before : SessionView) (answer : AnswerView) (after : SessionView)
     : Type 0 where
   pub result : Result Compared OfficeFault
@@ -42,13 +41,13 @@ pub record Renews (setting : Setting) (before : SessionView) (answer : AnswerVie
       before.history after.history
   pub look : after.look ≡ look_by result (length before.history) before.look
 
--- the desk after a saving: it has no unsaved changes if the state was saved
+-- the desk after `save`: its unsaved flag is cleared if the text was stored
 abbrev pub desk_by : Result ⊤ OfficeFault → DeskView → DeskView
 desk_by (Ok done) desk = record desk { unsaved = false }
 desk_by (Err fault) desk = desk
 
--- a request to save: a draft is made from the point's look. If the draft takes the file's place,
--- the file is looked at again, and that look is the next point's
+-- `save` leads from one point to the next with this answer. A draft is made from the point's look. If the draft takes the file's place, the file is looked at
+-- again, and later drafts are made from that look
 pub record Saves (setting : Setting) (before : SessionView) (answer : AnswerView) (after : SessionView)
     : Type 0 where
   pub result : Result ⊤ OfficeFault
@@ -58,13 +57,12 @@ pub record Saves (setting : Setting) (before : SessionView) (answer : AnswerView
   pub desk : after.desk ≡ desk_by result before.desk
   pub look : after.look ≡ look_by result (length before.history + 2) before.look
 
--- the point after a horizon was set: the state has the later of the two horizons, and something is
--- unsaved
+-- the point after a horizon was set: the state has the later of the two horizons, and the unsaved flag is set
 abbrev pub with_horizon : ℕ → SessionView → SessionView
 with_horizon day before =
     record before { desk = record { state = raise_horizon day before.desk.state; unsaved = true } }
 
--- the answer to a request, and what the request changes
+-- a request leads from one point to the next with this answer
 abbrev pub DoesRequest : Setting → RequestView → SessionView → AnswerView → SessionView → Type 0
 DoesRequest setting (print_request place day) before answer after =
     IsDockerAnswer before.desk.state place day answer × (after ≡ before)
@@ -87,26 +85,26 @@ DoesRequest setting (horizon_request day) before answer after =
     (answer ≡ done_with []) × (after ≡ with_horizon day before)
 DoesRequest setting save_request before answer after = Saves setting before answer after
 
--- what a line asks for; a line that isn't whole asks for nothing
+-- the line has this request, or none. A line that isn't whole has no request
 abbrev pub AsksOf : Bool → LineView → Option RequestView → Type 0
 AsksOf may_write (whole_line line) request = IsLineText line × AsksFor may_write line request
 AsksOf may_write bad_line request = request ≡ None
 AsksOf may_write cut_line request = request ≡ None
 
--- what was asked for was done; if nothing was, the answer says so, and nothing changes
+-- a line leads from one point to the next with this answer. If it isn't a request, the answer says so and nothing changes
 abbrev pub DoesAsked : Setting → Option RequestView → SessionView → AnswerView → SessionView → Type 0
 DoesAsked setting (Some request) before answer after =
     DoesRequest setting request before answer after
 DoesAsked setting None before answer after = (answer ≡ no_request) × (after ≡ before)
 
--- the step does what its line asks for, from the point before to the point after. The folder
--- failed once more exactly if the answer has status 4
+-- this step is right: its line has this request, and the request leads from the point before to the point after with this answer. The folder failed once in
+-- the step if the answer has status 4, and otherwise not
 pub record IsStep (setting : Setting) (step : Step) : Type 0 where
   pub asks : AsksOf setting.may_write step.line step.request
   pub does : DoesAsked setting step.request step.before step.answer step.after
   pub counted : IsCounted (answer_status step.answer) step.before.failures step.after.failures
 
--- a line gets this answer, and leads from one point to the other
+-- a line leads from one point to the next with this answer. The folder failed once if the answer has status 4, and otherwise not
 pub record DoesLine (setting : Setting) (line : LineView) (before : SessionView) (answer : AnswerView)
     (after : SessionView) : Type 0 where
   pub request : Option RequestView
@@ -114,7 +112,7 @@ pub record DoesLine (setting : Setting) (line : LineView) (before : SessionView)
   pub does : DoesAsked setting request before answer after
   pub counted : IsCounted (answer_status answer) before.failures after.failures
 
--- steps, one after the other, lead from one point to the other
+-- these steps lead from one point to the next in turn
 abbrev pub AreSteps : Setting → SessionView → List Step → SessionView → Type 0
 AreSteps setting before [] after = after ≡ before
 AreSteps setting before (step ∷ steps) after =

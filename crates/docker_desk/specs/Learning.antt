@@ -1,5 +1,4 @@
--- What is known in a session: the files that the state of each point is the summary of, and its
--- horizon.
+-- What a session knows: at each point its state is the summary of known files under a known horizon.
 use Rattle.std.specs.Prelude.{◌≡◌, ◌↔◌, ℕ, List, [], ◌∷◌, ◌++◌, Option, Some, None, option_map, ⊤}
 use Rattle.docker_model.specs.file.File.{most_records}
 use Rattle.docker_model.specs.state.State.{State, live_table}
@@ -24,27 +23,24 @@ use Rattle.docker_desk.specs.SessionViews.{SessionView, Setting, Step}
 use Rattle.docker_desk.specs.Doing.{AreSteps}
 use Rattle.docker_desk.specs.Reading.{Reading, events_of}
 
--- the state is the summary of what is known: of files, under a horizon
+-- the state is the summary of the known files under the known horizon
 pub record IsKnown (known : Known) (state : State) : Type 0 where
   pub good : IsGoodKnown dks_2 known
   pub is : IsStateOf known state
 
--- without the short-term plan the state and this table have the same dockers, on each day that the
--- horizon doesn't refuse
+-- the state and this table have the same dockers without the short-term plan, on each day that the state's horizon doesn't refuse
 abbrev pub KeepsAs : State → Table → Type 0
 KeepsAs state table = (place : List ℕ) (day : ℕ) (text : List ℕ) → ¬ IsDayRefused state.horizon day
     → IsDockerText (permanent_table (live_table state)) place day text ↔ IsDockerText (permanent_table table) place day text
 
--- the named file was opened and held an extract that was taken. This extract is what was heard,
--- without a horizon
+-- `take` opened the named file, which held an extract, and took it. This brought the knowledge of that extract, with no horizon
 pub record HearsFile (name : Text) (before after : SessionView) (heard : Known) : Type 0 where
   pub read : Reading
   pub asked : after.history ≡ before.history ++ events_of name read
   pub takes : TakesFile most_records read.held before.desk.state after.desk.state
   pub heard_is : heard ≡ record { files = takes.file ∷ []; horizon = 0 }
 
--- a file was opened by these events and held the text of a state, and the state is the summary of
--- what was heard
+-- `merge` or `renew` opened a file by these events. The file held the text of a state, which is the summary of the knowledge that this brought
 pub record HearsState (events : Reading → List Event) (before after : SessionView) (heard : Known)
     : Type 0 where
   pub read : Reading
@@ -52,11 +48,12 @@ pub record HearsState (events : Reading → List Event) (before after : SessionV
   pub joins : JoinsState dks_2 most_bytes read.held before.desk.state after.desk.state
   pub of : IsKnown heard joins.received
 
--- the events of a renewal from the file of this name, of which this was read
+-- the events of a renewal: a look at the named file, its opening and its closing
 abbrev pub renewing : Text → Reading → List Event
 renewing name read = looked name ∷ events_of name read
 
--- what is heard by a request that was done
+-- a request that was done brought this knowledge: `take` brought its file, `merge` and `renew` the summary that they received, `horizon` its day. Any other
+-- request brought nothing
 abbrev pub Hears : Setting → RequestView → SessionView → SessionView → Known → Type 0
 Hears setting (print_request place day) before after heard = heard ≡ nothing
 Hears setting (permanent_request place day) before after heard = heard ≡ nothing
@@ -73,7 +70,7 @@ Hears setting (horizon_request day) before after heard =
     heard ≡ record { files = []; horizon = day }
 Hears setting save_request before after heard = heard ≡ nothing
 
--- what a request adds to what is known: what is heard by it, if it was done
+-- if `old` was known before a line, `new` is known after it. The line adds what its request brought, if the request was done
 abbrev pub Learns : Setting → Option RequestView → SessionView → AnswerView → SessionView
     → Known → Known → Type 0
 Learns setting (Some request) before (done_with text) after old new =
@@ -82,14 +79,14 @@ Learns setting (Some request) before (refused_for fault) after old new = new ≡
 Learns setting (Some request) before no_request after old new = new ≡ old
 Learns setting None before answer after old new = new ≡ old
 
--- what is known after these steps, by what was known before
+-- if `old` was known before these steps, `new` is known after them
 abbrev pub AreLearned : Setting → Known → List Step → Known → Type 0
 AreLearned setting old [] new = new ≡ old
 AreLearned setting old (step ∷ steps) new =
     (now : Known) × (Learns setting step.request step.before step.answer step.after old now
     × AreLearned setting now steps new)
 
--- a file was opened by these events, and held the text of the summary of this
+-- a file was opened by these events, and held the text of the summary of this knowledge
 pub record HoldsKnown (events : Reading → List Event) (before after : SessionView) (known : Known)
     : Type 0 where
   pub read : Reading
@@ -98,7 +95,7 @@ pub record HoldsKnown (events : Reading → List Event) (before after : SessionV
   pub holds : HoldsState dks_2 most_bytes read.held sent
   pub of : IsKnown known sent
 
--- if the request receives a state, the file held the text of a summary
+-- if the request is `merge` or `renew`, the file held the text of the summary of some knowledge
 abbrev pub ReceivesKnown : Setting → RequestView → SessionView → SessionView → Type 0
 ReceivesKnown setting (print_request place day) before after = ⊤
 ReceivesKnown setting (permanent_request place day) before after = ⊤
@@ -114,7 +111,7 @@ ReceivesKnown setting (merge_request other) before after =
 ReceivesKnown setting (horizon_request day) before after = ⊤
 ReceivesKnown setting save_request before after = ⊤
 
--- if a state was received, the file held the text of a summary
+-- if the line's request was done and is `merge` or `renew`, the file held the text of the summary of some knowledge
 abbrev pub HearsKnown : Setting → Option RequestView → SessionView → AnswerView → SessionView → Type 0
 HearsKnown setting (Some request) before (done_with text) after =
     ReceivesKnown setting request before after
@@ -122,13 +119,13 @@ HearsKnown setting (Some request) before (refused_for fault) after = ⊤
 HearsKnown setting (Some request) before no_request after = ⊤
 HearsKnown setting None before answer after = ⊤
 
--- each state that was received in these steps came from a file that held the text of a summary
+-- in each of these steps, every file that was merged or renewed held the text of the summary of some knowledge
 abbrev pub AllHearKnown : Setting → List Step → Type 0
 AllHearKnown setting [] = ⊤
 AllHearKnown setting (step ∷ steps) =
     HearsKnown setting step.request step.before step.answer step.after × AllHearKnown setting steps
 
--- a draft with the text of the summary of this knowledge took the place of the state's file
+-- a draft took the place of the state's file. Its text is the text of the summary of this knowledge
 pub record PlacesKnown (setting : Setting) (before after : SessionView) (known : Known) : Type 0 where
   pub text : List ℕ
   pub good : IsGoodKnown dks_2 known
@@ -136,7 +133,7 @@ pub record PlacesKnown (setting : Setting) (before after : SessionView) (known :
   pub asked : after.history ≡ before.history ++ drafted setting.name before.look
       ∷ placed setting.name (named_if setting.names_bytes text) ∷ looked setting.name ∷ []
 
--- a file was opened and held the text of this file, which is all that was gained
+-- the named file was opened and held the text of an extract. The state gained this extract and nothing else
 pub record GainsFile (name : Text) (before after : SessionView) (gains : List Gain) : Type 0 where
   pub read : Reading
   pub asked : after.history ≡ before.history ++ events_of name read
@@ -144,8 +141,7 @@ pub record GainsFile (name : Text) (before after : SessionView) (gains : List Ga
   pub holds : HoldsFile read.held file
   pub gains_are : gains ≡ file_gained file ∷ []
 
--- these events opened a file that held this earlier version of a state's file, which is all that was
--- gained
+-- a file was opened by these events and held an earlier version of some state's file. The state gained this version and nothing else
 pub record GainsVersion (events : Reading → List Event) (earlier : List Text) (before after : SessionView)
     (gains : List Gain) : Type 0 where
   pub read : Reading
@@ -154,7 +150,7 @@ pub record GainsVersion (events : Reading → List Event) (earlier : List Text) 
   pub holds : HoldsVersion earlier read.held number
   pub gains_are : gains ≡ version_gained number ∷ []
 
--- what a request that was done gained: a file, an earlier version of a state's file, or a horizon
+-- by a request that was done, the state gained this: a file, an earlier version of some state's file, a horizon, or nothing
 abbrev pub GainsDone : Setting → List Text → RequestView → SessionView → SessionView → List Gain → Type 0
 GainsDone setting earlier (print_request place day) before after gains = gains ≡ []
 GainsDone setting earlier (permanent_request place day) before after gains = gains ≡ []
@@ -172,7 +168,7 @@ GainsDone setting earlier (horizon_request day) before after gains =
     gains ≡ horizon_gained day ∷ []
 GainsDone setting earlier save_request before after gains = gains ≡ []
 
--- what a line gained: something only if it asked for a request that was done
+-- by a line, the state gained this: nothing, unless the line has a request that was done
 abbrev pub GainsAsked : Setting → List Text → Option RequestView → SessionView → AnswerView → SessionView
     → List Gain → Type 0
 GainsAsked setting earlier (Some request) before (done_with text) after gains =
@@ -181,16 +177,16 @@ GainsAsked setting earlier (Some request) before (refused_for fault) after gains
 GainsAsked setting earlier (Some request) before no_request after gains = gains ≡ []
 GainsAsked setting earlier None before answer after gains = gains ≡ []
 
--- what steps gained, in their order. The bytes of each file that was taken, merged or renewed are
--- named, and each file that was merged or renewed held an earlier version of a state's file
+-- by these steps, the state gained these things in this order. Each file that was taken, merged or renewed can name its bytes; if it was merged or renewed, it
+-- held an earlier version of some state's file
 abbrev pub GainedBy : Setting → List Text → List Step → List Gain → Type 0
 GainedBy setting earlier [] gains = gains ≡ []
 GainedBy setting earlier (step ∷ steps) gains = (now : List Gain) × ((more : List Gain)
     × (GainsAsked setting earlier step.request step.before step.answer step.after now
     × (GainedBy setting earlier steps more × (gains ≡ now ++ more))))
 
--- A draft took the place of the state's file. Its text was saved of a state that was read from an
--- earlier version of such a file, and then gained this
+-- a draft took the place of the state's file. Its text is the text of a state that was read from the earlier version with number `own`, and that then gained
+-- these things
 pub record IsPlaced (setting : Setting) (earlier : List Text) (own : ℕ) (gains : List Gain)
     (before after : SessionView) : Type 0 where
   pub text : Text
@@ -198,7 +194,7 @@ pub record IsPlaced (setting : Setting) (earlier : List Text) (own : ℕ) (gains
   pub asked : after.history ≡ before.history ++ drafted setting.name before.look
       ∷ placed setting.name (named_if setting.names_bytes text) ∷ looked setting.name ∷ []
 
--- at some point of some session this is known, and the desk has this state
+-- at some point of some session, the desk knows this and has this state
 pub record KnowsAt (setting : Setting) (known : Known) (state : State) : Type 0 where
   pub start : Known
   pub first : SessionView
@@ -209,9 +205,8 @@ pub record KnowsAt (setting : Setting) (known : Known) (state : State) : Type 0 
   pub learned : AreLearned setting start steps known
   pub has : last.desk.state ≡ state
 
--- the text of a train, and where it comes from. A schedule that was found came from one of the
--- known files. If these files have a plain table, it is the schedule that is chosen there, or none
--- is
+-- this text shows a train's schedule, or says that there is none that day. A schedule that is shown came from a known file. If the known files have a plain
+-- table, the text shows what that table has for the train on that day
 pub record IsTrainOf (known : Known) (uid : List ℕ) (day : ℕ) (text : List ℕ) : Type 0 where
   pub found : Option Stamped
   pub text_is : text ≡ train_text uid day found

@@ -1,5 +1,4 @@
--- The lines of standard input. A line can be a request if it has at most 255 printable bytes and
--- then a line feed.
+-- How a text divides into lines. Only a line of at most 255 printable bytes can be a request.
 use Rattle.std.specs.Prelude.{◌≡◌, ◌≢◌, ℕ, ◌-◌, ◌^◌, ◌≤◌, Bool, true, false, List, [], ◌∷◌, ◌++◌, length, Option, Some, None, option_map, Result, Ok, Err, ⊤}
 use Rattle.std.specs.List.{AllByRecursion}
 use Rattle.cif_device.specs.Device.{Reads, IsEnd}
@@ -9,8 +8,8 @@ use Rattle.docker_desk.specs.declared.lines.Asked.TheVariants as asked
 use Rattle.docker_desk.specs.declared.lines.InputFault.{InputFault}
 use Rattle.docker_desk.specs.declared.lines.InputFault.TheVariants.{Failed, Endless}
 
--- a line: whole, with the bytes before its line feed; bad, if it is longer or has a byte that isn't
--- printable; or cut, if its line feed is missing
+-- a line of a text. It is whole if it has at most 255 printable bytes before its line feed. It is bad if it is longer or has another byte. It is cut if its
+-- line feed is missing
 pub data LineView : Type 0 where
   whole_line : (line : List ℕ) → LineView
   bad_line : LineView
@@ -20,19 +19,19 @@ pub data LineView : Type 0 where
 abbrev pub IsWithoutFeed : List ℕ → Type 0
 IsWithoutFeed = AllByRecursion (λ byte. byte ≢ 10)
 
--- the text begins with a bad line and its line feed, and then comes the rest
+-- the text begins with a bad line and its line feed, and `rest` follows
 pub record IsBadLine (text rest : List ℕ) : Type 0 where
   pub line : List ℕ
   pub whole : text ≡ line ++ 10 ∷ rest
   pub one : IsWithoutFeed line
   pub bad : ¬ IsLineText line
 
--- the text is a line whose line feed is missing
+-- the text is a line without a line feed
 pub record IsCutLine (text : List ℕ) : Type 0 where
   pub some : text ≢ []
   pub one : IsWithoutFeed text
 
--- the text begins with this line, and then comes the rest
+-- the text begins with this line, and `rest` follows
 abbrev pub IsNextLine : List ℕ → LineView → List ℕ → Type 0
 IsNextLine text (whole_line line) rest = IsJobLine text line rest
 IsNextLine text bad_line rest = IsBadLine text rest
@@ -43,61 +42,57 @@ abbrev pub AreLines : List ℕ → List LineView → Type 0
 AreLines text [] = text ≡ []
 AreLines text (line ∷ lines) = (rest : List ℕ) × (IsNextLine text line rest × AreLines rest lines)
 
--- what is still known of a line if the source's bytes can't be named
+-- says what is known of a line that was read, even if the source can't name its bytes
 abbrev pub IsSomeLine : LineView → Type 0
 IsSomeLine (whole_line line) = IsLineText line
 IsSomeLine bad_line = ⊤
 IsSomeLine cut_line = ⊤
 
--- if the source's bytes can be named, they began with this line, and the rest is left
+-- this line was read from a source. If the source can name its bytes, they began with the line, and the rest is left
 abbrev pub ReadsNext : Option (List ℕ) → LineView → Option (List ℕ) → Type 0
 ReadsNext None line new = IsSomeLine line
 ReadsNext (Some text) line new = (rest : List ℕ) × (IsNextLine text line rest × (new ≡ Some rest))
 
--- what is left to read: the bytes that were read ahead, and then what is left of the source
+-- the bytes that are still to be read: first those that were read ahead, then what the source has left. None if the source can't name its bytes
 abbrev pub with_ahead : List ℕ → Option (List ℕ) → Option (List ℕ)
 with_ahead ahead left = option_map (λ rest. ahead ++ rest) left
 
--- the line that the code's type means; none at the end
+-- the definitions' line for what the code has read; None at the end of the source
 abbrev pub asked_meant : Asked → Option LineView
 asked_meant (asked.Line line) = Some (whole_line line.items)
 asked_meant asked.Bad = Some bad_line
 asked_meant asked.Cut = Some cut_line
 asked_meant asked.End = None
 
--- the next line was read, or the end was met
+-- this line was read; None says that the source was at its end
 abbrev pub ReadsAsked : Option (List ℕ) → Option LineView → Option (List ℕ) → Type 0
 ReadsAsked old None new = IsEnd old × (new ≡ old)
 ReadsAsked old (Some line) new = ReadsNext old line new
 
--- bytes were read, at least this many
+-- at least this many bytes were read
 pub record ReadsMany (least : ℕ) (old new : Option (List ℕ)) : Type 0 where
   pub lost : List ℕ
   pub many : least ≤ length lost
   pub read : Reads old lost new
 
--- how the reading of a line ends: with the line, with a source that failed, or with more bytes than
--- can be counted
+-- reading a line ended with this result: the line, or a source that failed, or a line of at least 2 ^ 64 - 1 bytes
 abbrev pub EndsLine : Option (List ℕ) → Result Asked InputFault → Option (List ℕ) → Type 0
 EndsLine old (Ok asked) new = ReadsAsked old (asked_meant asked) new
 EndsLine old (Err Failed) new = ReadsMany 0 old new
 EndsLine old (Err Endless) new = ReadsMany (2 ^ 64 - 1) old new
 
--- a source that hadn't reported its end has reported it now exactly if `at_end`, and wasn't read
--- past it
+-- if a source hadn't reported its end before, then it has now if and only if `at_end` is true, and it wasn't read past its end
 pub record MeetsEnd (at_end ended now_ended passed now_passed : Bool) : Type 0 where
   pub told : ended ≡ false → now_ended ≡ at_end
   pub kept : ended ≡ false → now_passed ≡ passed
 
--- whether reading the next byte met the source's end. It did if there was no byte, and not if the
--- source failed
+-- whether the source reported its end when the next byte was read: it did if there was no byte
 abbrev pub is_end_of_bytes : {A E : Type 0} → Result (Option A) E → Bool
 is_end_of_bytes (Ok (Some byte)) = false
 is_end_of_bytes (Ok None) = true
 is_end_of_bytes (Err fault) = false
 
--- whether reading the next line met the source's end. It did if the line's line feed is missing, or
--- if there was no line
+-- whether the source reported its end when the next line was read: it did if the line is cut or there is no line
 abbrev pub is_end_of_lines : Result Asked InputFault → Bool
 is_end_of_lines (Ok (asked.Line line)) = false
 is_end_of_lines (Ok asked.Bad) = false
@@ -105,13 +100,12 @@ is_end_of_lines (Ok asked.Cut) = true
 is_end_of_lines (Ok asked.End) = true
 is_end_of_lines (Err fault) = false
 
--- what these bytes are if no line feed comes after them: no line if there are none, otherwise a cut
--- line
+-- what these bytes are if the source ends after them: None if there are no bytes, otherwise a cut line
 abbrev pub cut_or_end : List ℕ → Option LineView
 cut_or_end [] = None
 cut_or_end (byte ∷ bytes) = Some cut_line
 
--- the text begins with the rest of a line and its line feed, and what comes after that is left
+-- the text begins with the rest of a line and its line feed, and exactly what follows is left
 pub record SkipsTo (text : List ℕ) (left : Option (List ℕ)) : Type 0 where
   pub skipped : List ℕ
   pub rest : List ℕ
@@ -119,17 +113,17 @@ pub record SkipsTo (text : List ℕ) (left : Option (List ℕ)) : Type 0 where
   pub one : IsWithoutFeed skipped
   pub behind : left ≡ Some rest
 
--- if the source's bytes can be named, the rest of a line and its line feed were read
+-- the rest of a line and its line feed were read. This says nothing of a source that can't name its bytes
 abbrev pub SkipsLine : Option (List ℕ) → Option (List ℕ) → Type 0
 SkipsLine None new = ⊤
 SkipsLine (Some text) new = SkipsTo text new
 
--- if the source's bytes can be named, those that were left have no line feed, and all were read
+-- all that the source had left was read, and no byte of it is a line feed. This says nothing of a source that can't name its bytes
 abbrev pub SkipsAll : Option (List ℕ) → Option (List ℕ) → Type 0
 SkipsAll None new = ⊤
 SkipsAll (Some text) new = IsWithoutFeed text × (new ≡ Some [])
 
--- how the reading of the rest of a line ends
+-- reading the rest of a bad line ended with this result
 abbrev pub EndsSkipping : Option (List ℕ) → Result Asked InputFault → Option (List ℕ) → Type 0
 EndsSkipping old (Ok (asked.Line line)) new = ⊥
 EndsSkipping old (Ok asked.Bad) new = SkipsLine old new

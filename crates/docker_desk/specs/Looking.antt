@@ -1,9 +1,8 @@
--- Which look a draft of a session is made from.
+-- The look from which the next draft of a session is made.
 use Rattle.std.specs.Prelude.{◌≡◌, ℕ, ◌+◌, List, ◌∷◌, ◌++◌, length, ◌⊎◌}
 use Rattle.docker_host.specs.History.{Bytes, Event, Text, closed, looked, opened, placed}
 
--- the event with this number is a look at the named file, and in the next events the file was opened
--- and closed
+-- the event with this number is a look at the named file, and the next two events are the opening and the closing of that file
 pub record IsBeforeOpening (name : Text) (history : List Event) (look : ℕ) : Type 0 where
   pub earlier : List Event
   pub held : Bytes
@@ -12,8 +11,7 @@ pub record IsBeforeOpening (name : Text) (history : List Event) (look : ℕ) : T
   pub whole : history ≡ earlier ++ looked name ∷ opened name held ∷ closed left ∷ later
   pub number : look ≡ length earlier
 
--- the event with this number is a look at the named file, and in the event before it a draft took
--- the file's place
+-- the event with this number is a look at the named file, and the event before it put a draft in the place of that file
 pub record IsAfterPlacing (name : Text) (history : List Event) (look : ℕ) : Type 0 where
   pub earlier : List Event
   pub bytes : Bytes
@@ -21,8 +19,7 @@ pub record IsAfterPlacing (name : Text) (history : List Event) (look : ℕ) : Ty
   pub whole : history ≡ earlier ++ placed name bytes ∷ looked name ∷ later
   pub number : look ≡ length earlier + 1
 
--- the look comes right before an opening of the file, or right after a draft took its place. So a
--- draft from this look never replaces a text that the desk neither read nor placed, unless that
--- text came after the look
+-- this look comes right before an opening of the file, or right after a draft took the file's place. So if a draft from this look replaces a text, the desk has
+-- read that text or put it there itself, unless the text arrived after the look
 abbrev pub IsGoodLook : Text → List Event → ℕ → Type 0
 IsGoodLook name history look = IsBeforeOpening name history look ⊎ IsAfterPlacing name history look

@@ -1,38 +1,37 @@
--- What is read of a file, from its opening to its closing.
+-- What is known of a file that was opened, read and closed.
 use Rattle.std.specs.Prelude.{◌≡◌, List, [], ◌∷◌, ◌++◌, Option, Some, None, IfSome}
 use Rattle.docker_model.specs.state.StateText.{dks_2}
 use Rattle.docker_cmd.specs.Prepared.{ReadsFewOfFile, ReadsFewOfState}
 use Rattle.docker_host.specs.History.{Bytes, Event, Text, closed, looked, opened, unopened}
 
--- a file that was opened: the bytes that it held then, and those that were left when it was closed
+-- what an opened file held when it was opened, and what was left of it when it was closed
 pub record Reading : Type 0 where
   pub held : Bytes
   pub left : Bytes
 
--- a reading, from its parts
+-- makes a reading from its parts
 abbrev pub reading : Bytes → Bytes → Reading
 reading held left = record { held = held; left = left }
 
--- the events of reading the named file: it was opened, and then closed
+-- the events of a reading of the named file: its opening and its closing
 abbrev pub events_of : Text → Reading → List Event
 events_of name read = opened name read.held ∷ closed read.left ∷ []
 
--- the events of opening the named file: it was opened and closed, or it couldn't be opened
+-- the events of opening the named file: its opening and its closing, or, if it couldn't be opened, only that
 abbrev pub opening_of : Text → Option Reading → List Event
 opening_of name (Some read) = events_of name read
 opening_of name None = unopened name ∷ []
 
--- a file was read no further than decides whether it is taken
+-- an extract was read no further than the piece that decides whether it is taken
 abbrev pub StopsInFile : Reading → Type 0
 StopsInFile read = ReadsFewOfFile read.held read.left
 
--- a state's file was read no further than decides whether its state is received
+-- a state's file was read no further than the piece that decides whether its state is received
 abbrev pub StopsInState : Reading → Type 0
 StopsInState read = ReadsFewOfState dks_2 read.held read.left
 
--- The named file was opened once and then closed, or it couldn't be opened. `Stops` holds of what was
--- read of it, and says how far that is. `Ends` holds of what was read, or of `None` if it couldn't be
--- opened
+-- the named file was opened once and closed, and `Stops` and `Ends` hold of the reading; or it couldn't be opened, and `Ends` holds of `None`. Nothing else was
+-- asked of the folder
 pub record OpensOnce (name : Text) (Stops : Reading → Type 0) (Ends : Option Reading → Type 0)
     (old new : List Event) : Type 0 where
   pub read : Option Reading
@@ -40,9 +39,8 @@ pub record OpensOnce (name : Text) (Stops : Reading → Type 0) (Ends : Option R
   pub stops : IfSome read Stops
   pub ends : Ends read
 
--- The named file of a state was looked at. Then it was opened once and closed, or it couldn't be
--- opened. It was read no further than decides the result. `Ends` holds of what was read, or of `None`
--- if it couldn't be opened
+-- the named file was looked at. Then it was opened once, read no further than the answer needs, and closed, and `Ends` holds of the reading; or it couldn't be
+-- opened, and `Ends` holds of `None`. Nothing else was asked of the folder
 pub record LooksAndOpens (name : Text) (Ends : Option Reading → Type 0) (old new : List Event)
     : Type 0 where
   pub read : Option Reading
@@ -50,7 +48,7 @@ pub record LooksAndOpens (name : Text) (Ends : Option Reading → Type 0) (old n
   pub stops : IfSome read StopsInState
   pub ends : Ends read
 
--- a file was opened, and this holds of what was read of it
+-- a file was opened, and this holds of the reading
 abbrev pub HasOpened : (Reading → Type 0) → Option Reading → Type 0
 HasOpened Holds (Some read) = Holds read
 HasOpened Holds None = ⊥

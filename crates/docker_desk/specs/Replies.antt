@@ -1,4 +1,4 @@
--- The answers to requests.
+-- The answers of a desk.
 use Rattle.std.specs.Prelude.{ℕ, List, []}
 use Rattle.docker_cmd.specs.OfficeFault.{OfficeFault}
 use Rattle.docker_cmd.specs.OfficeFault.TheVariants as office
@@ -9,36 +9,35 @@ use Rattle.docker_desk.specs.Requests.{usage_line}
 use Rattle.docker_desk.specs.declared.reply.Answer.{Answer}
 use Rattle.docker_desk.specs.declared.reply.Answer.TheVariants as code
 
--- an answer: the request was done, with this text; it was refused for this fault; or the line asks
--- for nothing
+-- the answer to a line: its request was done, with this text; its request was refused, for this fault; or the line isn't a request
 pub data AnswerView : Type 0 where
   done_with : (text : List ℕ) → AnswerView
   refused_for : (fault : OfficeFault) → AnswerView
   no_request : AnswerView
 
--- the answer that an answer of the code's type means
+-- the definitions' answer for an answer of the code
 abbrev pub answer_meant : Answer → AnswerView
 answer_meant (code.Text page) = done_with page.text
 answer_meant code.Done = done_with []
 answer_meant (code.Refused fault) = refused_for fault
 answer_meant code.Usage = no_request
 
--- the status of an answer
+-- the status of an answer: 0, the fault's status, or 2 if the line isn't a request
 abbrev pub answer_status : AnswerView → ℕ
 answer_status (done_with text) = 0
 answer_status (refused_for fault) = status_of (Office fault)
 answer_status no_request = 2
 
--- the text of an answer
+-- the text of an answer: what was asked for, the line that reports the fault, or the usage line
 abbrev pub answer_body : AnswerView → List ℕ
 answer_body (done_with text) = text
 answer_body (refused_for fault) = fault_line (Office fault)
 answer_body no_request = usage_line
 
--- the bytes of an answer: its header and its text
+-- the bytes of an answer: its header and then its text
 abbrev pub answer_bytes : AnswerView → List ℕ
 answer_bytes answer = answer_text (answer_status answer) (answer_body answer)
 
--- the bytes of the answer to a request for which memory ran out
+-- the bytes of the answer to a request that was refused because memory ran out
 abbrev pub memory_answer : List ℕ
 memory_answer = answer_bytes (refused_for office.Memory)

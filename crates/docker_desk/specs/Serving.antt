@@ -1,4 +1,4 @@
--- A whole session: its words, how it begins, and how it ends.
+-- A whole session: its words, its start and its end.
 use Rattle.std.specs.Prelude.{◌≡◌, ℕ, ◌+◌, Bool, true, false, ◌&&◌, List, [], ◌∷◌, ◌++◌, codes, length, Option, Result, Ok, Err, ◌⊎◌}
 use Rattle.cif_device.specs.Device.{Takes, TakesPart}
 use Rattle.docker_model.specs.state.StateText.{dks_2}
@@ -20,23 +20,24 @@ use Rattle.docker_desk.specs.Answering.{AnswersLines, CountsStreams}
 
 -- ---- words
 
--- the words of a session: the name of its state's file, after `--write` if the desk may write
+-- the words of a session: the name of the state's file, with `--write` before it if the desk may write
 abbrev pub session_words : Text → Bool → List Text
 session_words name false = name ∷ []
 session_words name true = codes "--write" ∷ name ∷ []
 
--- the words name this file for a session, which may write or not
+-- these are the words of a session with this file, in which the desk may write or not
 pub record NamesSession (words : List Text) (name : Text) (may_write : Bool) : Type 0 where
   pub words_are : words ≡ session_words name may_write
   pub named : NamesFile name name
 
--- the words are no words of a session
+-- these aren't the words of any session
 abbrev pub NameNoSession : List Text → Type 0
 NameNoSession words = (name : Text) (may_write : Bool) → ¬ NamesSession words name may_write
 
--- ---- the beginning
+-- ---- the start
 
--- a state was read from a file that held this, and nothing has changed; or it wasn't read
+-- starting a desk from a file ended with this result. The desk has the state that the file held, and no unsaved changes; or the file wasn't opened or was
+-- refused
 abbrev pub EndsOpening : {T : Type 0} → (T → DeskView) → Result T OfficeFault → Option Reading
     → Type 0
 EndsOpening desk_in (Ok made) read =
@@ -44,9 +45,8 @@ EndsOpening desk_in (Ok made) read =
     × ((desk_in made).unsaved ≡ false)
 EndsOpening desk_in (Err fault) read = IsWhyNot RefusesToReceive fault read
 
--- the first point of a session, after this history. The state's file was looked at, opened, read no
--- further than decides the result, and closed. The desk has the state whose text it held, and that
--- look is the point's
+-- this is the first point of a session. The state's file was looked at, opened, read no further than the answer needs, and closed. The desk has the state that
+-- the file held, and the next draft is made from this look
 pub record BeginsAt (name : Text) (old : List Event) (first : SessionView) : Type 0 where
   pub held : Bytes
   pub left : Bytes
@@ -62,12 +62,12 @@ pub record BeginsAt (name : Text) (old : List Event) (first : SessionView) : Typ
 abbrev pub unsaved_line : List ℕ
 unsaved_line = codes "desk: changes not saved\n"
 
--- that line, if changes weren't saved
+-- what reports unsaved changes: that line if there are any, otherwise nothing
 abbrev pub unsaved_text : Bool → List ℕ
 unsaved_text false = []
 unsaved_text true = unsaved_line
 
--- the exit status of a session
+-- the exit status of a session that ended in this way
 abbrev pub ending_status : Ending → Bool → ℕ
 ending_status Ended false = 0
 ending_status Ended true = 1
@@ -75,15 +75,15 @@ ending_status InputFailed unsaved = 4
 ending_status InputEndless unsaved = 4
 ending_status OutputFailed unsaved = 4
 
--- what the sink of faults gains at the end of a session: the device's line if a device failed, and
--- a line if changes weren't saved
+-- what the sink of faults gains at the end of a session: first the line on a failed device, then the line on unsaved changes. Each line is there only if there
+-- is something to report
 abbrev pub ending_text : Ending → Bool → List ℕ
 ending_text Ended unsaved = unsaved_text unsaved
 ending_text InputFailed unsaved = device_line ++ unsaved_text unsaved
 ending_text InputEndless unsaved = device_line ++ unsaved_text unsaved
 ending_text OutputFailed unsaved = device_line ++ unsaved_text unsaved
 
--- the status of a session, and what the sink of faults gains at its end
+-- the session ended in this way: it has this status, and its end was reported on the sink of faults
 pub record EndsWithStatus (ending : Ending) (unsaved : Bool) (status : ℕ) (old new : FaultsView)
     : Type 0 where
   pub status_is : status ≡ ending_status ending unsaved
@@ -91,14 +91,14 @@ pub record EndsWithStatus (ending : Ending) (unsaved : Bool) (status : ℕ) (old
 
 -- ---- a session
 
--- the words name no session, and only the sink of faults gained something
+-- the words are wrong for a session; the usage line went to the sink of faults, and nothing else changed
 pub record IsMisused (words : List Text) (old new : HostView) (status : ℕ) : Type 0 where
   pub none : NameNoSession words
   pub untouched : new ≡ record old { faults = new.faults; faults_failures = new.faults_failures }
   pub status_is : status ≡ 2
   pub tells : TellsText usage_line (faults_of old) (faults_of new)
 
--- the input and the output are as they were
+-- the input and the output are unchanged
 pub record LeavesStreams (old new : HostView) : Type 0 where
   pub input : new.input ≡ old.input
   pub ended : new.ended ≡ old.ended
@@ -107,7 +107,7 @@ pub record LeavesStreams (old new : HostView) : Type 0 where
   pub input_failures : new.input_failures ≡ old.input_failures
   pub output_failures : new.output_failures ≡ old.output_failures
 
--- the state's file was looked at and opened, but no state was read from it
+-- the state's file was looked at, but it couldn't be opened, or no state could be read from it. The fault was reported, and the session ended
 pub record IsRefusedStart (words : List Text) (old new : HostView) (status : ℕ) : Type 0 where
   pub name : Text
   pub may_write : Bool
@@ -119,9 +119,8 @@ pub record IsRefusedStart (words : List Text) (old new : HostView) (status : ℕ
   pub status_is : status ≡ status_of (Office fault)
   pub tells : TellsText (fault_line (Office fault)) (faults_of old) (faults_of new)
 
--- the state was read, the lines of the input were answered, and then the session ended. What is
--- unsaved counts only if the desk may write. An input that hadn't reported its end isn't read after
--- it
+-- the session started, the lines of the input were answered, and then the session ended. Unsaved changes count only if the desk may write. If the input hadn't
+-- reported its end at the start, it wasn't read past its end
 pub record IsServed (words : List Text) (names_bytes : Bool) (old new : HostView) (status : ℕ)
     : Type 0 where
   pub name : Text
@@ -142,7 +141,7 @@ pub record IsServed (words : List Text) (names_bytes : Bool) (old new : HostView
   pub ends : EndsWithStatus ending (may_write && last.desk.unsaved) status (faults_of old)
       (faults_of new)
 
--- a whole session: its words name none, its start is refused, or it is served
+-- a run of the program with these words: they are wrong for a session, or the start was refused, or a session was served
 abbrev pub Serves : List Text → Bool → HostView → HostView → ℕ → Type 0
 Serves words names_bytes old new status =
     IsMisused words old new status

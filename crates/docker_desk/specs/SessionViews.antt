@@ -1,4 +1,4 @@
--- A session from point to point.
+-- The points and the steps of a session.
 use Rattle.std.specs.Prelude.{ℕ, Bool, List, Option}
 use Rattle.docker_host.specs.History.{Event, Text}
 use Rattle.docker_desk.specs.Lines.{LineView}
@@ -6,33 +6,31 @@ use Rattle.docker_desk.specs.Requests.{RequestView}
 use Rattle.docker_desk.specs.Desk.{DeskView}
 use Rattle.docker_desk.specs.Replies.{AnswerView}
 
--- what stays as it is in a session: the name of the state's file, whether the desk may write, and
--- whether what is written can be named in the history
+-- what doesn't change in a session: the name of the state's file, whether the desk may write, and whether the folder names the bytes of its drafts
 pub record Setting : Type 0 where
   pub name : Text
   pub may_write : Bool
   pub names_bytes : Bool
 
--- a setting, from its parts
+-- makes a setting from its parts
 abbrev pub setting : Text → Bool → Bool → Setting
 setting name may_write names_bytes =
     record { name = name; may_write = may_write; names_bytes = names_bytes }
 
--- a point of a session: what the desk knows, and the look that saw the state's file, as the number
--- of its event. Then come what was asked of the folder so far, and how often the folder has failed
+-- a point of a session: what the desk knows, and the number of the event that is the look for the next draft. It also has the events of the folder so far, and
+-- how often the folder has failed
 pub record SessionView : Type 0 where
   pub desk : DeskView
   pub look : ℕ
   pub history : List Event
   pub failures : ℕ
 
--- a point, from its parts
+-- makes a point from its parts
 abbrev pub session_view : DeskView → ℕ → List Event → ℕ → SessionView
 session_view desk look history failures =
     record { desk = desk; look = look; history = history; failures = failures }
 
--- a step of a session: a line, what it asks for, if it asks for anything, its answer, and the
--- points before and after
+-- a step of a session: a line, its request if it has one, its answer, and the points before and after
 pub record Step : Type 0 where
   pub line : LineView
   pub request : Option RequestView

@@ -1,4 +1,4 @@
-//! The bytes that were read ahead from a source.
+//! Bytes that were read from a source before a line needed them.
 ghost use Rattle.std.specs.Prelude.{◌≡◌, ◌≢◌, ◌+◌, ◌-◌, ◌^◌, ◌<◌, ◌↔◌, [], ◌∷◌, false, true, IsTrue, IfOk, IsErr, OnOk, OnErr, MatchOption};
 ghost use Rattle.cif_device.specs.Device.{CountsFailure, IsEnd};
 ghost use Rattle.docker_cmd.specs.JobLine.{ReadsByte};
@@ -7,10 +7,10 @@ ghost use Rattle.docker_desk.specs.Lines.{MeetsEnd, is_end_of_bytes, with_ahead}
 use cif_line::{Failed, Source};
 use std::marker::Model;
 
-/// How many bytes are read at once, at most.
+/// The most bytes that one read asks for.
 const PIECE: usize = 4096;
 
-/// Bytes that were read from a source, and that no line has taken yet.
+/// The bytes that were read from a source and don't belong to any line yet.
 #[derive(Debug, Drop)]
 pub struct Ahead {
     bytes: [u8; PIECE],
@@ -29,7 +29,7 @@ impl Model for Ahead {
 }
 
 impl Ahead {
-    /// No bytes yet.
+    /// Starts with no bytes.
     pub fn new() -> Ahead
         ensures { result ≡ [] }
     {
@@ -40,14 +40,14 @@ impl Ahead {
         }
     }
 
-    /// Whether no byte is left.
+    /// Whether no bytes are held.
     fn is_empty(&self) -> bool
         ensures { IsTrue result ↔ (self.now ≡ []) }
     {
         self.at == self.end
     }
 
-    /// Takes the first byte that is left, if there is one.
+    /// Takes the first byte that is held; `None` if there is none.
     fn take_first(&mut self) -> Option<u8>
         ensures { MatchOption result ((self.old ≡ []) × (self.new ≡ []))
             (λ byte. self.old ≡ byte ∷ self.new) }
@@ -60,7 +60,8 @@ impl Ahead {
         Some(byte)
     }
 
-    /// Reads once if no byte is left. If still none is left then, the source is at its end.
+    /// Reads from the source once if no bytes are held. If still no bytes are held after that, the
+    /// source is at its end.
     fn make_ready<S: Source>(&mut self, source: &mut S) -> Result<(), Failed>
         requires { S.failures source.old < 2 ^ 64 - 1 }
         ensures same { with_ahead self.new (S.left source.new)

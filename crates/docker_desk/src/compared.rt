@@ -1,11 +1,12 @@
-//! What comparing the text of a file with the text of a state finds out.
-/// Whether a file held the text of the state that an office has then.
+//! The result of comparing the text in a file with the text of a state.
+/// Whether a file held the text of an office's state.
 #[derive(Clone, Copy, PartialEq, Eq, Debug)]
 pub enum Compared {
-    /// It held that text.
+    /// The file held exactly that text.
     Same,
-    /// It held another text.
+    /// The file held another text.
     Other,
-    /// Nothing was compared, because that wasn't asked for, or memory ran out for the file's text.
+    /// They weren't compared: the caller didn't want it, or there was no memory to keep the file's
+    /// text.
     Unknown,
 }

@@ -1,4 +1,4 @@
-//! A source whose bytes are copied as they are read.
+//! A source that keeps a copy of what is read from it.
 ghost use Rattle.std.specs.Prelude.{◌≡◌, IfSome, option_map};
 ghost use Rattle.docker_host.specs.History.{IsText};
 ghost use Rattle.docker_desk.specs.Copying.{KeepsMore};
@@ -7,8 +7,8 @@ use cif_line::{Failed, Source};
 use std::alloc::Global;
 use std::marker::{Brand, Model, PhantomData};
 
-/// Says, for clauses only, which bytes a source had left when its copy was begun. They are part of
-/// the copy's type, so no call on it can change them.
+/// Names the bytes that a source held when its copying began; only clauses see it. The bytes are
+/// part of the copying source's type, so that no call can change them.
 pub(crate) trait Begun {
     ghost use Rattle.std.specs.Prelude.{List, Option, ℕ};
 
@@ -21,8 +21,8 @@ impl Begun for Brand {
     ghost bytes = { None };
 }
 
-/// A source, and a copy of all that was read from it, or none if memory ran out for it. Then whether
-/// the last read saw the end of the source.
+/// A source, with a copy of all that was read from it. The copy is `None` if memory ran out for it.
+/// `at_end` says whether the last read met the end of the source.
 #[derive(Drop)]
 pub(crate) struct Copying<B: Begun, S: Source> {
     source: S,
@@ -53,7 +53,7 @@ impl<B: Begun, S: Source> Model for Copying<B, S> {
 }
 
 impl<B: Begun, S: Source> Copying<B, S> {
-    /// A source of which nothing is copied yet.
+    /// Wraps a source. Nothing is copied yet.
     pub(crate) fn new(alloc: Global, source: S) -> Copying<B, S>
         requires { S.left source ≡ B.bytes }
         ensures left { result.left ≡ S.left source }
@@ -67,7 +67,8 @@ impl<B: Begun, S: Source> Copying<B, S> {
         }
     }
 
-    /// The source, and the copy of all that it held, if there was memory for it and the end was seen.
+    /// Returns the source. Also returns the copy, if there was memory for it and the source was
+    /// read to its end. Then the copy is all that the source held.
     pub(crate) fn into_parts(self) -> (S, Option<Vec<u8>>)
         ensures left { S.left result.0 ≡ self.left }
         ensures failures { S.failures result.0 ≡ self.failures }
@@ -87,7 +88,7 @@ impl<B: Begun, S: Source> Copying<B, S> {
     }
 }
 
-/// Adds bytes to a copy. If there is no memory for them, the copy is dropped.
+/// Adds bytes to a copy. Drops the copy if there is no memory for them.
 fn keep(copy: &mut Option<Vec<u8>>, bytes: &[u8])
     ensures { KeepsMore (option_map (λ copy. copy.items) copy.old) bytes.now
         (option_map (λ copy. copy.items) copy.new) }

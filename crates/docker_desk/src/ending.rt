@@ -1,4 +1,4 @@
-//! How a session ends.
+//! Reports how a session ended.
 ghost use Rattle.std.specs.Prelude.{◌≡◌, ◌-◌, ◌^◌, ◌<◌, ◌++◌};
 ghost use Rattle.docker_cmd.specs.FaultLine.{fault_line, status_of};
 ghost use Rattle.docker_host.specs.FaultSink.{TellsText, faults_view};
@@ -8,24 +8,25 @@ use cif_line::{Sink, write_all};
 use docker_cmd::{Fault, OfficeFault, fault_text, status};
 use docker_host::tell_text;
 
-/// The line that says that changes weren't saved.
+/// The line on standard error if changes weren't saved.
 const UNSAVED: &[u8] = b"desk: changes not saved\n";
 
-/// How a session ends.
+/// Why a session ended.
 #[derive(Clone, Copy, PartialEq, Eq, Debug)]
 pub enum Ending {
-    /// The input is at its end, and each of its lines is answered.
+    /// The input is at its end, and every line was answered.
     Ended,
     /// The input failed.
     InputFailed,
-    /// The input has at least 2 ^ 64 - 1 bytes.
+    /// The input has at least 2 ^ 64 - 1 bytes, too many to count.
     InputEndless,
     /// The output failed.
     OutputFailed,
 }
 
-/// Reports how a session ended, and returns its exit status: 0, 1 if changes weren't saved, or 4 if
-/// a device failed. Changes that weren't saved are reported after a device's line too.
+/// Reports how a session ended, and returns its exit status: 0 if all is saved, 1 if changes
+/// weren't saved, or 4 if a device failed. The line on unsaved changes comes after the line on the
+/// device.
 pub(crate) fn end_session<L: Sink>(ending: Ending, unsaved: bool, faults: &mut L) -> u8
     requires { L.failures faults.old < 2 ^ 64 - 1 }
     ensures { EndsWithStatus ending unsaved result
@@ -43,15 +44,15 @@ pub(crate) fn end_session<L: Sink>(ending: Ending, unsaved: bool, faults: &mut L
     }
 }
 
-/// The line that says that changes weren't saved, or nothing if there are none.
+/// The line on unsaved changes; empty if there are none.
 fn unsaved_line<'a>(unsaved: bool) -> &'a [u8]
     ensures { result.now ≡ unsaved_text unsaved }
 {
     if unsaved { UNSAVED } else { b"" }
 }
 
-/// Writes the line of a fault and, if all of it was written, the line that says that changes
-/// weren't saved, if there are any. Returns the fault's exit status.
+/// Reports a fault and then, if there are unsaved changes, the line on them. That second line is
+/// written only if the whole first line was. Returns the fault's exit status.
 pub(crate) fn tell_failure<L: Sink>(fault: &Fault, unsaved: bool, faults: &mut L) -> u8
     requires { L.failures faults.old < 2 ^ 64 - 1 }
     ensures status { result ≡ status_of fault.now }
@@ -70,8 +71,8 @@ pub(crate) fn tell_failure<L: Sink>(fault: &Fault, unsaved: bool, faults: &mut L
     }
 }
 
-/// Writes the line of a fault, and returns its exit status, whether or not the whole line is
-/// written.
+/// Writes the line that reports a fault, and returns the fault's exit status. The status is the
+/// same if the sink fails before the whole line is written.
 pub(crate) fn tell<L: Sink>(fault: &Fault, faults: &mut L) -> u8
     requires { L.failures faults.old < 2 ^ 64 - 1 }
     ensures status { result ≡ status_of fault.now }

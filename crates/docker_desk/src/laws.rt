@@ -1,5 +1,5 @@
-//! What holds of every session. Each law is the contract of a function that does nothing, so it
-//! holds for every value that it names.
+//! Laws of every session. Each law is the contract of a function that does nothing, and holds for
+//! all values that its clauses name.
 ghost use Rattle.std.specs.Prelude.{◌≡◌, ◌≤◌, ◌++◌, ℕ, List, Some, length};
 ghost use Rattle.docker_model.specs.state.Lapse.{IsDayRefused, lapse_table};
 ghost use Rattle.docker_model.specs.state.State.{State, live_table};
@@ -34,9 +34,9 @@ ghost use Rattle.docker_desk.specs.declared.ending.Ending.TheVariants.{Ended};
 use docker_train::laws::{found_train_is_plain, train_came_from_a_file};
 use state_lists::laws::{one_known_text, one_places_text};
 
-/// If the file of a session held the text of the summary of some files under a horizon, the first
-/// state is that summary. Each later state is the summary of these files and of all that was taken
-/// and received until then, under the greatest horizon.
+/// Suppose that the file of a session's state held the text of the summary of some files under a
+/// horizon. Then the first state of the session is that summary. Each later state is the summary of
+/// these files and of all that was taken and received until then, under the greatest horizon.
 pub fn known_files_fix_sessions()
     ensures begins { (name : List ℕ) (old : List Event) (first : SessionView) (start : Known)
         (sent : State) → (begins : BeginsAt name old first)
@@ -49,19 +49,20 @@ pub fn known_files_fix_sessions()
         → KnowsAt setting known state → IsKnown known state }
 {}
 
-/// At each point of a session there is a look from which a draft is made. It comes right before an
-/// opening of the state's file, whose text was read then, or right after the desk put its own text
-/// there. So a text that came between a look and a reading is never overwritten unread: it was
-/// read, or the file is no longer the one that the look saw.
+/// Each point of a session has a look, from which the next draft is made. The look comes right
+/// before an opening of the state's file, whose text was then read, or right after the desk put its
+/// own text in the file's place. So a text that arrived between the look and the reading is never
+/// overwritten unread. Either the desk read it, or the file is no longer the one that the look saw,
+/// and the draft is refused.
 pub fn looks_come_before_readings()
     ensures { (setting : Setting) (old : List Event) (first last : SessionView) (steps : List Step)
         → BeginsAt setting.name old first → AreSteps setting first steps last
         → IsGoodLook setting.name last.history last.look }
 {}
 
-/// If a file that was merged or renewed held the text of a summary, it is heard as that summary. If
-/// each such file held one, something is learned from every step, so the law
-/// `known_files_fix_sessions` applies to the whole session.
+/// Suppose that a file that was merged or renewed held the text of a summary. Then the session
+/// learns that summary from it. If this holds for each such file, the knowledge after every step is
+/// determined, and the law `known_files_fix_sessions` applies to the whole session.
 pub fn known_texts_are_heard()
     ensures merged { (setting : Setting) (other text : List ℕ) (before after : SessionView)
         (known : Known) → DoesRequest setting (merge_request other) before (done_with text) after
@@ -76,8 +77,8 @@ pub fn known_texts_are_heard()
         → (new : Known) × AreLearned setting old steps new }
 {}
 
-/// Each text that a desk puts in the place of its state's file is the text of the summary of what it
-/// knew then.
+/// Each text that a desk puts in the place of its state's file is the text of the summary of what
+/// the desk then knew.
 pub fn saves_tell_what_is_known()
     ensures { (setting : Setting) (text : List ℕ) (before after : SessionView) (known : Known)
         → IsKnown known before.desk.state
@@ -85,9 +86,10 @@ pub fn saves_tell_what_is_known()
         → PlacesKnown setting before after known }
 {}
 
-/// What a desk saves is a version of its state's file. It is the text of a state that was read from
-/// an earlier version, and then gained what the steps up to the saving gained. `earlier` are the texts of
-/// all earlier versions of any state's file, and `own` is the number of the one that was read first.
+/// What a desk saves is a version of its state's file. Its text is the text of a state that was
+/// read from an earlier version, and that then gained what the steps before the saving gained.
+/// `earlier` has the texts of all earlier versions of any state's file. `own` is the number of the
+/// version that was read first.
 pub fn saves_are_versions()
     ensures { (setting : Setting) (first before after : SessionView) (steps : List Step)
         (old : List Event) (earlier : List (List ℕ)) (own : ℕ) (gains : List Gain)
@@ -98,22 +100,23 @@ pub fn saves_are_versions()
         → IsPlaced setting earlier own gains before after }
 {}
 
-/// The first steps of a session lead to a point, and the others lead on from there. So what a law
-/// says of the last point holds at every point.
+/// A session can be cut at any step: the steps before it lead to a point, and the steps after it
+/// lead on from this point. So what a law says of a session's last point holds at every point.
 pub fn each_point_is_a_last_one()
     ensures { (setting : Setting) (first last : SessionView) (earlier later : List Step)
         → AreSteps setting first (earlier ++ later) last → (between : SessionView)
         × AreSteps setting first earlier between × AreSteps setting between later last }
 {}
 
-/// An office at the end of a run has the summary of what it knows, as a desk has.
+/// The state of an office at the end of a run is the summary of what the office knows, like the
+/// state of a desk.
 pub fn offices_know_as_desks()
     ensures { (known : Known) (state : State) → EndsWith known state → IsKnown known state }
 {}
 
-/// Two sessions, or a session and an office of a run, that know the same files and the same horizon
-/// have equal states, and so equal bytes. They print the same docker for each timing point and each
-/// day that neither refuses, even if their horizons differ.
+/// Two sessions that know the same files under the same horizon have equal states, and so equal
+/// bytes. So have a session and an office of a run. They print the same docker for each timing
+/// point and each day that neither refuses, even if their horizons differ.
 pub fn known_files_fix_states()
     ensures state { (first second : Known) (one two : State) → IsKnown first one
         → IsKnown second two → AreOneKnowledge first second → one ≡ two }
@@ -127,18 +130,18 @@ pub fn known_files_fix_states()
         → IsDockerText (live_table two) place day other → text ≡ other }
 {}
 
-/// If no two files that a session knows have the same session_view, they have a plain table. Each docker
-/// that is printed then is the docker of this table.
+/// If no two files that a session knows have the same session_view, these files have a plain table, and
+/// each docker that is printed is the docker of this table.
 pub fn dockers_are_of_the_plain_table()
     ensures { (known : Known) (state : State) → IsKnown known state
         → HaveDistinctMoments known.files
         → (plain : Table) × IsPlainTable known.files plain × PrintsAs state plain }
 {}
 
-/// Two sessions, or a session and an office of a run, that know the same files have the same dockers
-/// without the short-term plan. This holds for each timing point and each day that neither refuses,
-/// even if their horizons differ. If no two of these files have the same session_view, they are the dockers
-/// of the plain table without its short-term entries.
+/// Two sessions that know the same files have the same dockers without the short-term plan. So have
+/// a session and an office of a run. This holds for each timing point and each day that neither
+/// refuses, even if their horizons differ. If no two of the files have the same session_view, these are
+/// the dockers of the plain table without its short-term entries.
 pub fn known_files_fix_permanent_answers()
     ensures docker { (first second : Known) (one two : State) → IsKnown first one
         → IsKnown second two → HaveSameFiles first.files second.files → (place : List ℕ) (day : ℕ)
@@ -157,13 +160,13 @@ pub fn trains_came_from_known_files()
         → IsKnown known state → IsTrainText state uid day text → state.horizon ≤ day
         → IsTrainOf known uid day text }
 {
-    // Called for their contracts, which say this of the files of any summary.
+    // These calls are made only for their contracts, which say this of the files of any summary.
     train_came_from_a_file();
     found_train_is_plain();
 }
 
-/// Two sessions, or a session and an office of a run, that know the same files and the same horizon
-/// have one list of timing points. They also have one text of what is known.
+/// Two sessions that know the same files under the same horizon have the same list of timing points
+/// and the same text of what is known. So have a session and an office of a run.
 pub fn known_files_fix_lists()
     ensures places { (first second : Known) (one two : State) → IsKnown first one
         → IsKnown second two → AreOneKnowledge first second → (text other : List ℕ)
@@ -172,13 +175,14 @@ pub fn known_files_fix_lists()
         → IsKnown second two → AreOneKnowledge first second → (text other : List ℕ)
         → IsKnownText one text → IsKnownText two other → text ≡ other }
 {
-    // Called for their contracts, which say that a state has one of each.
+    // These calls are made only for their contracts: a state has only one list of timing points,
+    // and only one text of what is known.
     one_places_text();
     one_known_text();
 }
 
-/// If no two files that a session knows have the same session_view, the list of timing points is the one
-/// of their plain table, without what has lapsed.
+/// If no two files that a session knows have the same session_view, its list of timing points is the list
+/// for their plain table, without what has lapsed.
 pub fn places_are_of_the_plain_table()
     ensures { (known : Known) (state : State) → IsKnown known state
         → HaveDistinctMoments known.files → (plain : Table) × IsPlainTable known.files plain
@@ -186,14 +190,14 @@ pub fn places_are_of_the_plain_table()
         → IsPlacesText (lapse_table known.horizon plain) text) }
 {}
 
-/// A text divides into lines in only one way.
+/// There is only one way to divide a text into lines.
 pub fn an_input_has_one_reading()
     ensures { (text : List ℕ) (lines others : List LineView) → AreLines text lines
         → AreLines text others → lines ≡ others }
 {}
 
-/// Each line that is done has one answer. If the session ends at the input's end, these are all
-/// lines of the input.
+/// Each line of the input that was done has exactly one answer. If the session ended at the end of
+/// the input, these lines are all lines of the input.
 pub fn each_line_has_one_answer()
     ensures one { (ending : Ending) (input output output_now : DeviceBytes) (steps : List Step)
         → EndsSession ending input steps output output_now

@@ -1,5 +1,5 @@
-//! The desk: the lines that it reads, what they ask of its state, how they are answered, and a
-//! whole session.
+//! The desk: reads lines, finds the request in each, answers from the state that it keeps in
+//! memory, and serves whole sessions.
 #![tactic(auto)]
 
 mod ahead;

@@ -1,4 +1,4 @@
-//! The lines of a source.
+//! Reads the lines of a source.
 ghost use Rattle.std.specs.Prelude.{◌≡◌, ◌-◌, ◌^◌, ◌<◌, Err};
 ghost use Rattle.cif_device.specs.Device.{CountsFailure};
 ghost use Rattle.docker_desk.specs.Lines.{EndsLine, EndsSkipping, MeetsEnd, asked_meant, cut_or_end, is_end_of_lines, with_ahead};
@@ -7,22 +7,23 @@ use crate::ahead::Ahead;
 use arrayvec::ArrayVec;
 use cif_line::{Source, is_printable};
 
-/// The most bytes that a line has before its line feed.
+/// The most bytes of a line, not counting its line feed.
 const LONGEST: usize = 255;
 
 /// A line without its line feed.
 pub type RequestLine = ArrayVec<u8, LONGEST>;
 
-/// What the next line of a source is.
+/// What was read as the next line of a source.
 #[derive(Debug)]
 pub enum Asked {
-    /// At most 255 printable bytes, without the line feed after them.
+    /// A line of at most 255 printable bytes that a line feed ended. The line feed isn't kept.
     Line(RequestLine),
-    /// More bytes, or a byte that isn't printable. The line was read up to its line feed.
+    /// A line with more bytes, or with a byte that isn't printable. It was read up to and including
+    /// its line feed.
     Bad,
-    /// What comes after the last line feed.
+    /// Bytes after the last line feed of the source.
     Cut,
-    /// The source is at its end.
+    /// Nothing: the source is at its end.
     End,
 }
 
@@ -31,7 +32,7 @@ pub enum Asked {
 pub enum InputFault {
     /// The source failed.
     Failed,
-    /// The line has at least 2 ^ 64 - 1 bytes.
+    /// The line has at least 2 ^ 64 - 1 bytes, too many to count.
     Endless,
 }
 
@@ -46,9 +47,10 @@ impl From<cif_line::Failed> for InputFault {
     }
 }
 
-/// Reads the next line of a source, whose bytes may have been read ahead. What comes after its line
-/// feed is left for the next call. With `Cut` and `End` the source has reported its end, so a
-/// caller that must not read past it stops there. With a fault, what was read of the line is lost.
+/// Reads the next line of a source, beginning with the bytes that were read ahead. What comes after
+/// the line feed is left for the next call. With `Cut` and `End` the source has reported its end; a
+/// caller that must not read past the end has to stop there. With a fault, the part of the line
+/// that was read is lost.
 pub fn next_line<S: Source>(ahead: &mut Ahead, source: &mut S) -> Result<Asked, InputFault>
     requires { S.failures source.old < 2 ^ 64 - 1 }
     ensures ends { EndsLine (with_ahead ahead.old (S.left source.old)) result
@@ -74,7 +76,7 @@ pub fn next_line<S: Source>(ahead: &mut Ahead, source: &mut S) -> Result<Asked, 
     unreachable!()
 }
 
-/// What these bytes are if no line feed comes after them: a cut line, or the end if there are none.
+/// What these bytes are if the source ends after them: a cut line, or the end if there are none.
 fn without_feed(line: &RequestLine) -> Asked
     ensures { asked_meant result ≡ cut_or_end line.now.items }
 {
@@ -85,7 +87,8 @@ fn without_feed(line: &RequestLine) -> Asked
     }
 }
 
-/// Reads the rest of a bad line, with its line feed. Returns `Cut` if the source ends before that.
+/// Reads the rest of a bad line, including its line feed. Returns `Cut` if the source ends before
+/// the line feed.
 fn skip_line<S: Source>(ahead: &mut Ahead, source: &mut S) -> Result<Asked, InputFault>
     requires { S.failures source.old < 2 ^ 64 - 1 }
     ensures ends { EndsSkipping (with_ahead ahead.old (S.left source.old)) result

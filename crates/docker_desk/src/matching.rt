@@ -1,4 +1,4 @@
-//! Whether a text is the one of a state, as the state is written.
+//! Finds out whether a text is the text of a state, without making the state's text in memory.
 ghost use Rattle.std.specs.Prelude.{◌≡◌, ◌↔◌, ◌+◌, ◌-◌, ◌<◌, ◌≤◌, [], length, take, Some, IsTrue, option_map};
 ghost use Rattle.docker_model.specs.state.StateText.{dks_2, state_text};
 ghost use Rattle.docker_desk.specs.Copying.{ComparesCopy, IsNoFront};
@@ -9,8 +9,9 @@ use cif_line::{Failed, Sink};
 use docker_cmd::Office;
 use std::marker::{Brand, Model, PhantomData};
 
-/// A sink that takes the bytes of the text that its brand names, one piece after the other. It takes
-/// the first byte that isn't the text's too, and then fails. It takes no memory.
+/// A sink that compares what is written with a text. It accepts bytes as long as they are the
+/// text's, and the first byte that differs; after that it fails. It allocates nothing. Its type
+/// names the text, for clauses.
 #[derive(Drop)]
 pub(crate) struct Matching<'a, B: Begun> {
     text: &'a [u8],
@@ -41,7 +42,7 @@ impl<'a, B: Begun> Model for Matching<'a, B> {
 }
 
 impl<'a, B: Begun> Matching<'a, B> {
-    /// A sink that takes this text.
+    /// Starts the comparison with this text.
     pub(crate) fn new(text: &'a [u8]) -> Matching<'a, B>
         requires { B.bytes ≡ Some text.now }
         ensures text { result.text ≡ text.now }
@@ -57,8 +58,8 @@ impl<'a, B: Begun> Matching<'a, B> {
         }
     }
 
-    /// Whether it took the whole text, and nothing else. It has failed only if what it took isn't
-    /// how the text begins.
+    /// Whether exactly the whole text was written. The sink has failed only if what was written
+    /// isn't a prefix of the text.
     pub(crate) fn is_whole(&self) -> bool
         ensures text { B.bytes ≡ Some self.now.text }
         ensures whole { IsTrue result ↔ (self.now.taken ≡ self.now.text) }
@@ -92,8 +93,8 @@ impl<B: Begun> Sink for Matching<'_, B> {
     }
 }
 
-/// A number of bytes with which both a text and a piece begin. It is 0 only if their first bytes
-/// differ, or the text has none.
+/// A number of bytes that are equal at the beginning of the text and of the piece. It needn't be
+/// the greatest, but is 0 only if the first bytes differ or the text is empty.
 fn matching_front(text: &[u8], piece: &[u8]) -> usize
     requires { 0 < length piece.now }
     ensures within { (result ≤ length text.now) × (result ≤ length piece.now) }
@@ -110,14 +111,14 @@ fn matching_front(text: &[u8], piece: &[u8]) -> usize
     0
 }
 
-/// Whether a text begins with these bytes.
+/// Whether a text begins with `front`.
 fn begins_with(text: &[u8], front: &[u8]) -> bool
     ensures { IsTrue result ↔ (take (length front.now) text.now ≡ front.now) }
 {
     front.len() <= text.len() && &text[..front.len()] == front
 }
 
-/// Whether a text is the one of an office's state.
+/// Whether this is the text of the office's state.
 fn is_text_of<B: Begun>(text: &[u8], office: &Office) -> bool
     requires { B.bytes ≡ Some text.now }
     ensures { IsTrue result ↔ (text.now ≡ state_text dks_2 office.now) }
@@ -127,7 +128,7 @@ fn is_text_of<B: Begun>(text: &[u8], office: &Office) -> bool
     sent.is_ok() & sink.is_whole()
 }
 
-/// Whether a copy, if there is one, is the text of an office's state.
+/// Compares a copy with the text of the office's state. `Unknown` if there is no copy.
 pub(crate) fn compared_with(copy: &Option<Vec<u8>>, office: &Office) -> Compared
     ensures { ComparesCopy result (option_map (λ copy. copy.items) copy.now)
         (state_text dks_2 office.now) }

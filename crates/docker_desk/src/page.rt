@@ -1,4 +1,4 @@
-//! A text that is made in memory.
+//! A text in memory that is written like a sink.
 ghost use Rattle.std.specs.Prelude.{◌≡◌, ◌+◌, ◌-◌, ◌^◌, ◌<◌, ◌≤◌, [], ◌++◌, length, take, IfOk, OnOk, OnErr, Some};
 
 use cif_line::{Failed, Sink};
@@ -24,7 +24,7 @@ impl Model for Page {
 }
 
 impl Page {
-    /// An empty page, which has taken no memory.
+    /// An empty page, which has allocated nothing.
     pub fn new(alloc: Global) -> Page
         ensures text { result.text ≡ [] }
         ensures no_failure { result.failures ≡ 0 }
@@ -35,7 +35,7 @@ impl Page {
         }
     }
 
-    /// What was written on the page.
+    /// The text that was written on the page.
     pub fn text(&self) -> &[u8]
         ensures { result.now ≡ self.now.text }
     {
@@ -58,7 +58,7 @@ impl Sink for Page {
         ensures counted { OnErr result (self.new.failures ≡ self.old.failures + 1) }
         ensures unmoved { OnErr result (self.new.text ≡ self.old.text) }
 
-        // The clauses of a sink are above. What this sink adds is below.
+        // The clauses above are the clauses of any sink. The one below holds for this sink only.
         ensures whole { IfOk result (λ n. n ≡ length piece.now) }
     {
         match self.bytes.extend_from_slice(piece) {

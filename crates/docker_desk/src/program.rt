@@ -1,4 +1,4 @@
-//! A whole session.
+//! Serves a whole session.
 ghost use Rattle.std.specs.Prelude.{◌≡◌, ◌-◌, ◌<◌};
 ghost use Rattle.docker_cmd.specs.Words.{texts};
 ghost use Rattle.docker_host.specs.Host.{AreFew};
@@ -15,12 +15,12 @@ use docker_host::{Folder, Host, tell_text};
 use std::alloc::Global;
 use std::mem;
 
-/// Serves a session: reads the state of the file that the words name, answers the lines of the
-/// input on the output, and returns the exit status. The sink of faults gets a line only if the
-/// session can't begin, a stream fails, or changes weren't saved.
+/// Serves a session: reads the state in the file that the words name, writes an answer for each
+/// line of the input to the output, and returns the exit status. The sink of faults gains a line
+/// only if the session can't begin, a stream fails, or changes weren't saved.
 ///
-/// The laws of `laws` say what each answer is, by the files that are known, and which look each
-/// draft was made from.
+/// The laws in `laws` say what the answers are in terms of the known files, and from which look
+/// each draft is made.
 pub fn serve<S: Source, D: Folder, K: Sink, L: Sink>(
     alloc: Global,
     words: &[&str],
@@ -44,8 +44,8 @@ pub fn serve<S: Source, D: Folder, K: Sink, L: Sink>(
                 &mut host.output,
             );
             let unsaved = session.desk.is_unsaved();
-            // The program ends here, so the state is left to the system and not freed piece by
-            // piece.
+            // The program ends here. The state isn't freed piece by piece: the system takes all of
+            // it back at once.
             mem::forget(session);
             end_session(ending, named.may_write & unsaved, &mut host.faults)
         }

@@ -1,4 +1,4 @@
-//! How a file is opened and read by an office.
+//! Opens a file, has an office read it, and closes it.
 ghost use Rattle.std.specs.Prelude.{◌≡◌, ◌-◌, ◌^◌, ◌<◌, Some};
 ghost use Rattle.docker_cmd.specs.FaultLine.{IsCounted, result_status};
 ghost use Rattle.docker_desk.specs.Desk.{EndsComparing, EndsReceiving, EndsReloading, EndsTaking};
@@ -14,7 +14,7 @@ use docker_host::Folder;
 use std::alloc::Global;
 use std::marker::Brand;
 
-/// Opens a file once, and has an office take it.
+/// Opens the named file once, and has the office take it.
 pub(crate) fn take_file<D: Folder>(
     office: &mut Office,
     name: &str,
@@ -35,7 +35,7 @@ pub(crate) fn take_file<D: Folder>(
     taken
 }
 
-/// Opens a file once, and has an office receive the state that it holds.
+/// Opens the named file once, and has the office receive the state in it.
 pub(crate) fn receive_state<D: Folder>(
     office: &mut Office,
     name: &str,
@@ -56,9 +56,9 @@ pub(crate) fn receive_state<D: Folder>(
     received
 }
 
-/// Like `receive_state`, but returns whether the file held the text of the state that the office has
-/// now. It is found out only if `compares`, and if there is memory to keep the text until it is
-/// compared.
+/// Opens the named file once, and has the office receive the state in it. Also returns whether the
+/// file held the text of the state that the office has after that. This is found out only if
+/// `compares` is set, and if there is memory to keep the file's text until it is compared.
 pub(crate) fn renew_state<D: Folder>(
     alloc: Global,
     office: &mut Office,
@@ -88,8 +88,8 @@ pub(crate) fn renew_state<D: Folder>(
     }
 }
 
-/// Has an office receive the state that a source holds, and returns the source. Also returns whether
-/// the source held the text of the state that the office has now.
+/// Has the office receive the state in a source, and returns the source. Also returns whether the
+/// source held the text of the state that the office has after that.
 fn receive_copied<B: Begun, S: Source>(
     alloc: Global,
     office: &mut Office,
@@ -115,7 +115,7 @@ fn receive_copied<B: Begun, S: Source>(
     }
 }
 
-/// Opens a file once, and has an office read the state that it holds.
+/// Opens the named file once, and has the office start again from the state in it.
 pub(crate) fn reload_state<D: Folder>(
     office: &mut Office,
     name: &str,

@@ -1,4 +1,4 @@
-//! The answers to requests.
+//! The answers of a desk.
 ghost use Rattle.std.specs.Prelude.{◌-◌, ◌^◌, ◌<◌, IsErr, OnOk, OnErr};
 ghost use Rattle.cif_device.specs.Device.{CountsFailure, Takes, TakesPart};
 ghost use Rattle.docker_desk.specs.Answers.{answer_text};
@@ -12,21 +12,22 @@ use crate::requests::usage;
 use cif_line::{Failed, Sink};
 use docker_cmd::{Fault, OfficeFault, fault_text, status};
 
-/// The answer to a request.
+/// The answer to one line.
 #[derive(Debug, Drop)]
 pub enum Answer {
-    /// The request was done, and this is its text.
+    /// The request was done, and the answer has this text.
     Text(Page),
-    /// The request was done, and has no text.
+    /// The request was done, and the answer has no text.
     Done,
-    /// The request was refused, and changed nothing.
+    /// The request was refused for this fault, and changed nothing.
     Refused(OfficeFault),
-    /// The line asks for nothing.
+    /// The line isn't a request.
     Usage,
 }
 
-/// Writes an answer: its header, and then the text that was asked for, or the line of the fault. If
-/// a write fails, the sink has gained a proper prefix of the answer.
+/// Writes an answer: its header and then its text. The text is what was asked for, or the line that
+/// reports the fault, or the usage line. If a write fails, the sink has gained a proper prefix of
+/// the answer.
 pub fn write_reply<K: Sink>(answer: &Answer, sink: &mut K) -> Result<(), Failed>
     requires { K.failures sink.old < 2 ^ 64 - 1 }
     ensures whole { OnOk result (Takes (K.taken sink.old) (answer_bytes (answer_meant answer.now))
@@ -43,7 +44,7 @@ pub fn write_reply<K: Sink>(answer: &Answer, sink: &mut K) -> Result<(), Failed>
     }
 }
 
-/// Writes the answer to a request that is refused.
+/// Writes the answer to a refused request.
 fn write_refusal<K: Sink>(fault: &OfficeFault, sink: &mut K) -> Result<(), Failed>
     requires { K.failures sink.old < 2 ^ 64 - 1 }
     ensures whole { OnOk result (Takes (K.taken sink.old)

@@ -1,4 +1,4 @@
-//! The table of requests, with a row for each, and what a line asks for.
+//! The table of requests, and the request in a line.
 ghost use Rattle.std.specs.Prelude.{◌≡◌, ◌≢◌, ◌↔◌, ℕ, List, [], option_map, IfSome, IsNone, IsSome, find, true};
 ghost use Rattle.std.specs.Option.{option_copied};
 ghost use Rattle.std.specs.Str.{bytes_eq};
@@ -11,30 +11,30 @@ use crate::words::{has_word, next_word, one_word, two_words};
 use cif_line::{Day, Tiploc, Uid};
 use docker_cmd::text_of;
 
-/// The words that name requests.
+/// The verbs: the words that name requests.
 #[derive(Clone, Copy, PartialEq, Eq, Debug)]
 pub enum Verb {
-    /// The docker of a timing point on a day.
+    /// Prints the docker of a timing point on a day.
     Print,
-    /// That docker without the short-term plan.
+    /// Prints the docker of a timing point on a day without the short-term plan.
     Permanent,
-    /// The schedule that is chosen for a train on a day.
+    /// Shows the schedule that is chosen for a train on a day.
     Train,
-    /// The files that are known.
+    /// Lists the files that are known.
     Files,
-    /// The timing points that are known, with how many schedules call at each.
+    /// Lists the timing points that are known, with the number of schedules that call at each.
     Places,
-    /// How much is known.
+    /// Shows how much is known.
     Known,
-    /// Joins what is known with what the state's file holds.
+    /// Joins the state with what the state's file holds now.
     Renew,
-    /// Adds one file to what is known.
+    /// Takes one more file into the state.
     Take,
-    /// Joins what is known with another state.
+    /// Joins the state with another state.
     Merge,
-    /// Sets a horizon, unless the state's horizon is later.
+    /// Sets a horizon. The state keeps its own horizon if that is later.
     Horizon,
-    /// Writes what is known to the state's file.
+    /// Writes the state to its file.
     Save,
 }
 
@@ -43,14 +43,14 @@ pub enum Verb {
 struct RequestRow<'a> {
     /// The word that names the request.
     name: &'a str,
-    /// The names of what comes after it, as the usage line has them.
+    /// The names of what comes after the verb, as the usage line shows them.
     ids: &'a [&'a str],
-    /// Whether only a desk that may write allows it.
+    /// Whether the request is allowed only if the desk may write.
     writes: bool,
 }
 
 impl<'a> RequestRow<'a> {
-    /// The row with these columns.
+    /// Makes a row of these columns.
     fn of(name: &'a str, ids: &'a [&'a str], writes: bool) -> RequestRow<'a>
         ensures name { result.name.now ≡ name.now }
         ensures ids { result.ids.now ≡ ids.now }
@@ -80,7 +80,7 @@ impl Verb {
         ]
     }
 
-    /// Its row of the table.
+    /// The verb's row in the table.
     fn row<'a>(self) -> RequestRow<'a>
         ensures { row_meant result ≡ row_of self }
     {
@@ -99,14 +99,14 @@ impl Verb {
         }
     }
 
-    /// Whether this is its name.
+    /// Whether the verb has this name.
     fn is_named(self, name: &str) -> bool
         ensures { result ≡ bytes_eq (name_of self) name.now }
     {
         self.row().name == name
     }
 
-    /// The verb of this name.
+    /// The verb with this name, if there is one.
     #[tactic(auto, unfolding(crate::specs::Requests::verb_named))]
     fn of_name(name: &str) -> Option<Verb>
         ensures { result ≡ verb_named name.now }
@@ -114,14 +114,14 @@ impl Verb {
         first_named(Verb::all(), name).copied()
     }
 
-    /// Whether only a desk that may write allows it.
+    /// Whether the verb's requests are allowed only if the desk may write.
     fn is_writing(self) -> bool
         ensures { result ≡ is_writing self }
     {
         self.row().writes
     }
 
-    /// Whether a desk allows it, by whether the desk may write.
+    /// Whether the verb's requests are allowed, given whether the desk may write.
     fn is_allowed(self, may_write: bool) -> bool
         ensures { (result ≡ true) ↔ (is_writing self ≡ true → may_write ≡ true) }
     {
@@ -129,21 +129,21 @@ impl Verb {
     }
 }
 
-/// The usage line: the names of the table and what comes after them.
+/// The usage line: each verb, and what comes after it.
 pub(crate) fn usage<'a>() -> &'a [u8]
     ensures { result.now ≡ usage_line }
 {
     b"desk: usage: [--write] STATE, and then a line for each request: print TIPLOC DATE | permanent TIPLOC DATE | train UID DATE | files | places | known | renew | with --write take FILE | merge OTHER | horizon DATE | save\n"
 }
 
-/// The first of some verbs that has this name.
+/// The first of these verbs that has this name.
 fn first_named<'a>(verbs: &'a [Verb], name: &str) -> Option<&'a Verb>
     ensures { option_copied result ≡ find (λ verb. bytes_eq (name_of verb) name.now) verbs.now }
 {
     verbs.iter().find(|verb| verb.is_named(name))
 }
 
-/// A request.
+/// A request, with the timing point, the train, the day or the file that it names.
 #[derive(Clone, Copy, Debug)]
 pub enum Request<'a> {
     /// `print`.
@@ -175,9 +175,9 @@ pub enum Request<'a> {
     Known,
     /// `renew`.
     Renew,
-    /// `take`, with the file.
+    /// `take`, with the name of the file.
     Take(&'a str),
-    /// `merge`, with the other state.
+    /// `merge`, with the name of the other state's file.
     Merge(&'a str),
     /// `horizon`.
     Horizon {
@@ -188,8 +188,8 @@ pub enum Request<'a> {
     Save,
 }
 
-/// What a line asks for. `None` if it asks for nothing, or for something that only a desk that may
-/// write allows, and this one may not.
+/// The request in a line. `None` if the line isn't a request, or if the request is allowed only to
+/// a desk that may write and this one may not.
 pub fn request_in(line: &[u8], may_write: bool) -> Option<Request<'_>>
     requires { IsLineText line.now }
     ensures { AsksFor may_write line.now (option_map request_meant result) }
@@ -202,7 +202,7 @@ pub fn request_in(line: &[u8], may_write: bool) -> Option<Request<'_>>
     None
 }
 
-/// The request with this verb, if the rest of the line fits it.
+/// The request with this verb, if the rest of the line fits the verb.
 fn request_of(verb: Verb, rest: &str) -> Option<Request<'_>>
     ensures { FitsRest verb rest.now (option_map request_meant result) }
 {
@@ -236,7 +236,7 @@ fn request_of(verb: Verb, rest: &str) -> Option<Request<'_>>
     }
 }
 
-/// The request for a docker.
+/// The `print` request with this rest of the line, if it fits.
 fn print_request(rest: &str) -> Option<Request<'_>>
     ensures { FitsRest verb.Print rest.now (option_map request_meant result) }
 {
@@ -244,7 +244,7 @@ fn print_request(rest: &str) -> Option<Request<'_>>
     Some(Request::Print { place, day })
 }
 
-/// The request for a docker without the short-term plan.
+/// The `permanent` request with this rest of the line, if it fits.
 fn permanent_request(rest: &str) -> Option<Request<'_>>
     ensures { FitsRest verb.Permanent rest.now (option_map request_meant result) }
 {
@@ -252,7 +252,8 @@ fn permanent_request(rest: &str) -> Option<Request<'_>>
     Some(Request::Permanent { place, day })
 }
 
-/// The timing point and the day that the rest of the line names, if it names these and nothing more.
+/// The timing point and the day that the rest of the line names. `None` if it isn't exactly these
+/// two words.
 fn place_and_day(rest: &str) -> Option<(Tiploc, Day)>
     ensures some { IfSome result (λ it. OfTwo (ArePlaceAndDay it.0 it.1) (words_in rest.now)) }
     ensures none { IsNone result → (place : List ℕ) (day : ℕ)
@@ -267,7 +268,7 @@ fn place_and_day(rest: &str) -> Option<(Tiploc, Day)>
     Some((place, day))
 }
 
-/// The request for a train.
+/// The `train` request with this rest of the line, if it fits.
 fn train_request(rest: &str) -> Option<Request<'_>>
     ensures { FitsRest verb.Train rest.now (option_map request_meant result) }
 {
@@ -277,7 +278,7 @@ fn train_request(rest: &str) -> Option<Request<'_>>
     Some(Request::Train { uid, day })
 }
 
-/// The request for a horizon.
+/// The `horizon` request with this rest of the line, if it fits.
 fn horizon_request(rest: &str) -> Option<Request<'_>>
     ensures { FitsRest verb.Horizon rest.now (option_map request_meant result) }
 {
@@ -286,7 +287,7 @@ fn horizon_request(rest: &str) -> Option<Request<'_>>
     Some(Request::Horizon { day })
 }
 
-/// Returns `Some` if the rest of the line has no word.
+/// `Some` if the rest of the line has no word.
 fn alone(rest: &str) -> Option<()>
     ensures alone { IsSome result → words_in rest.now ≡ [] }
     ensures more { IsNone result → words_in rest.now ≢ [] }
@@ -297,7 +298,7 @@ fn alone(rest: &str) -> Option<()>
     Some(())
 }
 
-/// The train that a word names.
+/// The UID that a word names; `None` if the word is no UID.
 fn train_named(word: &str) -> Option<Uid>
     ensures named { IfSome result (λ uid. NamesTrain word.now uid) }
     ensures none { IsNone result → (uid : List ℕ) → ¬ NamesTrain word.now uid }
@@ -311,8 +312,7 @@ fn train_named(word: &str) -> Option<Uid>
     Uid::from_field(&bytes)
 }
 
-/// The file that a text names. None if it is empty, begins with a hyphen, or is the word for
-/// standard input.
+/// The file that a text names. `None` if the text is empty, begins with a hyphen, or is `stdin`.
 pub fn file_named(text: &str) -> Option<&str>
     ensures named { IfSome result (λ file. NamesFile text.now file.now) }
     ensures none { IsNone result → (file : List ℕ) → ¬ NamesFile text.now file }
@@ -323,7 +323,7 @@ pub fn file_named(text: &str) -> Option<&str>
     None
 }
 
-/// Whether there is a word, and it doesn't begin with a hyphen.
+/// Whether the word isn't empty and doesn't begin with a hyphen.
 fn is_plain(word: &str) -> bool
     ensures { result ≡ is_plain_word word.now }
 {

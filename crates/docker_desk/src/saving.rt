@@ -1,4 +1,4 @@
-//! How a state is stored.
+//! Stores the text of an office's state in a file.
 ghost use Rattle.std.specs.Prelude.{◌-◌, ◌^◌, ◌<◌};
 ghost use Rattle.docker_model.specs.state.StateText.{dks_2, state_text};
 ghost use Rattle.docker_cmd.specs.FaultLine.{IsCounted, result_status};
@@ -7,8 +7,8 @@ ghost use Rattle.docker_desk.specs.Desk.{EndsStoring};
 use docker_cmd::{Office, OfficeFault};
 use docker_host::{Folder, OpenFault};
 
-/// Writes the text of an office's state to a draft for a file, from what was seen of it. Then puts
-/// the draft in the file's place.
+/// Makes a draft from what was seen of the named file, and writes the text of the office's state to
+/// it. Then puts the draft in the file's place.
 pub(crate) fn store_office<D: Folder>(
     office: &Office,
     name: &str,

@@ -1,4 +1,4 @@
-//! The lines of a session, one after the other.
+//! Reads the lines of a session and writes their answers.
 ghost use Rattle.std.specs.Prelude.{◌≡◌, false, ◌+◌, ◌-◌, ◌^◌, ◌<◌, ◌≤◌, Some, Option};
 ghost use Rattle.docker_desk.specs.Lines.{with_ahead};
 ghost use Rattle.docker_desk.specs.Replies.{answer_meant, answer_bytes};
@@ -15,9 +15,9 @@ use crate::session_words::SessionWords;
 use cif_line::{Sink, Source};
 use docker_host::Folder;
 
-/// Answers the lines of an input, one after the other, until the input is at its end or a device
-/// fails. Each answer is whole in memory before its first byte is written, and it is written before
-/// the next line is read. After a last line without its line feed nothing more is read.
+/// Answers the lines of an input in their order, until the input ends or a device fails. Each
+/// answer is whole in memory before its first byte is written, and is written before the next line
+/// is read. After a last line without a line feed, nothing more is read.
 pub fn serve_lines<S: Source, D: Folder, K: Sink>(
     words: &SessionWords<'_>,
     session: &mut Session<D::Seen>,
@@ -50,9 +50,8 @@ pub fn serve_lines<S: Source, D: Folder, K: Sink>(
     Ending::InputEndless
 }
 
-/// Reads one line and writes its answer. Returns how the session ends, if it ends there. The lines
-/// after this one are left for the next call. So each line that is read gets its answer, even if the
-/// input never ends.
+/// Reads one line and writes its answer. Returns why the session ends, if it ends with this line.
+/// Later lines are left for the next call, so each line is answered even if the input never ends.
 pub fn serve_next<S: Source, D: Folder, K: Sink>(
     words: &SessionWords<'_>,
     ahead: &mut Ahead,

@@ -15,8 +15,8 @@ pub struct SessionWords<'a> {
     pub may_write: bool,
 }
 
-/// What the words of a session say: the name of its state's file, after `--write` if the desk may
-/// write. None if they are other words.
+/// Reads the words of a session: the name of the state's file, with `--write` before it if the desk
+/// may write. `None` if the words have another form.
 pub fn session_words_in<'a>(words: &[&'a str]) -> Option<SessionWords<'a>>
     ensures named { IfSome result (λ it.
         NamesSession (texts words.now) it.name.now it.may_write) }
@@ -34,7 +34,7 @@ pub fn session_words_in<'a>(words: &[&'a str]) -> Option<SessionWords<'a>>
     }
 }
 
-/// The words of a session with this name, if a state's file may have it.
+/// The session with this file. `None` if a state's file can't have this name.
 fn session_words_of(name: &str, may_write: bool) -> Option<SessionWords<'_>>
     ensures named { IfSome result (λ it. (it.name.now ≡ name.now)
         × (it.may_write ≡ may_write) × NamesFile name.now name.now) }
@@ -44,7 +44,7 @@ fn session_words_of(name: &str, may_write: bool) -> Option<SessionWords<'_>>
     Some(SessionWords { name, may_write })
 }
 
-/// Whether it is the word `--write`.
+/// Whether the word is `--write`.
 fn is_write(word: &str) -> bool
     ensures { IsTrue result ↔ (word.now ≡ codes "--write") }
 {

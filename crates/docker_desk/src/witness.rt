@@ -1,4 +1,5 @@
-//! A session over devices whose bytes are known, and what the contract of `serve` says of it.
+//! A session over devices whose bytes are known: what the contract of `serve` then says of an
+//! answer.
 ghost use Rattle.std.specs.Prelude.{◌≡◌, ◌⊎◌, IfOk, codes};
 ghost use Rattle.docker_desk.specs.Replies.{memory_answer};
 
@@ -8,18 +9,18 @@ use docker_cmd::Office;
 use docker_host::{Host, Shelf};
 use std::alloc::Global;
 
-/// The most bytes that the text of a state without files may have here.
+/// The most bytes of the text of an empty state.
 const ROOM: usize = 100;
 
-/// Asks for the files of a state without files, in a session over a shelf. Its words are `S`, the
-/// file `S` has the text of that state, and its input is one line. Returns the answer, if the
-/// session ended with the status 0. It has no files, unless memory ran out for it.
+/// Serves a session over a shelf. The words are `S`; the file `S` holds the text of the state that
+/// knows no files; and the input is the one line `files`. Returns the answer if the session ends
+/// with status 0, and `Memory` otherwise. The answer lists no files, unless memory ran out for it.
 pub fn files_of_none(alloc: Global) -> Result<Kept, Memory>
     ensures { IfOk result (λ output. (output.taken ≡ codes "0 0 0\n")
         ⊎ (output.taken ≡ memory_answer)) }
 {
     let office = Office::new(alloc);
-    // Called for its contract: the state is valid.
+    // This call is made only for its contract: the state is valid.
     let _state = office.state();
     let mut text = Kept::new(alloc, ROOM)?;
     let Ok(()) = office.send(&mut text) else {
@@ -38,7 +39,7 @@ pub fn files_of_none(alloc: Global) -> Result<Kept, Memory>
         faults: Kept::new(alloc, ROOM)?,
     };
     let status = serve(alloc, &["S"], &mut host);
-    // Called for its contract: each file held what was last placed under its name.
+    // This call is made only for its contract: each file held what was last placed under its name.
     host.folder.tell();
     let Host { output, .. } = host;
     if status != 0 {

@@ -1,11 +1,11 @@
-//! The words of a line.
+//! Divides a line into words.
 ghost use Rattle.std.specs.Prelude.{◌≡◌, [], ◌∷◌, IfSome, IsNone, ◌↔◌, false, option_map};
 ghost use Rattle.docker_cmd.specs.JobLine.{words_in};
 ghost use Rattle.docker_desk.specs.Requests.{HasOneWord, HasTwoWords, after_word, first_word, without_spaces};
 
 use docker_cmd::split_at_space;
 
-/// A text without the spaces that it begins with.
+/// The text without its leading spaces.
 fn without_spaces(text: &str) -> &str
     ensures { result.now ≡ without_spaces text.now }
 {
@@ -19,8 +19,8 @@ fn without_spaces(text: &str) -> &str
     rest
 }
 
-/// The first word of a text, and what comes after it and the spaces that follow it. None if the
-/// text has no word.
+/// The first word of a text, and what follows it without leading spaces. `None` if the text has no
+/// word.
 pub(crate) fn next_word(text: &str) -> Option<(&str, &str)>
     ensures none { IsNone result → (words_in text.now ≡ []) × (first_word text.now ≡ []) }
     ensures word { IfSome result (λ cut. cut.0.now ≡ first_word text.now) }
@@ -37,7 +37,7 @@ pub(crate) fn next_word(text: &str) -> Option<(&str, &str)>
     }
 }
 
-/// The words of a text that has exactly two.
+/// The words of a text that has exactly two words; otherwise `None`.
 pub(crate) fn two_words(text: &str) -> Option<(&str, &str)>
     ensures { HasTwoWords text.now
         (option_map (λ words. (words.0.now, words.1.now)) result) }
@@ -50,7 +50,7 @@ pub(crate) fn two_words(text: &str) -> Option<(&str, &str)>
     Some((first, second))
 }
 
-/// The word of a text that has exactly one.
+/// The word of a text that has exactly one word; otherwise `None`.
 pub(crate) fn one_word(text: &str) -> Option<&str>
     ensures { HasOneWord text.now (option_map (λ word. word.now) result) }
 {
@@ -61,7 +61,7 @@ pub(crate) fn one_word(text: &str) -> Option<&str>
     Some(word)
 }
 
-/// Whether a text has any word.
+/// Whether the text has a word: any byte other than a space.
 pub(crate) fn has_word(text: &str) -> bool
     ensures { (result ≡ false) ↔ (words_in text.now ≡ []) }
 {

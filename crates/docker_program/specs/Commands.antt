@@ -1,5 +1,4 @@
--- What commands know: of which files, and under which horizon, the texts that they store and print
--- are the summary. The same of texts that were saved of a state that was kept.
+-- What commands know. The texts that they store and print are the summaries of known files under a known horizon. The same holds of the texts that desks save.
 use Rattle.std.specs.Prelude.{◌≡◌, ◌⊎◌, ◌<◌, ℕ, Bool, List, [], ◌∷◌, ◌++◌, length, map, slice_index_or, Some, None, ⊤}
 use Rattle.docker_model.specs.state.Lapse.{IsDayRefused}
 use Rattle.docker_model.specs.state.State.{State, live_table}
@@ -22,22 +21,21 @@ use Rattle.docker_program.specs.Program.{AsksFor, Performs}
 
 -- ---- one command
 
--- the history of a command once its sources were read. It looked at the file that its job writes,
--- if it writes one. Then it opened, read and closed the files that the job reads
+-- the history after a command has read its sources. If its job writes a file, a look at this file comes first. Then come the openings and closings of the files
+-- that the job reads
 abbrev pub history_read : List Event → JobView → SourcesRead → List Event
 history_read before job read =
     with_files_read (names_of job) read (with_look_at (stored_by job) before)
 
--- the words and the devices of a command, before and after
+-- a run of a command: its words, and its devices before and after. `names_bytes` says whether the folder's drafts name their bytes
 pub record Run : Type 0 where
   pub words : List Text
   pub names_bytes : Bool
   pub old : HostView
   pub new : HostView
 
--- a command read the sources of its job whole, each no further than the result needs, and this is
--- what it writes of them. A source that is standard input held what was left of it after the job
--- line
+-- a command read all sources of its job, each no further than the result needs, and this is the text of the job's output. If a source is standard input, it
+-- held what was left after the job line
 pub record Reads (run : Run) (job : JobView) (read : SourcesRead) (text : List ℕ) : Type 0 where
   pub rest : Bytes
   pub asks : AsksFor run.words run.old.input job rest
@@ -49,7 +47,7 @@ pub record Reads (run : Run) (job : JobView) (read : SourcesRead) (text : List �
   pub is_read : IsReadOf job.task read.first read.second what
   pub is_text : IsOutputText (output_of job.task) what text
 
--- a command stored this text: its draft took the place of the file that its job writes
+-- a command stored this text: its draft took the place of the file that the job writes
 pub record Stores (run : Run) (job : JobView) (read : SourcesRead) (text : List ℕ) : Type 0 where
   pub reads : Reads run job read text
   pub name : Text
@@ -58,8 +56,7 @@ pub record Stores (run : Run) (job : JobView) (read : SourcesRead) (text : List 
       (history_read run.old.history job read) run.new.history
   pub unprinted : run.new.output ≡ run.old.output
 
--- a command may have stored this text: its draft failed to take the place of the file, which holds
--- that text or what it held before
+-- a command may have stored this text: its draft failed to take the file's place. The file holds this text or what it held before
 pub record MayStore (run : Run) (job : JobView) (read : SourcesRead) (text : List ℕ) : Type 0 where
   pub reads : Reads run job read text
   pub name : Text
@@ -68,7 +65,7 @@ pub record MayStore (run : Run) (job : JobView) (read : SourcesRead) (text : Lis
       (history_read run.old.history job read) run.new.history
   pub unprinted : run.new.output ≡ run.old.output
 
--- a command printed this text, which is no docker of a day that is refused
+-- a command printed this text. It isn't a docker of a day that the horizon refuses
 pub record Prints (run : Run) (job : JobView) (read : SourcesRead) (text : List ℕ) : Type 0 where
   pub reads : Reads run job read text
   pub unstored : stored_by job ≡ None
@@ -76,59 +73,59 @@ pub record Prints (run : Run) (job : JobView) (read : SourcesRead) (text : List 
   pub history : run.new.history ≡ history_read run.old.history job read
   pub printed : Takes run.old.output text run.new.output
 
--- the event put no draft in the place of a file, and can't have
+-- this event didn't put a draft in the place of a file, and can't have done so
 abbrev pub IsNoStoring : Event → Type 0
 IsNoStoring (placed name bytes) = ⊥
 IsNoStoring (unplaced name bytes) = ⊥
 IsNoStoring _ = ⊤
 
--- no event did, or can have
+-- none of these events put a draft in the place of a file, or can have done so
 abbrev pub AreNoStorings : List Event → Type 0
 AreNoStorings [] = ⊤
 AreNoStorings (event ∷ events) = IsNoStoring event × AreNoStorings events
 
--- a command stored nothing: none of its events did
+-- none of a command's events put a draft in the place of a file, or can have done so
 pub record StoresNothing (run : Run) : Type 0 where
   pub events : List Event
   pub history : run.new.history ≡ run.old.history ++ events
   pub none : AreNoStorings events
 
--- a command with this status was run
+-- a command ran, and ended with this status
 abbrev pub IsRun : Run → ℕ → Type 0
 IsRun run status = Performs run.words run.names_bytes run.old run.new status
 
--- a command that was done stored or printed the text of its job
+-- a command stored or printed the text of its job's output
 abbrev pub IsDone : Run → Type 0
 IsDone run = (job : JobView) × (read : SourcesRead) × (text : List ℕ)
     × (Stores run job read text ⊎ Prints run job read text)
 
--- a command that wasn't done stored nothing, or may have stored the text of its job
+-- a command stored nothing, or it may have stored the text of its job's output
 abbrev pub IsUndone : Run → Type 0
 IsUndone run = StoresNothing run
     ⊎ ((job : JobView) × (read : SourcesRead) × (text : List ℕ) × MayStore run job read text)
 
--- ---- what it knows
+-- ---- what a command knows
 
--- knowledge of one file
+-- the knowledge of this file, with no horizon
 abbrev pub of_file : List (List ℕ) → Known
 of_file file = record { files = file ∷ []; horizon = 0 }
 
--- knowledge of no file, under a horizon
+-- the knowledge of no files, under this horizon
 abbrev pub of_horizon : ℕ → Known
 of_horizon day = record { files = []; horizon = day }
 
--- a text is the text of the summary of what is known: of files, under a horizon
+-- this is the text of the summary of the known files under the known horizon
 pub record IsKnownText (format : Format) (known : Known) (text : List ℕ) : Type 0 where
   pub good : IsGoodKnown format known
   pub is : IsMessageOf format known text
 
--- a source held the text of the summary of what is known
+-- a source held the text of the summary of the known files under the known horizon
 abbrev pub HoldsKnown : Format → Bytes → Known → Type 0
 HoldsKnown format bytes known =
     (text : List ℕ) × (bytes ≡ Some text) × IsKnownText format known text
 
--- what a command knows, from what its sources held. These are the files and the horizon of the
--- states that it read, the file that it took or printed, and the horizon that it set
+-- a command has this knowledge, given what its sources held. It knows the files and the horizons of the states that it read, the file that it took or printed,
+-- and the horizon that it set
 abbrev pub Knows : TaskView → Bytes → Bytes → Known → Type 0
 Knows new_task first second known = known ≡ nothing
 Knows check_task first second known = ⊥
@@ -144,8 +141,7 @@ Knows (horizon_task day) first second known =
     (own : Known) × HoldsKnown dks_2 first own × (known ≡ united own (of_horizon day))
 Knows migrate_task first second known = HoldsKnown dks_1 first known
 
--- the text is the docker of the summary of what is known, at a timing point for a day. The day
--- isn't refused
+-- this text is the docker of the summary of what is known, at this timing point for this day, and the horizon doesn't refuse the day
 pub record PrintsKnown (known : Known) (place : List ℕ) (day : ℕ) (text : List ℕ) : Type 0 where
   pub good : IsGoodKnown dks_2 known
   pub allowed : ¬ IsDayRefused known.horizon day
@@ -153,7 +149,7 @@ pub record PrintsKnown (known : Known) (place : List ℕ) (day : ℕ) (text : Li
   pub is : IsStateOf known state
   pub docker : IsDockerText (live_table state) place day text
 
--- a command that knows this wrote this text: the text of the summary, or its docker, or its ledger
+-- a command that knows this may write this text: the text of the summary, a docker of it, or the list of its files
 abbrev pub WritesKnown : TaskView → Known → List ℕ → Type 0
 WritesKnown new_task known text = IsKnownText dks_2 known text
 WritesKnown check_task known text = ⊤
@@ -168,10 +164,9 @@ WritesKnown migrate_task known text = IsKnownText dks_2 known text
 
 -- ---- versions of STATE files
 
--- how a version of a STATE file was made. Earlier versions, of any office, have their numbers in
--- the list, from 0. A command made it: `new`; `take` of a file's text; `merge` of another version;
--- `horizon`; or `migrate` of an older text, which knows this. Or a state was read from a version
--- and kept, as a desk keeps it, and was saved after it gained this
+-- how a version of a STATE file was made. Earlier versions, of any office, have numbers, which count from 0. A command made the version: `new`; `take` of a
+-- file; `merge` with another version; `horizon`; or `migrate` of a text in the older format that has this knowledge. Or a desk saved it, after its state was
+-- read from a version and gained these things
 pub data Origin : Type 0 where
   begun : Origin
   taken : (own : ℕ) (file : List (List ℕ)) → Origin
@@ -180,12 +175,12 @@ pub data Origin : Type 0 where
   migrated : (known : Known) → Origin
   saved : (own : ℕ) (gains : List Gain) → Origin
 
--- a version of a STATE file: its text, and how it was made
+-- a version of a STATE file, and how it was made
 pub record Version : Type 0 where
   pub text : List ℕ
   pub origin : Origin
 
--- a command with this task stored this text or may have, and this holds of what its sources held
+-- a command with this task stored this text, or may have stored it, and what its sources held has this property
 pub record ByCommand (task : TaskView) (Held : Bytes → Bytes → Type 0) (text : List ℕ)
     : Type 0 where
   pub run : Run
@@ -195,7 +190,7 @@ pub record ByCommand (task : TaskView) (Held : Bytes → Bytes → Type 0) (text
   pub task_is : job.task ≡ task
   pub held : Held read.first read.second
 
--- a version with this text was made in this way from earlier ones, which have these texts
+-- a version with this text was made in this way. These are the texts of the versions before it
 abbrev pub IsMade : List (List ℕ) → Origin → List ℕ → Type 0
 IsMade earlier begun text = ByCommand new_task (λ first second. ⊤) text
 IsMade earlier (taken own file) text = ByCommand take_task
@@ -208,29 +203,29 @@ IsMade earlier (migrated known) text =
     ByCommand migrate_task (λ first second. HoldsKnown dks_1 first known) text
 IsMade earlier (saved own gains) text = IsSaved earlier own gains text
 
--- each version was made from earlier ones, after these texts
+-- each of these versions was made from versions before it. These are the texts of the versions that precede the list
 abbrev pub AreMade : List (List ℕ) → List Version → Type 0
 AreMade earlier [] = ⊤
 AreMade earlier (version ∷ versions) = IsMade earlier version.origin version.text
     × AreMade (earlier ++ version.text ∷ []) versions
 
--- what an earlier version knows
+-- what the earlier version with this number knows
 abbrev pub known_at : List Known → ℕ → Known
 known_at earlier number = slice_index_or earlier number nothing
 
--- what is known once this was gained, from what earlier versions know
+-- what is known after this was gained, given what the earlier versions know
 abbrev pub known_with : List Known → Known → Gain → Known
 known_with earlier known (file_gained file) = united known (of_file file)
 known_with earlier known (version_gained number) = united known (known_at earlier number)
 known_with earlier known (horizon_gained day) = united known (of_horizon day)
 
--- what is known once these were gained
+-- what is known after these things were gained in turn
 abbrev pub known_once : List Known → Known → List Gain → Known
 known_once earlier known [] = known
 known_once earlier known (gain ∷ gains) =
     known_once earlier (known_with earlier known gain) gains
 
--- what a version knows, from how it was made and from what earlier ones know
+-- what a version knows, given how it was made and what the earlier versions know
 abbrev pub known_by : List Known → Origin → Known
 known_by earlier begun = nothing
 known_by earlier (taken own file) = united (known_at earlier own) (of_file file)
@@ -239,24 +234,24 @@ known_by earlier (raised own day) = united (known_at earlier own) (of_horizon da
 known_by earlier (migrated known) = known
 known_by earlier (saved own gains) = known_once earlier (known_at earlier own) gains
 
--- what each version knows, after these earlier ones
+-- what each version knows, in order: first these earlier versions, then the versions of the list
 abbrev pub known_after : List Known → List Version → List Known
 known_after earlier [] = earlier
 known_after earlier (version ∷ versions) =
     known_after (earlier ++ known_by earlier version.origin ∷ []) versions
 
--- the list of all versions of all offices' STATE files, in the order in which they were made. Own
--- and other versions are read by their numbers, so an older copy may be put back, or sent
+-- this is a list of all versions of all offices' STATE files, in the order in which they were made. A version may be made from any earlier version, because an
+-- older copy may be put back or sent
 abbrev pub AreVersions : List Version → Type 0
 AreVersions versions = AreMade [] versions
 
--- the version of this number, from 0, has this text and knows this
+-- the version with this number, counted from 0, has this text and this knowledge
 pub record IsVersion (versions : List Version) (number : ℕ) (text : List ℕ)
     (known : Known) : Type 0 where
   pub there : number < length versions
   pub text_is : text ≡ slice_index_or (map (λ (version : Version). version.text) versions) number []
   pub known_is : known ≡ known_at (known_after [] versions) number
 
--- the job of printing a docker at this timing point for this day, with the words that name it
+-- the job of printing the docker at this timing point for this day, named by these words
 abbrev pub printing : (place : List ℕ) (day : ℕ) (words : List Text) → JobView
 printing place day words = record { task = print_task place day; words = words }

@@ -1,4 +1,4 @@
--- What a command leaves on a shelf, whose texts are known.
+-- What commands leave on a shelf, a folder in memory whose texts are known.
 use Rattle.std.specs.Prelude.{◌≡◌, List, [], ◌∷◌, ℕ, Some, codes}
 use Rattle.docker_model.specs.file.File.{most_records}
 use Rattle.docker_model.specs.file.FileFault.{IsFileText}
@@ -8,22 +8,20 @@ use Rattle.docker_cmd.specs.Prepared.{ReadsFewOfState}
 use Rattle.docker_host.specs.History.{Event, Text, closed, drafted, looked, opened, placed}
 use Rattle.docker_program.specs.Commands.{IsKnownText, of_file}
 
--- the names of a STATE file and of an extract
+-- the names of the STATE file and of the extract on the shelf
 abbrev pub state_name : Text
 state_name = codes "STATE"
 
 abbrev pub file_name : Text
 file_name = codes "FILE"
 
--- a shelf on which these two texts were put
+-- the history of a shelf on which these two texts were put
 abbrev pub both_put : (state extract : List ℕ) → List Event
 both_put state extract = placed state_name (Some state) ∷ placed file_name (Some extract) ∷ []
 
--- on a shelf these two texts were put, and then `take` was run. It looked at STATE, and opened it
--- and the extract, each of which held what was put there. It read STATE no further than the result
--- needs, and the extract to its end. Then it stored a text by a draft from that look, the third
--- event. If STATE had the text of the summary of some files, this is the text of the summary of
--- these and the extract
+-- these are the events of a shelf on which both texts were put and `take` was then run. `take` looked at STATE. It opened STATE and the extract, which held
+-- what was put there. It read STATE no further than the result needs, and the extract to its end. Then it stored a text by a draft from its look, which is
+-- event 2, counted from 0. If STATE held the text of the summary of some files, the stored text is the text of the summary of these files and the extract
 pub record IsTaken (state extract : List ℕ) (events : List Event) : Type 0 where
   pub text : List ℕ
   pub left : List ℕ

@@ -1,4 +1,4 @@
--- What the words of a job name: the sources that it reads, and the file that it writes.
+-- What the words of a job name: the sources that the job reads, and the file that it writes.
 use Rattle.std.specs.Prelude.{Bool, List, [], ◌∷◌, Option, Some, None, codes, if◌then◌else◌}
 use Rattle.std.specs.Str.{bytes_eq}
 use Rattle.docker_cmd.specs.Words.{Text}
@@ -10,8 +10,7 @@ use Rattle.docker_cmd.specs.Writes.{Output, counts_written, docker_written, file
 use Rattle.docker_program.specs.declared.names.SourceNames as declared
 use Rattle.docker_program.specs.declared.names.SourceNames.TheVariants as code
 
--- the sources of a job, in the order of its words: none, standard input, a file, a file and then
--- standard input, a file and then another
+-- the sources of a job, in the order of its words. Standard input may be the only source, or follow a file
 pub data SourceNames : Type 0 where
   no_source : SourceNames
   standard_input : SourceNames
@@ -19,7 +18,7 @@ pub data SourceNames : Type 0 where
   file_and_input : (name : Text) → SourceNames
   two_files : (name other : Text) → SourceNames
 
--- the names of the code's type, as the definitions name them
+-- the definitions' names for the sources that the code names
 abbrev pub names_meant : declared.SourceNames → SourceNames
 names_meant code.None = no_source
 names_meant code.Stdin = standard_input
@@ -27,15 +26,15 @@ names_meant (code.File name) = one_file name.now
 names_meant (code.FileAndStdin name) = file_and_input name.now
 names_meant (code.Files name other) = two_files name.now other.now
 
--- the word is the name of standard input
+-- whether this word is `stdin`, the name of standard input
 abbrev pub is_stdin : Text → Bool
 is_stdin word = bytes_eq word (codes "stdin")
 
--- the source of a word that may name standard input
+-- the source that a word names: standard input if the word is `stdin`, and otherwise a file
 abbrev pub file_or_input : Text → SourceNames
 file_or_input word = if is_stdin word then standard_input else one_file word
 
--- the sources of a file's name and a second word that may name standard input
+-- two sources: the file with this name, and whatever the second word names. `stdin` as the second word names standard input
 abbrev pub file_and_word : Text → Text → SourceNames
 file_and_word name word = if is_stdin word then file_and_input name else two_files name word
 
@@ -49,15 +48,14 @@ abbrev pub second_word : List Text → Text
 second_word [] = []
 second_word (word ∷ words) = first_word words
 
--- the source of the only word that names one. If the job writes a state, the word is the name of
--- STATE, and names a file even if it is `stdin`
+-- the source that the only word for a source names. If the job writes a state, the word is the name of STATE, and names a file even if it is `stdin`
 abbrev pub only_source : Output → Text → SourceNames
 only_source counts_written word = file_or_input word
 only_source (docker_written place day) word = file_or_input word
 only_source files_written word = file_or_input word
 only_source state_written word = one_file word
 
--- the sources that the words of a job name, by what it reads and writes
+-- the sources that these words name for a job that has these inputs and this output
 abbrev pub sources_named : Sources → Output → List Text → SourceNames
 sources_named reads.no_source output words = no_source
 sources_named reads.checked_file output words = only_source output (first_word words)
@@ -68,18 +66,17 @@ sources_named reads.state_and_file output words =
 sources_named reads.two_states output words =
     file_and_word (first_word words) (second_word words)
 
--- the sources that the words of a job name
+-- the sources that the words of this job name
 abbrev pub names_of : JobView → SourceNames
 names_of job = sources_named (sources_of job.task) (output_of job.task) job.words
 
--- the file that these words name for what is written: a state is stored in the first word's file,
--- and anything else is printed
+-- the name of the file that is written: the first word if the output is a state; None if the output is printed
 abbrev pub file_stored : Output → List Text → Option Text
 file_stored counts_written words = None
 file_stored (docker_written place day) words = None
 file_stored files_written words = None
 file_stored state_written words = Some (first_word words)
 
--- the file in which a job stores what it writes, if it does
+-- the name of the file that this job writes; None if the job prints
 abbrev pub stored_by : JobView → Option Text
 stored_by job = file_stored (output_of job.task) job.words

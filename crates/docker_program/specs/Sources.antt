@@ -12,21 +12,20 @@ use Rattle.docker_cmd.specs.Words.{Text}
 use Rattle.docker_program.specs.SourceNames.{SourceNames, no_source, standard_input, one_file, file_and_input, two_files, names_of}
 use Rattle.docker_host.specs.declared.folder.OpenFault.{OpenFault}
 
--- the two sources of a job: what each held before anything was read, and what is left of it. A file
--- held what it held when it was opened, and what was left of it when it was closed is left
+-- the bytes of a job's two sources: what each held before it was read, and what is left of it. For a file, these are the bytes at its opening and at its
+-- closing
 pub record SourcesRead : Type 0 where
   pub first : Bytes
   pub first_left : Bytes
   pub second : Bytes
   pub second_left : Bytes
 
--- a history with a look at the file of this name, if there is a name
+-- the history after a look at the file with this name; unchanged if there is no name
 abbrev pub with_look_at : Option Text → List Event → List Event
 with_look_at None history = history
 with_look_at (Some name) history = history ++ looked name ∷ []
 
--- a history with the files of these names: all were opened, each once, in the order of the words,
--- and then all were closed in this order. The first is the first source, and the second the second
+-- the history after the files among these sources were read. All were opened, each once, in the order of the words; then all were closed in this order
 abbrev pub with_files_read : SourceNames → SourcesRead → List Event → List Event
 with_files_read no_source read history = history
 with_files_read standard_input read history = history
@@ -38,8 +37,8 @@ with_files_read (two_files name other) read history =
     history ++ opened name read.first ∷ opened other read.second
     ∷ closed read.first_left ∷ closed read.second_left ∷ []
 
--- the sources that aren't files: one is standard input, which held `rest` and has `left` now, or
--- there is none, and it holds nothing. Standard input that is no source is as it was
+-- says what the sources held that aren't files. If standard input is a source, it held `rest` and has `left` now; otherwise it is unchanged. A source that the
+-- job doesn't have counts as empty
 abbrev pub AreOthers : SourceNames → SourcesRead → (rest left : Bytes) → Type 0
 AreOthers no_source read rest left =
     (read.first ≡ Some []) × (read.second ≡ Some []) × (left ≡ rest)
@@ -50,8 +49,8 @@ AreOthers (file_and_input name) read rest left =
     (read.second ≡ rest) × (read.second_left ≡ left)
 AreOthers (two_files name other) read rest left = left ≡ rest
 
--- a file of these names wasn't opened: the first, or the second after the first was opened, which
--- is then closed with all that it held. The history is what it was before, and then this
+-- a file among these sources couldn't be opened. If it is the second, the first was opened before it, and was then closed unread. Nothing else was added to the
+-- history
 abbrev pub FailsToOpen : SourceNames → (before now : List Event) → Type 0
 FailsToOpen no_source before now = ⊥
 FailsToOpen standard_input before now = ⊥
@@ -60,25 +59,24 @@ FailsToOpen (file_and_input name) before now = now ≡ before ++ unopened name �
 FailsToOpen (two_files name other) before now = (now ≡ before ++ unopened name ∷ [])
     ⊎ ((bytes : Bytes) × (now ≡ before ++ opened name bytes ∷ unopened other ∷ closed bytes ∷ []))
 
--- what was asked of the folder and of standard input while the sources of a job were opened and
--- read. These are the history before and now, and what standard input held and has left
+-- what happened while a job's sources were opened and read: the folder's history before and now, and what standard input held and has left
 pub record Asking : Type 0 where
   pub before : List Event
   pub now : List Event
   pub rest : Bytes
   pub left : Bytes
 
--- the same, from its parts
+-- makes a value of `Asking` from its parts
 abbrev pub asking : (before now : List Event) (rest left : Bytes) → Asking
 asking before now rest left = record { before = before; now = now; rest = rest; left = left }
 
--- a file that the job reads wasn't opened, and nothing was read
+-- a file that the job reads couldn't be opened, and nothing was read
 pub record IsNotOpened (asked : Asking) (job : JobView) : Type 0 where
   pub fails : FailsToOpen (names_of job) asked.before asked.now
   pub unread : asked.left ≡ asked.rest
 
--- all files that a job reads were opened, and closed once the sources were read. Nothing else was
--- asked of the folder. Each source was read no further than the result needs
+-- all files that the job reads were opened, and closed after the sources were read. Nothing else was asked of the folder. Each source was read no further than
+-- the result needs
 pub record IsOpened (asked : Asking) (job : JobView) : Type 0 where
   pub read : SourcesRead
   pub history : asked.now ≡ with_files_read (names_of job) read asked.before
@@ -86,30 +84,30 @@ pub record IsOpened (asked : Asking) (job : JobView) : Type 0 where
   pub first_few : ReadsFewOfFirst (sources_of job.task) read.first read.first_left
   pub second_few : ReadsFewOfSecond (sources_of job.task) read.first read.second read.second_left
 
--- the fault is the fault of a source of the job that should have held a file
+-- this is the fault of a file that a source of the job should have held
 abbrev pub RefusesFile : FileFault → Asking → JobView → Type 0
 RefusesFile fault asked job = (opened : IsOpened asked job)
     × RefusesFileOf (sources_of job.task) opened.read.first opened.read.second fault
 
--- the fault is the fault of a source of the job that should have held a state
+-- this is the fault of a state that a source of the job should have held
 abbrev pub RefusesState : StateFault → Asking → JobView → Type 0
 RefusesState fault asked job = (opened : IsOpened asked job)
     × RefusesStateOf (sources_of job.task) opened.read.first opened.read.second fault
 
--- memory ran out for what the sources of the job held
+-- memory ran out while the sources of the job were read
 abbrev pub WantsForSources : Asking → JobView → Type 0
 WantsForSources asked job = (opened : IsOpened asked job)
     × WantsFor (sources_of job.task) opened.read.first opened.read.first_left
     opened.read.second opened.read.second_left
 
--- the job read its sources whole, and this is what it read
+-- the job read its sources whole, and became this prepared job
 pub record IsPrepared (asked : Asking) (job : JobView) (prepared : PreparedView) : Type 0 where
   pub opened : IsOpened asked job
   pub job_is : prepared.job ≡ job
   pub read : IsReadOf job.task opened.read.first opened.read.second prepared.read
   pub to_end : HasReadToEnd (sources_of job.task) opened.read.first_left opened.read.second_left
 
--- what each result of opening and reading a job's sources means
+-- says what holds after the sources of a job were opened and read with this result
 abbrev pub ReadsNamed : Asking → JobView → Result PreparedView OfficeFault → Type 0
 ReadsNamed asked job (Ok prepared) = IsPrepared asked job prepared
 ReadsNamed asked job (Err (office.File fault)) = RefusesFile fault asked job
@@ -119,7 +117,7 @@ ReadsNamed asked job (Err office.Memory) = IsNotOpened asked job ⊎ WantsForSou
 ReadsNamed asked job (Err office.Lapsed) = ⊥
 ReadsNamed asked job (Err office.Sink) = ⊥
 
--- a file of these names wasn't opened, as the result says, and nothing was read
+-- a file among these sources couldn't be opened, the result says why, and nothing was read
 pub record AreNotOpened (names : SourceNames) (asked : Asking)
     (result : Result PreparedView OfficeFault) : Type 0 where
   pub cause : OpenFault
@@ -127,8 +125,7 @@ pub record AreNotOpened (names : SourceNames) (asked : Asking)
   pub fails : FailsToOpen names asked.before asked.now
   pub unread : asked.left ≡ asked.rest
 
--- the files of these names were opened, and closed once the sources of a job were read, with this
--- result
+-- the files among these sources were opened, and closed after the sources of the job were read with this result
 pub record AreRead (names : SourceNames) (asked : Asking) (job : JobView)
     (result : Result PreparedView OfficeFault) : Type 0 where
   pub read : SourcesRead
@@ -136,7 +133,7 @@ pub record AreRead (names : SourceNames) (asked : Asking) (job : JobView)
   pub others : AreOthers names read asked.rest asked.left
   pub reads : ReadsInOrder job read.first read.first_left read.second read.second_left result
 
--- how opening and reading the sources of these names ends: a file wasn't opened, or all files were,
--- and were closed once the sources were read
+-- opening and reading these sources ended with this result. Either a file couldn't be opened; or all files were opened, and were closed after the sources were
+-- read
 abbrev pub ReadsBy : SourceNames → Asking → JobView → Result PreparedView OfficeFault → Type 0
 ReadsBy names asked job result = AreNotOpened names asked result ⊎ AreRead names asked job result

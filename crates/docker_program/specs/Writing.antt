@@ -1,4 +1,4 @@
--- What a job writes once it has read its sources: on the output, or in a file by a draft.
+-- How a job writes its output: to the output device, or to a file by a draft. A draft is a new text that takes the file's place once it is whole.
 use Rattle.std.specs.Prelude.{◌≡◌, ◌⊎◌, ℕ, Bool, List, Option, Some, None, Result, Ok, Err, ⊤}
 use Rattle.docker_host.specs.Asked.{IsDropped, IsStored, IsUndrafted, IsUnplaced}
 use Rattle.docker_host.specs.History.{Bytes, Event}
@@ -8,26 +8,25 @@ use Rattle.docker_cmd.specs.Prepared.{PreparedView, GainsOutput, GainsPart, IsOu
 use Rattle.docker_cmd.specs.Words.{Text}
 use Rattle.docker_program.specs.SourceNames.{stored_by}
 
--- where a job writes: the output, with what it took before and now, and the folder, with its
--- history before and now
+-- where a job writes: what the output device had taken and has now taken, and the folder's history before and now
 pub record Written : Type 0 where
   pub output : Bytes
   pub output_now : Bytes
   pub before : List Event
   pub now : List Event
 
--- the same, from its parts
+-- makes a value of `Written` from its parts
 abbrev pub written : (output output_now : Bytes) (before now : List Event) → Written
 written output output_now before now =
     record { output = output; output_now = output_now; before = before; now = now }
 
--- how a file is written anew: from which look its draft is made, counted from 0 among the events,
--- and whether the folder names the bytes that its drafts take
+-- how a file is replaced. The draft is made from the look with this number, counted from 0 among the events. `names_bytes` says whether the folder names the
+-- bytes of its drafts
 pub record Drafting : Type 0 where
   pub look : ℕ
   pub names_bytes : Bool
 
--- the same, from its parts
+-- makes a value of `Drafting` from its parts
 abbrev pub drafting : ℕ → Bool → Drafting
 drafting look names_bytes = record { look = look; names_bytes = names_bytes }
 
@@ -35,24 +34,22 @@ drafting look names_bytes = record { look = look; names_bytes = names_bytes }
 abbrev pub IsUnwritten : Written → Type 0
 IsUnwritten written = (written.output_now ≡ written.output) × (written.now ≡ written.before)
 
--- a draft of what the job writes took the place of the file of this name
+-- a draft of the job's output took the place of the file with this name
 pub record StoresOutput (by : Drafting) (written : Written) (prepared : PreparedView)
     (name : Text) : Type 0 where
   pub text : List ℕ
   pub is : IsOutputText (output_of prepared.job.task) prepared.read text
   pub history : IsStored by.names_bytes name by.look text written.before written.now
 
--- a draft of what the job writes failed to take the place of the file of this name, which holds
--- that or what it held before
+-- a draft of the job's output failed to take the place of the file with this name. The file holds that output or what it held before
 pub record MayStoreOutput (by : Drafting) (written : Written) (prepared : PreparedView)
     (name : Text) : Type 0 where
   pub text : List ℕ
   pub is : IsOutputText (output_of prepared.job.task) prepared.read text
   pub history : IsUnplaced by.names_bytes name by.look text written.before written.now
 
--- the output gained what a job writes, which is no docker of a day that is refused. Or the job
--- writes a file, and a draft of it took the file's place. Where the job doesn't write, all is as it
--- was
+-- the job's output was written whole. If the job prints, the output device gained it; it isn't a docker of a day that the horizon refuses. If the job writes a
+-- file, a draft of it took the file's place. Nothing else changed
 abbrev pub WritesTo : Option Text → Drafting → Written → PreparedView → Type 0
 WritesTo None by written prepared =
     GainsOutput prepared written.output written.output_now × (¬ IsRefused prepared)
@@ -60,9 +57,8 @@ WritesTo None by written prepared =
 WritesTo (Some name) by written prepared =
     StoresOutput by written prepared name × (written.output_now ≡ written.output)
 
--- the output gained a proper prefix of what a job writes. Or the job writes a file, and no draft
--- was made, or it was given up, or it failed to take the file's place. Where the job doesn't write,
--- all is as it was
+-- the job's output wasn't written whole, because a device failed. If the job prints, the output device gained a proper prefix of it. If the job writes a file,
+-- no draft was made, or the draft was given up, or it failed to take the file's place. Nothing else changed
 abbrev pub WritesPartTo : Option Text → Drafting → Written → PreparedView → Type 0
 WritesPartTo None by written prepared =
     GainsPart prepared written.output written.output_now × (written.now ≡ written.before)
@@ -71,30 +67,29 @@ WritesPartTo (Some name) by written prepared =
     ⊎ IsDropped name by.look written.before written.now
     ⊎ MayStoreOutput by written prepared name) × (written.output_now ≡ written.output)
 
--- memory ran out before anything was written: for a docker; or, if the job writes a file, no draft
--- was made
+-- memory ran out before anything was written: for a docker if the job prints, or for a draft, which then wasn't made, if the job writes a file
 abbrev pub WantsToWriteTo : Option Text → Drafting → Written → PreparedView → Type 0
 WantsToWriteTo None by written prepared = PrintsDocker prepared × (written.now ≡ written.before)
 WantsToWriteTo (Some name) by written prepared =
     IsUndrafted name by.look written.before written.now
 
--- what the job writes is written where the job writes
+-- the job's output was written whole to where this job writes
 abbrev pub Writes : Drafting → Written → PreparedView → Type 0
 Writes by written prepared = WritesTo (stored_by prepared.job) by written prepared
 
--- what the job writes is written there in part
+-- the job's output wasn't written whole to where this job writes, because a device failed
 abbrev pub WritesPart : Drafting → Written → PreparedView → Type 0
 WritesPart by written prepared = WritesPartTo (stored_by prepared.job) by written prepared
 
--- memory ran out before anything was written there
+-- memory ran out before anything was written to where this job writes
 abbrev pub WantsToWrite : Drafting → Written → PreparedView → Type 0
 WantsToWrite by written prepared = WantsToWriteTo (stored_by prepared.job) by written prepared
 
--- the job would print a docker of a day that is refused, and wrote nothing
+-- the job would print a docker of a day that the horizon refuses, and nothing was asked of the folder
 abbrev pub RefusesDay : Written → PreparedView → Type 0
 RefusesDay written prepared = IsRefused prepared × (written.now ≡ written.before)
 
--- what each result of writing a job's output means
+-- says what holds after writing the job's output ended with this result
 abbrev pub EndsWriting : Drafting → Written → PreparedView → Result ⊤ OfficeFault → Type 0
 EndsWriting by written prepared (Ok done) = Writes by written prepared
 EndsWriting by written prepared (Err office.Sink) = WritesPart by written prepared

@@ -12,13 +12,14 @@ use std::env;
 use std::io::ErrorKind;
 use std::process::ExitCode;
 
-/// Runs the program with its words, standard input, output and error, and returns its exit status.
+/// Runs the program with the words, the standard streams and the files that the system gives it.
+/// Returns its exit status.
 pub fn run(rt: &HostRuntime) -> ExitCode {
     let _standard = hold_standard(rt);
     ExitCode::from(run_own_words(rt))
 }
 
-/// Runs the program with these words instead of its own.
+/// Runs the program with these words instead of the words that the system gives it.
 pub fn run_words(rt: &HostRuntime, words: &[&str]) -> u8
     ensures usage { IsUsageStatus (texts words.now) result }
     ensures status { result ≤ 4 }
@@ -26,7 +27,7 @@ pub fn run_words(rt: &HostRuntime, words: &[&str]) -> u8
     perform(rt.alloc(), words, &mut real_host(rt))
 }
 
-/// The real devices: standard input, output and error, and the real files.
+/// The real devices: the standard streams and the real files.
 fn real_host(rt: &HostRuntime) -> Host<InputDevice, RealFolder, OutputDevice, OutputDevice>
     ensures { AreFew result }
 {
@@ -38,7 +39,7 @@ fn real_host(rt: &HostRuntime) -> Host<InputDevice, RealFolder, OutputDevice, Ou
     }
 }
 
-/// Does what the program's own words ask for, and reports a fault if it can't get them.
+/// Runs the program with the words that the system gives it. Reports a fault if they can't be read.
 fn run_own_words(rt: &HostRuntime) -> u8 {
     match own_words(rt).and_then(|words| run_strings(rt, words.as_slice())) {
         Ok(status) => status,
@@ -46,14 +47,15 @@ fn run_own_words(rt: &HostRuntime) -> u8 {
     }
 }
 
-/// Runs the program with these words. Returns `Memory` if there is no room to pass them on.
+/// Runs the program with these words. Fails with `Memory` if there is no memory for the list of
+/// borrowed words.
 fn run_strings(rt: &HostRuntime, words: &[String]) -> Result<u8, JobFault> {
     let words: Vec<&str> = words.iter().map(|word| word.as_str()).collect(rt.alloc())?;
     Ok(run_words(rt, words.as_slice()))
 }
 
-/// The words after the program's name. `Usage` if a word is no text, and `Memory` if there is no
-/// room for the words.
+/// The words after the program's name. Fails with `Usage` if a word isn't valid UTF-8, and with
+/// `Memory` if there is no memory for the words.
 pub fn own_words(rt: &HostRuntime) -> Result<Vec<String>, JobFault> {
     let all = match env::args(rt) {
         Ok(all) => all,

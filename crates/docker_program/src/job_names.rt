@@ -1,4 +1,4 @@
-//! What the words of a job name.
+//! Finds what the words of a job name: its sources, and the file that it writes.
 ghost use Rattle.std.specs.Prelude.{◌≡◌, option_map};
 ghost use Rattle.docker_cmd.specs.Writes.{output_meant};
 ghost use Rattle.docker_program.specs.SourceNames.{file_and_word, file_or_input, first_word, names_meant, names_of, only_source, second_word, stored_by};
@@ -6,7 +6,7 @@ ghost use Rattle.docker_program.specs.SourceNames.{file_and_word, file_or_input,
 use crate::names::{STDIN, SourceNames};
 use docker_cmd::{Job, Output, Sources};
 
-/// The sources of a job, by what its task reads and writes.
+/// The sources that the words of a job name.
 pub(crate) fn names(job: &Job) -> SourceNames<'_>
     ensures { names_meant result ≡ names_of job.now }
 {
@@ -21,7 +21,7 @@ pub(crate) fn names(job: &Job) -> SourceNames<'_>
     }
 }
 
-/// The name of the file that a job writes, if it writes one.
+/// The name of the file that the job writes; `None` if the job prints.
 pub(crate) fn stored_name(job: &Job) -> Option<&str>
     ensures { option_map (λ name. name.now) result ≡ stored_by job.now }
 {
@@ -31,8 +31,8 @@ pub(crate) fn stored_name(job: &Job) -> Option<&str>
     }
 }
 
-/// The source of the only word that names one. If the job writes a state, the word is the name of
-/// STATE: a file, whatever its name.
+/// The source that the only word for a source names. If the job writes a state, the word is the
+/// name of STATE, and names a file even if it is `stdin`.
 fn only_source(output: Output, word: &str) -> SourceNames<'_>
     ensures { names_meant result ≡ only_source (output_meant output) word.now }
 {
@@ -42,7 +42,7 @@ fn only_source(output: Output, word: &str) -> SourceNames<'_>
     }
 }
 
-/// The source of a word that may name standard input.
+/// The source that a word names: standard input if the word is `stdin`, and otherwise a file.
 fn file_or_input(word: &str) -> SourceNames<'_>
     ensures { names_meant result ≡ file_or_input word.now }
 {
@@ -52,7 +52,8 @@ fn file_or_input(word: &str) -> SourceNames<'_>
     SourceNames::File(word)
 }
 
-/// The sources of a file's name and a second word that may name standard input.
+/// Two sources: the file with the first name, and whatever the second word names. `stdin` as the
+/// second word names standard input.
 fn file_and_word<'a>(name: &'a str, word: &'a str) -> SourceNames<'a>
     ensures { names_meant result ≡ file_and_word name.now word.now }
 {

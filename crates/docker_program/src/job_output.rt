@@ -1,4 +1,4 @@
-//! Where a job writes.
+//! Writes the output of a job, to the output or to a file.
 ghost use Rattle.std.specs.Prelude.{◌≡◌, ◌+◌, ◌-◌, ◌^◌, ◌<◌, ℕ, IfSome, Some, option_map};
 ghost use Rattle.docker_cmd.specs.FaultLine.{IsCounted, result_status};
 ghost use Rattle.docker_program.specs.SourceNames.{stored_by};
@@ -9,8 +9,8 @@ use cif_line::Sink;
 use docker_cmd::{OfficeFault, Prepared, emit};
 use docker_host::Folder;
 
-/// Writes what a job has read: to the file that was looked at for it or, if it writes no file, to
-/// the output.
+/// Writes the output of a job: to the file that was looked at, or to `output` if the job writes no
+/// file.
 pub(crate) fn write_output<D: Folder, K: Sink>(
     looked: Option<Looked<'_, D::Seen>>,
     prepared: &Prepared<'_>,
@@ -34,7 +34,8 @@ pub(crate) fn write_output<D: Folder, K: Sink>(
     }
 }
 
-/// Writes what a job has read to the file that was looked at.
+/// Writes the output of a job to the file that was looked at. The new text is a draft until it is
+/// whole; then it takes the file's place.
 fn write_file<D: Folder>(
     prepared: &Prepared<'_>,
     looked: Looked<'_, D::Seen>,

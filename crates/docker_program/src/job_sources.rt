@@ -1,4 +1,4 @@
-//! The sources that a job reads.
+//! Opens, reads and closes the sources of a job.
 ghost use Rattle.std.specs.Prelude.{◌≡◌, ◌+◌, ◌-◌, ◌^◌, ◌<◌, OnOk};
 ghost use Rattle.docker_cmd.specs.FaultLine.{IsCounted, result_status};
 ghost use Rattle.docker_host.specs.History.{Bytes as HeldBytes};
@@ -12,8 +12,9 @@ use docker_cmd::{Job, OfficeFault, Prepared, prepare};
 use docker_host::Folder;
 use std::alloc::Global;
 
-/// Opens the files that a job reads, each once, in the order of its words. Then reads its sources,
-/// of which one may be what is left of standard input, and closes the files in the same order.
+/// Opens the files that a job reads, each once, in the order of its words. Then reads the job's
+/// sources, and closes the files in the order in which they were opened. One source may be what is
+/// left of standard input.
 pub(crate) fn read_sources<'a, S: Source, D: Folder>(
     alloc: Global,
     job: &'a Job,
@@ -39,7 +40,7 @@ pub(crate) fn read_sources<'a, S: Source, D: Folder>(
     }
 }
 
-/// Opens the file of this name, reads it and the second source, and closes it.
+/// Opens the file with this name, reads this file and the second source, and closes the file.
 fn read_file<'a, T: Source, D: Folder>(
     alloc: Global,
     job: &'a Job,
@@ -66,7 +67,7 @@ fn read_file<'a, T: Source, D: Folder>(
     prepared
 }
 
-/// Opens the files of these names, one after the other, reads them, and closes them in this order.
+/// Opens the files with these two names in this order, reads both, and closes them in this order.
 fn read_files<'a, D: Folder>(
     alloc: Global,
     job: &'a Job,

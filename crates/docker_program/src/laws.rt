@@ -1,5 +1,5 @@
-//! What holds of each command, and of each list of versions that commands made. Each law is the
-//! contract of a function that does nothing, so it holds for every value that it names.
+//! Laws that hold for each command, and for each list of versions of STATE files. Each law is the
+//! contract of a function that does nothing, and holds for all values that its clauses name.
 ghost use Rattle.std.specs.Prelude.{◌≡◌, ◌≢◌, ℕ, List, Some};
 ghost use Rattle.docker_model.specs.state.StateText.{dks_2};
 ghost use Rattle.docker_model.specs.state.Summary.{HaveDistinctMoments};
@@ -12,18 +12,18 @@ ghost use Rattle.docker_cmd.specs.Words.{Text};
 ghost use Rattle.docker_program.specs.Commands.{AreVersions, IsDone, IsKnownText, IsRun, IsUndone, IsVersion, Knows, MayStore, Prints, PrintsKnown, Run, Stores, Version, WritesKnown, printing};
 ghost use Rattle.docker_program.specs.Sources.{SourcesRead};
 
-/// A command with status 0 has stored or printed what its job makes of what its sources held. With
-/// another status nothing is stored, or a draft of the whole text failed to take its file's place,
-/// which then holds that text or what it held before.
+/// A command with status 0 has stored or printed the output of its job, made from what its sources
+/// held. A command with another status has stored nothing, unless a draft of the whole text failed
+/// to take its file's place. Then the file holds that text or what it held before.
 pub fn commands_store_or_print()
     ensures done { (run : Run) → IsRun run 0 → IsDone run }
     ensures undone { (run : Run) (status : ℕ) → IsRun run status → status ≢ 0 → IsUndone run }
 {}
 
 /// Suppose that STATE held the text of the summary of some files under a horizon. Suppose also that
-/// what was taken or merged held a file, or the text of such a summary. Then a command stores the
-/// text of the summary of all these files, under the greatest horizon. What it prints is the
-/// docker, or the ledger, of that summary.
+/// the command took a file, or merged the text of such a summary. Then the command stores the text
+/// of the summary of all these files, under the greatest horizon. If the command prints, it prints
+/// the docker of that summary, or the list of its files.
 pub fn commands_keep_summaries()
     ensures stored { (run : Run) (job : JobView) (read : SourcesRead) (text : List ℕ)
         (known : Known) → Stores run job read text → Knows job.task read.first read.second known
@@ -36,10 +36,11 @@ pub fn commands_keep_summaries()
         → WritesKnown job.task known text }
 {}
 
-/// Each version of a STATE file is the text of the summary of what it knows. That follows from the
-/// list of versions, which says how each was made, and from which earlier ones of any office. So
-/// versions that know the same files under the same horizon are equal, byte for byte. Each docker
-/// that is printed from a version is the docker of the summary of what the version knows.
+/// Each version of a STATE file is the text of the summary of what it knows. What it knows follows
+/// from the list of versions, which says how each version was made, and from which earlier versions
+/// of any office. So versions that know the same files under the same horizon are equal, byte for
+/// byte. Each docker printed from a version is the docker of the summary of what that version
+/// knows.
 pub fn versions_are_summaries()
     ensures summary { (versions : List Version) (number : ℕ) (text : List ℕ) (known : Known)
         → AreVersions versions → IsVersion versions number text known
@@ -54,8 +55,9 @@ pub fn versions_are_summaries()
         → read.first ≡ Some version → PrintsKnown known place day text }
 {}
 
-/// Texts that know the same files under the same horizon are equal, byte for byte. Dockers of the
-/// same files are equal, for each timing point and each day that neither horizon refuses.
+/// Texts that know the same files under the same horizon are equal, byte for byte. Two offices that
+/// know the same files print equal dockers, for each timing point and each day that neither horizon
+/// refuses.
 pub fn known_files_fix_texts()
     ensures text { (one two : Known) (text other : List ℕ) → IsKnownText dks_2 one text
         → IsKnownText dks_2 two other → AreOneKnowledge one two → text ≡ other }
@@ -64,8 +66,8 @@ pub fn known_files_fix_texts()
         → HaveSameFiles one.files two.files → text ≡ other }
 {}
 
-/// If no two files that are known have the same moment, they have a plain table. Each docker that
-/// is printed then is the docker of this table.
+/// If no two of the known files have the same moment, these files have a plain table, and each
+/// docker that is printed is the docker of this table.
 pub fn dockers_are_of_the_plain_table()
     ensures { (known : Known) (place : List ℕ) (day : ℕ) (text : List ℕ)
         → PrintsKnown known place day text → HaveDistinctMoments known.files

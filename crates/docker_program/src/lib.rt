@@ -1,4 +1,5 @@
-//! The program: what it does with its words, on its devices.
+//! The program `docker` over any devices: it reads the words, does the job that they name, and
+//! reports how the job ended.
 #![tactic(auto)]
 
 mod fault_report;

@@ -1,4 +1,4 @@
-//! The look at the file that a job writes.
+//! Looks at the file that a job writes, before anything is read.
 ghost use Rattle.std.specs.Prelude.{◌≡◌, IfSome, length, option_map};
 ghost use Rattle.docker_program.specs.SourceNames.{stored_by};
 ghost use Rattle.docker_program.specs.Sources.{with_look_at};
@@ -7,16 +7,17 @@ use crate::job_names::stored_name;
 use docker_cmd::Job;
 use docker_host::Folder;
 
-/// A file that was looked at: its name, and what was seen under it.
+/// A file that was looked at.
 #[derive(Drop)]
 pub(crate) struct Looked<'a, T> {
-    /// The name.
+    /// The file's name.
     pub(crate) name: &'a str,
-    /// What was under it.
+    /// What the look saw under this name.
     pub(crate) seen: T,
 }
 
-/// Looks at the file that a job writes, if it writes one, before anything is read.
+/// Looks at the file that the job writes, before anything is read. Returns `None`, and looks at
+/// nothing, if the job prints.
 pub(crate) fn look_at_stored<'a, D: Folder>(
     job: &'a Job,
     folder: &mut D,

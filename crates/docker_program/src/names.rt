@@ -1,4 +1,4 @@
-//! The sources of a job, by their names.
+//! The sources of a job, as its words name them.
 
 /// The word that names standard input.
 pub(crate) const STDIN: &str = "stdin";
@@ -6,14 +6,14 @@ pub(crate) const STDIN: &str = "stdin";
 /// The sources of a job, in the order of its words.
 #[derive(Clone, Copy, Debug)]
 pub(crate) enum SourceNames<'a> {
-    /// None.
+    /// No source.
     None,
     /// Standard input.
     Stdin,
-    /// A file.
+    /// The file with this name.
     File(&'a str),
-    /// A file, and then standard input.
+    /// The file with this name, and then standard input.
     FileAndStdin(&'a str),
-    /// A file, and then another.
+    /// The file with the first name, and then the file with the second.
     Files(&'a str, &'a str),
 }

@@ -1,4 +1,4 @@
-//! The order of the program's work.
+//! The program: the order in which it looks, reads and writes.
 ghost use Rattle.std.specs.Prelude.{◌≡◌};
 ghost use Rattle.docker_cmd.specs.FaultLine.{IsCounted};
 ghost use Rattle.docker_cmd.specs.Words.{texts};
@@ -16,8 +16,8 @@ use docker_host::{Folder, Host};
 use std::alloc::Global;
 use std::mem;
 
-/// Does the job that is asked for: looks at the file that it writes, reads its sources, and then
-/// writes its output.
+/// Does the job that is requested: looks at the file that the job writes, reads the job's sources,
+/// and then writes its output.
 fn do_job<S: Source, D: Folder, K: Sink, L: Sink>(
     alloc: Global,
     words: &[&str],
@@ -34,17 +34,17 @@ fn do_job<S: Source, D: Folder, K: Sink, L: Sink>(
     let looked = look_at_stored(&job, &mut host.folder);
     let prepared = read_sources(alloc, &job, &mut host.input, &mut host.folder)?;
     let done = write_output(looked, &prepared, &mut host.folder, &mut host.output);
-    // The program ends here, so what it has read is left to the system and not freed piece by
-    // piece.
+    // The program ends here. What it has read isn't freed piece by piece: the system takes all of
+    // it back at once.
     mem::forget(prepared);
     Ok(done?)
 }
 
-/// Does what the words ask for, and returns the exit status. If there are no words, the job is on
-/// the first line of standard input. A job that writes a file looks at it first. Then all files
-/// that the job reads are opened, each once, in the order of the words, before anything is read.
-/// They are closed in this order once all is read. Nothing is written, and no draft is made, before
-/// that. No draft is left. A fault is one line on the sink of faults.
+/// Does the job that the words name, and returns the exit status. Without words, the first line of
+/// standard input names the job. A job that writes a file looks at this file first. Then every file
+/// that the job reads is opened, once, in the order of the words; only then is anything read. After
+/// the last read the files are closed in the same order. Only then is a draft made or anything
+/// written. No draft is left over. A fault is reported as one line on the sink of faults.
 pub fn perform<S: Source, D: Folder, K: Sink, L: Sink>(
     alloc: Global,
     words: &[&str],

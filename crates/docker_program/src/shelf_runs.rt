@@ -1,4 +1,5 @@
-//! What the contract of `perform` gives on a shelf, whose texts are known.
+//! Runs commands on a shelf, a folder in memory. The contract of `perform` then speaks of texts
+//! that the caller knows.
 ghost use Rattle.std.specs.Prelude.{◌≡◌, IfSome, length};
 ghost use Rattle.docker_model.specs.file.Change.{changes};
 ghost use Rattle.docker_model.specs.file.Text.{lines_of};
@@ -10,9 +11,8 @@ use cif_line::{Bytes, Kept};
 use docker_host::{Host, Shelf};
 use std::alloc::Global;
 
-/// Puts an extract on a shelf, runs `check` there, and returns what it printed: the numbers of the
-/// extract's records and of its changes. Returns `None` if the status isn't 0, or if memory ran
-/// out.
+/// Puts an extract on a shelf, runs `check` there, and returns what `check` printed: the numbers of
+/// the extract's records and changes. Returns `None` if the status isn't 0, or if memory ran out.
 pub fn check_on_a_shelf(alloc: Global, extract: &[u8]) -> Option<Vec<u8>>
     ensures { IfSome result (λ printed. printed.items ≡ count_line
         (length (lines_of extract.now)) (length (changes (lines_of extract.now)))) }
@@ -41,7 +41,7 @@ pub fn check_on_a_shelf(alloc: Global, extract: &[u8]) -> Option<Vec<u8>>
 }
 
 /// Puts the text of a STATE file and an extract on a shelf, runs `take` there, and returns the
-/// shelf, whose history names the text that was stored. A draft has room for this many bytes.
+/// shelf. The shelf's history has the text that was stored. `room` is the most bytes of a draft.
 /// Returns `None` if the status isn't 0, or if memory ran out.
 pub fn take_on_a_shelf(alloc: Global, state: &[u8], extract: &[u8], room: usize) -> Option<Shelf>
     ensures { IfSome result (λ shelf. IsTaken state.now extract.now shelf.events) }
@@ -81,7 +81,7 @@ LOASHFELD 0900 09001  SL                                                        
 LTBRAYTON 0930 09301     TF                                                     \n\
 ZZ                                                                              \n";
 
-    /// The STATE file that knows no file.
+    /// A STATE file that knows no files.
     const STATE: &[u8] = b"DKS2\0\0\0\0\0\0\0\0\0\0\0\0\0\0\0\0\0\0";
 
     #[test]

@@ -1,5 +1,5 @@
-//! The program, run with one row of words after another. After what each run writes, its status is
-//! printed.
+//! Runs the program `docker` on several rows of words, one after another. After the output of each
+//! run it prints the exit status.
 #![tactic(auto)]
 
 use docker_program::run_words;

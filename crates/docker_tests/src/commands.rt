@@ -1,4 +1,4 @@
-//! Commands: their words, what their sources give, and what they write.
+//! Tests of commands: what each writes for the contents of its sources.
 
 use crate::compare::{same, same_in, same_of};
 use crate::files::*;
@@ -11,7 +11,7 @@ use std::process::Abort;
 use test_records::printed::ASHFELD_0900;
 use test_records::{HD, ZZ, ZZ_SHORT};
 
-/// What the command with these words writes, if its sources give these two texts.
+/// Runs the command with these words over sources with these two texts, and returns what it writes.
 pub(crate) fn written(
     rt: &impl Abort,
     alloc: Global,
@@ -28,7 +28,7 @@ pub(crate) fn written(
     sink
 }
 
-/// For each command that reads only a file: its words, the file, and what it writes.
+/// Rows of commands that read only a file: the words, the file, and the expected output.
 const OF_FILES: &[(&[&str], File, &str)] = &[
     (&["check", "F"], MORNING, "accepted: 5 records, 1 changes\n"),
     (&["check", "F"], RENAMED, "accepted: 3 records, 2 changes\n"),
@@ -45,7 +45,7 @@ const OF_FILES: &[(&[&str], File, &str)] = &[
     ),
 ];
 
-/// Asserts what the command with these words writes for a file.
+/// Asserts what the command with these words writes for this file.
 fn writes_of_file(rt: &impl Abort, alloc: Global, words: &[&str], file: File, wanted: &str) {
     let text = text_of(rt, alloc, file);
     let sink = written(rt, alloc, words, text.as_slice(), b"");
@@ -59,8 +59,8 @@ fn commands_that_read_a_file(rt: HostRuntime) {
     }
 }
 
-/// For each command that reads a state: its words, the state, what the other source gives, and what
-/// it writes.
+/// Rows of commands that read a state: the words, the state, the content of the second source, and
+/// the expected output.
 const OF_STATES: &[(&[&str], Parts, Parts, Parts)] = &[
     (&["new", "S"], &[], &[], EMPTY_STATE),
     (
@@ -102,7 +102,7 @@ const OF_STATES: &[(&[&str], Parts, Parts, Parts)] = &[
     (&["migrate", "S"], OLD_STATE, &[], MORNING_STATE),
 ];
 
-/// Asserts what the command with these words writes, for a state and the text of the other source.
+/// Asserts what the command with these words writes for this state and this second source.
 fn writes_of_state(
     rt: &impl Abort,
     alloc: Global,
@@ -139,7 +139,7 @@ fn a_file_taken_into_a_state(rt: HostRuntime) {
     same(&rt, docker.bytes(), ASHFELD_0900.as_bytes());
 }
 
-/// Why the command with these words fails, if its source gives this text.
+/// The fault of the command with these words if its source has this text. `None` if it succeeds.
 fn fault_of(rt: &impl Abort, alloc: Global, words: &[&str], first: &[u8]) -> Option<OfficeFault> {
     let job = job(alloc, words).expect(rt, "a job");
     let mut first = Bytes::new(first, 7);
@@ -153,7 +153,7 @@ fn fault_of(rt: &impl Abort, alloc: Global, words: &[&str], first: &[u8]) -> Opt
     }
 }
 
-/// Asserts that a command is refused with status 1 and this line.
+/// Asserts that a command is refused with status 1, and that this line reports it.
 fn is_refused(
     rt: &impl Abort,
     alloc: Global,

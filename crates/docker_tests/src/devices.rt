@@ -1,4 +1,4 @@
-//! Devices that fail midway, that are full, or that never end.
+//! Tests over devices that fail midway, that are full, or that never end.
 ghost use Rattle.std.specs.Prelude.{◌<◌};
 
 use crate::compare::same;
@@ -11,8 +11,8 @@ use docker_office::{LedgerOffice, Office, OfficeFault, PlaceOffice, StateCause, 
 use std::alloc::Global;
 use std::process::Abort;
 
-/// Asserts the result and the sink's bytes when an office sends its state. The sink takes one byte
-/// per write, and fails only at this write.
+/// Asserts the result and the bytes in the sink when an office sends its state. The sink takes one
+/// byte per write, and only the write with this number fails, counting from 1.
 fn sends(
     rt: &impl Abort,
     alloc: Global,
@@ -45,32 +45,32 @@ fn a_sink_that_fails_once(rt: HostRuntime) {
     sends(&rt, alloc, &office, 312, Ok(()), text.as_slice());
 }
 
-/// The result when an office takes a file. The source gives one byte per read, and fails only at
-/// this read.
+/// The result when an office takes a file. The source gives one byte per read, and only the read
+/// with this number fails.
 fn taken(office: &mut Office, text: &[u8], read: u64) -> Result<(), OfficeFault>
     requires { 0 < read }
 {
     office.take(&mut Fuse::new(Bytes::new(text, 1), read), 1000)
 }
 
-/// The result when an office receives a state. The source gives one byte per read, and fails only
-/// at this read.
+/// The result when an office receives a state. The source gives one byte per read, and only the
+/// read with this number fails.
 fn received(office: &mut Office, text: &[u8], read: u64) -> Result<(), OfficeFault>
     requires { 0 < read }
 {
     office.receive(&mut Fuse::new(Bytes::new(text, 1), read), 1000)
 }
 
-/// The result when an office reloads a state. The source gives one byte per read, and fails only at
-/// this read.
+/// The result when an office reloads a state. The source gives one byte per read, and only the read
+/// with this number fails.
 fn reloaded(office: &mut Office, text: &[u8], read: u64) -> Result<(), OfficeFault>
     requires { 0 < read }
 {
     office.reload(&mut Fuse::new(Bytes::new(text, 1), read), 1000)
 }
 
-/// The fault of making an office at Ashfeld from a source that fails only at this read. None if the
-/// office is made.
+/// The fault when an office for Ashfeld is read from a source whose read with this number fails.
+/// `None` if the office is made.
 fn read_at_place(rt: &impl Abort, alloc: Global, text: &[u8], read: u64) -> Option<OfficeFault>
     requires { 0 < read }
 {
@@ -79,8 +79,8 @@ fn read_at_place(rt: &impl Abort, alloc: Global, text: &[u8], read: u64) -> Opti
     PlaceOffice::read(alloc, place, day, &mut source, 1000).err()
 }
 
-/// The fault of making an office with a ledger from a source that fails only at this read. None if
-/// the office is made.
+/// The fault when an office with only a ledger is read from a source whose read with this number
+/// fails. `None` if the office is made.
 fn read_ledger(alloc: Global, text: &[u8], read: u64) -> Option<OfficeFault>
     requires { 0 < read }
 {
@@ -117,7 +117,7 @@ fn a_source_that_fails_once(rt: HostRuntime) {
     has(&rt, alloc, &office, MORNING_STATE);
 }
 
-/// Asserts that an office that sends its state fills a sink with room for twenty bytes.
+/// Asserts that sending a state to a sink with room for 20 bytes fails, and fills the sink.
 fn fills_by_send(rt: &impl Abort, alloc: Global, office: &Office) {
     let text = text_of_parts(rt, alloc, MORNING_STATE);
     let mut kept = Kept::new(alloc, 20).expect(rt, "room");
@@ -125,10 +125,10 @@ fn fills_by_send(rt: &impl Abort, alloc: Global, office: &Office) {
     same(rt, kept.bytes(), front_of(rt, text.as_slice()));
 }
 
-/// The first seventy bytes of the docker of Ashfeld.
+/// The first 70 bytes of the docker of Ashfeld.
 const FRONT: &[u8] = b"DOCKER ASHFELD 2024-06-10                               \n0900  D 1A10 ";
 
-/// Asserts that an office that prints fills a sink with room for seventy bytes.
+/// Asserts that printing a docker to a sink with room for 70 bytes fails, and fills the sink.
 fn fills_by_print(rt: &impl Abort, alloc: Global, office: &Office) {
     let place = place_of(rt, "ASHFELD");
     let day = day_of(rt, "2024-06-10");
@@ -138,7 +138,8 @@ fn fills_by_print(rt: &impl Abort, alloc: Global, office: &Office) {
     same(rt, kept.bytes(), FRONT);
 }
 
-/// Asserts that an office at Ashfeld that prints fills a sink with room for seventy bytes.
+/// Asserts that an office for Ashfeld that prints to a sink with room for 70 bytes fails, and fills
+/// the sink.
 fn fills_at_place(rt: &impl Abort, alloc: Global, office: &Office) {
     let (place, day) = (place_of(rt, "ASHFELD"), day_of(rt, "2024-06-10"));
     let office = at_place(rt, alloc, office, place, day);
@@ -148,14 +149,15 @@ fn fills_at_place(rt: &impl Abort, alloc: Global, office: &Office) {
     same(rt, kept.bytes(), FRONT);
 }
 
-/// Asserts that an office that lists its files fills a sink with room for ten bytes.
+/// Asserts that listing files to a sink with room for 10 bytes fails, and fills the sink.
 fn fills_by_files(rt: &impl Abort, alloc: Global, office: &Office) {
     let mut kept = Kept::new(alloc, 10).expect(rt, "room");
     same(rt, office.files(&mut kept), Err(OfficeFault::Sink));
     same(rt, kept.bytes(), b"2024-06-09".as_slice());
 }
 
-/// Asserts that an office with a ledger that lists its files fills a sink with room for ten bytes.
+/// Asserts that an office with only a ledger that lists its files to a sink with room for 10 bytes
+/// fails, and fills the sink.
 fn fills_by_ledger(rt: &impl Abort, alloc: Global, office: &Office) {
     let ledger = ledger_of(rt, alloc, office);
     let mut kept = Kept::new(alloc, 10).expect(rt, "room");

@@ -1,7 +1,7 @@
-//! Numbers that look random, and are the same each time the tests run.
+//! Pseudo-random numbers, the same in each run of the tests.
 ghost use Rattle.std.specs.Prelude.{◌<◌};
 
-/// A linear congruential generator, which returns the upper bits of its numbers.
+/// A linear congruential generator. It returns the upper bits of its numbers.
 #[derive(Drop)]
 pub(crate) struct Dice {
     number: u64,

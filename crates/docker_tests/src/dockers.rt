@@ -1,4 +1,4 @@
-//! The dockers that offices print.
+//! Tests of the dockers that offices print.
 
 use crate::files::*;
 use crate::offices::{office_of, prints, prints_of_file};
@@ -6,8 +6,7 @@ use std::alloc::Global;
 use std::process::Abort;
 use test_records::printed::{ASHFELD_0900, ASHFELD_0905, NONE_AT_ASHFELD, NONE_ON_18_JUNE};
 
-/// The files that an office takes one after the other, a place, a day, and the docker that it
-/// prints.
+/// A row: the files that an office takes in this order, a place, a day, and the expected docker.
 type Row = (&'static [File], &'static str, &'static str, &'static str);
 
 /// The morning train leaves ten minutes earlier.
@@ -52,7 +51,7 @@ DOCKER COLWELL 2024-06-10
 END                                                     
 ";
 
-/// Asserts that an office prints this row's docker.
+/// Asserts that an office prints the docker of this row.
 fn is_printed(rt: &impl Abort, alloc: Global, row: &Row) {
     let (files, place, day, docker) = *row;
     let office = office_of(rt, alloc, files);
@@ -62,14 +61,14 @@ fn is_printed(rt: &impl Abort, alloc: Global, row: &Row) {
     }
 }
 
-/// Asserts that offices print these rows' dockers.
+/// Asserts that offices print the dockers of these rows.
 fn are_printed(rt: &impl Abort, alloc: Global, rows: &[Row]) {
     for row in rows {
         is_printed(rt, alloc, row);
     }
 }
 
-/// Dockers of one train.
+/// Rows of one train.
 const ONE_TRAIN: &[Row] = &[
     (
         &[],
@@ -189,7 +188,7 @@ fn one_train(rt: HostRuntime) {
     are_printed(&rt, rt.alloc(), ONE_TRAIN);
 }
 
-/// Dockers of a train that one file changes more than once.
+/// Rows of a train that one file changes more than once.
 const CHANGED: &[Row] = &[
     (&[PUT_AND_REVISED], "ASHFELD", "2024-06-10", NONE_AT_ASHFELD),
     (&[REVISED_AND_PUT], "ASHFELD", "2024-06-10", ASHFELD_0900),
@@ -202,7 +201,7 @@ fn a_train_that_is_changed_again(rt: HostRuntime) {
     are_printed(&rt, rt.alloc(), CHANGED);
 }
 
-/// Dockers of two files, taken in either order.
+/// Rows of two files that are taken in either order.
 const ORDERS: &[Row] = &[
     (&[MORNING, REVISION], "ASHFELD", "2024-06-10", ASHFELD_0905),
     (&[REVISION, MORNING], "ASHFELD", "2024-06-10", ASHFELD_0905),
@@ -241,7 +240,7 @@ fn files_in_any_order(rt: HostRuntime) {
     are_printed(&rt, rt.alloc(), ORDERS);
 }
 
-/// Dockers of a train with an overlay, a cancellation and a later schedule.
+/// Rows of a train with an overlay, a cancellation and a later schedule.
 const WEEKS: &[Row] = &[
     (&[WEEK], "ASHFELD", "2024-06-10", ASHFELD_0900),
     (
@@ -330,7 +329,7 @@ fn a_week(rt: HostRuntime) {
     are_printed(&rt, rt.alloc(), WEEKS);
 }
 
-/// Dockers of trains that pass midnight.
+/// Rows of trains that run past midnight.
 const NIGHTS: &[Row] = &[
     (&[NIGHT], "COLWELL", "2024-06-10", NONE_AT_COLWELL),
     (
@@ -381,7 +380,7 @@ fn past_midnight(rt: HostRuntime) {
     are_printed(&rt, rt.alloc(), NIGHTS);
 }
 
-/// Dockers of days far away, and dockers with a description.
+/// Rows of days far away, and of places with a description.
 const OTHERS: &[Row] = &[
     (
         &[NO_END],
@@ -424,7 +423,7 @@ fn days_far_off_and_descriptions(rt: HostRuntime) {
     are_printed(&rt, rt.alloc(), OTHERS);
 }
 
-/// Dockers with associations.
+/// Rows with associations.
 const LINKS: &[Row] = &[
     (
         &[DIVISION],
@@ -482,7 +481,7 @@ fn associations(rt: HostRuntime) {
     are_printed(&rt, rt.alloc(), LINKS);
 }
 
-/// Dockers of entries with equal stamps.
+/// Rows of entries with equal stamps.
 const TIES: &[Row] = &[
     (&[MORNING, LONGER], "ASHFELD", "2024-06-10", ASHFELD_0850),
     (&[LONGER, MORNING], "ASHFELD", "2024-06-10", ASHFELD_0850),
@@ -497,7 +496,7 @@ fn equal_stamps(rt: HostRuntime) {
     are_printed(&rt, rt.alloc(), TIES);
 }
 
-/// Dockers of a train whose identity changes.
+/// Rows of a train whose identity changes on the way.
 const IDENTITIES: &[Row] = &[
     (
         &[IDENTITY],

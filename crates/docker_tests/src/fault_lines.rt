@@ -1,4 +1,4 @@
-//! The status and the printed line of each fault.
+//! Tests of the status and the printed line of each fault.
 
 use crate::compare::same;
 use cif_file::{FileCause, FileFault};
@@ -13,13 +13,13 @@ fn reports(rt: &impl Abort, fault: Fault, number: u8, line: &str) {
     same(rt, text.as_slice(), line.as_bytes());
 }
 
-/// Asserts the printed line of a file's fault at its second record.
+/// Asserts the printed line of a file that has a fault at its second record.
 fn reports_file(rt: &impl Abort, cause: FileCause, line: &str) {
     let fault = FileFault { number: 2, cause };
     reports(rt, Fault::Office(OfficeFault::File(fault)), 1, line);
 }
 
-/// Asserts the printed line of a state's fault at this offset.
+/// Asserts the printed line of a state that has a fault at this offset.
 fn reports_state(rt: &impl Abort, at: u64, cause: StateCause, line: &str) {
     let fault = StateFault { at, cause };
     reports(rt, Fault::Office(OfficeFault::State(fault)), 1, line);

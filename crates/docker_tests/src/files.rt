@@ -5,11 +5,11 @@ use test_records::*;
 /// The records of a file, in order.
 pub(crate) type File = &'static [&'static [u8]];
 
-/// A train that is put, and then revised so that it runs on Friday 14 June only. In a docker of 10
-/// June it then can't count.
+/// A train that is put, and then revised to run on Friday 14 June only. So it can't be on a docker
+/// of 10 June.
 pub(crate) const PUT_AND_REVISED: File = &[HD, BS, LO, LT, BS_FRIDAY, LO_0905, LT_0935, ZZ];
 
-/// A train that is first revised, so that it runs on Friday 14 June only, and then put.
+/// A train that is revised to run on Friday 14 June only, and then put.
 pub(crate) const REVISED_AND_PUT: File = &[HD, BS_FRIDAY, LO_0905, LT_0935, BS, LO, LT, ZZ];
 
 /// A train that is put, deleted and put again.
@@ -24,10 +24,10 @@ pub(crate) const MORNING: File = &[HD, BS, LO, LT, ZZ];
 /// The file of the morning train, without its trailer.
 pub(crate) const OPEN: File = &[HD, BS, LO, LT];
 
-/// The morning train, in a record with the transaction `R`.
+/// The morning train, put by a record with the transaction `R`.
 pub(crate) const REVISED: File = &[HD, BS_REVISED, LO, LT, ZZ];
 
-/// The train from Ashfeld to Brayton, leaving in the evening.
+/// A train from Ashfeld to Brayton that leaves in the evening.
 pub(crate) const EVENING: File = &[HD, BS, LO_2355, LT_0005, ZZ];
 
 /// The morning train, in a full extract.
@@ -39,7 +39,7 @@ pub(crate) const REVISION: File = &[HD_10B, BS_REVISED, LO_0905, LT_0935, ZZ];
 /// An update of 5 June: it deletes C10003 and puts C10001.
 pub(crate) const FIFTH: File = &[HD_5A, BS_C10003, BS, LO, LT, ZZ];
 
-/// A full extract of 7 June, in which C10002 is the only train.
+/// A full extract of 7 June with C10002 as its only train.
 pub(crate) const SEVENTH: File = &[HD_7B, BS_C10002, LO_1000, LT_1030, ZZ];
 
 /// An update of 9 June, in which C10001 runs two hours later.
@@ -54,13 +54,13 @@ pub(crate) const DELETION: File = &[HD_9B, BS_DELETED, ZZ];
 /// C10001, in a file of the day before its deletion.
 pub(crate) const EIGHTH: File = &[HD_8A, BS, LO, LT, ZZ];
 
-/// A timing point.
+/// A new timing point.
 pub(crate) const PLACE: File = &[HD, TI, ZZ];
 
-/// A new code for the timing point, a day later.
+/// A new code for that timing point, a day later.
 pub(crate) const RENAMED: File = &[HD_10B, TA, ZZ];
 
-/// A file of a train with an overlay on two days and a cancellation on a third, and of these
+/// A file with a train, its overlay on two days and its cancellation on a third, and then these
 /// further records.
 macro_rules! week {
     ($($more:expr),*) => {
@@ -79,19 +79,19 @@ macro_rules! week {
     };
 }
 
-/// A train with an overlay on two days and a cancellation on a third.
+/// A train with an overlay on two days and a cancellation on a third day.
 pub(crate) const WEEK: File = week!();
 
-/// A train with an overlay and a cancellation, and a further schedule of it for the weekend.
+/// A train with an overlay and a cancellation, and with another schedule for the weekend.
 pub(crate) const WEEKEND: File = week!(BS_WEEKEND, LO_0910, LT);
 
-/// A train that passes midnight, calls at Colwell and passes Dunmere.
+/// A train that runs past midnight, calls at Colwell and passes Dunmere.
 pub(crate) const NIGHT: File = &[HD, BS_NIGHT, LO_2355, LI_0000, LI_0010, LT_0020, ZZ];
 
-/// A train that passes midnight twice.
+/// A train that runs past two midnights.
 pub(crate) const TWO_NIGHTS: File = &[HD, BS_NIGHT, LO_2355, LI_0010, LI_COLWELL_0005, LT_0006, ZZ];
 
-/// A train that passes midnight three times, which no schedule may do.
+/// A train that runs past three midnights, which no schedule may do.
 pub(crate) const THREE_NIGHTS: File = &[
     HD,
     BS_NIGHT,
@@ -102,7 +102,7 @@ pub(crate) const THREE_NIGHTS: File = &[
     ZZ,
 ];
 
-/// A train that calls at Colwell twice, where another divides from it at the second call.
+/// A train that calls at Colwell twice. Another train divides from it at the second call.
 pub(crate) const DIVISION: File = &[
     HD,
     BS_C30001,
@@ -128,16 +128,16 @@ pub(crate) const IDENTITY: File = &[
     ZZ,
 ];
 
-/// The morning train until a later day, ten minutes earlier.
+/// The morning train until a later day, leaving ten minutes earlier.
 pub(crate) const LONGER: File = &[HD, BS_LONGER, LO_0850, LT, ZZ];
 
-/// The morning train, five minutes later.
+/// The morning train, leaving five minutes later.
 pub(crate) const LATER: File = &[HD, BS, LO_0905, LT, ZZ];
 
-/// A deletion of the morning train, in a file with the same header.
+/// The deletion of the morning train, in a file with the same header.
 pub(crate) const DELETED: File = &[HD, BS_DELETED, ZZ];
 
-/// The morning train until the end of July, in a file of the day before.
+/// The morning train until the end of July, in a file of 8 June.
 pub(crate) const JULY: File = &[HD_8A, BS_JULY, LO, LT, ZZ];
 
 /// A train that leaves Ashfeld half a minute past 09:00, without a public time.
@@ -146,8 +146,8 @@ pub(crate) const HALF: File = &[HD, BS, LO_HALF, LT, ZZ];
 /// A train from Ashfeld to Ashfeld that arrives at the time at which it leaves.
 pub(crate) const ROUND: File = &[HD, BS, LO, LT_ASHFELD_0900, ZZ];
 
-/// A file of a train to Colwell, whose basic schedule is given first, a train from there past
-/// midnight, and these further records.
+/// A file with a train to Colwell, a train from Colwell past midnight, and these further records.
+/// `$first` is the basic schedule of the first train.
 macro_rules! two_trains {
     ($first:expr, $($more:expr),*) => {
         &[
@@ -164,22 +164,22 @@ macro_rules! two_trains {
     };
 }
 
-/// A train to Colwell, whose next working there starts on the next day.
+/// A train to Colwell, whose next working starts on the next day.
 pub(crate) const NEXT_DAY: File = two_trains!(BS_C40001, AA_N);
 
-/// A train to Colwell, whose next working there starts on the same day.
+/// A train to Colwell, whose next working starts on the same day.
 pub(crate) const SAME_DAY: File = two_trains!(BS_C40001, AA_S);
 
-/// A train to Colwell and its next working, with a space as the date indicator.
+/// A train to Colwell and its next working. The association has a space as its date indicator.
 pub(crate) const NO_INDICATOR: File = two_trains!(BS_C40001, AA_BLANK);
 
-/// A train to Colwell, whose next working there starts a day earlier.
+/// A train to Colwell, whose next working starts on the day before.
 pub(crate) const DAY_BEFORE: File = two_trains!(BS_C40001, AA_P);
 
-/// A train to Colwell and its next working, with an unknown date indicator.
+/// A train to Colwell and its next working. The association has an unknown date indicator.
 pub(crate) const UNKNOWN_INDICATOR: File = two_trains!(BS_C40001, AA_X);
 
-/// A train to Colwell and its next working, with an unknown category.
+/// A train to Colwell and another. Their association has an unknown category.
 pub(crate) const UNKNOWN_CATEGORY: File = two_trains!(BS_C40001, AA_OTHER);
 
 /// A train to Colwell and its next working, on the last day of the calendar.
@@ -194,15 +194,15 @@ pub(crate) const BASE_CANCELLED: File = two_trains!(BS_C40001, AA_N, BS_C40001_C
 /// The morning train, and its deletion in the same file.
 pub(crate) const WITHDRAWN: File = &[HD, BS, LO, LT, BS_DELETED, ZZ];
 
-/// A deletion of the morning train, with an origin whose time isn't a time of day. That time isn't
-/// read.
+/// A deletion of the morning train that is followed by an origin whose time isn't a time of day.
+/// The origin of a deletion isn't checked.
 pub(crate) const DELETED_AT_NO_TIME: File = &[HD, BS_DELETED, LO_2400, LT, ZZ];
 
 /// An update of the year 2000, without changes.
 pub(crate) const EARLY: File = &[HD_EARLY, ZZ];
 
-/// A train on Wednesdays, without an end.
+/// A train on Wednesdays without a last day.
 pub(crate) const NO_END: File = &[HD, BS_WEDNESDAYS, LO, LT, ZZ];
 
-/// An amendment of a timing point that keeps its code.
+/// An amendment of a timing point that leaves its code unchanged.
 pub(crate) const AMENDED: File = &[HD, TA_SAME, ZZ];

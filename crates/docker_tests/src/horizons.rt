@@ -1,4 +1,4 @@
-//! Offices with a horizon.
+//! Tests of offices with a horizon.
 
 use crate::compare::same_in;
 use crate::files::*;
@@ -14,8 +14,8 @@ fn set(rt: &impl Abort, office: &mut Office, date: &str) {
     office.set_horizon(day_of(rt, date));
 }
 
-/// A horizon to set, the size of the state after that, a day that is refused, the next day, and
-/// that day's docker, which has no lines.
+/// A row: a horizon to set, and the size of the state's text after it. Then a day that is refused,
+/// the day after it, and the docker of this later day, which has no lines.
 type Row = (
     &'static str,
     usize,
@@ -57,7 +57,7 @@ DOCKER ASHFELD 2024-06-24
 END                                                     
 ";
 
-/// Asserts that an office does what this row says once the horizon is set.
+/// Sets the row's horizon, and asserts what the row says of the office.
 fn is_after(rt: &impl Abort, alloc: Global, office: &mut Office, row: &Row) {
     let (horizon, bytes, refused, printed, docker) = *row;
     set(rt, office, horizon);
@@ -82,7 +82,7 @@ fn a_lapsed_state(rt: HostRuntime) {
     has(&rt, rt.alloc(), &office, LAPSED_STATE);
 }
 
-/// Asserts that an office prints an empty docker for Ashfeld on 24 June.
+/// Asserts that an office prints a docker without lines for Ashfeld on 24 June.
 fn prints_none(rt: &impl Abort, alloc: Global, office: &Office) {
     prints(rt, alloc, office, "ASHFELD", "2024-06-24", NONE_ON_24_JUNE);
 }

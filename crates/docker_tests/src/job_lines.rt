@@ -1,4 +1,4 @@
-//! Jobs that the first line of a source names.
+//! Tests of jobs that the first line of a source names.
 ghost use Rattle.std.specs.Prelude.{None, false};
 
 use crate::compare::{same, same_in};
@@ -7,7 +7,7 @@ use docker_cmd::{Job, JobFault, Subcommand, Task, job_line};
 use std::alloc::Global;
 use std::process::Abort;
 
-/// Asserts which words of a job follow its subcommand.
+/// Asserts the words after a job's subcommand.
 fn words_are(rt: &impl Abort, job: &Job, wanted: &[&str]) {
     same(rt, job.words().len(), wanted.len());
     for (word, wanted) in job.words().iter().zip(wanted) {
@@ -15,7 +15,7 @@ fn words_are(rt: &impl Abort, job: &Job, wanted: &[&str]) {
     }
 }
 
-/// Asserts that a job is for the docker of this timing point, on the day with this number.
+/// Asserts that a job prints the docker of this timing point on the day with this number.
 fn asks_for(rt: &impl Abort, job: &Job, tiploc: &[u8; 7], number: u16) {
     match job.task() {
         Task::Day { place, day } => {
@@ -44,7 +44,7 @@ fn spaces_around_words(rt: HostRuntime) {
     words_are(&rt, &job, &["state", "stdin"]);
 }
 
-/// A line with the subcommand `day`, this many spaces after that word, and this end.
+/// A line with the subcommand `day`, this number of spaces, and then this end.
 fn line_of(rt: &impl Abort, alloc: Global, spaces: usize, end: &[u8]) -> Vec<u8> {
     let mut line = Vec::new(alloc);
     line.extend_from_slice(b"day").expect(rt, "room");
@@ -57,7 +57,8 @@ fn line_of(rt: &impl Abort, alloc: Global, spaces: usize, end: &[u8]) -> Vec<u8>
     line
 }
 
-/// Asserts that a line with this many spaces and this end names a job, or gives this fault.
+/// Asserts whether the line with this number of spaces and this end names a job or gives this
+/// fault.
 fn fault_is(
     rt: &impl Abort,
     alloc: Global,
@@ -80,7 +81,7 @@ fn lengths_of_a_job_line(rt: HostRuntime) {
     fault_is(&rt, rt.alloc(), 1, b"", usage, "no line feed");
 }
 
-// An endless source that can't name the bytes that are left. Each read gives the letter a.
+// An endless source that can't name its bytes. Each read gives the letter a.
 #[derive(Drop)]
 struct Endless {
     reads: u16,

@@ -1,4 +1,4 @@
-//! Jobs that words name.
+//! Tests of jobs that words name.
 
 use crate::compare::same_of;
 use cif_line::{Day, Tiploc};
@@ -6,7 +6,8 @@ use docker_cmd::{JobFault, Subcommand, job};
 use std::alloc::Global;
 use std::process::Abort;
 
-/// Words, and the job that they name: its subcommand, its timing point and the number of its day.
+/// A row: words, and the job that they name, by its subcommand, its timing point and its day
+/// number.
 type Row = (
     &'static [&'static str],
     Subcommand,
@@ -66,7 +67,7 @@ fn number_of(day: Option<Day>) -> Option<u16> {
     }
 }
 
-/// Asserts that this row's words name its job.
+/// Asserts that the words of this row name its job.
 fn is_job(rt: &impl Abort, alloc: Global, row: &Row) {
     let (words, subcommand, tiploc, day) = *row;
     let job = job(alloc, words).expect(rt, "a job");

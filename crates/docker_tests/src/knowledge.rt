@@ -1,5 +1,5 @@
-//! What offices know in a run, found only from its events and replies. The state of what is known,
-//! made without an office.
+//! Works out what offices know in a run from its events and replies only, and makes the state of
+//! that knowledge without an office.
 
 use crate::files::*;
 use crate::offices::text_of;
@@ -11,7 +11,7 @@ use state_text::{encoded_len, write_state};
 use std::alloc::Global;
 use std::process::Abort;
 
-/// How many offices there are.
+/// The number of offices.
 pub(crate) const OFFICES: usize = 3;
 
 /// The files that an office may take. The first two are refused.
@@ -36,7 +36,7 @@ pub(crate) const FILES: [File; 18] = [
     FULL,
 ];
 
-/// Why the first two files are refused.
+/// The faults for which the first two files are refused.
 const REFUSED: [FileFault; 2] = [
     FileFault {
         number: 5,
@@ -58,7 +58,7 @@ pub(crate) fn texts_of_files(rt: &impl Abort, alloc: Global) -> Vec<Vec<u8>> {
     texts
 }
 
-/// An event at an office. A file is given by its index.
+/// An event at an office. It names a file by its index.
 #[derive(Clone, Copy)]
 pub(crate) enum Step {
     /// The office takes a file.
@@ -73,21 +73,21 @@ pub(crate) enum Step {
         /// The office.
         office: usize,
     },
-    /// A message is delivered to the office.
+    /// A message is delivered to an office.
     Deliver {
         /// The office.
         office: usize,
         /// The message.
         message: usize,
     },
-    /// The office reloads a message.
+    /// An office reloads a message.
     Reload {
         /// The office.
         office: usize,
         /// The message.
         message: usize,
     },
-    /// A horizon is set at the office.
+    /// An office sets a horizon.
     Horizon {
         /// The office.
         office: usize,
@@ -97,7 +97,7 @@ pub(crate) enum Step {
 }
 
 impl Step {
-    /// The office where it happens.
+    /// The office of this event.
     fn office(&self) -> usize {
         match self {
             Step::Take { office, .. }
@@ -108,7 +108,7 @@ impl Step {
         }
     }
 
-    /// The message that is delivered or reloaded, if there is one.
+    /// The message that is delivered or reloaded; `None` for other events.
     fn message(&self) -> Option<usize> {
         match self {
             Step::Deliver { message, .. } | Step::Reload { message, .. } => Some(*message),
@@ -116,7 +116,7 @@ impl Step {
         }
     }
 
-    /// Why the office refuses the file, if it does.
+    /// The fault for which the office refuses the file; `None` if the event takes no such file.
     fn refusal(&self) -> Option<FileFault> {
         match self {
             Step::Take { file, .. } => REFUSED.get(*file).copied(),
@@ -125,7 +125,7 @@ impl Step {
     }
 }
 
-/// What an office or a message knows: which of the files, by their indexes, and the horizon.
+/// What an office or a message knows: its files, by their indexes, and its horizon.
 #[derive(Clone, Copy)]
 pub(crate) struct Known {
     files: [bool; FILES.len()],
@@ -133,7 +133,7 @@ pub(crate) struct Known {
 }
 
 impl Known {
-    /// Knowledge of nothing.
+    /// Knowledge of no files, with no horizon.
     fn nothing() -> Known {
         Known {
             files: [false; FILES.len()],
@@ -141,14 +141,14 @@ impl Known {
         }
     }
 
-    /// Adds a file.
+    /// Adds a file to what is known.
     fn take(&mut self, file: usize) {
         if let Some(known) = self.files.get_mut(file) {
             *known = true;
         }
     }
 
-    /// Adds a horizon, which counts if it is greater.
+    /// Adds a horizon. The greater horizon counts.
     fn raise(&mut self, horizon: Option<Day>) {
         if self.horizon < horizon {
             self.horizon = horizon;
@@ -163,7 +163,7 @@ impl Known {
         self.raise(other.horizon);
     }
 
-    /// The state of the files under the horizon.
+    /// The state of the known files under the known horizon.
     fn state(&self, rt: &impl Abort, alloc: Global, texts: &[Vec<u8>]) -> State {
         let mut state = State::empty(alloc);
         for (text, known) in texts.iter().zip(self.files.iter()) {
@@ -178,7 +178,7 @@ impl Known {
         state
     }
 
-    /// The text of the state of the files under the horizon.
+    /// The text of that state.
     pub(crate) fn text(&self, rt: &impl Abort, alloc: Global, texts: &[Vec<u8>]) -> Kept {
         let state = self.state(rt, alloc, texts);
         let room = usize::try_from(encoded_len(&state)).expect(rt, "a length");
@@ -203,7 +203,7 @@ pub(crate) struct Knowledge {
 }
 
 impl Knowledge {
-    /// No office knows anything, and no message has been sent.
+    /// The knowledge at the start of a run: no office knows anything, and no message has been sent.
     pub(crate) fn new(alloc: Global) -> Knowledge {
         Knowledge {
             offices: [Known::nothing(); OFFICES],
@@ -211,7 +211,7 @@ impl Knowledge {
         }
     }
 
-    /// The reply that the event should get if memory doesn't run out.
+    /// The reply to expect for this event, if memory doesn't run out.
     pub(crate) fn due(&self, step: &Step) -> Reply {
         if step.office() >= OFFICES {
             return Reply::Refused(RunFault::NoOffice);
@@ -227,14 +227,14 @@ impl Knowledge {
         }
     }
 
-    /// Follows an event with its reply: a refused event changes nothing.
+    /// Updates what is known after an event with this reply. A refused event changes nothing.
     pub(crate) fn follow(&mut self, rt: &impl Abort, step: &Step, reply: Reply) {
         if reply == Reply::Done {
             self.follow_done(rt, step);
         }
     }
 
-    /// Follows an event that was done.
+    /// Updates what is known after an event that was done.
     fn follow_done(&mut self, rt: &impl Abort, step: &Step) {
         let known = self.offices.get_mut(step.office()).expect(rt, "an office");
         match step {

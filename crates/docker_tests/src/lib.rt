@@ -1,5 +1,5 @@
-//! Worked examples that need several crates: what offices print and send, what runs of events
-//! leave, and what commands write. This crate holds only tests.
+//! Tests by worked examples that need several crates: what offices print and send, what runs of
+//! events leave, and what commands write. The crate holds only tests.
 #![tactic(auto)]
 
 #[cfg(test)]

@@ -1,4 +1,4 @@
-//! Offices that read and write in memory.
+//! Helpers for tests: offices over sources and sinks in memory.
 
 use crate::compare::{same, same_in};
 use crate::files::File;
@@ -8,10 +8,10 @@ use docker_office::{LedgerOffice, Office, OfficeFault, PlaceOffice};
 use std::alloc::Global;
 use std::process::Abort;
 
-/// The most bytes that a text of the worked examples has.
+/// The most bytes of a text in the worked examples.
 const ROOM: usize = 1000;
 
-/// Lines as one text, with a line feed after each.
+/// These lines as one text, each with a line feed.
 pub(crate) fn text_of(rt: &impl Abort, alloc: Global, lines: &[&[u8]]) -> Vec<u8> {
     let mut text = Vec::new(alloc);
     for line in lines {
@@ -21,14 +21,14 @@ pub(crate) fn text_of(rt: &impl Abort, alloc: Global, lines: &[&[u8]]) -> Vec<u8
     text
 }
 
-/// Lets an office take a file.
+/// Has an office take a file.
 pub(crate) fn take(rt: &impl Abort, alloc: Global, office: &mut Office, file: File) {
     let text = text_of(rt, alloc, file);
     let mut source = Bytes::new(text.as_slice(), 100);
     office.take(&mut source, 1000).expect(rt, "a file");
 }
 
-/// An office that has taken these files, one after the other.
+/// An office that has taken these files in this order.
 pub(crate) fn office_of(rt: &impl Abort, alloc: Global, files: &[File]) -> Office {
     let mut office = Office::new(alloc);
     for file in files {
@@ -37,7 +37,7 @@ pub(crate) fn office_of(rt: &impl Abort, alloc: Global, files: &[File]) -> Offic
     office
 }
 
-/// Lets an office receive the state of another office, which has taken this file.
+/// Has an office receive the state of another office, which has taken this file.
 fn receive_of(rt: &impl Abort, alloc: Global, office: &mut Office, file: File) {
     let mut other = Office::new(alloc);
     take(rt, alloc, &mut other, file);
@@ -46,8 +46,8 @@ fn receive_of(rt: &impl Abort, alloc: Global, office: &mut Office, file: File) {
     office.receive(&mut source, 1000).expect(rt, "a state");
 }
 
-/// An office that has received other offices' states, one after the other. Each of those has taken
-/// one of these files.
+/// An office that has received the states of other offices. Each of these has taken one of these
+/// files.
 pub(crate) fn merged(rt: &impl Abort, alloc: Global, files: &[File]) -> Office {
     let mut office = Office::new(alloc);
     for file in files {
@@ -63,7 +63,7 @@ pub(crate) fn sent(rt: &impl Abort, alloc: Global, office: &Office) -> Kept {
     kept
 }
 
-/// An office at a timing point, for a day, that has read the state of another office.
+/// An office for one timing point and one day that has read the state of another office.
 pub(crate) fn at_place(
     rt: &impl Abort,
     alloc: Global,
@@ -89,7 +89,7 @@ pub(crate) fn has_text(rt: &impl Abort, alloc: Global, office: &Office, text: &[
     same(rt, own.bytes(), text);
 }
 
-/// Asserts that the state of an office has the text of these parts.
+/// Asserts that the state of an office has the text that these parts make.
 pub(crate) fn has(rt: &impl Abort, alloc: Global, office: &Office, parts: Parts) {
     let text = text_of_parts(rt, alloc, parts);
     has_text(rt, alloc, office, text.as_slice());
@@ -105,8 +105,8 @@ pub(crate) fn day_of(rt: &impl Abort, date: &str) -> Day {
     Day::from_iso(date).expect(rt, "a day")
 }
 
-/// Asserts that an office prints this docker for a place and a day, and that an office at the place
-/// for that day prints it too.
+/// Asserts that an office prints this docker for a place and a day, and that an office for only
+/// this place and day prints it too.
 pub(crate) fn prints(
     rt: &impl Abort,
     alloc: Global,
@@ -125,7 +125,7 @@ pub(crate) fn prints(
     prints_there(rt, alloc, &office, date, docker);
 }
 
-/// Asserts that an office at a place, for a day, that takes this file prints this docker.
+/// Asserts that an office for one place and one day that takes this file prints this docker.
 pub(crate) fn prints_of_file(
     rt: &impl Abort,
     alloc: Global,
@@ -142,7 +142,7 @@ pub(crate) fn prints_of_file(
     prints_there(rt, alloc, &office, date, docker);
 }
 
-/// Asserts that an office at a place, for the day of this date, prints this docker.
+/// Asserts that an office for a place, and for the day with this date, prints this docker.
 fn prints_there(rt: &impl Abort, alloc: Global, office: &PlaceOffice, date: &str, docker: &str) {
     let mut kept = Kept::new(alloc, ROOM).expect(rt, "room");
     let answer = office.print(&mut kept);
@@ -150,8 +150,8 @@ fn prints_there(rt: &impl Abort, alloc: Global, office: &PlaceOffice, date: &str
     same_in(rt, date, kept.bytes(), docker.as_bytes());
 }
 
-/// Asserts that an office refuses to print a docker of Ashfeld on a day, and that one at Ashfeld
-/// does too.
+/// Asserts that an office refuses to print a docker of Ashfeld on a day, and that an office for
+/// only this place and day refuses too.
 pub(crate) fn refuses_day(rt: &impl Abort, alloc: Global, office: &Office, date: &str) {
     let place = place_of(rt, "ASHFELD");
     let day = day_of(rt, date);

@@ -1,4 +1,4 @@
-//! The printed texts of faults.
+//! Tests of how faults are printed.
 
 use crate::compare::same;
 use cif_file::{FileCause, FileFault};

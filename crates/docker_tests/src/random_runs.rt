@@ -1,5 +1,5 @@
-//! A thousand random runs of three offices. At the end of each run, every office and every message
-//! has the text of the state that is made from what it knows.
+//! A thousand random runs of three offices. At the end of a run, the text of every office and of
+//! every message is the text of the state of what it knows.
 ghost use Rattle.docker_office.specs.RunEnds.{HasGoodLimit};
 ghost use Rattle.docker_office.specs.RunMeaning.{event_meant};
 
@@ -13,16 +13,16 @@ use state_text::encoded_len;
 use std::alloc::Global;
 use std::process::Abort;
 
-/// How many events a run has.
+/// The number of events of a run.
 const STEPS: usize = 16;
 
-/// The day number of 10 June 2024, and how many days from there on may be horizons.
+/// The first day that may be a horizon, 10 June 2024, and the number of such days.
 const FIRST_HORIZON: usize = 23537;
 
 const HORIZONS: usize = 16;
 
-/// One event. It is at an office, or at one that doesn't exist. It names a message that was sent,
-/// or the next one, which wasn't.
+/// A random event. One event in twelve is at an office that doesn't exist. The event may name any
+/// message that was sent, or one that wasn't.
 fn random_step(rt: &impl Abort, dice: &mut Dice, sent: u16) -> Step {
     let office = if dice.roll(12) == 0 {
         OFFICES
@@ -66,7 +66,7 @@ fn random_steps(rt: &impl Abort, alloc: Global, dice: &mut Dice) -> Vec<Step> {
     steps
 }
 
-/// The event with this index, where a file is given as its text. If there is none, an office that
+/// The event with this index, with the text of its file. If there is no such event, an office that
 /// doesn't exist sends its state.
 fn event_at<'a>(steps: &[Step], place: usize, texts: &'a [Vec<u8>]) -> Event<'a>
     ensures { HasGoodLimit (event_meant result) }
@@ -102,7 +102,7 @@ fn text_at(texts: &[Vec<u8>], file: usize) -> &[u8] {
     }
 }
 
-/// What a run of these events leaves.
+/// The offices, messages and replies that a run of these events leaves.
 fn left_by(rt: &impl Abort, alloc: Global, steps: &[Step], texts: &[Vec<u8>]) -> Exchange {
     let events = [
         event_at(steps, 0, texts),
@@ -125,7 +125,7 @@ fn left_by(rt: &impl Abort, alloc: Global, steps: &[Step], texts: &[Vec<u8>]) ->
     run(alloc, OFFICES, &events).expect(rt, "memory")
 }
 
-/// How often events of one kind have got each reply.
+/// For one kind of event, how often it got each kind of reply.
 #[derive(Clone, Copy)]
 struct Count {
     done: u32,
@@ -135,7 +135,7 @@ struct Count {
 }
 
 impl Count {
-    /// No event so far.
+    /// The count before any event.
     const NONE: Count = Count {
         done: 0,
         no_office: 0,
@@ -143,7 +143,7 @@ impl Count {
         refused: 0,
     };
 
-    /// Counts one more reply.
+    /// Counts a reply.
     fn add(&mut self, reply: Reply) {
         let number = match reply {
             Reply::Done => &mut self.done,
@@ -155,7 +155,7 @@ impl Count {
     }
 }
 
-/// How often events of each kind have got each reply.
+/// For each kind of event, how often it got each kind of reply.
 #[derive(Clone, Copy)]
 struct Tally {
     takes: Count,
@@ -166,7 +166,7 @@ struct Tally {
 }
 
 impl Tally {
-    /// No event so far.
+    /// The count before any event.
     const NONE: Tally = Tally {
         takes: Count::NONE,
         sends: Count::NONE,
@@ -175,7 +175,7 @@ impl Tally {
         horizons: Count::NONE,
     };
 
-    /// Counts one more event.
+    /// Counts the reply to an event.
     fn add(&mut self, step: &Step, reply: Reply) {
         match step {
             Step::Take { .. } => self.takes.add(reply),
@@ -186,7 +186,7 @@ impl Tally {
         }
     }
 
-    /// Whether each kind of event got each reply that it may get.
+    /// Whether each kind of event got every reply that it can get.
     fn is_full(&self) -> bool {
         let all = [
             self.takes,
@@ -203,7 +203,7 @@ impl Tally {
     }
 }
 
-/// What is known at the end of a run. Asserts that each reply is the one due.
+/// Works out what is known at the end of a run. Asserts that each reply is the expected one.
 fn known_at_end(
     rt: &impl Abort,
     alloc: Global,
@@ -222,7 +222,7 @@ fn known_at_end(
     known
 }
 
-/// Asserts that a text is the text of the state that is made from what is known.
+/// Asserts that this text is the text of the state of what is known.
 fn is_of_known(
     rt: &impl Abort,
     alloc: Global,
@@ -243,7 +243,7 @@ fn text_of_office(rt: &impl Abort, alloc: Global, office: &Office) -> Kept {
     kept
 }
 
-/// Asserts that each office has the text of the state that is made from what it knows.
+/// Asserts that the text of each office is the text of the state of what it knows.
 fn offices_are_of_known(
     rt: &impl Abort,
     alloc: Global,
@@ -259,7 +259,7 @@ fn offices_are_of_known(
     }
 }
 
-/// Asserts that each message has the text of the state that is made from what it knows.
+/// Asserts that the text of each message is the text of the state of what it knows.
 fn messages_are_of_known(
     rt: &impl Abort,
     alloc: Global,
@@ -274,7 +274,7 @@ fn messages_are_of_known(
     }
 }
 
-/// Runs random events, and asserts what they leave.
+/// Makes a random run, and asserts what it leaves.
 fn random_run(
     rt: &impl Abort,
     alloc: Global,

@@ -1,4 +1,4 @@
-//! Files that an office refuses, and the state that this leaves.
+//! Tests of files that an office refuses without a change to its state.
 
 use crate::compare::same;
 use crate::files::*;
@@ -11,8 +11,8 @@ use std::alloc::Global;
 use std::process::Abort;
 use test_records::*;
 
-/// A file that is refused, the limit on its records, the number of the record at fault, and the
-/// cause.
+/// A row: a file that is refused, the most records that a file may have, the number of the record
+/// at fault, and the cause.
 type Row = (File, u16, u32, FileCause);
 
 const REFUSED: &[Row] = &[
@@ -35,12 +35,12 @@ const REFUSED: &[Row] = &[
     (&[], 0, 1, FileCause::NoEnd),
 ];
 
-/// The result when an office takes a text of at most `limit` records.
+/// The result when an office takes a file of at most `limit` records.
 fn taken(office: &mut Office, text: &[u8], limit: u16) -> Result<(), OfficeFault> {
     office.take(&mut Bytes::new(text, 9), u32::from(limit))
 }
 
-/// Asserts that an office that knows the revision refuses this row's file, and doesn't change.
+/// Asserts that an office that knows the revision refuses the file of this row, and doesn't change.
 fn is_refused(rt: &impl Abort, alloc: Global, office: &mut Office, row: &Row) {
     let (file, limit, number, cause) = *row;
     let text = text_of(rt, alloc, file);

@@ -1,4 +1,4 @@
-//! States that an office refuses, and the state that this leaves.
+//! Tests of states that an office refuses without a change to its own state.
 
 use crate::compare::same;
 use crate::files::*;
@@ -9,7 +9,7 @@ use docker_office::{LedgerOffice, Office, OfficeFault, PlaceOffice, StateCause, 
 use std::alloc::Global;
 use std::process::Abort;
 
-/// How a state is read.
+/// A way to read a state.
 #[derive(Clone, Copy, PartialEq, Eq, Debug)]
 enum Ask {
     Receive,
@@ -25,8 +25,8 @@ const NEWER: &[Ask] = &[Ask::Receive, Ask::Reload, Ask::Place, Ask::Ledger];
 /// The ways of reading a state in the older format.
 const OLDER: &[Ask] = &[Ask::Migrate];
 
-/// The result when an office, or one at a place or with a ledger, reads a text of at most `limit`
-/// bytes. It reads 9 bytes at a time.
+/// The result when an office reads a text of at most `limit` bytes in this way. The source gives at
+/// most 9 bytes per read.
 fn read_in(
     rt: &impl Abort,
     alloc: Global,
@@ -47,7 +47,7 @@ fn read_in(
     }
 }
 
-/// Asserts that an office that knows the revision refuses a text for this fault, and doesn't
+/// Asserts that an office that knows the revision refuses this text for this fault, and doesn't
 /// change.
 fn refuses(rt: &impl Abort, alloc: Global, how: Ask, text: &[u8], limit: u64, fault: StateFault) {
     let mut office = office_of(rt, alloc, &[REVISION]);
@@ -56,7 +56,7 @@ fn refuses(rt: &impl Abort, alloc: Global, how: Ask, text: &[u8], limit: u64, fa
     has(rt, alloc, &office, REVISION_STATE);
 }
 
-/// Asserts that a text is refused for this fault in each of these ways.
+/// Asserts that this text is refused for this fault in each of these ways.
 fn refuses_by(
     rt: &impl Abort,
     alloc: Global,
@@ -75,7 +75,7 @@ fn fault(at: u64, cause: StateCause) -> StateFault {
     StateFault { at, cause }
 }
 
-/// A text in which these bytes replace those at an offset.
+/// This text, with its bytes from this offset on replaced by these.
 fn changed(rt: &impl Abort, alloc: Global, text: &[u8], at: usize, bytes: &[u8]) -> Vec<u8> {
     let front = text.get(..at).expect(rt, "an offset");
     let after = at.saturating_add(bytes.len());
@@ -87,11 +87,13 @@ fn changed(rt: &impl Abort, alloc: Global, text: &[u8], at: usize, bytes: &[u8])
     other
 }
 
-/// An offset, the bytes to put there, and the offset and the cause of the fault.
+/// A change to a text, and the fault that it causes: an offset, the bytes to put there, and the
+/// offset and the cause of the fault.
 type Change = (usize, &'static [u8], u64, StateCause);
 
-/// Changes of the text of one file's state. They are of the mark, the horizon, the ledger's day,
-/// the tag, the stamp, the op, the first line and the number of entries.
+/// Changes to the text of one file's state. In order, they are made to its mark, its horizon
+/// (twice), its ledger item's day, its tag, its stamp, its op (twice) and its first line. The last
+/// is made to its number of entries.
 const CHANGED: &[Change] = &[
     (3, b"1", 0, StateCause::Mark),
     (4, b"\x8e\xad", 4, StateCause::Horizon),
@@ -110,7 +112,7 @@ const CHANGED: &[Change] = &[
     ),
 ];
 
-/// Asserts that a text is refused in these ways after this change.
+/// Asserts that this text, after this change, is refused in these ways.
 fn refuses_change(rt: &impl Abort, alloc: Global, ways: &[Ask], text: &[u8], change: &Change) {
     let (offset, bytes, at, cause) = *change;
     let other = changed(rt, alloc, text, offset, bytes);
@@ -118,7 +120,7 @@ fn refuses_change(rt: &impl Abort, alloc: Global, ways: &[Ask], text: &[u8], cha
     refuses_by(rt, alloc, ways, other.as_slice(), 1000, found);
 }
 
-/// Asserts that a text is refused in these ways after each of these changes.
+/// Asserts that this text, after each of these changes, is refused in these ways.
 fn refuses_changed(rt: &impl Abort, alloc: Global, ways: &[Ask], parts: Parts, changes: &[Change]) {
     let text = text_of_parts(rt, alloc, parts);
     for change in changes {
@@ -131,7 +133,7 @@ fn changed_states(rt: HostRuntime) {
     refuses_changed(&rt, rt.alloc(), NEWER, MORNING_STATE, CHANGED);
 }
 
-/// Changes of a text in the older format.
+/// Changes to a text in the older format.
 const OLD_CHANGED: &[Change] = &[
     (3, b"2", 0, StateCause::Mark),
     (12, b"\x8e\xad", 12, StateCause::Item),
@@ -152,9 +154,10 @@ fn changed_older_states(rt: HostRuntime) {
     refuses_changed(&rt, rt.alloc(), OLDER, OLD_STATE, OLD_CHANGED);
 }
 
-/// The text after the mark, the limit, and the fault in the older format. The texts are an item
-/// twice, a full extract above the first item, an entry twice, a byte after the state, and one
-/// under a limit that is too low.
+/// A row: the text after its mark, the most bytes that a text may have, and the fault in the older
+/// format. In order, the texts have an item twice, an item of a full extract above the first item,
+/// and an entry twice. The last two have one byte after the state, and one byte more than the
+/// limit.
 type Other = (Parts, u64, u64, StateCause);
 
 const OTHERS: &[Other] = &[
@@ -204,7 +207,7 @@ const OTHERS: &[Other] = &[
     (train_after!(ONE, ITEM, ONE), 308, 308, StateCause::Long),
 ];
 
-/// A mark, and then these parts.
+/// A text of this mark and these parts.
 fn marked(rt: &impl Abort, alloc: Global, mark: &[u8], parts: Parts) -> Vec<u8> {
     let mut text = text_of_parts(rt, alloc, &[mark]);
     let rest = text_of_parts(rt, alloc, parts);
@@ -212,7 +215,7 @@ fn marked(rt: &impl Abort, alloc: Global, mark: &[u8], parts: Parts) -> Vec<u8> 
     text
 }
 
-/// Asserts that this row's text is refused in the older format.
+/// Asserts that the text of this row is refused in the older format.
 fn refuses_older(rt: &impl Abort, alloc: Global, row: &Other) {
     let (parts, limit, at, cause) = *row;
     let text = marked(rt, alloc, OLD_MARK, parts);
@@ -220,8 +223,8 @@ fn refuses_older(rt: &impl Abort, alloc: Global, row: &Other) {
     refuses_by(rt, alloc, OLDER, text.as_slice(), limit, found);
 }
 
-/// Asserts that this row's text is refused in the new format, where mark and horizon have two bytes
-/// more.
+/// Asserts that the text of this row is refused in the new format, whose mark and horizon take two
+/// bytes more.
 fn refuses_newer(rt: &impl Abort, alloc: Global, row: &Other) {
     let (parts, limit, at, cause) = *row;
     let text = marked(rt, alloc, MARK, parts);
@@ -238,7 +241,7 @@ fn items_and_entries_out_of_place(rt: HostRuntime) {
     }
 }
 
-/// How many bytes of the text there are, and at which offset it is reported as too short.
+/// Rows: how many bytes of the text are left, and the offset at which the text is then too short.
 const CUT: &[(usize, u64)] = &[
     (0, 0),
     (3, 0),
@@ -254,7 +257,7 @@ const CUT: &[(usize, u64)] = &[
     (310, 41),
 ];
 
-/// As in `CUT`, for the older format.
+/// The same as `CUT`, for the older format.
 const OLD_CUT: &[(usize, u64)] = &[
     (0, 0),
     (3, 0),
@@ -268,15 +271,15 @@ const OLD_CUT: &[(usize, u64)] = &[
     (308, 39),
 ];
 
-/// Asserts that the first `bytes` bytes of a text are refused in these ways, as too short at this
-/// offset.
+/// Asserts that the first `bytes` bytes of a text are refused in these ways, because the text is
+/// too short at this offset.
 fn refuses_front(rt: &impl Abort, alloc: Global, ways: &[Ask], text: &[u8], bytes: usize, at: u64) {
     let front = text.get(..bytes).expect(rt, "a length");
     let found = fault(at, StateCause::Short);
     refuses_by(rt, alloc, ways, front, 1000, found);
 }
 
-/// Asserts that a text is refused in these ways if it is cut at each of these places.
+/// Asserts that a text that is cut as in each of these rows is refused in these ways.
 fn refuses_cut(rt: &impl Abort, alloc: Global, ways: &[Ask], parts: Parts, cuts: &[(usize, u64)]) {
     let text = text_of_parts(rt, alloc, parts);
     for (bytes, at) in cuts {

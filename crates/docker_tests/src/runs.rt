@@ -1,4 +1,4 @@
-//! Runs of events: the replies, and what is left at the end.
+//! Tests of runs of events: the replies, and what is left at the end.
 ghost use Rattle.std.specs.Prelude.{All};
 ghost use Rattle.docker_office.specs.RunEnds.{HasGoodLimit};
 ghost use Rattle.docker_office.specs.RunMeaning.{event_meant, events_meant};
@@ -15,7 +15,7 @@ use std::alloc::Global;
 use std::process::Abort;
 use test_records::printed::{ASHFELD_0900, NONE_ON_18_JUNE};
 
-/// The event `Take` with this text, under the greatest limit.
+/// An event: an office takes this text, which may have as many records as any file.
 fn take(office: usize, text: &[u8]) -> Event<'_>
     ensures { HasGoodLimit (event_meant result) }
 {
@@ -26,35 +26,35 @@ fn take(office: usize, text: &[u8]) -> Event<'_>
     }
 }
 
-/// The event `Send`.
+/// An event: an office sends its state.
 fn send<'a>(office: usize) -> Event<'a>
     ensures { HasGoodLimit (event_meant result) }
 {
     Event::Send { office }
 }
 
-/// The event `Deliver` with this message.
+/// An event: this message is delivered to an office.
 fn deliver<'a>(office: usize, message: usize) -> Event<'a>
     ensures { HasGoodLimit (event_meant result) }
 {
     Event::Deliver { office, message }
 }
 
-/// The event `Reload` with this message.
+/// An event: an office reloads this message.
 fn reload<'a>(office: usize, message: usize) -> Event<'a>
     ensures { HasGoodLimit (event_meant result) }
 {
     Event::Reload { office, message }
 }
 
-/// The event `Horizon` with this day.
+/// An event: an office sets this horizon.
 fn horizon<'a>(office: usize, day: Day) -> Event<'a>
     ensures { HasGoodLimit (event_meant result) }
 {
     Event::Horizon { office, day }
 }
 
-/// What a run of these events leaves.
+/// The offices, messages and replies that a run of these events leaves.
 fn left_by(rt: &impl Abort, alloc: Global, offices: usize, events: &[Event<'_>]) -> Exchange
     requires { All HasGoodLimit (events_meant events.now) }
 {
@@ -66,7 +66,7 @@ fn office_at<'a>(rt: &impl Abort, left: &'a Exchange, office: usize) -> &'a Offi
     left.offices().get(office).expect(rt, "an office")
 }
 
-/// Asserts that an office, at the end of a run, prints this docker for Ashfeld on a day.
+/// Asserts that an office prints this docker of Ashfeld on a day at the end of a run.
 fn prints_there(
     rt: &impl Abort,
     alloc: Global,
@@ -109,7 +109,7 @@ fn no_office(rt: HostRuntime) {
     same(&rt, left.messages().len(), 0);
 }
 
-/// The events at three offices up to the first office's reload, and then these events.
+/// Events at three offices that end with the first office's reload, and then these further events.
 macro_rules! up_to_reload {
     ([$early:expr, $full:expr, $late:expr], $($more:expr),*) => {
         &[
@@ -131,7 +131,7 @@ macro_rules! up_to_reload {
     };
 }
 
-/// What is left by a run of three offices, whose last event is a refused file.
+/// What a run of three offices leaves. Its last event is refused because of its file.
 fn three_left(rt: &impl Abort, alloc: Global) -> Exchange {
     let early = text_of(rt, alloc, FIFTH);
     let full = text_of(rt, alloc, SEVENTH);
@@ -148,7 +148,7 @@ fn three_left(rt: &impl Abort, alloc: Global) -> Exchange {
     left_by(rt, alloc, 3, events)
 }
 
-/// The replies to the last three events of the run of three offices.
+/// The replies to the last three events of that run.
 const LAST_REPLIES: &[Reply] = &[
     Reply::Refused(RunFault::NoOffice),
     Reply::Refused(RunFault::NoMessage),
@@ -191,7 +191,8 @@ fn three_offices_up_to_a_reload(rt: HostRuntime) {
     ends(&rt, alloc, &left, 1, LATE_STATE);
 }
 
-/// What is left by a run of two offices, whose last event sets a horizon at a third.
+/// What a run of two offices leaves. Its last event sets a horizon at a third office, which doesn't
+/// exist.
 fn horizon_left(rt: &impl Abort, alloc: Global) -> Exchange {
     let text = text_of(rt, alloc, MORNING);
     let day = day_of(rt, "2024-06-15");
@@ -222,8 +223,8 @@ fn two_offices_and_a_horizon(rt: HostRuntime) {
     prints_there(&rt, alloc, &left, 0, "2024-06-10", ASHFELD_0900);
 }
 
-/// What is left by a run in which a state is sent, then a horizon is set, and then the state is
-/// delivered.
+/// What a run of two offices leaves. The first office sends its state and then sets a horizon;
+/// after that the state is delivered to the second.
 fn delivery_left(rt: &impl Abort, alloc: Global) -> Exchange {
     let text = text_of(rt, alloc, MORNING);
     let day = day_of(rt, "2024-06-15");
@@ -244,7 +245,8 @@ fn a_delivery_before_the_horizon(rt: HostRuntime) {
     prints_there(&rt, rt.alloc(), &left, 1, "2024-06-10", ASHFELD_0900);
 }
 
-/// The events at one office up to the reload of its first message, and then these events.
+/// Events at one office that end with the reload of its first message, and then these further
+/// events.
 macro_rules! up_to_loss {
     ([$text:expr, $revision:expr], $($more:expr),*) => {
         &[
@@ -258,7 +260,7 @@ macro_rules! up_to_loss {
     };
 }
 
-/// What a run leaves if the reload has lost the revision.
+/// What the run leaves whose reload has lost the revision.
 fn lost_left(rt: &impl Abort, alloc: Global) -> Exchange {
     let text = text_of(rt, alloc, MORNING);
     let revision = text_of(rt, alloc, REVISION);
@@ -266,7 +268,7 @@ fn lost_left(rt: &impl Abort, alloc: Global) -> Exchange {
     left_by(rt, alloc, 1, events)
 }
 
-/// What a run leaves if the revision is taken again after the reload has lost it.
+/// What the run leaves if a message with the revision is delivered after the reload.
 fn found_left(rt: &impl Abort, alloc: Global) -> Exchange {
     let text = text_of(rt, alloc, MORNING);
     let revision = text_of(rt, alloc, REVISION);
@@ -286,8 +288,8 @@ fn what_a_reload_lost_comes_again(rt: HostRuntime) {
     ends(&rt, alloc, &found, 0, REVISED_STATE);
 }
 
-/// What is left by a run of five offices: the first takes three files, and the last receives them
-/// from the other three.
+/// What a run of five offices leaves. The first office takes three files. The last one receives the
+/// same files from the other three offices.
 fn five_left(rt: &impl Abort, alloc: Global, files: [File; 3]) -> Exchange {
     let first = text_of(rt, alloc, files[0]);
     let second = text_of(rt, alloc, files[1]);
@@ -309,7 +311,7 @@ fn five_left(rt: &impl Abort, alloc: Global, files: [File; 3]) -> Exchange {
     left_by(rt, alloc, 5, events)
 }
 
-/// A full extract that comes late, in each order of the files.
+/// The three files in every order. A full extract may come after a later update.
 const ORDERS: &[[File; 3]] = &[
     [FIFTH, SEVENTH, NINTH],
     [FIFTH, NINTH, SEVENTH],
@@ -319,8 +321,8 @@ const ORDERS: &[[File; 3]] = &[
     [NINTH, SEVENTH, FIFTH],
 ];
 
-/// Asserts that the first office and the last know the same three files, if they are taken in this
-/// order.
+/// Asserts that the first office and the last have the state of all three files, if the files come
+/// in this order.
 fn is_late(rt: &impl Abort, alloc: Global, files: [File; 3]) {
     let left = five_left(rt, alloc, files);
     replies(rt, &left, 12, &[]);

@@ -4,7 +4,7 @@ use std::alloc::Global;
 use std::process::Abort;
 use test_records::*;
 
-/// The parts of a text, one after the other.
+/// The parts of a text, in their order.
 pub(crate) type Parts = &'static [&'static [u8]];
 
 /// The mark of the new format, and no horizon.
@@ -16,19 +16,19 @@ const MARK_15: &[u8] = b"DKS2\x5b\xf6";
 /// The mark of the older format.
 pub(crate) const OLD_MARK: &[u8] = b"DKS1";
 
-/// How many items or entries there are: zero, one or two.
+/// The number of items or entries of a text: zero, one or two.
 const NONE: &[u8] = b"\0\0\0\0\0\0\0\0";
 
 pub(crate) const ONE: &[u8] = b"\0\0\0\0\0\0\0\x01";
 
 pub(crate) const TWO: &[u8] = b"\0\0\0\0\0\0\0\x02";
 
-/// The ledger items of the update of 9 June, and of a full extract of the same minute.
+/// The ledger items of the update of 9 June, and of a full extract with the same date and time.
 pub(crate) const ITEM: &[u8] = b"\x5b\xf0\x04\xecDFROC1AUDFROC1Z";
 
 const ITEM_FULL: &[u8] = b"\x5b\xf0\x04\xecDFROC1AFDFROC1Z";
 
-/// The ledger items of other files. Their names have the day in June and the last letter of the
+/// The ledger items of other files. Each name has the day in June and the last letter of the file's
 /// reference.
 const ITEM_10B: &[u8] = b"\x5b\xf1\x04\xecDFROC1BUDFROC1A";
 
@@ -42,32 +42,32 @@ const ITEM_9B: &[u8] = b"\x5b\xf0\x04\xecDFROC1BUDFROC1A";
 
 const ITEM_9C: &[u8] = b"\x5b\xf0\x04\xecDFROC1CUDFROC1B";
 
-/// The entry of C10001 in the update of 9 June, up to its op. Also the same entry, from record 5.
+/// The entry of C10001 in the update of 9 June, without its op: from record 2, and from record 5.
 pub(crate) const ENTRY: &[u8] = b"\x03C10001\x5b\xf1P\x5b\xf0\x04\xecDFROC1A\0\0\0\x02";
 
 const ENTRY_FIFTH: &[u8] = b"\x03C10001\x5b\xf1P\x5b\xf0\x04\xecDFROC1A\0\0\0\x05";
 
-/// The entries of C10001 in other files, up to their ops.
+/// The entries of C10001 in other files, without their ops.
 const ENTRY_10B: &[u8] = b"\x03C10001\x5b\xf1P\x5b\xf1\x04\xecDFROC1B\0\0\0\x02";
 
 const ENTRY_9B: &[u8] = b"\x03C10001\x5b\xf1P\x5b\xf0\x04\xecDFROC1B\0\0\0\x02";
 
 const ENTRY_9C: &[u8] = b"\x03C10001\x5b\xf1P\x5b\xf0\x04\xecDFROC1C\0\0\0\x02";
 
-/// Entries of the update of 5 June, up to their ops.
+/// The entries of C10001 and C10003 in the update of 5 June, without their ops.
 const ENTRY_5A: &[u8] = b"\x03C10001\x5b\xf1P\x5b\xec\x04\xecDFROC1A\0\0\0\x03";
 
 const C10003_5A: &[u8] = b"\x03C10003\x5b\xf1P\x5b\xec\x04\xecDFROC1A\0\0\0\x02";
 
-/// The entry of C10002 in the full extract, up to its op.
+/// The entry of C10002 in the full extract, without its op.
 const ENTRY_7B: &[u8] = b"\x03C10002\x5b\xf1P\x5b\xee\x04\xecDFROC1B\0\0\0\x02";
 
-/// The entries of a timing point's two codes, up to their ops.
+/// The entries of a timing point's old and new codes, without their ops.
 const ASHFELD_10B: &[u8] = b"\x01ASHFELD\x5b\xf1\x04\xecDFROC1B\0\0\0\x02";
 
 const ASHFLDN_10B: &[u8] = b"\x01ASHFLDN\x5b\xf1\x04\xecDFROC1B\0\0\0\x02";
 
-/// The bytes of ops: deleted, lapsed and put. Also a put of three lines.
+/// The bytes of ops: deleted, lapsed, put, and put with three lines.
 const GONE: &[u8] = b"\0";
 
 const PASSED: &[u8] = b"\x02";
@@ -79,14 +79,14 @@ pub(crate) const THREE_LINES: &[u8] = b"\x01\0\0\0\x03";
 /// The body of a timing point: columns 10 to 72 of its record.
 const DESCRIBED: &[u8] = b"         ASHFIELD NEW                                          ";
 
-/// Lines of schedules.
+/// The lines of a schedule: its basic schedule, its origin and its terminus.
 pub(crate) const FIRST: &[u8] = BS;
 
 pub(crate) const FROM_ASHFELD: &[u8] = LO;
 
 pub(crate) const TO_BRAYTON: &[u8] = LT;
 
-/// These parts, and then the put of the morning train.
+/// These parts, followed by the entry of the morning train.
 macro_rules! train_after {
     ($($part:expr),*) => {
         &[$($part,)* ENTRY, THREE_LINES, FIRST, FROM_ASHFELD, TO_BRAYTON]
@@ -95,19 +95,19 @@ macro_rules! train_after {
 
 pub(crate) use train_after;
 
-/// The state of no file.
+/// The state that knows no files.
 pub(crate) const EMPTY_STATE: Parts = &[MARK, NONE, NONE];
 
-/// The state of the morning train: 311 bytes.
+/// The state that knows the morning train: 311 bytes.
 pub(crate) const MORNING_STATE: Parts = train_after!(MARK, ONE, ITEM, ONE);
 
-/// The state of the morning train in the older format: 309 bytes.
+/// The state that knows the morning train, in the older format: 309 bytes.
 pub(crate) const OLD_STATE: Parts = train_after!(OLD_MARK, ONE, ITEM, ONE);
 
-/// The state of the morning train under a horizon after its last day: 67 bytes.
+/// The state that knows the morning train, under a horizon after its last day: 67 bytes.
 pub(crate) const LAPSED_STATE: Parts = &[MARK_15, ONE, ITEM, ONE, ENTRY, PASSED];
 
-/// The state of the revision only: 311 bytes.
+/// The state that knows only the revision: 311 bytes.
 pub(crate) const REVISION_STATE: Parts = &[
     MARK,
     ONE,
@@ -120,7 +120,7 @@ pub(crate) const REVISION_STATE: Parts = &[
     LT_0935,
 ];
 
-/// The state of the morning train and its revision: 330 bytes.
+/// The state that knows the morning train and its revision: 330 bytes.
 pub(crate) const REVISED_STATE: Parts = &[
     MARK,
     TWO,
@@ -134,7 +134,7 @@ pub(crate) const REVISED_STATE: Parts = &[
     LT_0935,
 ];
 
-/// The state of the update of 5 June: 337 bytes.
+/// The state that knows the update of 5 June: 337 bytes.
 pub(crate) const FIFTH_STATE: Parts = &[
     MARK,
     ONE,
@@ -149,8 +149,8 @@ pub(crate) const FIFTH_STATE: Parts = &[
     GONE,
 ];
 
-/// The state of three files: the update of 5 June, the full extract of 7 June and the update of 9
-/// June. It has 600 bytes.
+/// The state that knows three files: the update of 5 June, the full extract of 7 June and the
+/// update of 9 June. It has 600 bytes.
 pub(crate) const LATE_STATE: Parts = &[
     MARK,
     TWO,
@@ -169,13 +169,13 @@ pub(crate) const LATE_STATE: Parts = &[
     LT_1030,
 ];
 
-/// The state of a train of the day before and its deletion: 86 bytes.
+/// The state that knows a train of 8 June and its deletion: 86 bytes.
 pub(crate) const DELETED_STATE: Parts = &[MARK, TWO, ITEM_8A, ITEM_9B, ONE, ENTRY_9B, GONE];
 
-/// The state of a file that puts a train and deletes it: 67 bytes.
+/// The state that knows a file that puts a train and deletes it: 67 bytes.
 pub(crate) const WITHDRAWN_STATE: Parts = &[MARK, ONE, ITEM, ONE, ENTRY_FIFTH, GONE];
 
-/// The state of a timing point and its new code: 171 bytes.
+/// The state that knows a timing point and its new code: 171 bytes.
 pub(crate) const RENAMED_STATE: Parts = &[
     MARK,
     TWO,
@@ -189,8 +189,8 @@ pub(crate) const RENAMED_STATE: Parts = &[
     DESCRIBED,
 ];
 
-/// The state of two files with equal stamps, in which the train that runs until a later day wins:
-/// 311 bytes.
+/// The state that knows two files with equal stamps; the train that runs until a later day wins. It
+/// has 311 bytes.
 pub(crate) const LONGER_STATE: Parts = &[
     MARK,
     ONE,
@@ -203,8 +203,8 @@ pub(crate) const LONGER_STATE: Parts = &[
     TO_BRAYTON,
 ];
 
-/// The state of two files with equal stamps, in which the train with the greater bytes wins: 311
-/// bytes.
+/// The state that knows two files with equal stamps; the train with the greater bytes wins. It has
+/// 311 bytes.
 pub(crate) const LATER_STATE: Parts = &[
     MARK,
     ONE,
@@ -217,7 +217,7 @@ pub(crate) const LATER_STATE: Parts = &[
     TO_BRAYTON,
 ];
 
-/// The state of an update and a full extract with equal file stamps: 330 bytes.
+/// The state that knows an update and a full extract with equal file stamps: 330 bytes.
 pub(crate) const BOTH_STATE: Parts = train_after!(MARK, TWO, ITEM_FULL, ITEM, ONE);
 
 /// The text of these parts.

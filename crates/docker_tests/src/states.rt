@@ -1,4 +1,4 @@
-//! The texts of states, as offices send them.
+//! Tests of the texts of states that offices send.
 ghost use Rattle.std.specs.Prelude.{◌<◌};
 
 use crate::compare::same;
@@ -10,8 +10,8 @@ use docker_office::Office;
 use std::alloc::Global;
 use std::process::Abort;
 
-/// Files in one order, the same files in another, the number of bytes that their state has, and its
-/// parts.
+/// A row: files in one order, the same files in another order, the number of bytes of their state's
+/// text, and the parts of that text.
 type Row = (&'static [File], &'static [File], usize, Parts);
 
 const ROWS: &[Row] = &[
@@ -51,14 +51,15 @@ const ROWS: &[Row] = &[
     (&[MORNING, FULL], &[FULL, MORNING], 330, BOTH_STATE),
 ];
 
-/// Asserts the text of an office that takes these files one after the other. An office that
-/// receives each file's state from another office has the same text.
+/// Asserts the text of an office that takes these files in this order. An office that receives the
+/// state of each file from another office must have the same text.
 fn have(rt: &impl Abort, alloc: Global, files: &[File], parts: Parts) {
     has(rt, alloc, &office_of(rt, alloc, files), parts);
     has(rt, alloc, &merged(rt, alloc, files), parts);
 }
 
-/// Asserts that both orders of a row give its state, and that the state has this many bytes.
+/// Asserts that both orders of this row's files give its text, and that the text has this many
+/// bytes.
 fn is_state(rt: &impl Abort, alloc: Global, row: &Row) {
     let (files, others, bytes, parts) = *row;
     same(rt, text_of_parts(rt, alloc, parts).len(), bytes);
@@ -73,7 +74,7 @@ fn states_in_any_order(rt: HostRuntime) {
     }
 }
 
-/// Files, and what the command `files` lists of their state.
+/// Rows: files, and what the command `files` lists for their state.
 const LISTS: &[(&[File], &str)] = &[
     (&[], ""),
     (
@@ -91,7 +92,8 @@ const LISTS: &[(&[File], &str)] = &[
     (&[EARLY], "2000-01-01 0307 DFROC1A U DFROC1Z\n"),
 ];
 
-/// Asserts what an office lists after it has taken these files, and what one with its ledger lists.
+/// Asserts what an office lists after it has taken these files, and what an office with only its
+/// ledger lists.
 fn lists(rt: &impl Abort, alloc: Global, files: &[File], wanted: &str) {
     let office = office_of(rt, alloc, files);
     let mut text = Kept::new(alloc, 100).expect(rt, "room");
@@ -110,8 +112,8 @@ fn files_of_states(rt: HostRuntime) {
     }
 }
 
-/// Asserts that an office has the state of the morning train after it takes this text, `step` bytes
-/// at a time.
+/// Asserts that an office has the state of the morning train after it has taken this text from a
+/// source that gives at most `step` bytes per read.
 fn is_taken(rt: &impl Abort, alloc: Global, text: &[u8], step: usize)
     requires { 0 < step }
 {

@@ -1,4 +1,4 @@
-//! Each subcommand once: the bytes that it reads and those that it writes.
+//! Tests of each subcommand once: the bytes that it reads and the bytes that it writes.
 
 use crate::commands::written;
 use crate::compare::same_of;
@@ -12,20 +12,20 @@ HDTPS.UDFROC1.PD2406090906242100DFROC1ADFROC1ZUA
 ZZ                                                                              
 ";
 
-/// The state of no file.
+/// The state that knows no files.
 const EMPTY: &[u8] = b"DKS2\0\0\0\0\0\0\0\0\0\0\0\0\0\0\0\0\0\0";
 
-/// The state of the update of 9 June: day 23536, minute 1260.
+/// The state that knows the update of 9 June: day 23536, minute 1260.
 const STATE: &[u8] = b"DKS2\0\0\0\0\0\0\0\0\0\x01\x5b\xf0\x04\xecDFROC1AUDFROC1Z\0\0\0\0\0\0\0\0";
 
-/// The state of the update of 9 June in the older format.
+/// The state that knows the update of 9 June, in the older format.
 const OLD: &[u8] = b"DKS1\0\0\0\0\0\0\0\x01\x5b\xf0\x04\xecDFROC1AUDFROC1Z\0\0\0\0\0\0\0\0";
 
-/// The state of the update of 9 June under the horizon of 15 June 2024, day 23542.
+/// The state that knows the update of 9 June, under the horizon of 15 June 2024, day 23542.
 const RAISED: &[u8] =
     b"DKS2\x5b\xf6\0\0\0\0\0\0\0\x01\x5b\xf0\x04\xecDFROC1AUDFROC1Z\0\0\0\0\0\0\0\0";
 
-/// Asserts what the command with these words writes, if its sources give these two texts.
+/// Asserts what the command with these words writes over sources with these two texts.
 fn writes(
     rt: &impl Abort,
     alloc: Global,

@@ -1,6 +1,6 @@
-"""What differs at a place on a day from the permanent timetable: the trains that are cancelled, altered or added.
+"""How a place's docker of a day differs from the permanent timetable: the trains that are cancelled, altered or added.
 
-Trains are matched by UID and start day, and the calls of a train by their order at the place. A line that differs in its STP indicator only doesn't differ."""
+Trains are matched by UID and start day, and the calls of a train by their order at the place. Lines that differ only in their STP indicator count as equal."""
 import collections
 import datetime
 from typing import NamedTuple
@@ -8,30 +8,30 @@ from typing import NamedTuple
 import lines
 import trains
 
-# What a train may be, in the order in which they are counted, and how a page counts them. One that is absent runs, but doesn't call here.
+# The kinds of changed trains, in the order in which they are counted, and the words with which a page counts them. An absent train runs, but doesn't call here.
 WORDS = {"cancelled": "cancelled", "absent": "not calling", "altered": "altered", "added": "added"}
-# The fields in which a line may differ from what it was.
+# The fields of a line that are compared with its permanent line.
 COMPARED = tuple(name for name in lines.Line._fields if name not in ("kind", "uid", "stp"))
-# How many days after its start a train may be on its way: it passes midnight twice at most.
+# The number of days on which a train may be on its way: it passes midnight at most twice.
 DAYS = 3
-# The order of the kinds of lines at one time.
+# The order of the kinds of lines at the same time.
 ORDER = "APJVND"
-# What isn't there, if an event of a call isn't.
+# The word for a missing event of a call.
 EVENTS = {"A": "arrival", "P": "pass", "D": "departure"}
-# What a train doesn't do that isn't here, or not at a time: of one that stops, and of one that passes.
+# What a page says of a train that isn't here, or not at a time: one that stops, and one that passes.
 NOT = ("doesn’t call", "doesn’t pass")
 
 
 class Change(NamedTuple):
-    """How a line differs, and the start day of its train. `was` has the permanent lines that it stands for. If they don't say it, `words` do, in which `{when}`
-    stands for the day."""
+    """How a line differs, and the start day of its train. `was` has the permanent lines that it replaces. If they don't explain the change, `words` do;
+    `{when}` in them is replaced by the day."""
     kind: str
     start: str
     was: tuple = ()
     words: str = ""
 
     def worded(self, when):
-        """Its words, with the day in words; nothing if what it was says it."""
+        """The words of the change, with the day filled in; empty if `was` explains it."""
         return self.words.format(when=when)
 
 
@@ -42,19 +42,19 @@ class Gone(NamedTuple):
 
 
 class Changes(NamedTuple):
-    """What differs on a docker: of its lines by their numbers, and of the permanent lines that it doesn't have, in their order. `trains` has
-    the UID and the start day of each train, by what it is."""
+    """How a docker differs: the changes of its lines, by the lines' numbers, and the permanent lines that it lacks, in their order. `trains` has the UID and
+    the start day of each changed train, by kind of change."""
     of: dict
     gone: list
     trains: dict
 
     def counted(self):
-        """How many trains there are of each kind, in words; nothing if there is none."""
+        """The number of trains of each kind, in words; empty if there are none."""
         return counted(self.trains)
 
 
 def counted(trains_of):
-    """How many trains there are of each kind, in words; nothing if there is none."""
+    """The number of trains of each kind, in words; empty if there are none."""
     return ", ".join(f"{len(trains_of[kind])} {word}" for kind, word in WORDS.items() if trains_of.get(kind))
 
 
@@ -65,7 +65,7 @@ def bare(line):
 
 
 def lone(text, other):
-    """The lines of a docker's text that another one doesn't have, apart from their STP indicators."""
+    """The lines that one docker has and the other lacks, ignoring STP indicators."""
     left = collections.Counter(map(bare, other.split(b"\n")[1:-2]))
     for line in text.split(b"\n")[1:-2]:
         if left[key := bare(line)]:
@@ -75,13 +75,13 @@ def lone(text, other):
 
 
 def uids_of(text, permanent):
-    """The UIDs whose lines are not the same in two dockers."""
+    """The UIDs whose lines differ between two dockers."""
     first, last = lines.COLUMNS["UID"]
     return {line[first - 1:last].decode("ascii").strip() for line in (*lone(text, permanent), *lone(permanent, text))}
 
 
 def rows_of(docker):
-    """The rows of a docker's text, with their numbers, by UID."""
+    """The rows of a docker's text with their numbers, by UID."""
     found = {}
     first, last = lines.COLUMNS["UID"]
     for number, row in enumerate(docker.decode("ascii").split("\n")[1:-2]):
@@ -90,7 +90,7 @@ def rows_of(docker):
 
 
 def date_after(date, days):
-    """The date a number of days after another."""
+    """The date that is this number of days after another."""
     return (datetime.date.fromisoformat(date) + datetime.timedelta(days)).isoformat()
 
 
@@ -99,12 +99,12 @@ def long(date):
 
 
 def place_in_day(line):
-    """What orders the lines of a docker, as far as people see it."""
+    """The key by which lines are put in order for a reader."""
     return line.half_minutes, ORDER.find(line.kind), line.uid
 
 
 def calls_of(events):
-    """The events of a train at a place as its calls: a departure belongs to the arrival before it."""
+    """A train's events at a place, as calls: a departure belongs to the arrival before it."""
     calls = []
     for number, line in events:
         if calls and line.kind == "D" and calls[-1][-1][1].kind == "A" and calls[-1][-1][1].suffix == line.suffix:
@@ -119,7 +119,8 @@ def time_of(call):
 
 
 def kept_of(calls, others):
-    """The numbers of those calls that stand for the others, which are fewer, in their order, so that the times differ least."""
+    """The numbers of the calls that are matched with the others, which are fewer. The order is kept, and the differences of the times are as small as
+    possible."""
     best = [(0, ())] + [None] * len(others)
     for number, call in enumerate(calls):
         for at in range(len(others), 0, -1):
@@ -131,7 +132,7 @@ def kept_of(calls, others):
 
 
 def paired(calls, others):
-    """The calls of a train with the permanent ones that they stand for, by their order. A call for which there is no other has None beside it."""
+    """The calls of a train, each with the permanent call that it replaces, in their order. A call without a counterpart has None."""
     if len(calls) < len(others):
         return [(call, other) for other, call in paired(others, calls)]
     stands_for = dict(zip(kept_of(calls, others), others))
@@ -139,12 +140,13 @@ def paired(calls, others):
 
 
 def differs(line, was):
-    """Whether people see a difference between a line and what it was."""
+    """Whether a reader sees a difference between a line and its permanent line."""
     return any(getattr(line, name) != getattr(was, name) for name in COMPARED)
 
 
 def departures_of(docker, origin):
-    """When each UID departs that starts at a place, by the text of the place's docker, in half minutes. A train that comes back there has another suffix then."""
+    """When each UID that starts at a place departs, in half minutes, from the text of the place's docker. A train that comes back there has another suffix at
+    its later call."""
     found = {}
     events = [lines.line_of(row) for row in docker.decode("ascii").split("\n")[1:-2] if row[6] in "AD"]
     arrives = {(line.uid, line.suffix) for line in events if line.kind == "A"}
@@ -155,7 +157,7 @@ def departures_of(docker, origin):
 
 
 class Departures:
-    """When permanent trains depart from their origins. What was asked is kept."""
+    """When permanent trains depart from their origins. Answers are kept."""
 
     def __init__(self, reader):
         self.reader = reader
@@ -169,8 +171,8 @@ class Departures:
 
 
 class Timetable:
-    """What is asked of a desk to compare the dockers of a place: trains, with their calls there, and permanent dockers. Answers are kept. A pair of dockers may be
-    at hand, and the departures that another comparison asked for."""
+    """The requests to a desk that are needed to compare the dockers of a place: trains, with their calls there, and permanent dockers. Answers are kept. A pair
+    of dockers may be given, and so may the departures that another comparison asked for."""
 
     def __init__(self, reader, tiploc, pair=None, departures=None):
         self.reader, self.tiploc = reader, tiploc
@@ -186,13 +188,13 @@ class Timetable:
             self.answers.update(zip(new, self.reader.trains(new)))
 
     def indicator(self, uid, start):
-        """The STP indicator of the schedule that is chosen for a train; nothing if there is none."""
+        """The STP indicator of the schedule that is chosen for a train; empty if there is none."""
         self.fetches([(uid, start)])
         answer = self.answers[uid, start]
         return trains.indicator_of(answer.text) if answer.status == 0 else ""
 
     def train(self, uid, start):
-        """The train of a UID that starts on a day, or None."""
+        """The train with this UID that starts on this day, or None."""
         if (uid, start) not in self.read:
             self.fetches([(uid, start)])
             answer = self.answers[uid, start]
@@ -200,26 +202,26 @@ class Timetable:
         return self.read[uid, start]
 
     def starts_of(self, docker):
-        """The start day of each line's train; nothing where it can't be said."""
+        """The start day of each line's train; empty where it isn't known."""
         self.fetches((line.uid, date_after(docker.date, -before)) for line in docker.lines for before in range(DAYS))
         return trains.starts_of(docker, self.train)
 
     def text(self, command, date):
-        """The docker of the place on a day, by `print` or by `permanent`; nothing if it is refused."""
+        """The docker of the place on a day, from `print` or `permanent`; empty if it is refused."""
         if (command, date) not in self.texts:
             answer = self.reader.print_docker(self.tiploc, date) if command == "print" else self.reader.permanent(self.tiploc, date)
             self.texts[command, date] = answer.text if answer.status == 0 else b""
         return self.texts[command, date]
 
     def lines(self, command, date, uid):
-        """The lines of a UID on a docker, with their numbers."""
+        """The lines of a UID on a docker, with the lines' numbers."""
         if (command, date) not in self.rows:
             self.rows[command, date] = rows_of(self.text(command, date))
         return [(number, lines.line_of(row)) for number, row in self.rows[command, date].get(uid, ())]
 
 
 class Day:
-    """A place on a day: the lines of some UIDs on its docker, and the permanent ones, by their trains."""
+    """A place on a day: the lines of some UIDs on its docker and on the permanent one, by train."""
 
     def __init__(self, timetable, date, uids):
         self.timetable, self.date = timetable, date
@@ -243,8 +245,8 @@ class Day:
         return [start or self.date for start in trains.starts_of(docker, self.timetable.train)]
 
     def permanent_starts(self, uid, own, starts, permanent):
-        """The start day of each permanent line's train. A train whose permanent schedule is chosen has the same events on both dockers; what is
-        left belongs to those that have another one."""
+        """The start day of each permanent line's train. If a train's permanent schedule is chosen, the train has the same events on both dockers. The remaining
+        events belong to the trains that have another schedule chosen."""
         indicators = {start: self.timetable.indicator(uid, start) for start in self.starts}
         same = collections.defaultdict(list)
         for (_, line), start in zip(own, starts):
@@ -257,14 +259,14 @@ class Day:
                 found[number] = same[line].pop(0) if same[line] else self.changed_start(line, changed)
         events = [(line, found[number]) for number, line in permanent if number in found]
         for number, line in permanent:
-            # An association belongs to a call, and has its time.
+            # An association belongs to a call, and has the call's time.
             at = (start for event, start in events if (event.time, event.suffix) == (line.time, line.suffix))
             found.setdefault(number, next(at, self.date))
         return [found[number] for number, _ in permanent]
 
     def changed_start(self, line, changed):
-        """The start day of a permanent line's train that is one of these. If there are several, it is this day if the train departs from its origin before,
-        since no train takes a day to get here."""
+        """The start day of a permanent line's train, which is one of these days. If there are several, it is this day if the train departs from its origin
+        earlier on this day, since no train takes a whole day to get here."""
         if len(changed) == 1:
             return changed[0]
         departs = self.timetable.departures.of(line.origin, self.date).get(line.uid)
@@ -288,7 +290,7 @@ class Comparison:
         return self.changes
 
     def compares(self, train, now, before):
-        """Compares the lines of a train, and counts it if they differ."""
+        """Compares the lines of a train. Counts the train if they differ."""
         of, gone = len(self.changes.of), len(self.changes.gone)
         events, others = ([one for one in numbered if one[1].kind in EVENTS] for numbered in (now, before))
         kind = "altered"
@@ -310,7 +312,7 @@ class Comparison:
         self.changes.of[number] = Change(kind, train[1], tuple(was), words)
 
     def loses(self, train, before):
-        """A train that isn't here on this day: it is cancelled, or it is here on another day, or not at all."""
+        """A train that isn't here on this day. It is cancelled, or it is here on another day, or it isn't here at all."""
         if self.timetable.indicator(*train) == "C":
             kind, words = "cancelled", ("cancelled", "cancelled")
         elif elsewhen := self.elsewhen(train):
@@ -322,13 +324,13 @@ class Comparison:
         return kind
 
     def elsewhen(self, train):
-        """The first day and time at which a train is here, in words; nothing if it isn't."""
+        """The day and the time at which a train is first here, in words; empty if it never is."""
         found = self.timetable.train(*train)
         times = ((call.days[kind], time) for call in found.calls for kind, time in call.times.items()) if found else ()
         return next((f"{long(date_after(found.date, after))} at {trains.clock(time)}" for after, time in times), "")
 
     def gains(self, train, now):
-        """A train that isn't here on this day permanently: it is added, or permanently it is here the day before or after."""
+        """A train that isn't here permanently on this day. It is added, or it is here permanently on the day before or after."""
         date, was = self.lines_beside(train)
         for number, _ in now:
             if was:
@@ -338,7 +340,7 @@ class Comparison:
         return "altered" if was else "added"
 
     def lines_beside(self, train):
-        """The day before or after on which an altered train is here permanently, and its lines; nothing if there is none."""
+        """The day before or after this one on which the train is here permanently, and its lines, if this day's schedule is an overlay; otherwise nothing."""
         if self.timetable.indicator(*train) == "O":
             for apart in (-1, 1):
                 if found := self.day_beside(apart).before.get(train):
@@ -346,15 +348,15 @@ class Comparison:
         return "", []
 
     def day_beside(self, apart):
-        """The day before or after, with the altered trains that aren't here on this day permanently."""
+        """The day before or after, with the altered trains that aren't here permanently on this day."""
         if apart not in self.beside:
             uids = {uid for uid, start in self.day.now.keys() - self.day.before.keys() if self.timetable.indicator(uid, start) == "O"}
             self.beside[apart] = Day(self.timetable, date_after(self.date, apart), uids)
         return self.beside[apart]
 
     def alters(self, train, call, other):
-        """A call that stands for another: an event is compared with the one of its kind. If the train stops where it passed, or the other way round, each is
-        compared with the whole call."""
+        """A call and the permanent call that it replaces: events of the same kind are compared. If the train stops where it passes permanently, or the other
+        way round, each event is compared with the whole call."""
         now, before = {line.kind: (number, line) for number, line in call}, {line.kind: line for _, line in other}
         is_same = bool(now.keys() & before.keys())
         for kind, (number, line) in now.items():
@@ -371,7 +373,7 @@ class Comparison:
                 self.goes(train, "altered", line, f"no {EVENTS[kind]} {{when}}")
 
     def links(self, train, now, before):
-        """The associations of a train. Two of one kind with the same other train stand for each other."""
+        """The associations of a train. Two of the same kind with the same other train are matched."""
         others = [line for _, line in before]
         for number, line in now:
             was = next((other for other in others if (other.kind, other.partner, other.suffix) == (line.kind, line.partner, line.suffix)), None)
@@ -386,7 +388,7 @@ class Comparison:
 
 
 def changes_of(timetable, date):
-    """What differs at a place on a day."""
+    """How a place's docker of a day differs from the permanent one."""
     return Comparison(timetable, date).made()
 
 
@@ -408,13 +410,13 @@ def was_of(line, name, labels):
 
 
 def told(line, change, labels, when):
-    """A change in words: `was 09:00, platform 1`."""
+    """A change in words, such as `was 09:00, platform 1`."""
     if words := change.worded(when):
         return words
     if [was.kind for was in change.was] == [line.kind]:
         was = change.was[0]
         fields = [name for name in COMPARED if getattr(line, name) != getattr(was, name)]
-        # A public time that is the time itself on both lines says nothing more.
+        # If the public time equals the working time on both lines, it is left out.
         if "time" in fields and (line.public, was.public) == (line.time[:4], was.time[:4]):
             fields = [name for name in fields if name != "public"]
         return "was " + ", ".join(was_of(was, name, labels) for name in fields)

@@ -1,4 +1,4 @@
-"""What a page says of its day: how old what is known is, and what is missing of the day."""
+"""What a page says about its day: how old the office's knowledge is, and what is missing for the day."""
 import datetime
 from typing import NamedTuple, Optional
 
@@ -6,7 +6,7 @@ import dockers
 
 
 class Days(NamedTuple):
-    """What is known of days: the list of files, and what `known` says, if there is a desk that knows it."""
+    """What is known about days: the list of files, and the answer to `known`, if there is a desk that knows it."""
     extracts: list
     coverage: Optional[dockers.Coverage]
 
@@ -25,7 +25,7 @@ class Days(NamedTuple):
         return self.coverage and self.coverage.last
 
     def age(self, now):
-        """How old what is known is, if it is older than a day and a half."""
+        """The age of what is known, if it is more than a day and a half."""
         if self.newest is None:
             return ""
         made = datetime.datetime.fromisoformat(f"{self.newest.date}T{self.newest.time[:2]}:{self.newest.time[2:]}")
@@ -37,17 +37,17 @@ class Days(NamedTuple):
         return [f"Missing: {reference}, which comes before the {extract.name}. Trains may be wrong until it is taken." for reference, extract in dockers.missing(self.extracts)]
 
     def is_early(self, date):
-        """Whether a day lies before the newest full extract, or there is none."""
+        """Whether a day is before the newest full extract, or there is none."""
         return self.newest is not None and (self.full is None or date < self.full.date)
 
     def is_late(self, date):
-        """Whether a day lies after the last day of the schedules, or there is no schedule."""
+        """Whether a day is after the last day of the schedules, or there are no schedules."""
         if self.coverage is None or self.newest is None:
             return False
         return self.coverage.schedules == 0 or self.last is not None and date > self.last
 
     def early(self, date):
-        """What is missing of a day that lies before the newest full extract; nothing of another."""
+        """What is missing for a day before the newest full extract; empty for any other day."""
         if not self.is_early(date):
             return ""
         if self.full is None:
@@ -55,7 +55,7 @@ class Days(NamedTuple):
         return f"This day lies before the {self.full.name}. Trains that ran for the last time before it are missing here."
 
     def late(self, date):
-        """What is missing of a day that lies after the last one of the schedules; nothing of another."""
+        """What is missing for a day after the last day of the schedules; empty for any other day."""
         if not self.is_late(date):
             return ""
         if self.last is None:
@@ -63,5 +63,5 @@ class Days(NamedTuple):
         return f"This day lies after {self.last}, the last day of the schedules that were taken. Most of its trains aren’t known yet."
 
     def warnings(self, date):
-        """All that is missing of a day, in words."""
+        """Everything that is missing for a day, in words."""
         return [told for told in (self.early(date), self.late(date), *self.missing()) if told]

@@ -1,6 +1,7 @@
-"""A docker as CSV and as JSON. Where it is known what differs from the permanent timetable, both say it.
+"""A docker as CSV and as JSON. If it is known what differs from the permanent timetable, both forms have it.
 
-In CSV a line that isn't here has its UID and start only, and what it was stands in columns of their own. So nobody takes it for a train that runs."""
+In CSV, a permanent line that isn't on the docker has only its UID and start; its fields are in columns of their own. So nobody takes it for a train that
+runs."""
 import csv
 import io
 import json
@@ -11,13 +12,13 @@ import lines
 import names
 import rows
 
-# What a line of CSV has besides the fields of the docker; and where it is known what differs, then the fields of what it was.
+# The fields of a CSV line that a docker doesn't have. If it is known what differs, the permanent line's fields follow.
 MORE = ("start", "origin_name", "destination_name")
 WAS = tuple(name for name in lines.Line._fields if name not in ("uid", "stp"))
 
 
 def csv_of(docker, starts, named, differing):
-    """The lines of a docker, and in their places those that are gone."""
+    """The lines of a docker, with the permanent lines that it lacks in their places."""
     text = io.StringIO()
     table = csv.writer(text, lineterminator="\n")
     table.writerow([*lines.Line._fields, *MORE, *(("change", *(f"was_{name}" for name in WAS)) if differing else ())])
@@ -29,7 +30,7 @@ def csv_of(docker, starts, named, differing):
 
 
 def fields_of(row, start, named):
-    """The fields of a line. Of one that is gone only the UID and the start day of its train."""
+    """The fields of a line. A line that isn't on the docker has only the UID and the start day of its train."""
     line = row.line
     if row.is_gone:
         return [*(line.uid if name == "uid" else "" for name in line._fields), start, "", ""]
@@ -37,7 +38,7 @@ def fields_of(row, start, named):
 
 
 def changed_fields(row):
-    """How a line differs, and the fields of the first permanent line that it stands for."""
+    """How a line differs, and the fields of the first permanent line that it replaces."""
     if row.change is None:
         return [""] * (1 + len(WAS))
     was = row.change.was[0] if row.change.was else None
@@ -66,5 +67,5 @@ def described(line, start, named):
 
 
 def change_of(change):
-    """How a line differs, and the permanent lines that it stands for."""
+    """How a line differs, and the permanent lines that it replaces."""
     return {"change": change.kind if change else None, "was": [was._asdict() for was in change.was] if change else []}

@@ -1,17 +1,18 @@
-"""The platforms of a docker's day as SVG: time across, a row a platform, a bar from a train's arrival to its departure, a tick where it passes."""
+"""The platforms of a docker's day as SVG. Time runs across, and each platform has a row. A bar goes from a train's arrival to its departure; a tick marks a
+pass."""
 from html import escape
 from typing import NamedTuple, Optional
 import re
 
-# The pixels of half a minute, of the room at the left, of a lane, and of a letter.
+# Pixels for half a minute, for the margin at the left, for a lane, and for a letter.
 STEP, LEFT, LANE, LETTER = 2, 70, 22, 8
 WIDTH = LEFT + 2880 * STEP + 60
 COLOURS = {"P": "#8a97a3", "O": "#e69f00", "N": "#56b4e9"}
 
 
 class Stay(NamedTuple):
-    """A train at a platform. Without an arrival it starts here or came before the day, without a departure it ends here or leaves after it;
-    one that passes has both at once."""
+    """A train at a platform. Without an arrival, the train starts here or came before the day. Without a departure, it ends here or leaves after the day. A
+    train that passes has both at the same time."""
     platform: str
     train: str
     uid: str
@@ -33,8 +34,8 @@ class Stay(NamedTuple):
 
 
 def stays_of(docker):
-    """The stays of a day. An arrival and the next departure of the same UID, platform and suffix are one, unless the train ends here by its
-    arrival and starts here by its departure."""
+    """The stays of a day. An arrival and the next departure with the same UID, platform and suffix make one stay, unless the train ends here by its arrival
+    and starts here by its departure."""
     stays, waiting = [], {}
     for line in docker.lines:
         stay = Stay(line.platform, line.train, line.uid, line.stp, None, None)
@@ -54,12 +55,12 @@ def stays_of(docker):
 
 
 def platform_order(platform):
-    """Numbers in their order, then names; at the end what has no platform."""
+    """Sorts platforms: numbers by value, then names, and at the end trains without a platform."""
     return platform == "", [(0, int(part)) if part.isdigit() else (1, part) for part in re.findall(r"\d+|\D+", platform)]
 
 
 def in_lanes(stays):
-    """The stays of a platform in lanes, so that none covers another or its name."""
+    """The stays of a platform, divided into lanes so that none covers another or its label."""
     lanes = []
     for stay in sorted(stays, key=lambda stay: (stay.start, stay.end, stay.uid)):
         start, end = stay.start * STEP, max(stay.end * STEP, stay.start * STEP + 8) + len(stay.train) * LETTER + 8
@@ -77,14 +78,14 @@ def clock(half_minutes):
 
 
 def told(stay):
-    """A stay in words."""
+    """A stay in words, for a tooltip."""
     when = f"passes {clock(stay.start)}" if stay.passes else ", ".join(
         f"{word} {clock(at)}" for word, at in (("arrives", stay.arrives), ("departs", stay.departs)) if at is not None)
     return f"{stay.train} {stay.uid} {stay.stp}: {when}, {f'platform {stay.platform}' if stay.platform else 'no platform'}"
 
 
 def shape(stay, top):
-    """What stands for a stay: a tick, a bar, a triangle where it starts or a square where it ends; and the train's name after it."""
+    """The shape of a stay: a tick, a bar, a triangle if the train starts here, or a square if it ends here. The train's identity follows."""
     x, colour = LEFT + stay.start * STEP, COLOURS.get(stay.stp, "#cc79a7")
     middle, width = top + LANE // 2, max((stay.end - stay.start) * STEP, 3)
     if stay.passes:
@@ -99,14 +100,14 @@ def shape(stay, top):
 
 
 class Row(NamedTuple):
-    """A platform's lanes, and where the first of them begins."""
+    """The lanes of a platform, and the position of the first one."""
     platform: str
     top: int
     lanes: list
 
 
 def rows_of(docker):
-    """The platforms from top to bottom, and the height of all."""
+    """The platforms from top to bottom, and their height in all."""
     stays = {}
     for stay in stays_of(docker):
         stays.setdefault(stay.platform, []).append(stay)
@@ -129,7 +130,7 @@ def names_drawn(rows):
 
 
 def drawn_across(docker, name, rows, height):
-    """The SVG of a docker's day. It has the height of its platforms, and the width of 24 hours."""
+    """The SVG of a docker's day. It is as high as its platforms, and as wide as 24 hours."""
     drawn = [
         f'<path d="M{LEFT + hour * 120 * STEP} 20V{height}" stroke="currentColor" opacity=".2"/>'
         f'<text x="{LEFT + hour * 120 * STEP - 16}" y="15">{hour:02}:00</text>' for hour in range(25)
@@ -142,7 +143,7 @@ def drawn_across(docker, name, rows, height):
 
 
 def both(docker, name):
-    """The platforms' names by themselves, to stand still beside a graph that is moved across; and the graph."""
+    """The names of the platforms by themselves, which stay in place while the graph is moved across; and the graph."""
     rows, height = rows_of(docker)
     return svg(LEFT - 10, height, "Platforms", names_drawn(rows)), drawn_across(docker, name, rows, height)
 

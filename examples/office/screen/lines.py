@@ -1,12 +1,12 @@
-"""A docker's text as its heading and its lines, by the columns that docs/FORMATS.md has."""
+"""Reads a docker's text into its heading and its lines, by the columns in docs/FORMATS.md."""
 import operator
 from typing import NamedTuple
 
 KINDS = {"A": "arrives", "P": "passes", "D": "departs", "J": "is joined", "V": "divides", "N": "goes on"}
-# What leads from an association's kind to its partner: is joined by, divides into, goes on as.
+# The word between an association's kind and its partner: is joined by, divides into, goes on as.
 LINKS = {"J": "by", "V": "into", "N": "as"}
-# The first and the last column of each field: of a heading, of each line, of an event's and of an association's, by the names in docs/FORMATS.md;
-# docs/columns compares both.
+# The columns of fields, by their names in docs/FORMATS.md: in a heading, in any line, in an event, and in an association. docs/columns compares
+# them with that page.
 HEADING = {"TIPLOC": (8, 14), "date": (16, 25), "description of the TIPLOC": (27, 52)}
 COLUMNS = {
     "time": (1, 5), "kind": (7, 7), "train identity": (9, 12), "UID": (14, 19), "STP indicator": (21, 21), "suffix": (23, 23), "platform": (25, 27),
@@ -17,7 +17,7 @@ PARTNER = {"associated UID": (42, 47), "its train identity": (50, 53)}
 
 
 class Line(NamedTuple):
-    """A line of a docker: its fields in the order of COLUMNS. An event has an origin and a destination, an association a partner."""
+    """A line of a docker, with its fields in the order of COLUMNS. An event has an origin and a destination; an association has a partner."""
     time: str
     kind: str
     train: str
@@ -35,7 +35,7 @@ class Line(NamedTuple):
 
     @property
     def half_minutes(self):
-        """Since midnight."""
+        """The time in half minutes since midnight."""
         return int(self.time[:2]) * 120 + int(self.time[2:4]) * 2 + self.time.endswith("H")
 
     @property
@@ -52,7 +52,7 @@ class Line(NamedTuple):
 
     @property
     def link(self):
-        """An association's partner in words: `by 2B20 A10002`; nothing of an event."""
+        """The partner of an association in words, such as `by 2B20 A10002`; empty for an event."""
         if self.kind not in LINKS:
             return ""
         train = f"{self.partner_train} {self.partner}" if self.partner_train != "????" else f"{self.partner}, which doesn't run"
@@ -60,7 +60,7 @@ class Line(NamedTuple):
 
 
 class Docker(NamedTuple):
-    """What a docker says of a place on a day. The description is empty where nobody knows the code."""
+    """A place's docker of a day. The description is empty if nobody knows the code."""
     tiploc: str
     date: str
     description: str
@@ -68,7 +68,7 @@ class Docker(NamedTuple):
 
 
 def cutter(*tables):
-    """What cuts a text into the fields of these tables."""
+    """A function that cuts a text into the fields of these tables."""
     return operator.itemgetter(*(slice(first - 1, last) for columns in tables for first, last in columns.values()))
 
 
@@ -85,7 +85,7 @@ def line_of(text):
 
 
 def docker_of(text):
-    """The docker that a text is: a heading, lines and `END`, each of 56 columns."""
+    """Reads a docker's text: a heading, lines and `END`, each of 56 columns."""
     heading, *lines, end, rest = text.decode("ascii").split("\n")
     if not heading.startswith("DOCKER ") or end.rstrip() != "END" or rest or any(len(line) != 56 or line.startswith("DOCKER ") for line in lines):
         raise ValueError("this is no docker")

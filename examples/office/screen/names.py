@@ -1,21 +1,22 @@
-"""The names of places: what `places` of `desk` answers, written as people write names; and the search for a place by any part of its name, CRS or TIPLOC."""
+"""The names of places, from the answer of `desk` to `places`, written as people write names. Also the search for a place by any part of its name, CRS code or
+TIPLOC."""
 import hashlib
 import re
 from typing import NamedTuple
 
-# The fields in a line of `places` by their names in docs/FORMATS.md, each with its first and its last column.
+# The first and the last column of each field in a line of `places`, by the names in docs/FORMATS.md.
 COLUMNS = {"TIPLOC": (1, 7), "CRS": (9, 11), "STANOX": (13, 17), "description of the TIPLOC": (19, 44), "how many live schedules": (46, 55)}
 
 WORD = re.compile(r"[A-Z]+(?:'[A-Z]+)*")
-# Within a name these are small: Burton-on-Trent, Betws-y-Coed.
+# Words that are small within a name, as in Burton-on-Trent or Betws-y-Coed.
 SMALL = {"A", "AND", "AT", "BY", "CUM", "DE", "FOR", "IN", "LA", "LE", "NEXT", "OF", "ON", "SUPER", "THE", "TO", "UNDER", "UPON", "WITH", "Y", "YR"}
-# Short forms that are words, though they have no vowel: Jn, St.
+# Short forms that are written as words although they have no vowel, such as Jn and St.
 SHORT = {
     "BDG", "BR", "BRDG", "CH", "CT", "CTL", "CTR", "CWM", "DN", "DPT", "FD", "FRT", "FT", "GDNS", "GDS", "GRN", "HD", "HL", "JCN", "JCT", "JN", "JNC", "JNS", "LN", "LNE", "LP", "LPS",
     "MKT", "MR", "MRS", "MT", "MTN", "NTH", "PK", "PKWY", "PL", "PLT", "PT", "RD", "RDS", "SCH", "SDG", "SDGS", "SDNGS", "SQ", "ST", "STH", "STN", "STR", "TML", "TN", "TRML", "WD",
     "WKS", "XNG", "YD", "YDS",
 }
-# Abbreviations that stay as they are, though they have a vowel.
+# Abbreviations that stay in capitals although they have a vowel.
 CAPITALS = {
     "AC", "CE", "DC", "DMU", "DMUD", "EC", "ECS", "EMU", "EMUD", "EWS", "GE", "HQ", "HSTMD", "IC", "IECC", "IEP", "II", "III", "IV", "LUL", "MOD", "MPVSD", "NE", "OHLE", "OLE", "RAF", "ROF",
     "SE", "TOPS", "UFL", "UGL", "UK", "UPL", "USL", "VI", "VQ",
@@ -23,7 +24,7 @@ CAPITALS = {
 
 
 def written(word, is_first):
-    """A word of a description as people write it: `Junction`, `Jn`, `TMD`, `on`, `King's`, `O'Connell`."""
+    """A word of a description as people write it, such as `Junction`, `Jn`, `TMD`, `on`, `King's` or `O'Connell`."""
     if word in SMALL and not is_first:
         return word.lower()
     if len(word) == 1 or word in CAPITALS or word not in SHORT and not set(word) & set("AEIOUY"):
@@ -35,13 +36,14 @@ def written(word, is_first):
 
 
 def readable(description):
-    """A TPS description, which has capitals only, as people write it. What has a digit beside it, as in T123 and SN109, stays, and so does what stands between dots."""
+    """A TPS description, which has only capitals, as people write it. A word with a digit, such as T123 or SN109, stays unchanged, and so do letters between
+    dots."""
     def one(found):
         start, end = found.span()
         around = description[max(start - 1, 0):start] + description[end:end + 1]
         if any(letter.isdigit() for letter in around):
             return found[0]
-        # A single letter is small between hyphens or spaces only: Betws-y-Coed, but L.N.W. and PLATFORM A.
+        # A single letter is small only between hyphens or spaces: Betws-y-Coed, but L.N.W. and PLATFORM A.
         is_within = start > 0 and description[start - 1] in " -" and description[end:end + 1] in (" ", "-")
         return written(found[0], is_first=not is_within)
 
@@ -49,12 +51,13 @@ def readable(description):
 
 
 def folded(text):
-    """What is compared of a text: letters and digits, without the difference of small letters and capitals, and without apostrophes; a space for whatever lies between."""
+    """A text as it is compared: only letters and digits, in one case and without apostrophes. Anything else becomes a space."""
     return " ".join(re.findall(r"[A-Z0-9]+", re.sub(r"['’]", "", text.upper())))
 
 
 class Place(NamedTuple):
-    """A timing point, by its line of `places`. A description, CRS or STANOX that isn't known is empty. `schedules` is how many call there."""
+    """A timing point, from its line of `places`. A description, CRS code or STANOX that isn't known is empty. `schedules` is the number of schedules that call
+    there."""
     tiploc: str
     crs: str
     stanox: str
@@ -67,7 +70,7 @@ class Place(NamedTuple):
 
 
 class Sought(NamedTuple):
-    """What a search compares: CRS and code, the name, and the words of all three, each with a space before it."""
+    """What a search compares: the CRS code and the TIPLOC, the name, and the words of all three, each after a space."""
     codes: tuple
     name: str
     words: str
@@ -75,15 +78,15 @@ class Sought(NamedTuple):
 
 
 class Names:
-    """The names of the places of a STATE. A place without one has its code. A desk of an older version has no list of places; then a name is known as soon as
-    a docker of the place was read."""
+    """The names of the places of a STATE. A place without a name is shown by its code. A desk of an older version has no list of places; then a name becomes
+    known when a docker of the place is read."""
 
     def __init__(self, places, tag=b""):
-        # What changes whenever a name does.
+        # Changes whenever a name changes.
         self.tag = tag
         self.places = {place.tiploc: place for place in places}
         self.written = {}
-        # The busier places come first, so that among equals they are found first.
+        # Busier places come first, so that they are found first among equals.
         self.sought = [self.sought_of(place) for place in sorted(places, key=lambda place: (-place.schedules, place.description or place.tiploc, place.tiploc))]
 
     @staticmethod
@@ -95,24 +98,25 @@ class Names:
         return bool(self.places)
 
     def of(self, tiploc):
-        """The name of a place, or its code."""
+        """The name of a place, or its code if it has none."""
         if tiploc not in self.written:
             place = self.places.get(tiploc)
             self.written[tiploc] = place.name if place and place.description else tiploc
         return self.written[tiploc]
 
     def learns(self, tiploc, description):
-        """Takes a name from the heading of a docker, where there is no list."""
+        """Learns a name from the heading of a docker, if there is no list of places."""
         if description and tiploc not in self.places:
             self.written[tiploc] = readable(description)
 
     def known(self, tiploc):
-        """The name of a place in the list, or nothing."""
+        """The name of a place in the list; empty if there is none."""
         return self.of(tiploc) if tiploc in self.places and self.places[tiploc].description else ""
 
     def find(self, text):
-        """The places whose name, CRS or code has a text, the best first. Best is a CRS or a code that is the text, then a name that begins with it, then
-        one with a word that does, then any other. Last come places with a word for the beginning of each of its words. Of equals the busier comes first."""
+        """The places whose name, CRS code or TIPLOC has this text, the best first. The order is: an equal code, a name that begins with the text, a name with a
+        word that begins with it, any other match. Last come places that have, for each word of the text, a word that begins with it. Among equals the busier
+        place comes first."""
         wanted = folded(text)
         if not wanted:
             return []
@@ -135,12 +139,12 @@ def place_of(line):
 
 
 def names_of(text):
-    """The names that a text of `places` has."""
+    """The names in a text of `places`."""
     return Names([place_of(line) for line in text.decode("ascii").splitlines()], hashlib.sha256(text).digest())
 
 
 class Labels(NamedTuple):
-    """How a page names its places: by their names, or by their codes if its reader chose so."""
+    """How a page shows places: by name, or by code if its reader chose codes."""
     names: Names
     is_codes: bool
 
@@ -148,6 +152,6 @@ class Labels(NamedTuple):
         return tiploc if self.is_codes else self.names.of(tiploc)
 
     def other(self, tiploc):
-        """What the page doesn't call a place: its code, or its name. Nothing where they are the same."""
+        """The other way to show a place, its code or its name. Empty if both are the same."""
         name = self.names.of(tiploc)
         return "" if name == tiploc else name if self.is_codes else tiploc

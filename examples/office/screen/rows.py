@@ -1,4 +1,4 @@
-"""The rows of a docker's table as HTML. A busy place has thousands, so no template makes them."""
+"""The rows of a docker's table as HTML. They are made without a template, because a busy place has thousands."""
 import bisect
 from html import escape
 from typing import NamedTuple, Optional
@@ -9,12 +9,12 @@ import lines
 
 
 def part(word):
-    """A word as a part of an address."""
+    """A word as a part of an address, escaped."""
     return urllib.parse.quote(word, safe="")
 
 
 class Escaped(dict):
-    """Texts as HTML has them. The same ones come again and again, so each is escaped once."""
+    """Texts escaped for HTML. Texts recur, so each is escaped only once."""
 
     def __missing__(self, text):
         self[text] = escape(text)
@@ -22,14 +22,14 @@ class Escaped(dict):
 
 
 class Row(NamedTuple):
-    """A line of a docker, or a permanent one that isn't on it, and how it differs, if it does."""
+    """A line of a docker, or a permanent line that isn't on it, with its change if there is one."""
     line: lines.Line
     change: Optional[changes.Change]
     is_gone: bool
 
 
 def rows_of(docker, differing):
-    """A docker's lines in their order, and in their places among them what is gone. Nothing differs where that isn't known."""
+    """The lines of a docker in order, with the permanent lines that it lacks in their places. Without a comparison there are no changes."""
     found = [Row(line, differing and differing.of.get(number), False) for number, line in enumerate(docker.lines)]
     for line, change in differing.gone if differing else ():
         at = bisect.bisect_right(found, changes.place_in_day(line), key=lambda row: changes.place_in_day(row.line))
@@ -38,7 +38,7 @@ def rows_of(docker, differing):
 
 
 def once_here(docker):
-    """The UIDs with one call on a docker. It belongs to one train, and a link to that needs no time. A train may also end here, and another one start."""
+    """The UIDs with one call on a docker. This call belongs to one train, so a link to it needs no time. A train may also end here while another starts."""
     events = {}
     for line in docker.lines:
         if line.kind in changes.EVENTS:
@@ -50,8 +50,8 @@ def once_here(docker):
 
 
 class Rows:
-    """How the rows of a docker are made. They link to their trains if single trains can be shown. Without a list of names they have codes. Where it is
-    known what differs, `when` is the day in words, and each row has a cell for it."""
+    """Makes the rows of a docker. They link to their trains if single trains can be shown. They show codes if there is no list of names. If it is known what
+    differs, `when` is the day in words, and each row has a cell for its change."""
 
     def __init__(self, docker, labels, is_linked, when=""):
         self.docker = docker
@@ -64,7 +64,7 @@ class Rows:
         self.escaped = Escaped()
 
     def cell(self, tiploc):
-        """What follows `<td class=..` of a place: its name, with its code as a tooltip, or the other way round."""
+        """The part after `<td class=..` in the cell of a place: its name with its code as a tooltip, or the other way round."""
         if tiploc not in self.cells:
             is_named = bool(self.labels.names)
             other = self.labels.other(tiploc) if is_named else ""
@@ -73,7 +73,7 @@ class Rows:
         return self.cells[tiploc]
 
     def linked(self, text, uid, time):
-        """A link to the train that is here at a time."""
+        """A link to the train that is here at this time."""
         return self.link(text, uid, f"{self.docker.date}?at={self.place}.{time}")
 
     def link(self, text, uid, address):
@@ -82,18 +82,18 @@ class Rows:
         return f'<a href="/train/{part(uid)}/{address}">{self.escaped[text]}</a>'
 
     def train(self, row):
-        """The train's identity. One that isn't here is found by its start day."""
+        """The identity of the row's train. A train that isn't here is found by its start day."""
         line = row.line
         return self.link(line.train, line.uid, row.change.start) if row.is_gone else self.linked(line.train, line.uid, "" if line.uid in self.once else line.time)
 
     def difference(self, row):
-        """The cell that says how a row differs, if any row has it."""
+        """The cell with a row's change, if the table has such a column."""
         if not self.when:
             return ""
         return f'<td class="change">{self.escaped[changes.told(row.line, row.change, self.labels, self.when)]}</td>' if row.change else "<td></td>"
 
     def row(self, row, after, mark):
-        """A row of the table. `after` is how many half minutes lie between the page's midnight and the docker's."""
+        """A row of the table. `after` is the number of half minutes from the page's midnight to the docker's."""
         line = row.line
         _, _, _, uid, stp, suffix, platform, track, path, *_ = map(self.escaped.__getitem__, line)
         if line.link:
@@ -109,6 +109,6 @@ class Rows:
         )
 
     def all(self, rows, after=0, now=None):
-        """These rows. The first that isn't past is marked."""
+        """These rows. The first one that isn't past is marked."""
         first = next((number for number, row in enumerate(rows) if now is not None and row.line.half_minutes >= now), None)
         return "".join(self.row(row, after, ' id="now"' if number == first else "") for number, row in enumerate(rows))

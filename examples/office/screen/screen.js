@@ -1,38 +1,38 @@
-// What moves on the page of a docker: the clock, the trains that are past, and every ten seconds
-// the docker itself, if another came.
+// The moving parts of a docker's page: the clock, the trains that are past, and the docker itself,
+// which is renewed every ten seconds if it has changed.
 "use strict";
 const page = document.documentElement;
 const london = new Intl.DateTimeFormat("sv-SE", {timeZone: "Europe/London", dateStyle: "short", timeStyle: "medium"});
-// Whether the page is always of today: /TIPLOC, without a date.
+// Whether the page always shows today: its address is /TIPLOC, without a date.
 const isOfToday = location.pathname.split("/").length === 2;
-// After how many milliseconds a server that doesn't answer is taken for hung.
+// The number of milliseconds after which a server that doesn't answer counts as hung.
 const PATIENCE = 7000;
 let isUnfolded = false;
 let isAsking = false;
 let lastAnswer = null;
 
-// The date and time in Great Britain, as 2024-06-12 and 09:02:30.
+// The date and the time in Great Britain, such as 2024-06-12 and 09:02:30.
 function now() {
   return london.format(Date.now() + Number(page.dataset.ahead)).split(" ");
 }
 
-// The half minutes since midnight at which this minute began.
+// The half minutes from midnight to the start of this minute.
 function halfMinutes(time) {
   const [hours, minutes] = time.split(":").map(Number);
   return hours * 120 + minutes * 2;
 }
 
-// How many days lie from one date to another.
+// The number of days from one date to another.
 function daysBetween(from, to) {
   return Math.round((Date.parse(to) - Date.parse(from)) / 86400000);
 }
 
-// Folds away the trains of the minutes before this one. Of another day than today it folds none;
-// the page of today goes on with tomorrow's trains, also if no other page comes.
+// Folds away the trains before this minute. On a page of another day it folds none. The page of
+// today continues with tomorrow's trains, even if no new page comes.
 function fold() {
   const [date, time] = now();
   const table = document.getElementById("docker");
-  // A list of what differs is shown whole.
+  // A list of changes is shown whole.
   if (!table || "whole" in table.dataset) return;
   const days = daysBetween(page.dataset.date, date);
   const start = days === 0 || isOfToday && days > 0 ? halfMinutes(time) + 2880 * days : 0;
@@ -51,7 +51,7 @@ function fold() {
   document.getElementById("no-more").hidden = isUnfolded || past < rows.length;
 }
 
-// How old what is known is, if it is older than a day and a half.
+// The age of what is known, if it is more than a day and a half.
 function age() {
   if (!page.dataset.newest) return;
   const days = (Date.parse(now().join("T")) - Date.parse(page.dataset.newest)) / 86400000;
@@ -60,7 +60,7 @@ function age() {
   told.className = told.textContent ? "warning" : "";
 }
 
-// The line of now on the platforms.
+// Moves the line that marks the time on the platforms.
 function mark() {
   const svg = document.querySelector(".across > svg");
   if (!svg) return;
@@ -73,7 +73,7 @@ function mark() {
   svg.append(line);
 }
 
-// The platforms' names by themselves, to stand still beside a graph that is moved across.
+// The names of the platforms by themselves, which stay in place while the graph is moved across.
 function names(graph) {
   const svg = graph.cloneNode(false);
   svg.setAttribute("viewBox", `0 0 60 ${graph.getAttribute("height")}`);
@@ -85,7 +85,7 @@ function names(graph) {
   return box;
 }
 
-// Fetches the platforms of the day, when somebody opens them, and shows them from now on.
+// Fetches the platforms of the day when the reader opens them, and shows them from then on.
 async function draw(across) {
   if (across.dataset.of && !across.firstElementChild) {
     try {
@@ -111,20 +111,20 @@ function tick() {
   mark();
 }
 
-// What is done every few seconds: at midnight another page is asked for at once.
+// Runs every few seconds. At midnight it asks for a new page at once.
 function step() {
   tick();
   if (now()[0] !== page.dataset.today) renew();
 }
 
-// Says whether the page is renewed. Who can't see the page is read what it says.
+// Says whether the page is being renewed. A screen reader reads this text aloud.
 function say(text, isBad) {
   const status = document.getElementById("status");
   if (status.textContent !== text) status.textContent = text;
   status.classList.toggle("bad", isBad);
 }
 
-// Shows what another answer of the server has, in one go.
+// Shows the content of another answer of the server, all at once.
 function show(text) {
   const other = new DOMParser().parseFromString(text, "text/html");
   if (other.documentElement.dataset.version !== page.dataset.version) return location.reload();
@@ -140,7 +140,7 @@ function show(text) {
   if (platforms && isOpen) platforms.open = true;
 }
 
-// Asks whether another docker came; the old one stays if there is no answer within seconds.
+// Asks whether there is a new docker. The old one stays if there is no answer within seconds.
 async function renew() {
   if (isAsking) return;
   isAsking = true;

@@ -1,22 +1,22 @@
-// Finds places while one types. The arrow keys lead through them, and Enter opens the first.
+// Finds places while the reader types. The arrow keys move among them, and Enter opens the first.
 "use strict";
 const box = document.getElementById("text");
-// After how many milliseconds a server that doesn't answer is no longer waited for.
+// The number of milliseconds after which the answer of a server is no longer awaited.
 const PATIENCE = 7000;
-// What is under way, and the text whose places are shown.
+// The request that is under way, and the text whose places are shown.
 let asking = null;
 let shown = box.defaultValue;
 
-// Shows the places that another page has.
+// Shows the places on another page.
 function show(other) {
   document.getElementById("found").replaceWith(other.getElementById("found"));
   document.querySelector("footer").replaceWith(other.querySelector("footer"));
-  // Who can't see the page is read how many there are.
+  // A screen reader reads aloud how many there are.
   document.getElementById("number").textContent = other.getElementById("number").textContent;
   document.title = other.title;
 }
 
-// Asks for the places of what is typed. The answer to what was typed before is no longer waited for.
+// Asks for the places that match the typed text. An answer to an earlier text is dropped.
 async function find() {
   const text = box.value;
   if (text === shown && !asking) return;
@@ -40,7 +40,7 @@ async function find() {
   if (asking === own) asking = null;
 }
 
-// Moves among the places found; above the first is the box.
+// Moves among the places found. The box is above the first one.
 function move(event) {
   const links = [...document.querySelectorAll("#found a")];
   const at = links.indexOf(document.activeElement);
@@ -60,6 +60,6 @@ document.getElementById("find").addEventListener("submit", async (event) => {
   if (box.value.trim() && box.value === shown) document.querySelector(".found a")?.click();
 });
 box.setSelectionRange(box.value.length, box.value.length);
-// What was typed before the script was there, and what a browser put there again.
+// Searches for text that was typed before the script ran, or that the browser restored.
 find();
 addEventListener("pageshow", find);

@@ -1,4 +1,4 @@
-"""The server of the pages: waitress, with limits. Slow and idle clients, and requests that don't end, shut nobody else out."""
+"""The server of the pages: waitress, with limits. Slow or idle clients, and requests that never end, don't keep others out."""
 import math
 import time
 
@@ -6,19 +6,20 @@ import waitress
 import waitress.channel
 import waitress.server
 
-# After how many seconds without a whole request a connection is ended, if none is being answered; and one whose client reads nothing of its answer.
+# The number of seconds after which a connection is ended that has sent no whole request, unless one is being answered. It also ends a connection
+# whose client reads nothing of its answer.
 PATIENCE = 20
-# How many connections there may be. One more ends the one that has waited longest. With those that are ending they need fewer than the 1,024 files
+# The most connections. One more ends the one that has waited longest. Together with those that are ending, they need fewer than the 1,024 files
 # that a process may have open.
 MOST = 400
-# How many requests a client may send before it has read the answers. Browsers send one.
+# The number of requests that a client may send before it has read the answers. Browsers send one.
 AT_ONCE = 4
-# The greatest request: its head, and a body, which no page takes.
+# The greatest size of a request: of its head, and of a body, which no page needs.
 HEAD, BODY = 16 << 10, 64 << 10
 
 
 class Channel(waitress.channel.HTTPChannel):
-    """A client's connection. It knows since when it has sent no whole request."""
+    """A client's connection. It records the time since which the client has sent no whole request."""
 
     def __init__(self, server, *words, **named):
         self.since = time.monotonic()
@@ -30,36 +31,36 @@ class Channel(waitress.channel.HTTPChannel):
 
     def received(self, data):
         done = super().received(data)
-        # Bytes of a request that isn't whole yet don't count: a client could send one a minute.
+        # Bytes of an incomplete request don't count: a client could send one a minute.
         if self.request is None:
             self.since = time.monotonic()
-        # Answers that nobody reads would hold a thread.
+        # Answers that nobody reads would keep a thread busy.
         if len(self.requests) > AT_ONCE:
             self.will_close = True
         return done
 
     def service(self):
-        # While a request is answered, and until its answer is there, the client isn't waited for.
+        # While a request is being answered, the server doesn't wait for the client.
         self.since = math.inf
         super().service()
         self.since = time.monotonic()
 
     def has_waited(self):
-        """Whether the client has had its time, to send a request or to read an answer."""
+        """Whether the client has used up its time to send a request or to read an answer."""
         if self.total_outbufs_len:
             return time.time() - self.last_activity > PATIENCE
         return not self.requests and time.monotonic() - self.since > PATIENCE
 
 
 def end_waiting(server, _now):
-    """Ends the connections that have waited too long. The server asks for it each second."""
+    """Ends the connections that have waited too long. The server calls this each second."""
     for channel in list(server.active_channels.values()):
         if channel.has_waited():
             channel.will_close = True
 
 
 def made(app, listen):
-    """A server that listens already."""
+    """A server that is already listening."""
     waitress.server.BaseWSGIServer.channel_class = Channel
     waitress.server.BaseWSGIServer.maintenance = end_waiting
     return waitress.create_server(

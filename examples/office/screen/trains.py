@@ -1,4 +1,4 @@
-"""One train: what `desk` answers to `train`, by the columns that docs/FORMATS.md has, and its calls."""
+"""Reads one train from the answer of `desk` to `train`, by the columns in docs/FORMATS.md."""
 import datetime
 from typing import NamedTuple
 
@@ -8,7 +8,7 @@ HEADING = {
     "current file reference": (55, 61), "record number": (63, 72),
 }
 BASIC = {"runs from": (10, 15), "runs to": (16, 21), "days": (22, 28), "train identity": (33, 36)}
-# Of each kind of location record: its times with what happens then, in their order, and its other fields.
+# For each kind of location record: its times in their order, each with the kind of event, and its other fields.
 TIMES = {"LO": (("D", (11, 15)),), "LI": (("A", (11, 15)), ("P", (21, 25)), ("D", (16, 20))), "LT": (("A", (11, 15)),)}
 PUBLIC = {"LO": {"D": (16, 19)}, "LI": {"A": (26, 29), "D": (30, 33)}, "LT": {"A": (16, 19)}}
 TRACKS = {"LO": ((20, 22), (23, 25), None), "LI": ((34, 36), (37, 39), (40, 42)), "LT": ((20, 22), None, (23, 25))}
@@ -21,12 +21,12 @@ def part(record, columns):
 
 
 def half_minutes(time):
-    """Since midnight, of HHMM or HHMMH."""
+    """The half minutes since midnight of a time HHMM or HHMMH."""
     return int(time[:2]) * 120 + int(time[2:4]) * 2 + time.endswith("H")
 
 
 def clock(time):
-    """A time as a page has it; of none nothing."""
+    """A time as a page shows it; empty if there is none."""
     return f"{time[:2]}:{time[2:4]}{'½' if time.endswith('H') else ''}" if time else ""
 
 
@@ -35,7 +35,7 @@ def public_clock(time):
 
 
 class Call(NamedTuple):
-    """A location record of a schedule. `times` has what happens with its time, and `days` on which day after the start."""
+    """A location record of a schedule. `times` has the time of each kind of event, and `days` how many days after the start it happens."""
     tiploc: str
     suffix: str
     times: dict
@@ -49,7 +49,7 @@ class Call(NamedTuple):
 
     @property
     def day(self):
-        """How many days after the start the first event is, or 0 if there is none."""
+        """The number of days from the start to the first event; 0 if there is no event."""
         return next(iter(self.days.values()), 0)
 
     @property
@@ -58,7 +58,7 @@ class Call(NamedTuple):
 
 
 class Train(NamedTuple):
-    """A schedule of a UID on the day of its start, as `train` answers."""
+    """The schedule of a UID on the day of its start, from the answer to `train`."""
     uid: str
     date: str
     stp: str
@@ -82,17 +82,17 @@ class Train(NamedTuple):
         return self.start + datetime.timedelta(call.day)
 
     def events(self, tiploc, day):
-        """The kinds and times of what the train does at a place on a day."""
+        """The kinds and times of the train's events at a place on a day."""
         after = (day - self.start).days
         return [(kind, time) for call in self.calls if call.tiploc == tiploc for kind, time in call.times.items() if call.days[kind] == after]
 
     def first_call(self, tiploc, suffix):
-        """The first call at a place and suffix, to which associations belong."""
+        """The first call at a place with this suffix, to which associations belong."""
         return next((call for call in self.calls if (call.tiploc, call.suffix) == (tiploc, suffix) and call.times), None)
 
 
 def date_of(digits):
-    """A date of YYMMDD. The years are 1960 to 2059."""
+    """The date YYMMDD, in the years 1960 to 2059."""
     if not digits.isdigit():
         return ""
     year = int(digits[:2])
@@ -100,7 +100,7 @@ def date_of(digits):
 
 
 def calls_of(records, only):
-    """The calls of a schedule; if a place is named, only those there."""
+    """The calls of a schedule; if a place is given, only the calls there."""
     calls, identity, is_changed, before, day = [], part(records[0], BASIC["train identity"]), False, 0, 0
     for record in records:
         kind = record[:2]
@@ -111,7 +111,7 @@ def calls_of(records, only):
         times = {what: time for what, columns in TIMES[kind] if (time := part(record, columns))}
         days = {}
         for what, time in times.items():
-            # A time below the one before begins a new day.
+            # A time that is earlier than the one before it is on the next day.
             day, before = day + (half_minutes(time) < before), half_minutes(time)
             days[what] = day
         if only not in (None, record[2:9].rstrip()):
@@ -125,7 +125,8 @@ def calls_of(records, only):
 
 
 def train_of(text, only=None):
-    """The train that a text is: a heading, records and `END`, each of 80 columns. If a place is named, the train has its calls there only."""
+    """Reads the text of a train: a heading, records and `END`, each of 80 columns. If a place is given, the train has only its calls
+    there."""
     heading, *records, end, rest = text.decode("ascii").split("\n")
     if not heading.startswith("TRAIN ") or end.rstrip() != "END" or rest or any(len(record) != 80 for record in records):
         raise ValueError("this is no train")
@@ -138,19 +139,19 @@ def train_of(text, only=None):
 
 
 def indicator_of(text):
-    """The STP indicator of the schedule that is chosen, by the heading of a text of `train`; nothing if there is none."""
+    """The STP indicator of the chosen schedule, from the heading of a text of `train`; empty if there is none."""
     first, last = HEADING["STP indicator"]
     return text[first - 1:last].decode("ascii").strip()
 
 
 def weekdays(days):
-    """`1111100` in words."""
+    """Days run, such as `1111100`, in words."""
     marked = [name for name, mark in zip(WEEKDAYS, days) if mark == "1"]
     return "each day" if len(marked) == 7 else ", ".join(marked)
 
 
 def starts_of(docker, ask):
-    """The start day of each line's train; nothing where it isn't clear. `ask` gives the train of a UID on a day, or None."""
+    """The start day of each line's train; empty where it isn't clear. `ask` returns the train of a UID on a day, or None."""
     day = datetime.date.fromisoformat(docker.date)
     numbers = {}
     for number, line in enumerate(docker.lines):
@@ -158,7 +159,7 @@ def starts_of(docker, ask):
     starts = [""] * len(docker.lines)
     for (uid, kind, time, suffix), those in numbers.items():
         found = []
-        # A journey passes midnight twice at most. The docker has the train that started first before the others.
+        # A journey passes midnight at most twice. On the docker, the train that started first comes first.
         for before in range(3):
             start = day - datetime.timedelta(before)
             train = ask(uid, start.isoformat())

@@ -1,1 +1,1 @@
-"""What `station-office` does, a module for each part of an office's day."""
+"""The parts of `station-office`: a module for each part of an office's day."""

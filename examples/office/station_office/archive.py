@@ -1,4 +1,4 @@
-"""What stands beside STATE: the folders that extracts go through, the list of what was taken, and copies of STATE."""
+"""The files beside STATE: the folders that extracts go through, the list of extracts that were taken, and the copies of STATE."""
 import filecmp
 import os
 import re
@@ -16,12 +16,12 @@ from .faults import Fault
 COPIES = 7
 # The folders whose files are kept for KEEP_DAYS.
 KEPT = ("taken", "refused", "held")
-# The list of what was taken, which stands among the files.
+# The list of extracts that were taken. It is in the folder with these extracts.
 LIST = "list"
 
 
 class Taken(NamedTuple):
-    """A line of taken/list: an extract that was taken, how many changes it has, a digest of it, and its file."""
+    """A line of taken/list: an extract that was taken, its number of changes, its digest, and its file."""
     extract: dockers.Extract
     changes: int
     digest: str
@@ -29,7 +29,7 @@ class Taken(NamedTuple):
 
 
 def list_of_taken(office):
-    """What taken/list says, in the order in which the extracts were taken. A line that was cut is passed over."""
+    """The lines of taken/list, in the order in which the extracts were taken. An incomplete line is skipped."""
     try:
         lines = (office.folder / "taken" / LIST).read_text(encoding="utf-8", errors="surrogateescape").splitlines()
     except FileNotFoundError:
@@ -39,14 +39,14 @@ def list_of_taken(office):
 
 
 def lists(office, taken):
-    """Adds a line to taken/list. It begins as a line of `docker files`, and ends with the file's name."""
+    """Adds a line to taken/list. It begins like a line of `docker files`, and ends with the file's name."""
     of = taken.extract
     with open(office.folder / "taken" / LIST, "a", encoding="utf-8", errors="surrogateescape") as text:
         text.write(f"{of.date} {of.time} {of.reference:7} {of.indicator} {of.last:7} {taken.changes} {taken.digest} {taken.name}\n")
 
 
 def contents_of(folder):
-    """The files of a folder, and what else it has, by their names. What is hidden doesn't count."""
+    """The files in a folder, and what else is in it, by name. Hidden files are left out."""
     try:
         found = sorted(path for path in folder.iterdir() if not path.name.startswith("."))
     except FileNotFoundError:
@@ -55,7 +55,7 @@ def contents_of(folder):
 
 
 def archived(office):
-    """The extracts in taken/, each with its file. One that can't be read is named, and passed over."""
+    """The extracts in taken/, each with its file. A file that can't be read is reported and skipped."""
     found = []
     for path in contents_of(office.folder / "taken")[0]:
         with office.reporting():
@@ -65,14 +65,15 @@ def archived(office):
 
 
 def free_name(folder, name):
-    """This name, or one like it, that no file of a folder has, packed or not."""
+    """This name, or a similar one that no file in a folder has, packed or not."""
     name = re.sub(r"[\x00-\x1f\x7f]", "_", name)
     numbers = ("", *(f".{number}" for number in range(2, 10000)))
     return next(name + number for number in numbers if not any((folder / f"{name}{number}{end}").exists() for end in ("", ".zst", ".why")))
 
 
 def stores(office, path, name, folder, is_moved):
-    """Puts a file into another folder, packed by zstd if it isn't packed yet. What is moved goes there as it is, if the disk is full. The file there."""
+    """Puts a file into another folder, packed with zstd if it isn't packed yet. If the disk is full, a file that is moved goes there as it is. Returns
+    the new file."""
     into = office.folder / folder
     into.mkdir(exist_ok=True)
     target, packed = into / free_name(into, name), office.work / "packed"
@@ -94,20 +95,20 @@ def stores(office, path, name, folder, is_moved):
 
 
 def puts_aside(office, path, folder, reason):
-    """Moves a file to another folder, with the reason beside it. The file there."""
+    """Moves a file to another folder, with the reason beside it. Returns the new file."""
     target = stores(office, path, path.name, folder, is_moved=True)
     target.with_name(f"{target.name.removesuffix('.zst')}.why").write_text(reason, encoding="utf-8", errors="surrogateescape")
     return target
 
 
 def removes(path):
-    """Removes a file that was put aside, and the reason beside it."""
+    """Removes a file that was put aside, with its reason."""
     path.unlink(missing_ok=True)
     path.with_name(f"{path.name.removesuffix('.zst')}.why").unlink(missing_ok=True)
 
 
 def forgets(office):
-    """Removes what was put aside more than KEEP_DAYS ago. What came since the newest full extract stays, and so does what counts in STATE."""
+    """Removes files that were put aside more than KEEP_DAYS ago, except those that came after the newest full extract and those that count in STATE."""
     counting = {stamp_of(extract): extract for extract in office.files()}
     kept = {path: counting[stamp_of(extract)] for extract, path in archived(office) if stamp_of(extract) in counting}
     came = [os.stat(path).st_mtime for path, extract in kept.items() if extract.indicator == "F"]
@@ -124,13 +125,13 @@ def is_same(one, other):
 
 
 def copies(office):
-    """The copies of STATE, the newest first."""
+    """The copies of STATE, newest first."""
     files, _ = contents_of(office.folder / "copies")
     return [path for path in reversed(files) if path.name.startswith(f"{office.state.name}.") and path.suffix == ".zst"]
 
 
 def keeps_copy(office):
-    """Keeps a copy of STATE, unless the newest copy is the same. Of more than seven the oldest go."""
+    """Keeps a copy of STATE, unless the newest copy is the same. If there are more than seven, the oldest are removed."""
     kept, found = copies(office), os.stat(office.state)
     made = datetime.fromtimestamp(found.st_mtime).strftime("%Y%m%d-%H%M%S")
     copy = office.folder / "copies" / f"{office.state.name}.{made}.{found.st_mtime_ns % 10**9:09}.zst"

@@ -1,4 +1,4 @@
-"""What differs from the permanent timetable at the office's places."""
+"""How the dockers of the office's places differ from the permanent timetable."""
 import sys
 
 import dockers
@@ -6,7 +6,7 @@ import dockers
 from .faults import Fault
 from .reporting import dockers_of, writing
 
-# The screen compares dockers too.
+# The code that compares dockers is the screen's.
 sys.path.append(str(dockers.HERE / "screen"))
 import changes  # noqa: E402
 import lines  # noqa: E402
@@ -23,7 +23,7 @@ def permanent_of(reader, place, date):
 
 
 def prints_differences(office, reader, date):
-    """Writes for each place where something differs the heading of its docker, and each line that only one of its two dockers has."""
+    """For each place with changes, writes the heading of its docker, and each line that only one of its two dockers has."""
     is_same = True
     for place, text in dockers_of(office, reader, date):
         permanent = permanent_of(reader, place, date)
@@ -36,14 +36,15 @@ def prints_differences(office, reader, date):
 
 
 def differences(text, permanent):
-    """The lines that only one of two dockers has, in their order: with `-` if it is the permanent one, with `+` if it is the day's."""
+    """The lines that only one of two dockers has, in their order. A line of the permanent docker has `-` before it, and a line of the day's docker has
+    `+`."""
     found = [(mark, row.decode("ascii")) for mark, docker, other in (("-", permanent, text), ("+", text, permanent)) for row in changes.lone(docker, other)]
     found.sort(key=lambda one: changes.place_in_day(lines.line_of(one[1])))
     return [f"{mark} {row}" for mark, row in found]
 
 
 def says_differences(office, reader, date, places):
-    """Says how many trains differ on a day at some places. It says nothing where there is no desk that knows it."""
+    """Prints how many trains differ on a day at some places. Prints nothing if there is no desk that knows it."""
     if not places or reader.permanent(places[0], date).status in dockers.LACKING:
         return
     found, number, departures = {}, 0, changes.Departures(reader)

@@ -1,4 +1,4 @@
-"""Extracts by their headers, and states by their heads and entries, as docs/FORMATS.md has both."""
+"""Reads extracts by their headers, and states by their heads and entries, as in docs/FORMATS.md."""
 import datetime
 import itertools
 import mmap
@@ -7,32 +7,32 @@ import re
 import dockers
 
 DAY = datetime.timedelta(days=1)
-# The days of a state are counted from this one.
+# Day number 0 of a state.
 FIRST_DAY = datetime.date(1960, 1, 1)
 MARK = b"DKS2"
-# How many bytes a state has before its files, for each of them, and for the number of its entries.
+# The number of bytes of a state before its files, of each file, and of the number of entries.
 HEAD, ITEM, COUNT = 14, 19, 8
 STAMP = 15
 FILE_OF_STAMP = 11
 PUT = 1
-# For each tag of an entry the bytes of its key. A put timing point and a put association have bodies
-# of one size, a schedule as many lines of 80 as it says.
+# The length of an entry's key for each tag. A put timing point and a put association have bodies of one size; a put schedule has as many
+# lines of 80 bytes as it says.
 KEYS = {1: 7, 2: 23, 3: 9}
 BODIES = {1: 63, 2: 80}
 
 
 def moment_of(extract):
-    """When an extract was made."""
+    """The time at which an extract was made."""
     return datetime.datetime.strptime(extract.date + extract.time, "%Y-%m-%d%H%M")
 
 
 def stamp_of(extract):
-    """What orders extracts: their moment, then their reference."""
+    """The key by which extracts are ordered: their moment, then their reference."""
     return extract.date, extract.time, extract.reference
 
 
 def header_of(record):
-    """The extract that has this first record; None if that is no header."""
+    """The extract with this first record; None if that isn't a header."""
     text = record.decode("ascii", "replace")
     found = re.match(r"HD.{20}(\d\d)(\d\d)(\d\d)([0-2]\d[0-5]\d)(.{7})(.{7})([FU])", text)
     if found is None:
@@ -42,25 +42,25 @@ def header_of(record):
 
 
 def bytes_of(extract):
-    """The stamp of an extract, as the entries of a state begin theirs."""
+    """The stamp of an extract in the bytes that the entries of a state have."""
     day = (datetime.date.fromisoformat(extract.date) - FIRST_DAY).days
     minute = int(extract.time[:2]) * 60 + int(extract.time[2:])
     return day.to_bytes(2, "big") + minute.to_bytes(2, "big") + extract.reference.ljust(7).encode("ascii")
 
 
 def day_of(number):
-    """The date of a day's number."""
+    """The date with this day number."""
     return (FIRST_DAY + datetime.timedelta(number)).isoformat()
 
 
 def horizon_of(path):
-    """The horizon of a state, a day's number; 0 if there is none, or the file is no state."""
+    """The horizon of a state as a day number; 0 if it has none, or if the file isn't a state."""
     known = dockers.knowledge(path)
     return known.horizon if known else 0
 
 
 def stamps_in(state):
-    """The files that a state knows, read from the beginning of its text, as the stamps of its entries have them."""
+    """The files that a state knows, from the beginning of its text. They have the form of the stamps of its entries."""
     head = state.read(HEAD)
     if head[:4] != MARK:
         return set()
@@ -69,7 +69,8 @@ def stamps_in(state):
 
 
 def live(path, extract):
-    """How many timing points, associations and schedules a state has that aren't deleted, and how many of them are later than an extract."""
+    """The number of timing points, associations and schedules of a state that aren't deleted, and how many of these are later than an
+    extract."""
     floor = bytes_of(extract)
     with open(path, "rb") as file, mmap.mmap(file.fileno(), 0, access=mmap.ACCESS_READ) as text:
         at = HEAD + ITEM * int.from_bytes(text[6:14], "big")

@@ -1,8 +1,8 @@
-"""Why something isn't done."""
+"""The faults that station-office reports."""
 
 
 class Fault(Exception):
-    """Why something isn't done: docker's status, the file that it is about, and lines that say why and what to do."""
+    """Why something isn't done: a status of docker, the file at fault, and lines that say why and what to do."""
 
     def __init__(self, status, subject, *lines):
         super().__init__(status, subject, *lines)
@@ -10,18 +10,18 @@ class Fault(Exception):
 
 
 class PutAside(Fault):
-    """A fault of a file that came: the file goes to a folder of its own, with the reason beside it."""
+    """A fault of a file that came. The file goes to a folder of its own, with the reason beside it."""
 
     folder = None
 
 
 class Refused(PutAside):
-    """The file is no extract, or is withdrawn."""
+    """The file isn't an extract, or it is withdrawn."""
 
     folder = "refused"
 
 
 class Held(PutAside):
-    """The file is an extract that isn't believed until somebody has looked at it."""
+    """The file is an extract that isn't believed until somebody has checked it."""
 
     folder = "held"

@@ -1,4 +1,4 @@
-"""One station-office at a time on a STATE, with a folder to work in."""
+"""Keeps two station-offices from working on one STATE at once, and gives each a folder to work in."""
 import contextlib
 import fcntl
 import shutil
@@ -25,7 +25,7 @@ def locks(office, file):
 
 @contextlib.contextmanager
 def at_work(office):
-    """Has STATE, and an empty folder for what is unpacked and packed. What an ended run left there goes."""
+    """Takes the lock of STATE, and makes an empty folder for packing and unpacking. Removes what an earlier run left there."""
     with open(office.beside("lock"), "ab") as file:
         locks(office, file)
         shutil.rmtree(office.work, ignore_errors=True)

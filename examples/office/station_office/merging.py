@@ -1,4 +1,4 @@
-"""Merging other offices' states: what would hurt this one isn't merged."""
+"""Merges other offices' states, except those that would do harm."""
 import sys
 
 import dockers
@@ -10,14 +10,14 @@ from .withdrawn import known_of
 
 
 def merges_all(office, paths, asks=False):
-    """Merges each state. What goes wrong with one is said, and the others are merged."""
+    """Merges each state. A failure is reported, and the other states are merged all the same."""
     for path in paths:
         with office.reporting():
             merges(office, path, asks)
 
 
 def merges(office, path, asks):
-    """Merges a state, unless it knows what is withdrawn or something speaks against it. Says what it brought."""
+    """Merges a state, unless it knows what is withdrawn or there is a reason to doubt it. Prints what the merge brought."""
     plain = office.unpacked(path)
     files = office.files_of(path, plain)
     refuses_withdrawn(office, path, files)
@@ -38,7 +38,7 @@ def refuses_withdrawn(office, path, files):
 
 
 def doubt(office, plain, files):
-    """What speaks against a state: the moment of a file that it knows, or how much less would be known."""
+    """A reason to doubt a state: the moment of a file that it knows, or how much less would be known after the merge."""
     ahead = [extract for extract in files if moment_of(extract) > office.settings.now + DAY]
     if ahead:
         return f"it knows the {ahead[0].name}, which lies more than a day ahead of the clock"
@@ -51,7 +51,7 @@ def doubt(office, plain, files):
 
 
 def looks_at_horizon(office, path, plain, asks):
-    """Says so if the horizon would rise, and asks. Where it can't ask, it takes over a horizon of a week ago or older."""
+    """If the horizon would rise, says so and asks. If nobody can be asked, only a horizon of a week ago or older is taken over."""
     if horizon_of(plain) <= horizon_of(office.state):
         return
     its = day_of(horizon_of(plain))
@@ -68,7 +68,7 @@ def is_recent(office, date):
 
 
 def says_yes(question):
-    """Whether somebody at a terminal says yes."""
+    """Whether somebody at a terminal answers yes."""
     if not sys.stdin.isatty():
         return False
     print(f"{question} [y/N] ", end="", file=sys.stderr, flush=True)
@@ -76,7 +76,7 @@ def says_yes(question):
 
 
 def brought(office, known, horizon, before):
-    """What a merge brought, in a line."""
+    """One line that says what a merge brought."""
     names = [extract.name for extract in office.files() if extract not in known]
     if names:
         return f"it brought the {names[0]}" + (f" and {len(names) - 1} more" if len(names) > 1 else "")

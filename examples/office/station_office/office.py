@@ -1,4 +1,4 @@
-"""An office: STATE, the folder around it, and docker over both."""
+"""An office: STATE, its folder, and docker commands on both."""
 import contextlib
 import hashlib
 import math
@@ -14,26 +14,25 @@ import dockers
 from . import packing
 from .faults import Fault
 
-# For each byte of STATE, how many a command writes: its copy, packed, and the draft of the new one.
+# How many bytes a command writes for each byte of STATE: the packed copy, and the draft of the new STATE.
 ROOM = 1.25
-# How many bytes a command writes in any case, and for each byte of a packed file about how many when
-# that is unpacked.
+# How many bytes a command writes in any case. Next to it, about how many bytes unpacking gives for each byte of a packed file.
 LEAST, UNPACKED = 16384, 10
 
 
 def size_text(size):
-    """A number of bytes, as a person reads it."""
+    """A number of bytes as people read it."""
     return f"{size / 1e6:.0f} MB" if size >= 10e6 else f"{size / 1e6:.1f} MB" if size >= 1e6 else f"{math.ceil(size / 1e3)} KB"
 
 
 def digest_of(path):
-    """What changes whenever a file's content does."""
+    """A text that changes whenever a file's content does."""
     with open(path, "rb") as file:
         return hashlib.file_digest(file, "blake2b").hexdigest()[:32]
 
 
 def size_of(path):
-    """How many bytes a file has; none if there is no file."""
+    """The size of a file in bytes; 0 if there is no file."""
     try:
         return os.stat(path).st_size
     except OSError:
@@ -41,7 +40,7 @@ def size_of(path):
 
 
 class Office:
-    """STATE and its folder. `status` is the greatest of all that was done."""
+    """STATE and its folder. `status` is the greatest status of everything that was done."""
 
     def __init__(self, state, settings):
         self.state = pathlib.Path(state)
@@ -53,21 +52,21 @@ class Office:
         self.listed = None, None
 
     def beside(self, ending):
-        """A hidden file of this office, beside STATE."""
+        """The hidden file of this office beside STATE that has this ending."""
         return self.folder / f".{self.state.name}.{ending}"
 
     def say(self, subject, line):
         dockers.say(f"{subject}: {line}")
 
     def report(self, fault):
-        """Says a fault, and counts its status."""
+        """Prints a fault, and counts its status."""
         for line in fault.lines:
             self.say(fault.subject, line)
         self.status = max(self.status, fault.status)
 
     @contextlib.contextmanager
     def reporting(self):
-        """What goes wrong here is said, and what comes after this is done all the same."""
+        """Reports a fault of the statements inside; what follows them is done all the same."""
         try:
             yield
         except Fault as fault:
@@ -80,17 +79,17 @@ class Office:
         return Fault(4, error.filename2 or error.filename or self.folder, error.strerror or str(error), *self.shortage(self.needed()))
 
     def needed(self, *paths):
-        """About how many bytes a command writes: STATE anew, a copy of it, and what these files bring."""
+        """About how many bytes a command writes: the new STATE, its copy, and what these files add."""
         return int(ROOM * size_of(self.state)) + sum(map(size_of, paths)) + LEAST
 
     def shortage(self, needs, folder=None):
-        """What the disk lacks, if it has less room than a command needs."""
+        """How much room the disk lacks for a command that needs this number of bytes."""
         found = os.statvfs(folder or self.folder)
         free = found.f_bavail * found.f_frsize
         return [f"the disk is full: {size_text(free)} are free, and about {size_text(needs)} are needed"] if free < needs else []
 
     def docker(self, subject, *words, needs=0):
-        """What a docker command writes. Paths among its words are made whole. NEEDS is about how many bytes it writes."""
+        """Runs a docker command, and returns its output. Paths among its words are made absolute. NEEDS is about how many bytes it writes."""
         before = dockers.identity(self.state)
         whole = [os.path.abspath(word) if isinstance(word, pathlib.Path) else word for word in words]
         ended = subprocess.run([self.program, *whole], stdin=subprocess.DEVNULL, capture_output=True, check=False)
@@ -108,7 +107,7 @@ class Office:
         return Fault(min(ended.returncode, 4), subject, line, *(reasons or filter(None, [dockers.advice(line)])))
 
     def reasons(self, before, needs):
-        """What is seen to be wrong, where docker says only that a device failed."""
+        """Reasons that can be found if docker says only that a device failed."""
         if dockers.identity(self.state) != before:
             return ["another command wrote STATE meanwhile, so this one changed nothing: do it again"]
         if not os.access(self.folder, os.W_OK):
@@ -116,7 +115,7 @@ class Office:
         return self.shortage(needs)
 
     def files(self):
-        """The extracts that count in STATE, from the newest full one on."""
+        """The extracts that count in STATE, from the newest full extract on."""
         now = dockers.identity(self.state)
         if now is None or self.listed[0] != now:
             self.listed = now, self.files_of(self.state, self.state)
@@ -127,7 +126,7 @@ class Office:
         return dockers.extracts_of(self.docker(subject, "files", state))
 
     def unpacked(self, path):
-        """A file with what another one holds: that one itself, if it isn't packed. A pipe is read into a file first."""
+        """A file with the unpacked content of another file: that file itself if it isn't packed. A pipe is read into a file first."""
         packed, plain = path, self.work / "plain"
         try:
             if not stat.S_ISREG(os.stat(path).st_mode):
@@ -147,7 +146,7 @@ class Office:
         return plain
 
     def stays(self, path):
-        """Another name for STATE's file as it is now, so that it can be compared with what STATE becomes."""
+        """Another name for STATE's present file, so that it can be compared with the new STATE."""
         path.unlink(missing_ok=True)
         try:
             os.link(self.state, path)

@@ -1,4 +1,5 @@
-"""Files that are packed by gzip, zstd or zip, and what a file is by its first bytes."""
+"""Reads files that are packed by gzip, zstd or zip, and finds the kind of a file from its first
+bytes."""
 import contextlib
 import gzip
 import pathlib
@@ -11,7 +12,7 @@ from .faults import Fault, Refused
 
 PACKINGS = {b"\x1f\x8b": "gzip", b"\x28\xb5\x2f\xfd": "zstd", b"PK\x03\x04": "zip"}
 OTHER_PACKINGS = {b"BZh": "bzip2", b"\xfd7zXZ\0": "xz", b"7z\xbc\xaf\x27\x1c": "7z", b"Rar!": "rar", b"\x1f\x9d": "compress"}
-# What a file is that is no extract. An extract begins with HD.
+# Kinds of files that aren't extracts, by their first bytes. An extract begins with HD.
 KINDS = {
     b"DKS2": "it is an office's state: `station-office merge` takes those",
     b"DKS1": "it is a state of the older format: its office has to `docker migrate` it, and `station-office merge` takes it then",
@@ -26,14 +27,14 @@ DAMAGED = (gzip.BadGzipFile, EOFError, zlib.error, zipfile.BadZipFile, NotImplem
 
 
 def packing_of(path):
-    """By what a file is packed, if it is."""
+    """How a file is packed; None if it isn't."""
     with open(path, "rb") as file:
         head = file.read(4)
     return next((name for mark, name in PACKINGS.items() if head.startswith(mark)), None)
 
 
 def kind_of(head):
-    """What kind of file begins with these bytes, if they show that it is no extract."""
+    """The kind of file that begins with these bytes, if they show that it isn't an extract."""
     if head[257:262] == b"ustar":
         return "it is a tar: unpack it, and put its extracts here one by one"
     for mark, name in (PACKINGS | OTHER_PACKINGS).items():
@@ -44,7 +45,7 @@ def kind_of(head):
 
 @contextlib.contextmanager
 def zstd_stream(path):
-    """What a file holds that is packed by zstd."""
+    """The content of a file that is packed with zstd."""
     if shutil.which("zstd") is None:
         raise Fault(4, path, "there is no zstd here to unpack it")
     with open(path, "rb") as packed, subprocess.Popen(["zstd", "-dcq"], stdin=packed, stdout=subprocess.PIPE, stderr=subprocess.DEVNULL) as process:
@@ -58,7 +59,7 @@ def zstd_stream(path):
 
 @contextlib.contextmanager
 def zip_stream(path):
-    """What the one file of a zip holds."""
+    """The content of the only file in a zip archive."""
     with zipfile.ZipFile(path) as packed:
         files = [entry for entry in packed.infolist() if not entry.is_dir()]
         if len(files) != 1:
@@ -71,7 +72,7 @@ def zip_stream(path):
 
 @contextlib.contextmanager
 def stream_of(path):
-    """What a file holds, unpacked if it is packed. A file that can't be unpacked is refused."""
+    """The content of a file, unpacked if it is packed. A file that can't be unpacked is refused."""
     openers = {"gzip": gzip.open, "zip": zip_stream, "zstd": zstd_stream}
     packing = packing_of(path)
     try:
@@ -82,13 +83,13 @@ def stream_of(path):
 
 
 def head_of(path, size=512):
-    """The first bytes of what a file holds."""
+    """The first bytes of a file's content."""
     with stream_of(path) as stream:
         return stream.read(size)
 
 
 def pack(path, target):
-    """Packs a file by zstd into another."""
+    """Packs a file with zstd into another file."""
     try:
         subprocess.run(["zstd", "-qf", "-o", target, "--", path], stdin=subprocess.DEVNULL, stderr=subprocess.PIPE, check=True)
     except FileNotFoundError:

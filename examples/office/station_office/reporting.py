@@ -1,4 +1,4 @@
-"""What an office knows, and its dockers."""
+"""Prints what an office knows, and its dockers."""
 import contextlib
 import datetime
 import os
@@ -10,18 +10,18 @@ from .extracts import DAY, moment_of
 from .faults import Fault
 from .withdrawn import known_of
 
-# The status of knowledge that is old or lacks an update.
+# The status if what is known is old or lacks an update.
 STALE = 5
 
 
 def age_text(age):
-    """How long something lasts, as a person says it."""
+    """A duration as people say it."""
     hours = age // datetime.timedelta(hours=1)
     return f"{hours} hours" if hours < 72 else f"{hours // 24} days"
 
 
 def says_known(office, out):
-    """Writes of when the newest file is, and what is missing, old or withdrawn."""
+    """Writes how recent the newest file is, and what is missing, old or withdrawn."""
     extracts = office.files()
     first = f"known up to {extracts[-1].name}" if extracts else "nothing is known: no extract was taken"
     wrong = [*missing(extracts), *old(office, extracts)]
@@ -35,12 +35,12 @@ def says_known(office, out):
 
 
 def missing(extracts):
-    """A line for each update whose file before it isn't known."""
+    """A line for each update that doesn't follow a known file."""
     return [f"missing: {reference}, which comes before the {extract.name}" for reference, extract in dockers.missing(extracts)]
 
 
 def old(office, extracts):
-    """A line, if the newest file is older than MAX_AGE, or lies more than a day ahead of the clock."""
+    """A line if the newest file is older than MAX_AGE, or more than a day ahead of the clock."""
     if not extracts:
         return []
     newest, most = extracts[-1], office.settings.max_age
@@ -51,7 +51,7 @@ def old(office, extracts):
 
 
 def places_of(office):
-    """The codes of the office's list of places. Blank lines and remarks are passed over."""
+    """The codes in the office's list of places. Blank lines and remarks are skipped."""
     path = office.folder / "places"
     try:
         lines = path.read_text(encoding="utf-8", errors="replace").splitlines()
@@ -64,8 +64,8 @@ def places_of(office):
 
 
 def dockers_of(office, reader, date):
-    """The dockers of the office's places. If one is refused it says so, and the others follow. If STATE or the day is refused, it stops: the others would
-    be refused too."""
+    """The dockers of the office's places. If one is refused, that is reported, and the others follow. If STATE or the day is refused, it stops, because the
+    others would be refused too."""
     if not dockers.is_date(date):
         says_refusal(office, "print", reader.print_docker("A", date))
         return
@@ -80,7 +80,7 @@ def dockers_of(office, reader, date):
 
 
 def prints_places(office, reader, date):
-    """Writes the dockers of the office's places. The places whose dockers were written."""
+    """Writes the dockers of the office's places. Returns the places whose dockers were written."""
     printed = []
     for place, text in dockers_of(office, reader, date):
         with writing():
@@ -93,7 +93,7 @@ def prints_places(office, reader, date):
 
 @contextlib.contextmanager
 def writing():
-    """What can't be written is a fault, and nothing more is written."""
+    """If something can't be written, that is a fault, and nothing more is written."""
     try:
         yield
     except OSError as error:
@@ -102,13 +102,13 @@ def writing():
 
 
 def says_refusal(office, subject, answer):
-    """Says why a docker isn't printed."""
+    """Prints why a docker isn't printed."""
     line = answer.text.decode().strip()
     office.report(Fault(answer.status, subject, line, *filter(None, [dockers.advice(line)])))
 
 
 def says_unknown(office, place, docker):
-    """Says so, if a docker's place has no name: nobody knows the code, or no file has brought the name yet."""
+    """If a docker's place has no name, prints that nobody knows the code, or that no file has had the name yet."""
     if not dockers.description_of(docker):
         has_trains = docker.count(b"\n") > 2
         office.say(place, "trains call here, but no file has brought its name yet" if has_trains else "nobody knows this code; is it spelled right?")

@@ -1,4 +1,4 @@
-"""What the words and the environment set."""
+"""The settings in the words and in the environment."""
 import datetime
 import os
 import zoneinfo
@@ -12,7 +12,7 @@ KEEP_DAYS = 35
 
 
 class Settings(NamedTuple):
-    """The clock, whether --force was given, and what the environment says."""
+    """The clock, whether --force was given, and the settings in the environment."""
     now: datetime.datetime
     is_forced: bool
     wait: float
@@ -21,7 +21,7 @@ class Settings(NamedTuple):
 
 
 def number(name, default):
-    """What a variable of the environment says, which has to be a number."""
+    """The value of an environment variable, which has to be a number."""
     word = os.environ.get(name) or str(default)
     try:
         value = float(word)
@@ -33,7 +33,7 @@ def number(name, default):
 
 
 def clock(word=None):
-    """The time in Great Britain, as extracts have it; or the time that a word says."""
+    """The time in Great Britain, as in extracts; or the time that a word gives."""
     if word is not None:
         try:
             return datetime.datetime.fromisoformat(word).replace(tzinfo=None)

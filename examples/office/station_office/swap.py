@@ -1,4 +1,4 @@
-"""What offices swap: each puts its state under its own name where the others find it, and merges theirs."""
+"""How offices exchange states: each puts its state under its own name where the others find it, and merges theirs."""
 import contextlib
 import os
 import re
@@ -12,23 +12,23 @@ from .faults import Fault
 from .office import digest_of, size_of
 from .withdrawn import known_of
 
-# Letters that make no words.
+# Letters without vowels, so that no words come out.
 LETTERS = "bcdfghjkmnpqrstvwxz"
 
 
 def new_name(office):
-    """A name that no other office has: the machine's, STATE's, and six letters by chance."""
+    """A name that no other office has: the machine's name, STATE's name, and six random letters."""
     parts = (socket.gethostname().split(".")[0], office.state.name.removesuffix(".state"), "".join(secrets.choice(LETTERS) for _ in range(6)))
     return "-".join(re.sub(r"[^A-Za-z0-9_]+", "-", part).strip("-") or "office" for part in parts)
 
 
 def name_file(office):
-    """The file beside STATE that has the office's name."""
+    """The file beside STATE with the office's name."""
     return office.folder / f"{office.state.name}.name"
 
 
 def name_of(office):
-    """The office's name. It is made with STATE, and kept in a file beside it."""
+    """The office's name. It is made together with STATE, and kept in a file beside it."""
     path = name_file(office)
     with contextlib.suppress(FileNotFoundError):
         if re.fullmatch(r"\w[\w.-]*", name := path.read_text(encoding="utf-8").strip()):
@@ -41,17 +41,17 @@ def name_of(office):
 
 
 def office_of(path):
-    """The name of the office whose state a file is."""
+    """The name of the office whose state this file is."""
     return path.name.removesuffix(".zst").removesuffix(".state")
 
 
 def own(office):
-    """The file in swap/ that carries this office's name."""
+    """The file in swap/ with this office's name."""
     return office.folder / "swap" / f"{name_of(office)}.state.zst"
 
 
 def sent(office):
-    """Digests of what this office put into swap/ last, and before."""
+    """Digests of what this office has put into swap/."""
     try:
         return office.beside("sent").read_text(encoding="utf-8").split()
     except FileNotFoundError:
@@ -59,7 +59,7 @@ def sent(office):
 
 
 def is_ours(office, path):
-    """Whether a file in swap/ is what this office put there. Another office may have got its name with a copy of its folder."""
+    """Whether this office put a file into swap/. Another office may have its name, from a copy of its folder."""
     return path == own(office) and digest_of(path) in sent(office)
 
 
@@ -79,7 +79,7 @@ def offices_with(office, extract):
 
 
 def sends(office):
-    """Packs STATE into swap/, under the office's name. A file of that name that another office put there stays."""
+    """Packs STATE into swap/ under the office's name. If another office put a file with that name there, the file stays."""
     if known := known_of(office, office.files()):
         drops = f"`station-office withdraw {office.state} {known[0].reference}` drops it"
         raise Fault(1, office.state, f"it isn't sent: it knows the {known[0].name}, which is withdrawn. {drops}")

@@ -1,4 +1,4 @@
-"""Taking extracts: what comes is looked at before it is believed."""
+"""Takes extracts. Each is checked before it is believed."""
 import pathlib
 import re
 from typing import NamedTuple
@@ -13,7 +13,7 @@ from .withdrawn import known_of
 
 
 class Found(NamedTuple):
-    """An extract that docker accepts, and how it says so: its text in a file, its header, its digest, and how many changes it has."""
+    """An extract that docker accepts: a file with its text, its header, its digest, and the number of its changes."""
     accepted: str
     plain: pathlib.Path
     extract: dockers.Extract
@@ -22,14 +22,14 @@ class Found(NamedTuple):
 
 
 def takes_all(office, paths):
-    """Takes each extract. What goes wrong with one is said, and the others are taken."""
+    """Takes each extract. A failure is reported, and the other extracts are taken all the same."""
     for path in paths:
         with office.reporting():
             takes(office, path)
 
 
 def arrived(office):
-    """The files of in/. Folders there are passed over."""
+    """The files in in/. Folders there are skipped."""
     files, rest = archive.contents_of(office.folder / "in")
     for path in rest:
         office.say(path, "it is no file, and is passed over")
@@ -37,12 +37,12 @@ def arrived(office):
 
 
 def is_own(office, path):
-    """Whether a file came by in/, or was held: it goes to another folder."""
+    """Whether a file came through in/ or was held. Such a file goes to another folder."""
     return any(path.parent.resolve() == (office.folder / name).resolve() for name in ("in", "held"))
 
 
 def takes(office, path):
-    """Takes an extract that is whole and believed. A file that came by in/ goes to another folder; if STATE is at fault, it waits."""
+    """Takes an extract that is whole and believed. A file that came through in/ goes to another folder; if STATE is at fault, the file waits."""
     try:
         found = looks_at(office, path)
         if not is_known(office, path, found):
@@ -56,7 +56,7 @@ def takes(office, path):
 
 
 def looks_at(office, path):
-    """The extract in a file. A file that is no extract is refused, by docker or by its first bytes, and so is one that is withdrawn."""
+    """The extract in a file. A file that isn't an extract is refused, by docker or because of its first bytes. So is a withdrawn one."""
     plain = office.unpacked(path)
     with open(plain, "rb") as text:
         head = text.read(512)
@@ -74,7 +74,7 @@ def looks_at(office, path):
 
 
 def is_known(office, path, found):
-    """Whether STATE knows an extract. One with the same stamp and another content is held."""
+    """Whether STATE knows an extract. An extract with the same stamp and other content is held."""
     if stamp_of(found.extract) not in map(stamp_of, office.files()):
         return False
     digests = {it.digest for it in archive.list_of_taken(office) if stamp_of(it.extract) == stamp_of(found.extract)}
@@ -87,21 +87,21 @@ def is_known(office, path, found):
 
 
 def brings_nothing(office, path, found):
-    """Whether STATE stays the same if it takes an extract."""
+    """Whether taking an extract would leave STATE unchanged."""
     probe = office.stays(office.work / "probe")
     office.docker(path, "take", probe, found.plain, needs=office.needed(found.plain))
     return archive.is_same(probe, office.state)
 
 
 def believes(office, path, found):
-    """Holds an extract that something speaks against, unless it is forced."""
+    """Holds an extract if there is a reason to doubt it, unless it is forced."""
     reason = doubt(office, found)
     if reason and not office.settings.is_forced:
         raise Held(1, path, reason)
 
 
 def doubt(office, found):
-    """What speaks against an extract: its moment, or how much less it has than what was known before."""
+    """A reason to doubt an extract: its moment, or how much less it has than what was known before."""
     extract, changes = found.extract, found.changes
     if moment_of(extract) > office.settings.now + DAY:
         return f"the {extract.name} lies more than a day ahead of the clock"
@@ -115,8 +115,8 @@ def doubt(office, found):
 
 
 def what_is_left(office, extract, added):
-    """How many timing points, associations and schedules STATE has, and how many at most if a full extract comes that adds some. No full extract replaces what is
-    newer. If none is known before it, nothing can be compared."""
+    """How many timing points, associations and schedules STATE has, and how many it can have at most after a full extract that adds this number. A full extract
+    doesn't replace anything newer. If no full extract is known before it, nothing can be compared."""
     newest = next(iter(office.files()), None)
     if newest is None or newest.indicator != "F" or stamp_of(extract) <= stamp_of(newest):
         return 0, 0
@@ -133,7 +133,7 @@ def joins(office, path, found):
 
 
 def keeps(office, path, found):
-    """Sees to it that an extract that was taken is in taken/ and in the list there. What came by in/ or was held is moved."""
+    """Makes sure that an extract that was taken is in taken/ and in the list there. A file that came through in/ or was held is moved."""
     same = [it for it in archive.list_of_taken(office) if (stamp_of(it.extract), it.digest) == (stamp_of(found.extract), found.digest)]
     if not any((office.folder / "taken" / it.name).exists() for it in same):
         source, name = (path, path.name) if path.is_file() else (found.plain, f"{found.extract.reference}.cif")
@@ -144,7 +144,7 @@ def keeps(office, path, found):
 
 
 def puts_aside(office, path, fault):
-    """Moves a file that isn't taken to where it belongs, and adds to the fault where that is and what can be done."""
+    """Moves a file that isn't taken to its folder, and adds to the fault where the file is and what can be done."""
     place = path
     if path.parent.resolve() == (office.folder / "in").resolve():
         place = archive.puts_aside(office, path, fault.folder, "".join(f"{path}: {line}\n" for line in fault.lines))

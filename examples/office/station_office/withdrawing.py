@@ -1,4 +1,4 @@
-"""Withdrawing a file: STATE becomes what the other files make."""
+"""Withdraws a file: STATE becomes what the other files make."""
 import os
 import re
 import shutil
@@ -12,7 +12,7 @@ from .withdrawn import forbids, known_of, withdrawn
 
 
 def withdraws(office, reference, moment=""):
-    """Withdraws a file: from now on it is neither taken nor merged, and STATE is what the others make."""
+    """Withdraws a file. From now on it is neither taken nor merged, and STATE is what the other files make."""
     stamp = stamp_that_is_meant(office, reference, moment)
     forbids(office, stamp)
     if known_of(office, office.files()):
@@ -25,7 +25,8 @@ def withdraws(office, reference, moment=""):
 
 
 def stamp_that_is_meant(office, reference, moment):
-    """The file that a reference names, and the beginning of a moment if several have that reference. References come again, so what counts in STATE is meant first."""
+    """The file with this reference. If several have it, the beginning of a moment says which is meant. References recur, so a file that counts in STATE is
+    preferred."""
     def named(extracts):
         return sorted({stamp_of(it) for it in extracts if it.reference == reference and written(stamp_of(it)).startswith(moment)})
 
@@ -40,13 +41,13 @@ def stamp_that_is_meant(office, reference, moment):
 
 
 def written(stamp):
-    """The moment of a stamp, as a word."""
+    """The moment of a stamp as a word."""
     date, time, _ = stamp
     return f"{date}T{time[:2]}:{time[2:]}"
 
 
 def makes_anew(office):
-    """Makes STATE of what was taken and isn't withdrawn, and keeps its horizon."""
+    """Makes STATE from the files that were taken and aren't withdrawn, and keeps its horizon."""
     before = dockers.identity(office.state)
     state = office.work / "state"
     copy = newest_sound_copy(office, state)
@@ -62,7 +63,7 @@ def makes_anew(office):
 
 
 def newest_sound_copy(office, state):
-    """Unpacks the newest copy of STATE that knows nothing withdrawn. None if there is no such copy."""
+    """Unpacks the newest copy of STATE that knows nothing withdrawn. Returns None if there is no such copy."""
     for copy in archive.copies(office):
         try:
             plain = office.unpacked(copy)
@@ -75,7 +76,7 @@ def newest_sound_copy(office, state):
 
 
 def files_to_take(office, state):
-    """The files of taken/ that aren't withdrawn and that a state lacks, from the newest full extract on."""
+    """The files in taken/ that aren't withdrawn and that a state lacks, from the newest full extract on."""
     known = office.files_of(office.state, state)
     kept = sorted((stamp_of(extract), extract, path) for extract, path in archive.archived(office) if stamp_of(extract) not in withdrawn(office))
     fulls = [stamp for stamp, extract, _ in kept if extract.indicator == "F"] + [stamp_of(extract) for extract in known if extract.indicator == "F"]
@@ -84,19 +85,19 @@ def files_to_take(office, state):
 
 
 def takes_again(office, state, path):
-    """Has a state take a file of taken/."""
+    """Has a state take a file from taken/."""
     plain = office.unpacked(path)
     office.docker(path, "take", state, plain, needs=office.needed(plain))
     return path
 
 
 def draft_of(office, plain):
-    """A file in work/ with the content of another one: that one itself, if it is there already."""
+    """A file in work/ with the content of another file: that file itself, if it is already there."""
     return plain if plain.parent == office.work else shutil.copyfile(plain, office.work / "draft")
 
 
 def puts_in_place(office, state, before=None):
-    """Puts a state in STATE's place, unless another command wrote STATE since BEFORE."""
+    """Puts a state in STATE's place, unless another command has written STATE since BEFORE."""
     if before is not None and dockers.identity(office.state) != before:
         raise Fault(4, office.state, "another command wrote STATE meanwhile, so this one changed nothing: do it again")
     os.chmod(state, os.stat(office.state).st_mode & 0o777)

@@ -1,4 +1,4 @@
-"""The files that this office has withdrawn: they are neither taken nor merged."""
+"""The files that this office has withdrawn. They are neither taken nor merged."""
 import re
 
 from .extracts import stamp_of
@@ -6,7 +6,7 @@ from .faults import Fault
 
 
 def withdrawn(office):
-    """The stamps of the files that are withdrawn: a date, a time and a reference a line."""
+    """The stamps of the withdrawn files. Each line has a date, a time and a reference."""
     path = office.folder / "withdrawn"
     try:
         lines = path.read_text(encoding="utf-8").splitlines()
@@ -19,13 +19,13 @@ def withdrawn(office):
 
 
 def forbids(office, stamp):
-    """Adds a file to those that are withdrawn."""
+    """Adds a file to the withdrawn files."""
     if stamp not in withdrawn(office):
         with open(office.folder / "withdrawn", "a", encoding="utf-8") as text:
             text.write(" ".join(stamp) + "\n")
 
 
 def known_of(office, extracts):
-    """Those of some files that are withdrawn."""
+    """The withdrawn files among these."""
     stamps = withdrawn(office)
     return [extract for extract in extracts if stamp_of(extract) in stamps]

@@ -1,4 +1,4 @@
-"""What stands in the folder of each case of `desk`: the given files and states."""
+"""Fixtures for the cases of `desk`: the files and states in a case's folder."""
 import shutil
 
 import extracts
@@ -9,7 +9,7 @@ from programs import build_library, give
 
 @pytest.fixture(scope="session")
 def given_files(work):
-    """A folder with the good files, the bad ones, and the states that desks read."""
+    """A folder with the good files, the bad files, and the states that desks read."""
     mirror.GIVEN, mirror.CHANGED = work / "given", work / "changed"
     mirror.GIVEN.mkdir()
     mirror.CHANGED.mkdir()
@@ -24,17 +24,17 @@ def given_files(work):
 @pytest.fixture(autouse=True)
 def given(folder, given_files):
     shutil.copytree(given_files, folder, dirs_exist_ok=True)
-    # The folder has the permissions of the one that was copied.
+    # The folder has the permissions of the folder that was copied.
     folder.chmod(0o755)
 
 
 @pytest.fixture(scope="session")
 def overtaking(work):
-    """The library under which another file comes just after a save."""
+    """The library that puts another file in STATE's place just after a save."""
     return build_library("programs/desk/overtake.c", work / "overtake.so")
 
 
 @pytest.fixture(scope="session")
 def refusing(work):
-    """The library under which one growth of memory is refused."""
+    """The library that refuses one memory growth."""
     return build_library("growth/refuse.c", work / "refuse.so")

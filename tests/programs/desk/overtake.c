@@ -1,5 +1,5 @@
-// Preloaded under a desk. After the first rename that the desk makes, the file that COMING names is
-// renamed to the same place, as another command could do it just then.
+// Preloaded into a desk. After the first rename of the desk, it renames the file that COMING names
+// to the same place, as another command might do at that moment.
 #define _GNU_SOURCE
 #include <dlfcn.h>
 #include <stdio.h>

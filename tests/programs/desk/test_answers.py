@@ -1,4 +1,4 @@
-"""Each request, and each way in which it is refused."""
+"""Each request, and each way in which it can be refused."""
 import os
 import pathlib
 import subprocess
@@ -270,7 +270,7 @@ HEADER, BLANK = records.header("240612")[:-1], records.place("TI", "ASHFELD")[:-
     "headers": (HEADER, HEADER, Answer(1, b"docker: file refused: record 2: Place\n")),
 })
 def test_a_file_without_end_of(first, again, wanted):
-    """It is refused in 64 MB of memory, and the session goes on."""
+    """In 64 MB of memory the file is refused, and the session continues."""
     os.mkfifo("queue")
     mirror = Mirror("full")
     give(mirror.stored)
@@ -296,7 +296,7 @@ def renamed(text):
     "written in place": lambda text: give(text, "extract"), "renamed into its place": renamed,
 })
 def test_a_file_that_changes_between_two_takes_of_its_name(comes):
-    """Each take takes what the file holds at its own opening."""
+    """Each `take` takes what the file holds when that `take` opens it."""
     mirror = Mirror("full")
     give(mirror.stored)
     with Desk("--write", "STATE") as asked:
@@ -328,7 +328,7 @@ def test_a_docker_that_no_pipe_holds_at_once_of_a_reader_that_reads_little():
 
 
 def trip_between(number, places):
-    """A schedule between three of the places, which depend on its number."""
+    """A schedule between three of the places. The places depend on its number."""
     hour = f"{number % 24:02}"
     first, second, third = (places[number * by % len(places)] for by in (1, 7, 11))
     return (

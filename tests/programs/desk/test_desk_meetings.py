@@ -1,6 +1,6 @@
-"""A desk that may write, and what meets it just before each of its calls of the file system:
-another command, another text of STATE, and drafts of others. Nothing is lost unseen, and it goes
-on."""
+"""A desk that may write, when something else happens just before one of its calls of the file
+system. This may be another command, another text of STATE, or the draft of another program. No text
+is lost unread, and the session continues."""
 import os
 import typing
 
@@ -15,7 +15,7 @@ from tables import each
 
 COMMAND = [DESK, "--write", "STATE"]
 LOOK = "statx STATE"
-# How a meeting with another command may end.
+# How a case with another command may end.
 ENDS = ("both done", "refused", "other refused")
 
 
@@ -24,7 +24,7 @@ def test_each_call_of_the_system_that_the_desk_makes_may_be_met(meeting):
 
 
 def parts_of(calls):
-    """The calls up to each save that is done, and those after the last."""
+    """The calls before each successful save, and those after the last save."""
     parts = [[]]
     for call in calls:
         if call == "rename STATE.new STATE":
@@ -35,9 +35,10 @@ def parts_of(calls):
 
 
 class Session(typing.NamedTuple):
-    """What a desk is asked. `looks` has for each save but the last the look from which it goes on,
-    counted from the save before it; 0 is the look of that save. `refused` has the numbers of the
-    requests that are refused if STATE changes after that look."""
+    """The requests of a session. `looks` has, for each save but the last, the number of the look on
+    which this save relies. The looks are counted from the save before it, or from the start; 0 is
+    the look of the save before it. `refused` has the numbers of the requests that are refused if
+    STATE changes after that look."""
 
     requests: tuple
     looks: tuple
@@ -48,7 +49,7 @@ class Session(typing.NamedTuple):
 
 
 CHANGES = ("take tuesday", "merge monday.state")
-# After the look of a start or of a renewal come the looks of a save.
+# The looks that a save makes come after the look of the start or of a renewal.
 SESSIONS = {
     "that saves what it read": Session(
         (*CHANGES, "save", "renew", "save", "renew", "save"), (1, 1), ((2,), (4,)),
@@ -61,8 +62,9 @@ SESSIONS = {
 
 
 class Part(typing.NamedTuple):
-    """Where something meets a session. It has the number of saves done before, the calls since
-    then, and how often the desk looks at STATE up to the end of the next save."""
+    """Where in a session something else happens: the number of saves done before, and the calls
+    since the last of them. `all_looks` counts the looks at STATE from there to the end of the next
+    save."""
 
     session: Session
     saves: int
@@ -70,7 +72,7 @@ class Part(typing.NamedTuple):
     all_looks: int
 
     def is_late(self):
-        """Whether the next save has looked at STATE for the last time, with its draft locked."""
+        """Whether the next save has already locked its draft and made its last look at STATE."""
         return "flock" in self.calls and self.calls.count(LOOK) == self.all_looks
 
     def refused(self):
@@ -81,7 +83,7 @@ class Part(typing.NamedTuple):
 
 
 class Beside:
-    """A session, and what is there at its end: with what came beside it, and without."""
+    """A session, and the expected STATE at its end: without and with another command's change."""
 
     def __init__(self, meeting, session):
         self.meeting, self.session = meeting, session
@@ -93,8 +95,9 @@ class Beside:
         self.both = by_docker(self.own, "take", given("last"))[1]
 
     def at(self, number, line):
-        """The session that this line of the shell meets at this call, and in which part. Returns
-        None if that is the last part."""
+        """Runs the session, and just before the call with this number a line of the shell. Returns
+        how the session ended, and where in the session the call was. Returns None if all saves but
+        the last were done before the call."""
         give(state_of("full"))
         found = met(self.meeting, number, line, COMMAND, self.session.lines())
         assert found is not None, "there is no such call"
@@ -105,7 +108,7 @@ class Beside:
         return found, Part(self.session, saves, parts[-1], self.all_looks[saves])
 
     def goes_on(self, found, refused, wanted):
-        """Only the requests of these numbers are refused, and STATE is as it has to be."""
+        """Only the requests with these numbers are refused, and STATE is as expected."""
         answers = [DONE] * len(self.session.requests)
         for number in refused:
             answers[number] = DEVICE
@@ -118,8 +121,8 @@ class Beside:
 @pytest.mark.timeout(120)
 @each("session", SESSIONS)
 def test_another_command_meets_a_session(meeting, session):
-    """The other command may be refused only while a draft of the desk is there. Otherwise STATE
-    has both at the end."""
+    """The other command may be refused only while the desk has a draft. Otherwise STATE has both
+    changes at the end."""
     beside = Beside(meeting, session)
 
     def trial(number):
@@ -137,7 +140,7 @@ def test_another_command_meets_a_session(meeting, session):
         return part.saves, "refused" if part.refused() else "both done"
 
     wanted = {(saves, end) for saves in range(len(session.looks)) for end in ENDS}
-    # A save that goes on from the last is refused at each of its calls.
+    # A save that relies on the look of the save before it is refused at each of its calls.
     wanted -= {(saves, "both done") for saves, looks in enumerate(session.looks) if looks == 0}
     assert set(at_each_call(trial)) == wanted
 
@@ -145,8 +148,9 @@ def test_another_command_meets_a_session(meeting, session):
 @pytest.mark.timeout(120)
 @each("session", SESSIONS)
 def test_a_text_meets_a_session(meeting, session):
-    """A program that ignores drafts puts a text in place. The desk sees it until a save's last
-    look, and then STATE has both at the end. A text that comes after that look isn't seen."""
+    """A program that ignores drafts puts a text in STATE's place. If it does so before a save's
+    last look, the desk notices it, and STATE has both at the end. A text that comes after the last
+    look isn't noticed."""
     beside = Beside(meeting, session)
 
     def trial(number):
@@ -165,7 +169,7 @@ def test_a_text_meets_a_session(meeting, session):
 @pytest.mark.timeout(120)
 @each("name, line", GOES | BECOMES_PIPE)
 def test_a_state_that_is_read_and(meeting, name, line):
-    """A save is refused from the reading on up to its last look at STATE, and writes nothing."""
+    """A save between the reading and its last look at STATE is refused, and writes nothing."""
     names = Names(state_of("full"), state_of("tuesday"))
     wanted = Ended(1, written([DONE, DEVICE]), NOT_SAVED)
     command = [DESK, "--write", name]
@@ -175,8 +179,8 @@ def test_a_state_that_is_read_and(meeting, name, line):
 
 @each("is_locked, mode", DRAFTS)
 def test_what_takes_the_place_of_a_draft_that_is_just_made(meeting, is_locked, mode):
-    """Another command took the desk's draft for a left-over before it was locked, and removed it.
-    The save is refused."""
+    """Before the draft was locked, another command removed it as left over by a killed command. The
+    save is refused."""
     lines = b"take monday\nsave\n"
     give(state_of("full"))
     calls = calls_of(meeting, COMMAND, lines)

@@ -1,4 +1,4 @@
-"""Desks and commands on one STATE."""
+"""Several desks and commands on one STATE."""
 import contextlib
 import os
 import pathlib
@@ -10,7 +10,7 @@ from tables import alone, each
 
 
 def taken(text, *names):
-    """The text of a state with these files, by docker."""
+    """The text of a state after `docker` took these files into it."""
     for name in names:
         _, text = by_docker(text, "take", given(name))
     return text
@@ -67,7 +67,7 @@ def renamed(text):
 
 
 def in_place_at_its_time(text):
-    """The text is written in place, and has the old file's time within the second."""
+    """Writes the text in place, with the old file's time up to the second."""
     stamp = os.stat("STATE")
     written_in_place(text)
     os.utime("STATE", ns=(stamp.st_atime_ns, stamp.st_mtime_ns + 1))
@@ -147,7 +147,7 @@ def test_another_state_that_comes_just_after_a_save_takes_its_place(overtaking):
 
 
 def save_all(desks):
-    """Lets desks save at once, until each was done. One that is refused renews."""
+    """Has desks save at once until each has saved. A desk that is refused renews first."""
     waiting = desks
     while waiting:
         for asked in waiting:
@@ -161,7 +161,7 @@ def save_all(desks):
 
 
 def four_at_once(**options):
-    """Four desks take a file each, and save at once."""
+    """Four desks each take a file, and save at once."""
     names = ("monday", "tuesday", "night", "last")
     give(state_of("full"))
     with contextlib.ExitStack() as stack:
@@ -181,7 +181,7 @@ def test_four_desks_that_save_at_once_lose_nothing():
 
 
 def are_unlike(environment):
-    """Whether four desks that save at once lose something."""
+    """Whether four desks that save at once lose a change."""
     try:
         four_at_once(env=environment)
     except AssertionError:

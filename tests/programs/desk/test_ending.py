@@ -1,4 +1,4 @@
-"""How a desk ends: at the end of its input, on a terminal, and when its output is gone."""
+"""How a desk ends: at the end of its input, on a terminal, and if its output is gone."""
 import os
 import pty
 
@@ -9,7 +9,7 @@ from programs import DESK, DEVICE_LINE, Ended, give, held, preloading, run
 from tables import each
 
 CHANGES = ("take monday", "merge second.state", "horizon 2024-06-12")
-# What is asked, and whether changes are unsaved at the end.
+# The requests, and whether there are unsaved changes at the end.
 UNSAVED = {
     **{f"only {change}": ([change], True) for change in CHANGES},
     **{f"{change}, saved": ([change, "save"], False) for change in CHANGES},
@@ -46,7 +46,7 @@ def test_changes_whose_save_was_refused_are_unsaved():
         assert asked.closed() == Ended(1, b"", NOT_SAVED)
 
 
-# A renewal finds out whether STATE holds all that the desk knows.
+# A renewal finds out whether STATE holds everything that the desk knows.
 
 
 def test_an_older_state_that_comes_after_a_save_and_is_renewed_leaves_changes_unsaved():
@@ -98,7 +98,7 @@ def test_a_renewal_of_an_older_state_by_a_desk_that_only_reads():
         assert asked.closed() == Ended(0, b"", b"")
 
 
-# A stream that fails while changes are unsaved: there is a line for each.
+# If a stream fails while there are unsaved changes, standard error gets a line for each.
 
 BOTH_LINES = DEVICE_LINE + NOT_SAVED
 
@@ -128,7 +128,7 @@ def test_a_reader_that_goes_away_while_changes_are_unsaved():
     "nothing was changed": (b"files\n", DEVICE_LINE),
 })
 def test_an_input_that_fails_while(device, lines, errors):
-    """The last read of a session is of its input."""
+    """The last read of a session is a read of its input."""
     before, number, last = state_of("full"), 0, None
     while True:
         number += 1
@@ -238,7 +238,7 @@ def test_a_terminal_a_line_that_is_cut_and_then_one_ctrl_d_for_it_and_one_for_th
     with Terminal("--write", "STATE") as typed:
         typed.type(b"take monday\n")
         assert typed.desk.answer() == DONE
-        # The first only sends what was typed.
+        # The first control character only sends what was typed.
         typed.type(b"save" + END_KEY)
         typed.type(END_KEY)
         ended = typed.desk.ended()

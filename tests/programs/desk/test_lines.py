@@ -1,4 +1,5 @@
-"""How lines are read: what asks for nothing, their bytes and lengths, and how they come."""
+"""How lines are read: which lines aren't requests, their bytes and lengths, and the pieces in which
+they come."""
 import array
 import fcntl
 import os
@@ -14,7 +15,7 @@ from programs import ROOT, Ended, give, held
 from tables import each
 
 GOOD_LINE = "print ASHFELD 2024-06-12"
-# Lines that ask for nothing, of a desk that may write.
+# Lines that aren't requests, for a desk that may write.
 NOT_ASKED = [
     "", " ", "   ", "print", "print ASHFELD", "print 2024-06-12", "print ASHFELD 2024-06-12 more",
     "print 2024-06-12 ASHFELD", "print ASHFELDS 2024-06-12", "print -SHFELD 2024-06-12",
@@ -103,7 +104,7 @@ def test_a_files_name_up_to_the_lines_last_byte():
 
 
 def memory(process):
-    """The most memory that a process has taken, in KB."""
+    """The greatest amount of memory that a process has used, in KB."""
     text = pathlib.Path(f"/proc/{process.pid}/status").read_text(encoding="ascii")
     return int(next(line.split()[1] for line in text.split("\n") if line.startswith("VmHWM:")))
 
@@ -144,7 +145,7 @@ def test_no_line():
     assert desk("--write", "STATE", given=b"") == Ended(0, b"", b"")
 
 
-# One line of each kind, with which they are mixed below.
+# One line of each kind. The tests below mix them.
 KINDS = [
     b"print ASHFELD 2024-06-12\n", b"print  BRAYTON   2024-06-13 \n", b"train A00001 2024-06-10\n",
     b"train Z00000 2024-06-10\n", b"files\n", b" files \n", b"renew\n", b"save\n", b"\n", b"no\n",
@@ -154,7 +155,7 @@ KINDS = [
 
 
 def answers_by_line(*words):
-    """The answer to each of these lines, asked one by one."""
+    """The answer of a desk to each of these lines, asked one by one."""
     with Desk(*words) as asked:
         answers = {}
         for line in KINDS:
@@ -194,7 +195,7 @@ def test_no_memory_is_kept_between_requests():
 
 
 def unread(process):
-    """How many bytes of a program's input it hasn't read yet."""
+    """The number of bytes of its input that a program hasn't read yet."""
     count = array.array("i", [0])
     fcntl.ioctl(process.stdin, termios.FIONREAD, count)
     return count[0]

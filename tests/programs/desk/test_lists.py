@@ -1,4 +1,4 @@
-"""The lists of timing points and of what is known, against an independent reading of extracts."""
+"""The requests `places` and `known`, compared with an independent reading of extracts."""
 import datetime
 import pathlib
 import random
@@ -17,13 +17,13 @@ NAMES = sorted(extracts.GOOD)
 
 
 def listed(files, horizon=lists.FIRST_DAY):
-    """What both requests answer about files under a horizon."""
+    """The expected answers to both requests, for these files under a horizon."""
     files = tuple(files)
     return [Answer(0, text(files, horizon)) for text in (lists.places_text, lists.known_text)]
 
 
 def asked(*lines):
-    """What a desk answers to both requests, after these lines."""
+    """The answers of a desk to both requests, after these lines."""
     with Desk("--write", "STATE") as now:
         for line in lines:
             assert now.ask(line) == DONE, line

@@ -1,4 +1,5 @@
-"""Dockers without the short-term plan, against `print` from extracts without short-term records."""
+"""Dockers without the short-term plan, compared with `print` from extracts without short-term
+records."""
 import pathlib
 import random
 
@@ -14,7 +15,8 @@ END = b"END" + 53 * b" " + b"\n"
 
 
 def schedule(uid, first, last, days, stp, at, along, train="1A10"):
-    """A schedule along these places, five minutes apart. A cancellation has only its basic record."""
+    """A schedule that calls at these places, five minutes apart. A cancellation has only its basic
+    schedule."""
     basic = records.basic("N", uid, first, last, days, train, stp)
     if stp == "C":
         return basic
@@ -25,12 +27,12 @@ def schedule(uid, first, last, days, stp, at, along, train="1A10"):
 
 
 def with_stp(record, stp):
-    """The record of an association with another STP indicator."""
+    """An association's record with another STP indicator."""
     return record[:79] + stp + "\n"
 
 
 def state_of(name, *texts):
-    """The state of these extracts, in a file of this name."""
+    """Makes the state of these extracts, in a file with this name."""
     assert docker("new", name) == DONE
     for number, text in enumerate(texts):
         pathlib.Path(f"{name}{number}").write_text(text, encoding="ascii")
@@ -38,7 +40,7 @@ def state_of(name, *texts):
 
 
 def is_permanent(part):
-    """Whether a schedule, an association or another part of an extract isn't short-term."""
+    """Whether this part of an extract is permanent, and not short-term."""
     return part[:2] not in ("BS", "AA") or part[79] == "P"
 
 
@@ -83,7 +85,7 @@ def test_days_that_are_refused():
 
 
 class Plan(random.Random):
-    """Random schedules and associations of a week, permanent ones and others."""
+    """Random schedules and associations of one week, permanent ones and others."""
 
     def stp(self):
         return self.choice("PPPONC")
@@ -119,8 +121,8 @@ class Plan(random.Random):
 
 
 def asked_twice(seed):
-    """What `permanent` answers, and what `print` answers from the extracts without short-term
-    records. Also what `print` answers from the extracts as they are."""
+    """The answers to `permanent`, the answers to `print` from the extracts without short-term
+    records, and the answers to `print` from the whole extracts."""
     plan = Plan(f"permanent {seed}")
     heads = [records.header("240601", "DFROC1A", "F"), records.header("240602", "DFROC1B", "U")]
     files = [(head, plan.parts()) for head in heads]
@@ -148,7 +150,7 @@ def test_as_print_from_extracts_without_short_term_records(start):
 
 
 def test_a_desk_goes_on_with_both():
-    """A change that is taken is seen at once in both dockers, and nothing is saved."""
+    """A change shows in both dockers as soon as it is taken, and nothing is saved."""
     state_of("STATE", records.extract(records.header("240609"), PERMANENT))
     overlay = schedule("C10001", "240611", "240611", "0100000", "O", 555, DIRECT)
     update = records.extract(records.header("240610", "DFROC1B"), overlay)

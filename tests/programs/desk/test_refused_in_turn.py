@@ -1,4 +1,5 @@
-"""Each growth of memory is refused in turn. Each system call in turn fails, or is the last."""
+"""Each memory growth of a session is refused in turn. Each of its system calls fails in turn, or
+the session is killed there."""
 import contextlib
 import os
 import pathlib
@@ -12,8 +13,8 @@ from mirror import Mirror, give_large, given
 from programs import DESK, DEVICE_LINE, MEMORY_LINE, Ended, give, held, run, untried
 from tables import each
 
-# A session of every request. What is changed is saved before it ends. Its days aren't refused under
-# the horizon that it sets, so it can be asked again.
+# A session with every request. It saves its changes before it ends, and its horizon doesn't refuse
+# any of its days, so the same session can be run again.
 REQUESTS = [
     ("files",), ("print", "ASHFELD", "2024-06-14"), ("train", "A00001", "2024-06-12"),
     ("places",), ("known",), ("take", "monday"), ("print", "ASHFELD", "2024-06-14"),
@@ -29,7 +30,7 @@ def lines_of(requests):
 
 
 LINES = lines_of(REQUESTS)
-# A session over a large file, in little memory.
+# A session over a large file, for small address spaces.
 LARGE_REQUESTS = [
     ("files",), ("print", "ASHFELD", "2024-06-14"), ("take", "large"), ("save",), ("files",),
     ("print", "ASHFELD", "2024-06-14"), ("renew",), ("save",), ("print", "BRAYTON", "2024-06-14"),
@@ -37,14 +38,14 @@ LARGE_REQUESTS = [
 
 
 def desk_on(library, **settings):
-    """Runs the session, from a file, with this library preloaded."""
+    """Runs a session from a file, with this library preloaded."""
     environment = os.environ | {"LD_PRELOAD": library} | settings
     with open("lines", "rb") as lines:
         return run([DESK, "--write", "STATE"], stdin=lines, env=environment)
 
 
 class Followed:
-    """What a session comes to, as if the refused requests hadn't been asked."""
+    """What a session leads to if its refused requests are left out."""
 
     def __init__(self, requests, answers, refusals):
         self.mirror, self.refused = Mirror("full"), []
@@ -58,7 +59,7 @@ class Followed:
             self.stored.append(self.mirror.stored)
 
     def tried(self, request):
-        """The answer that a request would get now. It isn't done."""
+        """The answer that a request would get now. The request isn't done."""
         other = Mirror("full")
         other.__dict__.update(self.mirror.__dict__)
         return other.answer(*request)
@@ -76,7 +77,7 @@ def here(name):
 
 
 def follow(ended, refusals, requests=REQUESTS, most=1):
-    """Follows a session to its end. At most `most` requests were refused in this way."""
+    """Follows a session to its end. At most `most` requests may be refused with these answers."""
     followed = Followed(requests, answers_in(ended.output), refusals)
     assert len(followed.refused) <= most, f"requests {followed.refused} were refused"
     assert (ended.status, ended.errors) == followed.mirror.end()
@@ -95,7 +96,8 @@ def is_refused_start(ended, before):
 
 
 def refused_growth(ended, before):
-    """Where a growth was refused: the start or a request. `none` if less memory was enough."""
+    """Where a growth was refused: `start`, or a request's name. `none` if the session managed with
+    less memory."""
     if is_refused_start(ended, before):
         return "start"
     followed = follow(ended, (MEMORY,))
@@ -120,7 +122,7 @@ def test_each_growth_of_a_session_is_refused_in_turn(refusing):
 
 @contextlib.contextmanager
 def large_given(count):
-    """A file of this many schedules, where commands find the given files."""
+    """A file with this number of schedules, in the folder of the given files."""
     give_large(count)
     shutil.copy("large", given("large"))
     try:
@@ -130,7 +132,7 @@ def large_given(count):
 
 
 def ran_out(room):
-    """How often memory ran out in a session with an address space of this many KB."""
+    """How often memory ran out in a session whose address space has this many KB."""
     before = start()
     command = ["prlimit", f"--as={room * 1024}", DESK, "--write", "STATE"]
     ended = run(command, lines_of(LARGE_REQUESTS))
@@ -144,7 +146,7 @@ def ran_out(room):
 def test_small_address_spaces_an_eighth_of_a_megabyte_apart():
     counts, room = [], 4096
     with large_given(8000):
-        # Until eight in a row were enough.
+        # Until eight address spaces in a row were large enough.
         while len(counts) < 8 or any(counts[-8:]):
             counts.append(ran_out(room))
             room += 128
@@ -153,7 +155,7 @@ def test_small_address_spaces_an_eighth_of_a_megabyte_apart():
 
 @contextlib.contextmanager
 def named(what):
-    """Names what is tried, if it isn't as it has to be."""
+    """Adds this name to the message of a failure."""
     try:
         yield
     except AssertionError as found:
@@ -165,7 +167,7 @@ def test_each_call_of_the_system_that_the_desk_makes_is_tried(device):
 
 
 def whole_session():
-    """The session without a fault: its output, and what STATE holds in turn."""
+    """The session without any fault: its output, and the texts of STATE in their order."""
     start()
     ended = desk("--write", "STATE", given=LINES)
     followed = follow(ended, ())
@@ -174,15 +176,15 @@ def whole_session():
 
 
 def fault_of(line, error, call):
-    """Whether a call that fails with this error may have this line. Only looking at a file or
-    opening it can say that memory ran out."""
+    """Whether this line may report a call that failed with this error. Only a call that looks at a
+    file or opens it can say that memory ran out."""
     can_want = error == "ENOMEM" and call in ("open", "statx", "realpath", "fchmod")
     return line == DEVICE_LINE or (line == MEMORY_LINE and can_want)
 
 
 def unsaved_at(output, whole):
-    """Whether changes were unsaved when the output failed, which had gained this much of the whole
-    session's. The request whose answer couldn't be written was done too."""
+    """Whether there were unsaved changes when the output failed. `output` is what it had gained of
+    the whole session's output. The request whose answer couldn't be written was done."""
     mirror, length = Mirror("full"), 0
     for request, answer in zip(REQUESTS, answers_in(whole)):
         mirror.answer(*request)
@@ -194,8 +196,8 @@ def unsaved_at(output, whole):
 
 
 def failed_call(ended, error, call, whole):
-    """A session of which this call failed: refused at the start, ended by a stream that failed, or
-    with one request refused."""
+    """Checks a session in which this call failed. The session was refused at its start, was ended
+    by a stream that failed, or had one request refused."""
     output, stored = whole
     if ended.status in (3, 4):
         line = ended.errors.removesuffix(NOT_SAVED)
@@ -214,7 +216,8 @@ def failed_call(ended, error, call, whole):
 
 
 def draft_of(call):
-    """A draft stays only if the program was ended, or looking at it failed. It has its mark."""
+    """A draft may be left only if the program was killed, or if a look at the draft failed. It then
+    still has its mark."""
     if os.path.lexists("STATE.new"):
         assert call in ("end", "statx"), "a draft is left"
         mode = os.lstat("STATE.new").st_mode
@@ -222,7 +225,7 @@ def draft_of(call):
 
 
 def afterwards(stored):
-    """The same session over what is left comes to the same, and leaves no draft."""
+    """The same session over what is left has the same result, and leaves no draft."""
     ended = desk("--write", "STATE", given=LINES)
     statuses = [answer.status for answer in answers_in(ended.output)]
     assert statuses == [0] * 12 + [1, 2] + [0] * 4
@@ -232,7 +235,7 @@ def afterwards(stored):
 
 
 def at_each_call(device, look, **settings):
-    """Runs the session with each call in turn as the settings say, and looks at how it ended."""
+    """Runs the session once for each of its calls, with these settings, and checks how it ended."""
     whole, number = whole_session(), 1
     while True:
         start()

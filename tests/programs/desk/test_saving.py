@@ -1,4 +1,4 @@
-"""What save writes, and that STATE is never lost."""
+"""What `save` writes, and that no STATE is ever lost."""
 import os
 import pathlib
 import random
@@ -20,7 +20,7 @@ def no_draft():
 
 
 def taken(text, name):
-    """The state of this text with a file, by docker."""
+    """The text of the state after `docker` took a file into it."""
     give(text, "by_docker")
     assert docker("take", "by_docker", name) == DONE
     return held("by_docker")
@@ -58,7 +58,8 @@ def limit_files(process, size):
 def test_a_disk_that_is_full_at(size):
     give_large(800)
     before = give(state_of("full"))
-    # Python ignores the signal of a file that may not grow; so does the desk, then.
+    # Python ignores the signal for a file that grows beyond its limit, and so does the desk that it
+    # starts.
     with Desk("--write", "STATE", restore_signals=False) as asked:
         assert asked.ask("take large") == DONE
         limit_files(asked.process, size)
@@ -80,7 +81,8 @@ ON_SMALL = 'mount -t tmpfs -o size=512k none small && cp STATE small/STATE && ex
 
 
 def apart():
-    """What runs a program in a mount namespace with a file system of 512 KiB in `small`."""
+    """The words that run a program in a mount namespace of its own, with a file system of 512 KiB
+    in the folder `small`."""
     os.mkdir("small")
     unshare = ["unshare", "-m" if os.getuid() == 0 else "-rm"]
     command = [*unshare, "sh", "-c", ON_SMALL, "sh"]
@@ -90,7 +92,7 @@ def apart():
 
 
 def fill(folder):
-    """Fills a file system, and returns the file that fills it."""
+    """Fills a file system with one file, and returns that file."""
     filler = pathlib.Path(folder) / "filler"
     with open(filler, "wb", buffering=0) as file:
         try:
@@ -151,7 +153,7 @@ SIGNALS = ["SIGINT", "SIGTERM"]
 
 
 class Signals:
-    """The signals of this case, and how often each met a save."""
+    """The signals of this case, and how often each came during a save."""
 
     def __init__(self, seed):
         self.numbers = random.Random(seed)
@@ -167,7 +169,7 @@ def default_signals():
 
 
 def time_of_save(before):
-    """How long a save of the large file takes."""
+    """How long it takes to save the large file's state."""
     give(before)
     with Desk("--write", "STATE") as asked:
         asked.ask("take large")
@@ -177,7 +179,7 @@ def time_of_save(before):
 
 
 def signalled(which, before, wanted, met, longest):
-    """Sends a signal to a desk that saves, and looks at what it leaves."""
+    """Sends a signal to a desk during a save, and checks what it leaves."""
     give(before)
     with Desk("--write", "STATE", preexec_fn=default_signals) as asked:
         assert asked.ask("take large") == DONE

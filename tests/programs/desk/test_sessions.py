@@ -16,12 +16,12 @@ NO_REQUESTS = [
     "", "no", "print ASHFELD", "take stdin", "files " + "x" * 250, "save\t", "horizon 2024",
     "places ASHFELD", "known 2024-06-12",
 ]
-# Refusals that have to be among the answers: a request, and its status.
+# The refusals that have to occur among the answers: a request and its status.
 REFUSALS = [
     ("print", 1), ("train", 1), ("take", 1), ("take", 2), ("take", 4), ("merge", 1), ("merge", 4),
     ("horizon", 2), ("save", 2), ("save", 4), ("nothing", 2),
 ]
-# How often each request is asked, of a hundred.
+# How often each request is asked, in percent.
 WEIGHTS = {
     "print": 18, "train": 18, "files": 7, "places": 5, "known": 5, "renew": 9, "take": 14,
     "merge": 7, "horizon": 4, "save": 8, "nothing": 5,
@@ -29,7 +29,7 @@ WEIGHTS = {
 
 
 class Numbers(random.Random):
-    """What a session of this seed consists of."""
+    """The random choices of the session with this seed."""
 
     def request(self):
         """A verb and its words."""
@@ -48,7 +48,7 @@ class Numbers(random.Random):
         return (verb,)
 
     def line_of(self, verb, *words):
-        """A line that asks for this."""
+        """A line with this request."""
         if verb == "nothing":
             return self.choice(NO_REQUESTS)
         line = verb + "".join(" " * self.choice((1, 1, 1, 2, 5)) + word for word in words)
@@ -62,19 +62,19 @@ class Numbers(random.Random):
 
 
 def put_beside(asked, mirror, name):
-    """Another `docker take` meanwhile. The answer before it has come, so the desk waits for the
-    next line."""
+    """Another `docker take` changes STATE. The desk has just answered, so it waits for the next
+    line."""
     assert asked.held == b""
     assert docker("take", "STATE", name) == DONE
     mirror.take_beside(name)
 
 
-# The times of copies, in seconds. No two have the same, so none is mistaken for another.
+# The times of copies, in seconds. All are different, so that no copy looks like another.
 COPY_TIMES = itertools.count(1)
 
 
 def put_back(asked, mirror, number):
-    """A text that STATE held is put in place of it meanwhile, as a copy that was kept."""
+    """A text that STATE held before is put back in its place, like a copy that somebody kept."""
     assert asked.held == b""
     mirror.put_back(number)
     give(mirror.stored, "copy")
@@ -84,13 +84,13 @@ def put_back(asked, mirror, number):
 
 
 def session(seed, counts, older=0):
-    """A session of this seed, in which older texts come back with this probability."""
+    """The session with this seed. Earlier texts of STATE are put back with this probability."""
     numbers = Numbers(seed)
     mirror = numbers.mirror()
     give(mirror.stored)
     words = ["--write", "STATE"] if mirror.may_write else ["STATE"]
     with Desk(*words) as asked:
-        # With the first answer STATE was read.
+        # The desk has read STATE when its first answer comes.
         assert asked.ask("files") == mirror.answer("files")
         for _ in range(numbers.randrange(1, 15)):
             if numbers.random() < 0.06:

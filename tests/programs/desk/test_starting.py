@@ -1,4 +1,4 @@
-"""What a desk is started with: its words, a STATE that is refused, and streams that are closed."""
+"""How a desk starts: its words, a STATE that is refused, and streams that are closed."""
 import os
 import pathlib
 
@@ -18,7 +18,8 @@ REFUSED_WORDS = [
 
 
 def unread_by(*words):
-    """How a desk ends that is given three lines as a file, and how much of them it leaves."""
+    """Gives a desk a file of three lines. Returns how the desk ends, and how much it leaves
+    unread."""
     pathlib.Path("lines").write_bytes(b"files\nrenew\nsave\n")
     with open("lines", "rb") as source:
         ended = desk(*words, stdin=source)
@@ -84,7 +85,7 @@ def test_a_state_that_is_there_but_empty_of_files():
 
 
 def closing(*numbers):
-    """What closes these streams in the program that is started."""
+    """The words that close these streams of the program that they start."""
     return lambda: [os.close(number) for number in numbers]
 
 

@@ -1,4 +1,4 @@
-"""What stands in the folder of each case of `docker`."""
+"""Fixtures for the cases of `docker`: the files and states in a case's folder."""
 import os
 import typing
 
@@ -9,7 +9,7 @@ from programs import give
 
 
 class Large(typing.NamedTuple):
-    """A file of 5,000 schedules, its state, and the state of both files that knows it too."""
+    """A file of 5,000 schedules, its state, and the state that knows it and two small files."""
 
     large: bytes
     large_state: bytes
@@ -18,7 +18,7 @@ class Large(typing.NamedTuple):
 
 @pytest.fixture(autouse=True)
 def given(folder):
-    """The given files and states, and a folder."""
+    """A folder with the given files and states."""
     for name, text in FILES.items():
         give(text.encode(), name)
     for name, text in STATES.items():

@@ -1,4 +1,5 @@
-"""Commands on one STATE at once, and a STATE that changes while a take waits for its file."""
+"""Several commands on one STATE at once, and a STATE that changes while a `take` waits for its
+file."""
 import os
 import subprocess
 import time
@@ -13,26 +14,26 @@ pytestmark = [alone, pytest.mark.timeout(600)]
 
 
 def ends_of(processes):
-    """How these commands of docker end, which run at once."""
+    """How these commands of `docker` end. They run at once."""
     outputs = [process.communicate() for process in processes]
     return [Ended(process.returncode, *output) for process, output in zip(processes, outputs)]
 
 
 def at_once(commands, before):
-    """How commands of docker end that are started at once."""
+    """How these commands of `docker` end if they are started at once."""
     pipes = {"stdin": subprocess.DEVNULL, "stdout": subprocess.PIPE, "stderr": subprocess.PIPE}
     return ends_of([subprocess.Popen([*before, DOCKER, *words], **pipes) for words in commands])
 
 
 def leave_draft(number):
-    """Every fifth round finds what a killed command left."""
+    """In every fifth round, leaves a draft such as a killed command leaves."""
     if number % 5 == 0:
         assert docker("take", "office", "large", before=ended_on_disk(8)).status < 0
 
 
 @pytest.fixture(scope="session")
 def larger_texts(work, large_texts):
-    """A file of 3,000 schedules, and the states of it and of all."""
+    """A file of 3,000 schedules, its state, and the state of all files."""
     file, state, both = (str(work / name) for name in ("larger", "wanted_larger", "wanted_all"))
     text = many_trips("DFROC1B", "DFROC1A", "240611", range(30000, 33000)).encode()
     give(text, file)
@@ -49,8 +50,8 @@ def larger(large, larger_texts):
 
 
 def pairs(rounds, before=()):
-    """Two takes at once: both files are known, or one command was refused and the other's file is
-    known."""
+    """Two takes at once. Either both files are known, or one command was refused and only the other
+    command's file is known."""
     commands = [("take", "office", name) for name in ("large", "larger")]
     wanted = {
         (DONE, DONE): "wanted_all", (DONE, DEVICE): "wanted_large", (DEVICE, DONE): "wanted_larger",
@@ -68,7 +69,7 @@ def test_a_hundred_pairs_of_takes_at_once(larger):
 
 
 def eights(rounds, before=()):
-    """Eight commands at once: the state knows what the commands that succeeded brought."""
+    """Eight commands at once. The state knows the files of all commands that succeeded."""
     names = [f"of_day_{day}" for day in range(8)]
     for number in range(1, rounds + 1):
         give(STATE_OF_BOTH, "office")
@@ -93,10 +94,10 @@ def test_eight_takes_at_once_again_and_again(eight_files):
     eights(25)
 
 
-# These trials notice locks that hold nothing. With such locks a command removes the draft of
-# another command at work, which then puts what is there in the place of the state. It was tried
-# with no lock at all, with none on the draft, and with none on what is looked at as left over. Each
-# time one of the first seven pairs failed.
+# These cases show that the ones above detect locks that don't lock anything. Without locks, a
+# command can remove the draft of a running command, which then puts whatever is there in the place
+# of the state. Programs were tried that lock nothing, that don't lock the draft, and that don't
+# lock a left-over draft. Each time one of the first seven pairs failed.
 
 
 def without_locks(trial, rounds, device):
@@ -113,8 +114,8 @@ def test_eight_takes_at_once_fail_if_no_lock_holds(eight_files, device):
 
 
 def meanwhile(state, change):
-    """How a take ends that read its state, and waits for its file while this changes what is
-    there."""
+    """A `take` that has read its state waits for its file, while `change` changes what is in the
+    folder. Returns how the `take` ends."""
     os.mkfifo("queue")
     command = [DOCKER, "take", state, "queue"]
     pipes = {"stdout": subprocess.PIPE, "stderr": subprocess.PIPE}
@@ -131,32 +132,32 @@ def takes_revised():
 
 
 def test_a_take_that_was_overtaken():
-    """It leaves what the other stored."""
+    """The state that the other command stored stays."""
     give(STATE_OF_ONE, "office")
     assert meanwhile("office", takes_revised) == DEVICE
     holds_only("office", STATE_OF_BOTH)
 
 
-# The times of STATE, in nanoseconds. The first is the time of the file that the take read.
+# The times of STATE, in nanoseconds. The first is the time of the file that the `take` read.
 THEN = 1718010000_500000000
 SECOND = 1000000000
 
 
 def in_place(text, at=None):
-    """The text is written in place, and has this time."""
+    """Writes the text in place. If there is a time, the file gets it."""
     give(text, "office")
     if at:
         os.utime("office", ns=(at, at))
 
 
 def replaced_by(text):
-    """Another file of the same time takes its place."""
+    """Another file with the same time takes its place."""
     give(text, "came")
     os.utime("came", ns=(THEN, THEN))
     os.replace("came", "office")
 
 
-# The states of one file and of its revision have equal sizes.
+# The states of a file and of its revision have the same size.
 @each("change, wanted", {
     "is written in place": (lambda: in_place(STATE_OF_REVISED), STATE_OF_REVISED),
     "is written in place within the second": (
@@ -172,7 +173,7 @@ def replaced_by(text):
     "goes away": (lambda: os.remove("office"), None),
 })
 def test_a_take_whose_state(change, wanted):
-    """It is refused, and the state stays so."""
+    """The `take` is refused, and the changed state stays."""
     in_place(STATE_OF_ONE, THEN)
     assert meanwhile("office", change) == DEVICE
     if wanted is None:
@@ -182,7 +183,7 @@ def test_a_take_whose_state(change, wanted):
         holds_only("office", wanted)
 
 
-# A link is followed: what counts is the file to which it leads.
+# A link is followed: its target is what counts.
 
 
 @pytest.fixture
@@ -194,7 +195,7 @@ def leading(given):
 
 @pytest.mark.usefixtures("leading")
 def test_a_take_by_a_link_that_leads_elsewhere_meanwhile():
-    """Both states stay: the one that it led to, and the one that it leads to now."""
+    """Both states stay: the link's old target and its new target."""
     give(STATE_OF_REVISED, "elsewhere")
     stamp = os.stat("office")
     os.utime("elsewhere", ns=(stamp.st_atime_ns, stamp.st_mtime_ns))
@@ -216,6 +217,6 @@ def test_a_take_by_a_link_whose_file_is_written_in_place():
 
 @pytest.mark.usefixtures("leading")
 def test_a_take_by_a_link_that_another_take_overtook():
-    """It leaves what the other stored."""
+    """The state that the other command stored stays."""
     assert meanwhile("leading", takes_revised) == DEVICE
     holds_only("office", STATE_OF_BOTH)

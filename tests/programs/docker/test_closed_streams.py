@@ -1,4 +1,4 @@
-"""Commands some of whose standard streams are closed."""
+"""Commands with some of their standard streams closed."""
 import os
 
 from given import STATE_OF_BOTH, STATE_OF_ONE

@@ -1,10 +1,11 @@
-"""Which lines a docker has. `day` prints them of a file, and `print` of a state that took it."""
+"""The lines of dockers: `day` prints them from a file, and `print` from a state that took the
+file."""
 from dockers import LINES
 from outcomes import prints, takes
 from programs import docker
 from tables import each
 
-# Each has a file, a timing point, a day, and the names of the lines.
+# Each row has a file, a timing point, a day, and the names of the docker's lines.
 DOCKERS = {
     "the permanent schedule": ("indicators", "ASHFELD", "2024-06-12", ["LEAVES_0900"]),
     "an overlay": ("indicators", "ASHFELD", "2024-06-11", ["LEAVES_0915"]),

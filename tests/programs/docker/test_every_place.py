@@ -1,5 +1,5 @@
-"""`print` keeps of a state only what one timing point needs, and `day` keeps of a file only what may
-count there, change by change. Both give the same docker, of every timing point."""
+"""`print` keeps only the part of a state that one timing point needs, and `day` keeps only the part
+of a file that may count there. Both have to give the same docker for every timing point."""
 import middling
 import pytest
 from outcomes import DONE, accepted, takes, takes_more
@@ -17,7 +17,7 @@ def extracts(given):
 
 
 def print_as_day(state, file, days):
-    """Both give the same dockers. Returns their lines."""
+    """Checks that `print` and `day` give the same dockers. Returns the lines of these dockers."""
     lines = []
     for day in days:
         for place in (*middling.PLACES, "NOWHERE"):

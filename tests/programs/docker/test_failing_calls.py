@@ -1,5 +1,5 @@
-"""The program under a device that wraps each system call which it makes (tests/device). Each
-call in turn fails, or is the last one. A state is never lost."""
+"""The program with a library that wraps its system calls (tests/device). Each call fails in turn,
+or is the program's last. No state is ever lost."""
 import os
 import pathlib
 import signal
@@ -17,7 +17,7 @@ ASHFELD = prints("ASHFELD", "2024-06-10", LINES["LEAVES_0900"])
 REVISED = prints("ASHFELD", "2024-06-10", LINES["LEAVES_0905"])
 FILES_OF_BOTH = done(b"2024-06-09 2100 DFROC1A U DFROC1Z\n2024-06-10 2100 DFROC1B U DFROC1A\n")
 TO_JUNE = STATES["state_of_both_to_june"]
-# Only these calls, as they look at a file or open it, may say that memory ran out.
+# Only these calls, by which the program looks at a file or opens it, may say that memory ran out.
 MAY_WANT_MEMORY = {"open", "statx", "realpath", "fchmod"}
 
 
@@ -26,7 +26,7 @@ def test_each_call_of_the_system_that_the_program_makes_is_tried(device):
 
 
 def put_back(before):
-    """The state as a command finds it: of this text, or none."""
+    """Makes the state that a command finds: one with this text, or none."""
     for name in ("office", "office.new", "met"):
         pathlib.Path(name).unlink(missing_ok=True)
     if before is not None:
@@ -39,16 +39,16 @@ def is_as(text):
 
 
 class Tried:
-    """A command, of which each call in turn fails or is the last: what STATE is before and after
-    it, and how it ends if no call fails."""
+    """A command that is run once for each of its calls, which fails or at which the command is
+    killed. It has STATE before and after the command, and how the command ends if no call fails."""
 
     def __init__(self, words, before, after, wanted):
         self.words, self.before, self.after, self.wanted = words.split(), before, after, wanted
-        # How many drafts were left after a look at them had failed.
+        # How many drafts were left because a look at them had failed.
         self.drafts = 0
 
     def look_at_failure(self, ended, error, call):
-        """One of its calls failed with an error."""
+        """Checks a command in which one call failed with an error."""
         if ended == self.wanted:
             assert is_as(self.after)
             assert not os.path.lexists("office.new")
@@ -62,20 +62,21 @@ class Tried:
         self.look_at_draft(call)
 
     def look_at_draft(self, call):
-        """A command looks twice to make sure that the draft is its own. If one of these looks
-        fails, the draft stays, and the next command removes it."""
+        """A command looks twice whether the draft is its own. If one of these looks fails, the
+        draft stays, and the next command removes it."""
         if os.path.lexists("office.new"):
             assert call == "statx", "a draft is left"
             self.drafts += 1
             assert self.drafts <= 2
 
     def look_at_end(self, ended):
-        """It was ended at one of its calls."""
+        """Checks a command that was killed at one of its calls."""
         assert ended.status == -signal.SIGKILL
         assert is_as(self.before) or is_as(self.after)
 
     def look_afterwards(self):
-        """The same command run again succeeds. But what is migrated isn't migrated again."""
+        """The same command succeeds when it is run again; but what is migrated can't be migrated
+        again."""
         if self.words[0] == "migrate" and is_as(self.after):
             return
         assert docker(*self.words) == self.wanted
@@ -85,7 +86,7 @@ class Tried:
             assert stat.S_IMODE(os.stat("office").st_mode) == 0o640
 
     def at_each_call(self, device, how, error="EIO"):
-        """Tries the command at each of its calls, and returns how many there are."""
+        """Runs the command once for each of its calls, and returns the number of calls."""
         number = 0
         while True:
             number += 1
@@ -144,7 +145,8 @@ def test_each_call_fails(device, words, before, after, wanted, error):
 
 
 def statuses(device, call, error, before, words):
-    """How a command ends if the first call of this name fails, if the second does, and so on."""
+    """How a command ends if the first call with this name fails, if the second one fails, and so
+    on."""
     found, number = [], 1
     while True:
         put_back(before)
@@ -156,9 +158,9 @@ def statuses(device, call, error, before, words):
         number += 1
 
 
-# Each standard stream is looked for first; then STATE, the file and the draft are opened. The draft
-# gets its permissions before it is put in place. Its mark is removed last: if that fails, the state
-# is stored all the same.
+# The program first looks for each standard stream, then opens STATE, the file and the draft. The
+# draft gets its permissions before it is put in place. Its mark is removed last; if that fails, the
+# state is stored all the same.
 @each("call, error, before, words, wanted", {
     "take, if a file that it opens wants memory": (
         "open", "ENOMEM", STATE_OF_ONE, "take office revised", [0, 0, 0, 3, 3, 3],
@@ -184,12 +186,12 @@ def test_statuses_as_one_call_fails(device, call, error, before, words, wanted):
     assert statuses(device, call, error, before, words) == wanted
 
 
-# What a signal interrupts is read or written again.
+# A read or a write that a signal interrupts is repeated.
 
 
 @pytest.fixture
 def interrupting(device):
-    """Each read and each write is interrupted once. Some have to be."""
+    """Each read and each write is interrupted once. At least one has to be interrupted."""
     yield preloading(device, INTERRUPT=1, TOLD="met")
     assert os.path.exists("met"), "nothing was interrupted"
 

@@ -1,4 +1,4 @@
-"""`check` and `day` of files that are accepted, and of files that are refused."""
+"""`check` and `day`, on files that are accepted and on files that are refused."""
 from dockers import LINES
 from given import BAD
 from outcomes import accepted, file_refused, prints
@@ -42,7 +42,8 @@ def test_day_refuses(name, _text, fault):
 
 
 def test_the_example_with_associations():
-    """An evening's train that calls past midnight, one that another joins, and one that divides."""
+    """An evening with a train that runs past midnight, one that another train joins, and one that
+    divides."""
     example = str(ROOT / "examples/association.cif")
     assert docker("day", example, "COLWELL", "2024-06-11") == prints(
         "COLWELL", "2024-06-11",

@@ -1,4 +1,4 @@
-"""Disks that are full, at each place of a write, and what stands where a draft would."""
+"""Disks that become full at any point of a write, and files that have the name of a draft."""
 import os
 import signal
 import subprocess
@@ -26,14 +26,14 @@ def test_merge_on_a_disk_that_is_full_at(kilobytes):
 
 
 def full_disk(*words):
-    """How a command ends on a disk that takes nothing, with its faults in a file there."""
+    """How a command ends on a disk without room. Its standard error is a file on that disk."""
     with open("faults", "wb") as faults:
         ended = docker(*words, before=on_disk(0), stderr=faults)
     return ended, held("faults")
 
 
 def test_take_on_a_full_disk():
-    """The fault's line goes to a file, which takes nothing either."""
+    """The line that reports the fault can't be written to its file either."""
     give(STATE_OF_BOTH, "office")
     assert full_disk("take", "office", "places") == (Ended(4, b"", None), b"")
     holds_only("office", STATE_OF_BOTH)
@@ -64,7 +64,7 @@ def test_a_take_that_is_ended_at_each_kib_that_it_writes_leaves_the_state_and_hi
     assert docker("files", "office").output.count(b"\n") == 2
 
 
-# What has the name of a draft, but wasn't left there by a command, stays.
+# A file that has the name of a draft, but that no command left there, stays.
 
 
 def test_a_file_of_the_name_of_a_draft():
@@ -81,7 +81,7 @@ def test_a_state_of_the_name_of_a_draft():
 
 @alone
 def test_a_draft_beside_a_state_of_the_name_of_a_draft():
-    """No command takes that state for a draft of its own."""
+    """No command mistakes that state for its own draft."""
     give(STATE_OF_ONE, "office")
     give(STATE_OF_BOTH, "office.new")
     assert docker("take", "office.new", "one", before=ended_on_disk(0)).status == -signal.SIGXFSZ
@@ -100,8 +100,8 @@ def test_a_link_of_the_name_of_a_draft():
     assert held("office") == STATE_OF_ONE
 
 
-# A file system of 64 KiB, mounted just for this command: full, with a little room, read only, and
-# with all its room.
+# A file system of 64 KiB, mounted for this command only. It is full, then has little room, then is
+# read-only, and at last has all its room.
 ROOMS = """
     mount -t tmpfs -o size=64k none small && cp state_of_both small/office || exit 1
     takes() {

@@ -33,7 +33,7 @@ def test_merge_of_a_state_under_a_horizon():
 
 
 def test_the_text_of_a_state_that_lapsed():
-    """The texts of states are written here part by part, so their size is looked at."""
+    """These tests write the texts of states part by part, so the size of one is checked here."""
     assert len(LAPSED) == 67
 
 
@@ -58,7 +58,7 @@ def test_files_of_what_lapsed():
 
 
 def does(*lines):
-    """The text of a new state, after these commands."""
+    """The text of a new state after these commands."""
     assert docker("new", "office") == DONE
     for line in lines:
         assert docker(*line.split()) == DONE

@@ -8,7 +8,7 @@ from outcomes import accepted, prints
 from programs import DOCKER, ROOT, Ended, run
 
 LAUNCHER = str(ROOT / "docker")
-# All that the launcher runs before it looks for the kit.
+# All tools that the launcher runs before it looks for the kit.
 TOOLS = ("bash", "env", "awk", "dirname", "find", "mkdir", "readlink")
 NOT_BUILT = (
     b"docker: the program isn't built, and the kit's command rt isn't on the PATH to prove and"
@@ -18,7 +18,7 @@ NOT_BUILT = (
 
 @pytest.fixture
 def launched():
-    """The launcher's program is the one that is tried, and so it is built."""
+    """If the program under test is the launcher's program, it is already built."""
     if DOCKER != str(ROOT / "crates/docker/out/docker"):
         pytest.skip("another program is tried than the launcher's")
 

@@ -1,4 +1,4 @@
-"""STATE by a link, the permissions of its file, and what can't be made or replaced."""
+"""A STATE that is a link, the permissions of its file, and files that can't be made or replaced."""
 import os
 import pathlib
 import shutil
@@ -20,7 +20,7 @@ def mode_of(name):
 
 
 def test_take_by_a_link():
-    """The link stays one, and the file keeps its permissions."""
+    """The link stays a link, and the file keeps its permissions."""
     give(STATE_OF_ONE, "office")
     os.chmod("office", 0o640)
     os.symlink("office", "linked")
@@ -33,7 +33,7 @@ MASKS = {"022": 0o644, "077": 0o600, "000": 0o666}
 
 
 def masked(mask):
-    """The program under a mask of permissions."""
+    """The words that run the program under this permission mask."""
     return ("sh", "-c", f'umask {mask}; exec "$@"', "sh")
 
 
@@ -89,12 +89,12 @@ def test_new_at_standard_output_which_is_a_file():
     stores(NO_FILES, "new", "/dev/stdout", state="at_output", before=redirected(">at_output"))
 
 
-# As a user other than root, because root may write anywhere.
+# These cases run as a user other than root, because root may write anywhere.
 
 
 @pytest.fixture
 def stranger(folder):
-    """What stands before the words of a command, for this user. The folder has the program."""
+    """The words that run a command as this user. The folder has the program."""
     shutil.copy(DOCKER, folder / "program")
     command = [*as_nobody(), str(folder / "program")]
     if run([*command, "check", "one"]).status:
@@ -104,7 +104,7 @@ def stranger(folder):
 
 @pytest.fixture
 def locked(given):
-    """A folder that is read only. Its state isn't."""
+    """A read-only folder with a state that isn't read-only."""
     os.mkdir("locked")
     give(STATE_OF_ONE, "locked/office")
     os.chmod("locked/office", 0o666)
@@ -115,7 +115,7 @@ def locked(given):
 
 @pytest.fixture
 def unlocked(given):
-    """A folder of this user that isn't read only, with a state."""
+    """A folder of this user with a state. Neither is read-only."""
     os.mkdir("open")
     give(STATE_OF_ONE, "open/office")
     if os.getuid() == 0:
@@ -129,7 +129,7 @@ def test_new_in_a_folder_that_is_read_only(stranger, locked):
 
 
 def test_take_in_a_folder_that_is_read_only(stranger, locked):
-    """A docker of the state is printed all the same."""
+    """A docker can still be printed from the state."""
     assert run([*stranger, "take", "locked/office", "revised"]) == DEVICE
     holds_only("locked/office", STATE_OF_ONE)
     printed = run([*stranger, "print", "locked/office", "ASHFELD", "2024-06-10"])
@@ -137,7 +137,7 @@ def test_take_in_a_folder_that_is_read_only(stranger, locked):
 
 
 def test_take_of_a_state_that_is_read_only_in_a_folder_that_is_not(stranger, unlocked):
-    """The state stays read only."""
+    """The state stays read-only."""
     os.chmod("open/office", 0o444)
     assert run([*stranger, "take", "open/office", "revised"]) == DONE
     holds_only("open/office", STATE_OF_BOTH)

@@ -1,5 +1,6 @@
-"""A command that writes STATE, and what meets it just before each of its calls of the file system:
-another command, another text of STATE, and drafts of others. Nothing is lost unseen."""
+"""A command that writes STATE, when something else happens just before one of its calls of the file
+system. This may be another command, another text of STATE, or the draft of another program. No text
+is lost unread."""
 import os
 import stat
 
@@ -25,7 +26,8 @@ def command_of(words):
 
 
 def one_by_one(before, *commands):
-    """How the last of these commands ends if they run one after another, and the state then."""
+    """Runs these commands one after another. Returns how the last one ends, and the state after
+    it."""
     give(before, "office")
     for words in commands:
         ended = docker(*words.split())
@@ -39,11 +41,12 @@ def looks_of(meeting, before, words):
     return calls[:calls.index("rename office.new office")].count(LOOK)
 
 
-# Before its first look at STATE a command has read nothing. So it is as if the other came first.
+# Before its first look at STATE a command has read nothing. So whatever happens then happens as if
+# it came first.
 
 
 class Beside:
-    """A command, and another command on the same STATE that runs meanwhile."""
+    """A command, and another command that runs on the same STATE in the middle of it."""
 
     def __init__(self, before, words, other):
         self.before, self.words, self.other = before, words, other
@@ -53,8 +56,8 @@ class Beside:
         self.other_last = one_by_one(before, words, other)
 
     def at(self, meeting, number):
-        """The other meets the command at this call. Returns which of them was refused, if one was,
-        and otherwise which was first."""
+        """Runs the other command at this call. Returns which command was refused; if neither was,
+        which of them counts as the first."""
         give(self.before, "office")
         other = f"{DOCKER} {self.other} </dev/null 2>/dev/null"
         found = met(meeting, number, other, command_of(self.words))
@@ -73,7 +76,7 @@ class Beside:
         if found.status:
             assert (found.status, now) == (4, self.alone)
             return "other refused"
-        # What the other wrote may be nothing that this command reads.
+        # What the other command stored may be a text that this command refuses.
         refusals = [DEVICE] + [end for end in [self.other_first[0]] if end != DONE]
         assert found.ended in refusals
         assert now[1] == self.other_alone[1]
@@ -92,7 +95,7 @@ COMMANDS = {
 @pytest.mark.timeout(120)
 @each("before, words, other", COMMANDS)
 def test_another_command_meets(meeting, before, words, other):
-    """One of both is refused, or it is as if they ran one after the other."""
+    """One of the two commands is refused, or the result is as if they ran one after the other."""
     beside = Beside(before, words, other)
     found = at_each_call(lambda number: beside.at(meeting, number))
     assert set(found) == {"other first", "refused", "other refused", "other last"}
@@ -104,14 +107,16 @@ WAYS = {"renamed into its place": "mv -f came office", "written in place": "cat 
 
 
 def state_of_many(hour):
-    """The text of a state of 1,000 trains at this hour. It is read and written piece by piece."""
+    """The text of a state of 1,000 trains that leave at this hour. It is read and written in
+    pieces."""
     uids = [f"C{number}" for number in range(20000, 21000)]
     trips = [lines(trip(hour).replace("C10001", uid)) for uid in uids]
     return state([FIRST], [FIRST.put(schedule(uid), text) for uid, text in zip(uids, trips)])
 
 
 class Coming:
-    """A command, and a text of STATE that comes meanwhile from a program that heeds no drafts."""
+    """A command, and a text that a program which ignores drafts puts in STATE's place in the middle
+    of it."""
 
     def __init__(self, meeting, before, words, came):
         self.before, self.words, self.came = before, words, came
@@ -120,8 +125,8 @@ class Coming:
         self.looks = looks_of(meeting, before, words)
 
     def at(self, meeting, number, way):
-        """The text comes at this call. Returns whether the command was refused. What was there is
-        as long, and was written long before."""
+        """The text comes at this call. Returns whether the command was refused. The text before it
+        has the same length, and was written long before."""
         give(self.before, "office")
         os.utime("office", ns=(THEN, THEN))
         give(self.came, "came")
@@ -139,7 +144,8 @@ class Coming:
         if found.has_placed("office.new"):
             return DONE, self.came
         if "flock" in found.before and found.looks("office") == self.looks:
-            # What comes after the last look and heeds no drafts isn't seen.
+            # A program that ignores drafts may store a text after the last look. The command
+            # doesn't notice that text.
             return self.alone
         return DEVICE, self.came
 
@@ -155,13 +161,13 @@ class Coming:
     "take into a large state": (state_of_many("09"), "take office revised", state_of_many("10")),
 })
 def test_a_text_that_comes_is_seen_until_the_last_look(meeting, before, words, came, way):
-    """The last look is after the draft is locked."""
+    """The last look comes after the draft is locked."""
     coming = Coming(meeting, before, words, came)
     found = at_each_call(lambda number: coming.at(meeting, number, way))
     assert {True, False} == set(found)
 
 
-# A STATE that is no longer where it was, between the first look at it and the last.
+# STATE goes away, or becomes something else, between the first look at it and the last.
 
 NAMES = Names(STATE_OF_ONE, STATE_OF_REVISED)
 
@@ -188,13 +194,13 @@ def test_take_into_a_state_that_is_read_and(meeting, name, line):
     losing(meeting, f"take {name} revised").at_each(name, line, f"open {name}")
 
 
-# Writes a state to a pipe, as soon as somebody reads it.
+# Writes a state to a pipe when something opens the pipe for reading.
 GIVES = "timeout 5 sh -c 'cat elsewhere >{}' >/dev/null 2>&1 &"
 
 
 @each("name, line", BECOMES_PIPE)
 def test_take_of_what_a_pipe_gives_into_a_state_that(meeting, name, line):
-    """The pipe comes before STATE is read. It gives a state, and gets nothing."""
+    """STATE becomes a pipe before it is read. The pipe gives a state, and gets nothing."""
     taking = command_of(f"take {name} revised")
     NAMES.make()
     calls = calls_of(meeting, taking)
@@ -206,26 +212,27 @@ def test_take_of_what_a_pipe_gives_into_a_state_that(meeting, name, line):
         assert not os.path.lexists("office.new"), "a draft is left"
 
 
-# The drafts of others. The first look at the draft's name is for what a killed command left there.
+# The drafts of other programs. The first look at the draft's name is for a draft that a killed
+# command left.
 #
-# All cases here were tried with programs that make the calls of `docker` in its order, but leave
-# one out. It was either lock, the last look at STATE, or one of three looks at a locked file. Those
-# three are at the draft's name, at the name of what is left over, and at its mark. The cases were
-# also tried with the last look at STATE before the draft is made, and with the first one after
-# STATE is read. Each time some cases failed.
+# To test these cases, they were run with programs that make the calls of `docker` in the same order
+# but leave one out. It was either lock, the last look at STATE, or one of the three looks at a
+# locked file. Those three are at the draft's name, at the name of the left-over draft, and at its
+# mark. The cases were also run with the last look at STATE before the draft is made, and with the
+# first look after STATE is read. Each time some cases failed.
 
 DRAFT_LOOK = "statx office.new"
 TAKE = command_of("take office revised")
 
 
 def stays(draft):
-    """The draft stands beside STATE, as it was, and so is STATE."""
+    """The draft is still beside STATE, and neither has changed."""
     draft.is_under("office.new")
     assert held("office") == STATE_OF_ONE
 
 
 def left_over():
-    """A draft that a killed command left beside STATE."""
+    """Makes a state, and beside it a draft such as a killed command leaves."""
     give(STATE_OF_ONE, "office")
     give(b"DKS2 left", "office.new")
     os.chmod("office.new", 0o1640)
@@ -240,13 +247,13 @@ def test_a_draft_of_a_command_at_work():
 
 
 def last_of(calls, *wanted):
-    """Where the last of these calls stands."""
+    """The position of the last of these calls."""
     return max(at for at, call in enumerate(calls) if call in wanted)
 
 
 @each("is_locked, mode", DRAFTS)
 def test_what_takes_the_place_of_a_draft_that_is_just_made(meeting, is_locked, mode):
-    """Another command took this draft for a left-over before it was locked, and removed it."""
+    """Before this draft was locked, another command removed it as left over by a killed command."""
     give(STATE_OF_ONE, "office")
     calls = calls_of(meeting, TAKE)
     made = calls.index("create office.new")
@@ -260,7 +267,7 @@ def test_what_takes_the_place_of_a_draft_that_is_just_made(meeting, is_locked, m
 
 
 def calls_with_left_over(meeting):
-    """The calls of a command that finds a left-over, up to the one that removes it."""
+    """The calls of a command that finds a left-over draft, up to the call that removes it."""
     left_over()
     calls = calls_of(meeting, TAKE)
     return calls[:calls.index("unlink office.new") + 1]
@@ -268,7 +275,8 @@ def calls_with_left_over(meeting):
 
 @each("is_locked, mode", DRAFTS)
 def test_what_takes_the_place_of_a_draft_that_is_left_over(meeting, is_locked, mode):
-    """It is removed only if it is left over too, and the command opens it and not the other."""
+    """The file is removed only if it is also a left-over draft, and if the command opened it and
+    not the first draft."""
     calls = calls_with_left_over(meeting)
     opened = calls.index("open office.new")
     for number in range(1, last_of(calls, "flock", DRAFT_LOOK) + 2):
@@ -285,7 +293,7 @@ def test_what_takes_the_place_of_a_draft_that_is_left_over(meeting, is_locked, m
 
 
 def test_a_link_to_a_draft_that_takes_the_place_of_what_is_left_over(meeting):
-    """It stays, and so does that draft."""
+    """The link stays, and so does the draft to which it leads."""
     calls = calls_with_left_over(meeting)
     for number in range(1, last_of(calls, "flock", DRAFT_LOOK) + 2):
         left_over()
@@ -299,7 +307,7 @@ def test_a_link_to_a_draft_that_takes_the_place_of_what_is_left_over(meeting):
 
 
 def test_a_draft_that_is_put_in_place_while_it_is_taken_for_a_left_over(meeting):
-    """The command that made it ends just then. What it stored stays."""
+    """The command that made the draft puts it in place at that moment. What it stored stays."""
     calls = calls_with_left_over(meeting)
     first = calls.index(LOOK)
     for number in range(first + 2, len(calls)):

@@ -12,7 +12,7 @@ from tables import each
 LITTLE = in_memory(65536)
 LENGTH = file_refused("1: Length")
 PLACE = place("TI", "ASHFELD", "PLACE")
-# Lines of the shell that write without end.
+# Shell commands that write without end.
 ZEROS = "exec cat /dev/zero"
 LINES = "exec yes"
 ONE_LINE = "tr '\\0' a </dev/zero"
@@ -26,13 +26,13 @@ MARKED_ONES = "printf DKS2; tr '\\0' '\\377' </dev/zero"
 
 
 def huge(name, text=b""):
-    """A file of 100 GB that begins with a text."""
+    """A file of 100 GB that begins with this text."""
     give(text, name)
     os.truncate(name, 100 * 2**30)
 
 
 def endless(line, *words):
-    """How a command ends in little memory, on a pipe without end."""
+    """How a command ends in little memory if its input is a pipe without end."""
     with subprocess.Popen(["setsid", "sh", "-c", line], stdout=subprocess.PIPE) as source:
         try:
             return docker(*words, before=LITTLE, stdin=source.stdout)
@@ -97,7 +97,7 @@ def test_an_endless_pipe_keeps_the_state(line, words, wanted):
 
 
 def sizes():
-    """4 MiB, and a quarter more each time."""
+    """Sizes in KiB: 4 MiB, and then a quarter more each time."""
     size = 4096
     while size < 262144:
         yield size
@@ -111,8 +111,8 @@ def sizes():
     "check in little memory": ("check large", False),
 })
 def test_until_it_is_enough(large, words, is_changed):
-    """Each time, either the status is 3 and nothing is written, or everything is done. `check` keeps
-    nothing of a file, so it may be done at once."""
+    """With each size, either the status is 3 and nothing is written, or the whole command is done.
+    `check` keeps nothing of a file, so the smallest size may be enough for it."""
     wanted = docker(*words.split()) if not is_changed else DONE
     refused = 0
     for size in sizes():

@@ -1,4 +1,4 @@
-"""The order of the work: all files are opened before one is read, and the state is read first."""
+"""The order of the work: all files are opened before any is read, and the state is read first."""
 import os
 
 from given import STATE_OF_ONE, STATES

@@ -1,4 +1,5 @@
-"""Files and states that are refused, and each cut of a good one. The state stays as it was."""
+"""Files and states that are refused, and good ones that are cut at each byte. STATE stays
+unchanged."""
 from given import BAD_STATES, FAULTS, ONE, STATE_OF_ONE, STATE_OF_REVISED
 from outcomes import file_refused, holds_only, keeps, state_refused
 from programs import docker, give
@@ -14,7 +15,7 @@ def test_take_of(file):
 
 
 def fault_of_cut(size):
-    """The fault of the file of one schedule, if it has only this many bytes."""
+    """The fault of the file of one schedule if it is cut to this many bytes."""
     line, column = divmod(size, 81)
     return {0: f"{line + 1}: NoEnd", 80: f"{line + 2}: NoEnd"}.get(column, f"{line + 1}: Length")
 
@@ -28,7 +29,8 @@ def test_take_of_each_cut_of_a_file():
 
 
 def offset_of_cut(size):
-    """Where the text of the state of one schedule lacks something, if it is cut to this size."""
+    """The offset at which the state of one schedule is too short if it is cut to this many
+    bytes."""
     parts = (0, 4, 6, 14, 33, 41)
     return max(part for part in parts if part <= size)
 

@@ -1,5 +1,5 @@
-"""`new`, `take`, `merge`, `print` and `files`: what a state holds, in whatever order it came to
-know its files."""
+"""`new`, `take`, `merge`, `print` and `files`: what a state holds, in whatever order it learned of
+its files."""
 import itertools
 
 from dockers import LINES
@@ -16,7 +16,7 @@ def test_new():
 
 
 def test_the_text_of_a_state_of_one_schedule():
-    """The texts of states are written here part by part, so their size is looked at."""
+    """These tests write the texts of states part by part, so the size of one is checked here."""
     assert len(STATE_OF_ONE) == 311
 
 
@@ -94,7 +94,7 @@ ORDERS = [" ".join(order) for order in itertools.permutations(("early", "full", 
 
 @each("order", ORDERS)
 def test_take_of(order):
-    """A full extract that comes late, in each order."""
+    """A full extract and two updates, taken in each order."""
     assert takes("office", *order.split()) == STATES["state_of_three"]
     holds_only("office", STATES["state_of_three"])
 
@@ -106,7 +106,8 @@ def test_three_offices_merged():
     stores(STATES["state_of_three"], "merge", "of_full", "of_late_update", state="of_full")
 
 
-# Files of equal stamps: the later end wins, then the greater bytes, and a put wins over a deletion.
+# Files with equal stamps: the later last day wins, then the greater bytes, and a put wins over a
+# deletion.
 EQUAL_STAMPS = {
     "longer, one": ("longer", "0850"),
     "one, longer": ("longer", "0850"),

@@ -1,4 +1,4 @@
-"""The job line, standard input, pipes, names of files, and outputs that fail."""
+"""The job line, standard input, pipes, file names, and outputs that fail."""
 import os
 import subprocess
 
@@ -87,7 +87,7 @@ def test_stores_from_standard_input(before, words, text, wanted):
 
 
 def piped(line, *words, before=()):
-    """Runs a command of docker on what a line of the shell writes into a pipe."""
+    """Runs a command of `docker` whose standard input is a pipe from this line of the shell."""
     with subprocess.Popen(["sh", "-c", line], stdout=subprocess.PIPE) as source:
         try:
             return docker(*words, before=before, stdin=source.stdout)
@@ -129,7 +129,7 @@ def test_a_named_pipe():
 
 @pytest.fixture
 def named_stdin(given):
-    """A file with the name stdin."""
+    """A file named `stdin`."""
     give(FILE, "stdin")
 
 
@@ -190,7 +190,7 @@ def test_without_input(words):
     "nor does files of no file": ("files no_files", DONE),
 })
 def test_full_output(words, wanted):
-    """What writes to standard output fails, and nothing else does."""
+    """Commands that write to standard output fail; other commands don't."""
     assert docker(*words.split(), before=redirected(">/dev/full")) == wanted
 
 
@@ -212,7 +212,7 @@ def test_without_output(words):
     "a reader that went away, under day": "day one ASHFELD 2024-06-10",
 })
 def test_no_reader(words):
-    """The only reader of the pipe is gone before the program starts."""
+    """The only reader of the pipe ends before the program starts."""
     reader, writer = os.pipe()
     os.close(reader)
     try:
@@ -227,8 +227,8 @@ def test_a_full_standard_error():
 
 
 def test_an_output_that_is_taken_in_part():
-    """A file may grow to 1,024 bytes: the first 24 of the docker fit, and the write of the rest
-    fails."""
+    """A file may grow to 1,024 bytes, so only the first 24 bytes of the docker fit. The write of
+    the rest fails."""
     give(bytes(1000), "grown")
     with open("grown", "ab") as output:
         words = ("day", "one", "ASHFELD", "2024-06-10")
@@ -237,11 +237,11 @@ def test_an_output_that_is_taken_in_part():
     assert held("grown") == bytes(1000) + ASHFELD.output[:24]
 
 
-# What the program leaves of standard input.
+# How much of standard input the program leaves.
 
 
 def left_of(source, *words):
-    """How a command ended, and what it left of a file on its standard input."""
+    """Returns how a command ended, and what it left unread of the file on its standard input."""
     with open(source, "rb") as file:
         return docker(*words, stdin=file), file.read()
 

@@ -1,4 +1,4 @@
-"""Words that name no job. Nothing is read or written then."""
+"""Words that name no job. Nothing is read or written for them."""
 from outcomes import USAGE
 from programs import docker
 from tables import each

@@ -1,13 +1,13 @@
-"""What a helper expects, and how its failure is shown."""
+"""Comparisons with expected values, whose failures show both."""
 import os
 import time
 
-# How many seconds anything may take before it counts as a hang.
+# The number of seconds after which anything counts as hanging.
 PATIENCE = 20
 
 
 class Unlike(AssertionError):
-    """Something isn't as it has to be."""
+    """A value or a result isn't the expected one."""
 
 
 def shown(value):
@@ -16,7 +16,7 @@ def shown(value):
 
 
 def same(what, got, wanted):
-    """Fails if two values differ. Texts are shown from where they differ."""
+    """Fails if two values differ. For texts, the message starts where they differ."""
     if got == wanted:
         return
     if isinstance(got, bytes) and isinstance(wanted, bytes):
@@ -32,7 +32,7 @@ def holds(what, is_so):
 
 
 def soon(what, is_so):
-    """Waits until something holds."""
+    """Waits until this holds."""
     last = time.monotonic() + PATIENCE
     while not is_so():
         holds(f"{what}, even after {PATIENCE} seconds", time.monotonic() < last)

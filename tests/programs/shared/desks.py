@@ -1,4 +1,4 @@
-"""What a desk answers, and a desk that is asked line by line."""
+"""The answers of a desk, and a desk that is asked line by line."""
 import os
 import re
 import select
@@ -9,14 +9,14 @@ import checks
 from checks import Unlike, holds, same
 from programs import DAY_LINE, DESK, DEVICE_LINE, DOCKER, MEMORY_LINE, Ended, run
 
-# The lines that docs/FORMATS.md gives.
+# Lines from docs/FORMATS.md.
 USAGE = (
     b"desk: usage: [--write] STATE, and then a line for each request: print TIPLOC DATE"
     b" | permanent TIPLOC DATE | train UID DATE | files | places | known | renew | with --write take FILE"
     b" | merge OTHER | horizon DATE | save\n"
 )
 NOT_SAVED = b"desk: changes not saved\n"
-# The header of an answer, and the most bytes that are read for one.
+# The form of an answer's header, and the most bytes of a header.
 HEADER = re.compile(rb"(0|[1-9][0-9]*) (0|[1-9][0-9]*) (0|[1-9][0-9]*)\n")
 LONGEST_HEADER = 64
 
@@ -43,7 +43,7 @@ def written(answers):
 
 
 def answers_in(output):
-    """The answers that an output consists of."""
+    """The answers in an output."""
     answers = []
     while output:
         header = HEADER.match(output)
@@ -58,13 +58,14 @@ def answers_in(output):
 
 
 def docker(*words):
-    """What a command of `docker` answers: its output or, if it fails, its line."""
+    """The answer that a command of `docker` amounts to: its output, or its fault's line if it
+    fails."""
     ended = run([DOCKER, *words], stdin=subprocess.DEVNULL)
     return Answer(ended.status, ended.errors if ended.status else ended.output)
 
 
 def desk(*words, given=b"", **options):
-    """Runs a desk on all these lines at once."""
+    """Runs a desk with all these lines as its input."""
     return run([DESK, *words], given, **options)
 
 
@@ -92,7 +93,7 @@ class Desk:
             text = text[self.process.stdin.write(text):]
 
     def more(self, limit=65536):
-        """Reads once from standard output. Returns whether anything came."""
+        """Reads once from the desk's standard output. Returns whether any bytes came."""
         ready, _, _ = select.select([self.process.stdout], [], [], checks.PATIENCE)
         holds("no answer", ready)
         piece = os.read(self.process.stdout.fileno(), limit)
@@ -117,7 +118,8 @@ class Desk:
         return self.answer()
 
     def ended(self):
-        """How it ends by itself, and what it wrote that no answer had. Its input stays open."""
+        """How the desk ends by itself, and what it wrote after its last answer. Its input stays
+        open."""
         source, self.process.stdin = self.process.stdin, None
         try:
             output, errors = self.process.communicate(timeout=checks.PATIENCE)
@@ -128,12 +130,12 @@ class Desk:
         return Ended(self.process.returncode, self.held + (output or b""), errors or b"")
 
     def closed(self):
-        """How it ends when its input does."""
+        """How the desk ends when its input is closed."""
         self.process.stdin.close()
         self.process.stdin = None
         return self.ended()
 
 
 def ends_well(asked, status=0, errors=b""):
-    """The input ends, and so does the desk."""
+    """Closes the input, and checks how the desk ends."""
     same("the end", asked.closed(), Ended(status, b"", errors))

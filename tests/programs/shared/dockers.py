@@ -1,5 +1,4 @@
-"""The lines of worked dockers, by their names. They stand once for all tests, in the crate
-`test_records`."""
+"""The lines of worked dockers by name. All tests share one copy, in the crate `test_records`."""
 import re
 
 from programs import ROOT

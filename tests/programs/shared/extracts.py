@@ -1,5 +1,5 @@
-"""The extracts that desks are asked about, and which schedule of a UID runs on a day by an
-independent reading of them.
+"""The extracts about which desks are asked. Also finds, by an independent reading of them, which
+schedule of a UID runs on a day.
 
 It follows docs/FORMATS.md and shares nothing with the program."""
 import datetime
@@ -15,7 +15,7 @@ from records import (
 def trip(
     uid, train, first="240101", last=NO_END, days=ALWAYS, stp="P", hour="09", transaction="N"
 ):
-    """A schedule from Ashfeld by Corham to Brayton."""
+    """A schedule from Ashfeld through Corham to Brayton."""
     return (
         basic(transaction, uid, first, last, days, train, stp)
         + origin("ASHFELD", f"{hour}00", "1", "SL")
@@ -25,7 +25,7 @@ def trip(
 
 
 def night(uid, train, first="240101", last=NO_END):
-    """A schedule that goes past midnight."""
+    """A schedule that runs past midnight."""
     return (
         basic("N", uid, first, last, ALWAYS, train) + origin("CORHAM", "2340", "3")
         + calls("ASHFELD", "0012", "0014") + terminus("BRAYTON", "0100")
@@ -39,7 +39,7 @@ PLACES = (
 )
 
 
-# Files that are good, by their names. No two have the same moment.
+# Good files by name. No two have the same moment.
 GOOD = {
     "early": extract(
         header("240607"),
@@ -88,7 +88,7 @@ GOOD = {
     "my file": extract(header("240617", "DFROC1H"), trip("A00008", "1M08")),
     "my file ": extract(header("240617", "DFROC1I", minute="2200"), trip("A00008", "1M09")),
 }
-# Files that are refused, each with the cause that FORMATS gives.
+# Refused files by name, each with its cause as in docs/FORMATS.md.
 BAD = {
     "short": (extract(header("240610"), "TIASHFELD\n"), "record 2: Length"),
     "cut": (header("240610") + trip("A00001", "1A10"), "record 6: NoEnd"),
@@ -103,7 +103,7 @@ UIDS = [f"A0000{n}" for n in range(1, 10)]
 
 
 def day_of(text):
-    """The day of YYMMDD, or of no end."""
+    """The day of a date YYMMDD, or of 999999."""
     if text == NO_END:
         return datetime.date.max
     year = int(text[0:2])
@@ -111,7 +111,8 @@ def day_of(text):
 
 
 class Put(typing.NamedTuple):
-    """What a file says of a schedule's key, with the file's and the record's place in order."""
+    """What a file does to a schedule's key. Puts are ordered by the file's moment, and then by the
+    number of the record."""
 
     stamp: tuple
     number: int
@@ -125,7 +126,7 @@ def moment_of(lines):
 
 @functools.cache
 def schedules_of(text):
-    """The changes of schedules in a file, each a key and a put. A deletion puts no lines."""
+    """The changes to schedules in a file, each a key and a put. A deletion puts no lines."""
     lines = text.split("\n")[:-1]
     found, number = [], 0
     while number < len(lines):
@@ -141,7 +142,7 @@ def schedules_of(text):
 
 
 def kept_of(files):
-    """The files that count: the latest full extract, if there is one, and what came after it."""
+    """The files that count: the newest full extract, if there is one, and all files after it."""
     split = [text.split("\n") for text in files]
     floor = max((moment_of(lines) for lines in split if lines[0][46] == "F"), default=None)
     return [text for text, lines in zip(files, split) if floor is None or moment_of(lines) >= floor]
@@ -154,7 +155,8 @@ def runs(put, day):
 
 @functools.cache
 def chosen(files, uid, day):
-    """The key and the put of the schedule that is chosen for the UID on the day, or None."""
+    """The key and the put of the schedule that is chosen for the UID on the day; None if there is
+    none."""
     latest = {}
     for text in kept_of(files):
         for key, put in schedules_of(text):
@@ -165,7 +167,8 @@ def chosen(files, uid, day):
 
 
 def train_text(files, uid, date):
-    """What the files say of the UID on the date YYYY-MM-DD, by *The schedule of a UID on a day*."""
+    """The answer to `train` for a UID and a date YYYY-MM-DD, as in *The schedule of a UID on a day*
+    of docs/FORMATS.md."""
     columns, lines = [" "] * 80, []
 
     def put_at(column, text):

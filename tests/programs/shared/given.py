@@ -1,4 +1,4 @@
-"""The files and the texts of states that the commands of `docker` read, by their names."""
+"""The files and the texts of states that the commands of `docker` read, by name."""
 from records import (
     NO_END, association, basic, change, extract, header, intermediate, origin, place,
     record, terminus,
@@ -15,7 +15,7 @@ TRIP = TRAIN + FROM_ASHFELD + TO_BRAYTON
 
 
 def trip(hour, minute="00", first=TRAIN):
-    """The train at another time: half an hour from Ashfeld to Brayton."""
+    """The train at another time. It runs half an hour from Ashfeld to Brayton."""
     end = f"{int(minute) + 30:02}"
     public = f"{hour}{int(minute) + 32:02}"
     return (
@@ -28,7 +28,8 @@ LATER_TRAIN = basic("N", "C10002", "240610", "240614", "1111100", "1A20")
 
 
 def goes_on(category, date, *more):
-    """A train that goes on as another, which runs on the next day by this date indicator."""
+    """A train to Colwell, a train from there after midnight, and their association with this
+    category and this date indicator."""
     return extract(
         HEADER,
         basic("N", "C40001", "240610", "240610", "1000000", "4D40"),
@@ -44,7 +45,7 @@ def goes_on(category, date, *more):
 
 ONE = extract(HEADER, TRIP)
 SHORT = HEADER + f"{'TIASHFELD':79}\n"
-# Files that are accepted.
+# Accepted files.
 GOOD = {
     "one": ONE,
     "returns": ONE.replace("\n", "\r\n"),
@@ -82,7 +83,7 @@ GOOD = {
     # Two hundred places.
     "places": extract(HEADER, *(place("TI", f"T{n}", "PLACE") for n in range(1000, 1200))),
 }
-# Files of which dockers are printed.
+# Files from which dockers are printed.
 PRINTED = {
     "indicators": extract(
         HEADER,
@@ -125,7 +126,7 @@ PRINTED = {
         HEADER, basic("N", "C10001", "240610", NO_END, "1111111", "1A10"), FROM_ASHFELD, TO_BRAYTON
     ),
 }
-# Files that are refused, each with its fault: the record, and the cause.
+# Refused files, each with its fault: the record and the cause.
 BAD = {
     "an empty file": ("empty", "", "1: NoEnd"),
     "a file without a header": ("headless", extract(TRIP), "1: Place"),
@@ -162,7 +163,7 @@ BAD = {
 FAULTS = {name: fault for name, _, fault in BAD.values()}
 FILES = GOOD | PRINTED | {name: text for name, text, _ in BAD.values()}
 
-# The files of which states know.
+# The files that the states know.
 FIRST = File("2024-06-09", "DFROC1A")
 SECOND = File("2024-06-10", "DFROC1B", last="DFROC1A")
 FULL = File("2024-06-07", "DFROC1B", "F", last="DFROC1A")
@@ -201,12 +202,12 @@ STATE_OF_REVISED = STATES["state_of_revised"]
 
 
 def changed(offset, text):
-    """The state of one schedule with this text at an offset."""
+    """The state of one schedule, with this text at this offset."""
     return STATE_OF_ONE[:offset] + text + STATE_OF_ONE[offset + len(text):]
 
 
 ENDLESS = b"\xff" * 8
-# Texts that are no state's, each with the offset and the cause of its fault.
+# Texts that aren't states, each with the offset and the cause of the fault.
 BAD_STATES = {
     "a state and a byte": (STATE_OF_ONE + b"x", 311, "Tail"),
     "the older mark": (changed(0, b"DKS1"), 0, "Mark"),
@@ -237,7 +238,7 @@ REVISED_FILES_LINE = b"2024-06-10 2100 DFROC1B U DFROC1A\n"
 
 
 def many_trips(reference, last, date, uids):
-    """A file of the train, under each of these UIDs."""
+    """A file that puts the train under each of these UIDs."""
     return extract(
         header(date, reference, last=last), *(TRIP.replace("C10001", f"C{uid}") for uid in uids)
     )

@@ -1,5 +1,5 @@
-"""The lists of what is known, by an independent reading of extracts: the timing points with how
-many schedules call at each, and the counts of all that is live.
+"""The answers to `places` and `known`, by an independent reading of extracts. They have the timing
+points with the number of schedules that call at each, and the counts of everything that is live.
 
 It follows docs/FORMATS.md and shares nothing with the program. Files are a tuple of their texts,
 and a horizon is a date."""
@@ -9,12 +9,12 @@ import typing
 
 NO_END = "999999"
 LOCATIONS = ("LO", "LI", "LT")
-# A horizon of the first day is the same as none.
+# A horizon on the first day has no effect.
 FIRST_DAY = datetime.date(1960, 1, 1)
 
 
 class Stamp(typing.NamedTuple):
-    """What orders files: date and time of extract, and current file reference."""
+    """What orders files: the date and time of the extract, and its current file reference."""
 
     day: datetime.date
     minute: str
@@ -22,7 +22,7 @@ class Stamp(typing.NamedTuple):
 
 
 class Put(typing.NamedTuple):
-    """What a file puts at a key. A deletion puts no lines."""
+    """What a file puts under a key. A deletion puts no lines."""
 
     stamp: Stamp
     number: int
@@ -30,7 +30,7 @@ class Put(typing.NamedTuple):
 
 
 def day_of(text):
-    """The day of YYMMDD."""
+    """The day of a date YYMMDD."""
     year = int(text[0:2])
     return datetime.date(year + (1900 if year >= 60 else 2000), int(text[2:4]), int(text[4:6]))
 
@@ -49,7 +49,7 @@ def is_full(lines):
 
 
 def acts_of(line, following):
-    """The keys that a record changes, each with the lines that it puts there."""
+    """The keys that a record changes, each with the lines that the record puts there."""
     match line[:2]:
         case "TI":
             return [(("1", line[2:9]), (line,))]
@@ -70,7 +70,7 @@ def acts_of(line, following):
 
 @functools.cache
 def puts_of(text):
-    """The changes of a file, each a key and a put."""
+    """The changes in a file, each a key and a put."""
     lines = records_of(text)
     stamp, found = stamp_of(lines), []
     for number, line in enumerate(lines, 1):
@@ -83,19 +83,19 @@ def puts_of(text):
 
 
 def newest_full(files):
-    """The stamp of the newest full extract, or None."""
+    """The stamp of the newest full extract; None if there is none."""
     split = [records_of(text) for text in files]
     return max((stamp_of(lines) for lines in split if is_full(lines)), default=None)
 
 
 def end_of(key, lines):
-    """The last day of an association or a schedule, or None if it has no end."""
+    """The last day of an association or a schedule; None if it has no end."""
     field = {"2": lines[0][21:27], "3": lines[0][15:21]}.get(key[0], NO_END)
     return None if field == NO_END else day_of(field)
 
 
 def live_of(files, horizon=FIRST_DAY):
-    """Each live key with its lines, of files under a horizon."""
+    """Each live key with its lines, for these files under a horizon."""
     floor, latest = newest_full(files), {}
     for text in files:
         for key, put in puts_of(text):
@@ -112,7 +112,7 @@ def live_of(files, horizon=FIRST_DAY):
 
 
 def counts_of(live):
-    """For each TIPLOC, how many live schedules have a location record there."""
+    """For each TIPLOC, the number of live schedules that have a location record there."""
     counts = {}
     for key, lines in live.items():
         if key[0] == "3":
@@ -123,7 +123,7 @@ def counts_of(live):
 
 @functools.cache
 def places_text(files, horizon=FIRST_DAY):
-    """What `places` answers about the state of files under a horizon."""
+    """The answer to `places` for these files under a horizon."""
     live = live_of(files, horizon)
     counts = counts_of(live)
     text = ""
@@ -135,7 +135,7 @@ def places_text(files, horizon=FIRST_DAY):
 
 @functools.cache
 def known_text(files, horizon=FIRST_DAY):
-    """What `known` answers about it."""
+    """The answer to `known` for these files under a horizon."""
     live, full = live_of(files, horizon), newest_full(files)
     ends = [end_of(key, lines) for key, lines in live.items() if key[0] == "3"]
     rows = [("HORIZON", "NONE" if horizon == FIRST_DAY else horizon.isoformat())]

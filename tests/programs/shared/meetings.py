@@ -1,6 +1,6 @@
-"""A program that something else meets at one of its calls of the file system (meet.c).
+"""Runs something else just before one of a program's calls of the file system (meet.c).
 
-So what another program may do meanwhile is tried between any two calls, and never by luck."""
+So the work of another program is tried between any two calls, and doesn't depend on luck."""
 import fcntl
 import itertools
 import os
@@ -10,7 +10,8 @@ from programs import Ended, give, held, preloading, run
 
 
 class Met(typing.NamedTuple):
-    """How a program ended, its calls before a meeting and after it, and how what met it ended."""
+    """How a program ended, its calls before and after the meeting, and the status of the line that
+    ran."""
 
     ended: Ended
     before: list
@@ -18,20 +19,20 @@ class Met(typing.NamedTuple):
     status: int
 
     def looks(self, name):
-        """How often a file was looked at before the meeting."""
+        """How often the program looked at a file before the meeting."""
         return self.before.count(f"statx {name}")
 
     def has_placed(self, draft):
-        """Whether a draft was put in its place before the meeting."""
+        """Whether the program had put its draft in place before the meeting."""
         return any(call.startswith(f"rename {draft} ") for call in self.before)
 
 
 def met(library, number, line, command, given=b""):
-    """Runs a program that this line of the shell meets just before its call of this number. Returns
-    None if there are fewer calls."""
+    """Runs a program, and this line of the shell just before its call with this number. Returns
+    None if the program makes fewer calls."""
     settings = {"CALLS": "calls", "MEET_AT": number, "MEET": line}
     ended = run(["timeout", "10", *preloading(library, **settings), *command], given)
-    # The program names some files by their whole paths.
+    # The program names some files by their absolute paths.
     noted = held("calls").decode().replace(f"{os.path.realpath('.')}/", "")
     os.remove("calls")
     calls = [call.strip() for call in noted.splitlines()]
@@ -42,13 +43,13 @@ def met(library, number, line, command, given=b""):
 
 
 def calls_of(library, command, given=b""):
-    """The calls of a program that nothing meets."""
+    """The calls of a program when nothing else runs."""
     return met(library, 1, "true", command, given).after
 
 
 def at_each_call(trial):
-    """Lets a trial happen at the first call, at the second, and so on, until it returns None.
-    Returns what it returned."""
+    """Calls `trial` with 1, 2, 3 and so on, until it returns None. Returns all that it returned
+    before."""
     found = []
     for number in itertools.count(1):
         try:
@@ -60,7 +61,7 @@ def at_each_call(trial):
         found.append(outcome)
 
 
-# How a STATE may come to be no longer where it was: its name, and a line of the shell.
+# Ways in which a STATE goes away or becomes something else: STATE's name, and a line of the shell.
 GOES = {
     "goes away": ("office", "rm office"),
     "becomes a folder": ("office", "rm office && mkdir office"),
@@ -70,7 +71,7 @@ GOES = {
     "is a link that leads elsewhere meanwhile": ("leading", "ln -fns elsewhere leading"),
     "is a link that leads nowhere meanwhile": ("leading", "ln -fns nowhere leading"),
 }
-# How it may come to be a pipe.
+# Ways in which a STATE becomes a pipe.
 BECOMES_PIPE = {
     "becomes a pipe": ("office", "mv -f pipe office"),
     "becomes a link to a pipe": ("office", "ln -fs pipe office"),
@@ -81,7 +82,7 @@ BECOMES_PIPE = {
 
 class Names(typing.NamedTuple):
     """The texts of the state `office`, to which the link `leading` leads, and of the state
-    `elsewhere`. There is also a pipe."""
+    `elsewhere`. A pipe is there too."""
 
     office: bytes
     elsewhere: bytes
@@ -98,26 +99,27 @@ class Names(typing.NamedTuple):
         os.mkfifo("pipe")
 
     def left_by(self, line):
-        """What is there after a line of the shell, if no program writes anything."""
+        """The content of the folder after this line of the shell, if no program writes anything."""
         self.make()
         assert os.system(line) == 0
         return all_that_is_there()
 
 
 def what_is(name):
-    """Where a link leads, the text of a file, or the mode of anything else."""
+    """The target of a link, the text of a file, or the mode of anything else."""
     if os.path.islink(name):
         return os.readlink(name)
     return held(name) if os.path.isfile(name) else os.stat(name).st_mode
 
 
 def all_that_is_there():
-    """What is in the folder, by its names."""
+    """The content of the folder, by name."""
     return {name: what_is(name) for name in os.listdir()}
 
 
 class Losing(typing.NamedTuple):
-    """A program that is to end so if its STATE is no longer where it was, and writes nothing."""
+    """A program whose STATE goes away or becomes something else. It has to end with `wanted`, and
+    to write nothing."""
 
     library: str
     names: Names
@@ -126,7 +128,7 @@ class Losing(typing.NamedTuple):
     wanted: Ended
 
     def numbers(self, name, first):
-        """Its calls from the one after this first one up to its last look at STATE."""
+        """The numbers of its calls, from the one after `first` up to its last look at STATE."""
         self.names.make()
         calls = calls_of(self.library, self.command, self.given)
         placed = next(at for at, call in enumerate(calls) if call.startswith("rename "))
@@ -134,8 +136,8 @@ class Losing(typing.NamedTuple):
         return range(calls.index(first) + 2, last + 2)
 
     def at(self, number, line):
-        """STATE goes at this call. A pipe that is there gets no byte: its ends are held here, so
-        that nothing waits."""
+        """STATE goes at this call. If a pipe is there, it may get no byte. The test holds both ends
+        of the pipe, so that no program waits for it."""
         wanted = self.names.left_by(line)
         self.names.make()
         pipe = os.open("pipe", os.O_RDWR | os.O_NONBLOCK)
@@ -158,7 +160,7 @@ class Losing(typing.NamedTuple):
 
 
 def is_empty(pipe):
-    """Whether a pipe that doesn't wait has nothing to be read."""
+    """Whether a non-blocking pipe has no bytes to read."""
     try:
         os.read(pipe, 1)
     except BlockingIOError:
@@ -166,8 +168,8 @@ def is_empty(pipe):
     return False
 
 
-# Files that may have the name of a draft: whether a command at work has locked them, and their
-# modes. A draft has a mark until it is in its place.
+# Files that may have the name of a draft: whether a running command has locked the file, and its
+# mode. A draft has a mark until it is in place.
 DRAFTS = {
     "a draft of a command at work": (True, 0o1640),
     "a draft that is left over": (False, 0o1640),
@@ -176,7 +178,7 @@ DRAFTS = {
 
 
 class Draft:
-    """The file `draft`, which is to have the name of a draft."""
+    """The file `draft`, which will get the name of a draft."""
 
     TEXT = b"DKS2 a draft"
 
@@ -195,7 +197,7 @@ class Draft:
         os.close(self.file)
 
     def is_under(self, name):
-        """It has this name, and is as it was."""
+        """Checks that the file has this name and is unchanged."""
         now = os.lstat(name)
         assert (now.st_ino, now.st_mode) == (self.seen.st_ino, self.seen.st_mode)
         assert held(name) == self.TEXT

@@ -1,19 +1,19 @@
-"""An extract of middling size: 150 trains between twelve timing points, many past midnight. Some
-have an overlay that calls elsewhere, a cancellation, or an association with a train that may run
-or not. An update takes some away and changes others."""
+"""An extract of medium size: 150 trains between twelve timing points, many of them past midnight.
+Some have an overlay that calls elsewhere, a cancellation, or an association with a train that may
+or may not run. An update deletes some of these and changes others."""
 from records import basic, extract, header, place, record
 
 PLACES = (
     "ASHFELD", "BRAYTON", "COLWELL", "DUNMERE", "ELM", "FARLEY", "GORSTON", "HEXLEY", "IPSDEN",
     "JESMOND", "KELLING", "LISTON",
 )
-# How many places further each leg of a train leads, by its number.
+# How many places each leg of a train leads further along. The train's number selects one.
 STEPS = (1, 5, 7, 11)
 TRAINS = range(1, 151)
 
 
 class Numbers:
-    """Numbers that seem random and are the same each time."""
+    """Pseudo-random numbers, the same each time."""
 
     def __init__(self, seed):
         self.seed = seed % 134456
@@ -48,7 +48,7 @@ def platform(numbers):
 
 
 def journey(train, first, version):
-    """The locations of a train from a leg on, at times that depend on its version."""
+    """The locations of a train from leg `first` on. The times depend on the version."""
     numbers = Numbers(train * 977 + version * 31337)
     numbers.minute = numbers.below(1440)
     texts = [record(f"LO{place_of(train, first):7} {numbers.clock():5}    {platform(numbers):3}")]
@@ -80,8 +80,8 @@ def deletion(train, first, stp):
 
 
 def association(transaction, train):
-    """An association of a train with another one, maybe with none that runs, at a place where one
-    of the two begins or ends."""
+    """An association of a train with another train, which may not run, at a place where one of them
+    begins or ends."""
     other = (train * 29 + 5) % 150 + 1
     at = place_of(train, 0 if train % 2 else legs(train))
     if train % 3 == 0:
@@ -127,7 +127,7 @@ def cancellation(train):
 
 
 def units():
-    """The records of the extract, without its header."""
+    """The units of the extract, without its header."""
     parts = [places(), *(association("N", train) for train in TRAINS[::2])]
     for train in TRAINS:
         parts += [permanent(train), overlay(train), cancellation(train)]
@@ -140,18 +140,18 @@ def before():
 
 
 def in_reverse():
-    """The extract with its units in reverse."""
+    """The extract with its units in reverse order."""
     return extract(header("240607", "DFROC1B", "F", last="DFROC1A"), *reversed(units()))
 
 
 def ended_early(transaction, train):
-    """A permanent schedule that ends before the days that are asked about, and isn't near one."""
+    """A permanent schedule that ends before the days of the dockers, and not on a day near them."""
     return schedule(transaction, train, ("240601", "240603"), "1111111", "P", version=3)
 
 
 def first_change(train):
-    """The first of two changes of a permanent schedule: it ends early, runs otherwise, is deleted,
-    or stands as in the extract."""
+    """The first of two changes to a permanent schedule: it ends early, runs in another way, is
+    deleted, or is as in the extract."""
     return (
         ended_early("N", train), permanent_again(train, "N"), deletion(train, "240601", "P"),
         permanent(train),
@@ -159,7 +159,7 @@ def first_change(train):
 
 
 def second_change(train):
-    """The second of the two. Each pair of changes is made of some train."""
+    """The second of these two changes. Each pair of changes occurs for some train."""
     return (
         permanent(train), deletion(train, "240601", "P"), ended_early("R", train),
         permanent_again(train, "R"),
@@ -167,7 +167,7 @@ def second_change(train):
 
 
 def other_overlay(train):
-    """The overlay with other days, on some of which it runs beside the permanent schedule."""
+    """The overlay on other days. On some of them it runs instead of the permanent schedule."""
     if train % 3:
         return ""
     return schedule("N", train, ("240610", "240613"), "0011000", "O", 0, 4)
@@ -178,7 +178,8 @@ def overlay_again(train):
 
 
 def changed_twice(apart):
-    """An extract that changes each key twice: at once, or once more after all others."""
+    """An extract that changes each key twice: the second change follows at once, or after all first
+    changes if `apart`."""
     old = [place("TI", code, "OLD NAME") for code in PLACES[::2]]
     new = [
         place("TA", code, f"{code} JUNCTION") if code < "H" else place("TD", code)
@@ -195,7 +196,7 @@ def changed_twice(apart):
 
 
 def update():
-    """The update of it."""
+    """The update to the extract."""
     parts = [association("D", train) for train in TRAINS[::2] if train % 5 == 0]
     for train in TRAINS:
         if is_new(train):
@@ -208,7 +209,7 @@ def update():
 
 
 def after():
-    """An extract of what both leave."""
+    """A full extract of what the extract and its update leave."""
     parts = [places(), *(association("N", train) for train in TRAINS[::2] if train % 5)]
     for train in TRAINS:
         if is_new(train):

@@ -1,4 +1,4 @@
-"""What a desk has to answer, by the commands of `docker` on state files."""
+"""The answers that a desk has to give, worked out by commands of `docker` on state files."""
 import datetime
 import functools
 import pathlib
@@ -10,18 +10,18 @@ from desks import DAY_REFUSED, DEVICE, DONE, NOT_SAVED, NOTHING, Answer, docker
 from programs import give
 from records import extract, header
 
-# The states beside the good files: the files that each knows, and its horizon.
+# The given states: the files that each knows, and its horizon.
 STATES = {
     "monday.state": (("monday", "night"), ""),
     "second.state": (("second",), "2024-06-03"),
     "empty.state": ((), ""),
     "all.state": (tuple(extracts.GOOD), ""),
 }
-# The requests of a desk that may write.
+# The requests that only a desk that may write allows.
 WRITING = ("take", "merge", "horizon", "save")
-# A line for each of them.
+# A line for each of these requests.
 WRITING_LINES = ("take monday", "merge monday.state", "horizon 2024-06-12", "save")
-# The folder of the files and states that are given, and one for states that commands change.
+# The folder of the given files and states, and the folder of the states that commands change.
 GIVEN = pathlib.Path("/nonexistent")
 CHANGED = pathlib.Path("/nonexistent")
 
@@ -31,7 +31,8 @@ def given(name):
 
 
 def ran(text, command, *words):
-    """What a command of `docker` answers for a state of this text, and the state's text then."""
+    """Runs a command of `docker` on a state of this text. Returns its answer, and the state's text
+    after it."""
     state = CHANGED / "held"
     state.write_bytes(text)
     answer = docker(command, str(state), *words)
@@ -40,13 +41,13 @@ def ran(text, command, *words):
 
 @functools.cache
 def by_docker(text, command, *words):
-    """What `ran` returns. The words name files that stay as they are."""
+    """The same as `ran`. The words name files that no command changes."""
     return ran(text, command, *words)
 
 
 @functools.cache
 def joined(text, other):
-    """The same for a merge with a state of another text."""
+    """Merges a state of another text, and returns what `ran` returns."""
     path = CHANGED / "other"
     path.write_bytes(other)
     return ran(text, "merge", str(path))
@@ -61,7 +62,7 @@ def empty():
 
 @functools.cache
 def state_of(*names, horizon=""):
-    """The text of the state of these good files, under a horizon."""
+    """The text of the state that knows these good files, under a horizon."""
     text = empty()
     commands = [("take", given(name)) for name in names]
     for words in commands + ([("horizon", horizon)] if horizon else []):
@@ -71,7 +72,7 @@ def state_of(*names, horizon=""):
 
 
 def bad_states():
-    """Texts that are no state's."""
+    """Texts that aren't states."""
     good = state_of("full")
     return {
         "an extract": extracts.GOOD["full"].encode(),
@@ -92,7 +93,7 @@ BAD_STATES = (
 
 
 def give_large(count):
-    """Makes a file of this many schedules, and a STATE that knows it."""
+    """Makes a file with this number of schedules, and a STATE that knows it."""
     trips = "".join(extracts.trip(f"L{n:05}", "1L00") for n in range(count))
     text = extract(header("240612"), trips)
     pathlib.Path("large").write_text(text, encoding="ascii")
@@ -101,20 +102,20 @@ def give_large(count):
 
 
 class Mirror:
-    """A desk's memory and its STATE, as commands on state files have them.
+    """What a desk keeps in memory, and its STATE, both worked out by commands on state files.
 
-    The STATE that it is started on is of these good files, under this horizon."""
+    The desk starts on a STATE that knows these good files, under this horizon."""
 
     def __init__(self, *names, horizon="", may_write=True):
         self.text = self.stored = state_of(*names, horizon=horizon)
         self.known = self.stored_known = set(names), horizon
         self.may_write, self.is_seen, self.is_unsaved = may_write, True, False
-        # What STATE held, and what was known by it, from the first on.
+        # The texts that STATE has held, from the first on, and what was known in each.
         self.past = [(self.stored, self.stored_known)]
 
     def answer(self, verb, *words):
-        """Does a request, and returns its answer. A line that asks for nothing has the verb
-        `nothing`."""
+        """Does a request, and returns its answer. The verb `nothing` stands for a line that isn't a
+        request."""
         if verb == "nothing" or (verb in WRITING and not self.may_write):
             return NOTHING
         match verb:
@@ -179,17 +180,17 @@ class Mirror:
         self.is_seen = False
 
     def put_back(self, number):
-        """Another program puts a text back that STATE held."""
+        """Another program puts back a text that STATE held before."""
         self.stored, self.stored_known = self.past[number]
         self.is_seen = False
 
     def end(self):
-        """The status at the end of input, and what standard error gets."""
+        """The status at the end of the input, and the text on standard error."""
         return (1, NOT_SAVED) if self.is_unsaved else (0, b"")
 
 
 def learned(verb, word):
-    """The files and the horizon that are known by a change that was done."""
+    """The files and the horizon that became known by a change that was done."""
     match verb:
         case "take":
             return [word], ""

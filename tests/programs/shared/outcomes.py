@@ -1,4 +1,4 @@
-"""How a command of `docker` may end, and what it prints."""
+"""The ways in which a command of `docker` may end, and what it prints."""
 import os
 
 from programs import DAY_LINE, DEVICE_LINE, MEMORY_LINE, Ended, docker, held
@@ -20,7 +20,7 @@ def done(output):
 
 
 def file_refused(fault):
-    """The end of a command that refuses a file: RECORD: CAUSE."""
+    """The end of a command that refuses a file with this fault, written RECORD: CAUSE."""
     return Ended(1, b"", f"docker: file refused: record {fault}\n".encode())
 
 
@@ -33,7 +33,7 @@ def accepted(records, changes):
 
 
 def docker_text(place, date, *lines, name=""):
-    """A printed docker. Each line has 56 characters and a line feed."""
+    """The text of a docker. Each line has 56 characters and a line feed."""
     texts = [f"DOCKER {place:7} {date} {name:26}", *lines, "END"]
     return "".join(f"{text:56}\n" for text in texts).encode()
 
@@ -43,34 +43,35 @@ def prints(place, date, *lines, name=""):
 
 
 def holds_only(name, text):
-    """A file has this text, and no draft stands beside it."""
-    # Pytest would print a comparison of both texts. For states of a megabyte that takes minutes.
+    """Checks that a file has this text, and that no draft is beside it."""
+    # If a comparison failed, pytest would show both texts, which takes minutes for states of a
+    # megabyte.
     is_held = held(name) == text
     assert is_held, f"{name} has another text"
     assert not os.path.lexists(f"{name}.new"), "a draft is left"
 
 
 def stores(wanted, *words, state="office", **options):
-    """The command writes to no stream, and leaves this text as the state."""
+    """Checks that the command writes to no stream, and leaves this text as the state."""
     assert docker(*words, **options) == DONE
     holds_only(state, wanted)
 
 
 def keeps(outcome, *words, state="office", **options):
-    """The command ends so, and leaves the state as it was."""
+    """Checks that the command ends in this way, and leaves the state unchanged."""
     before = held(state)
     assert docker(*words, **options) == outcome
     holds_only(state, before)
 
 
 def takes_more(state, *files):
-    """Takes these files into a state, one by one. Returns its text."""
+    """Takes these files into a state, one after another. Returns its text."""
     for file in files:
         assert docker("take", state, file) == DONE
     return held(state)
 
 
 def takes(state, *files):
-    """Makes a state, and takes these files."""
+    """Makes a new state, and takes these files into it. Returns its text."""
     assert docker("new", state) == DONE
     return takes_more(state, *files)

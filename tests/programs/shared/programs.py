@@ -1,4 +1,4 @@
-"""The two programs, and how they are run: in what room, on what streams, and over which device."""
+"""Runs the two programs: with limits, on given streams, and with a preloaded library."""
 import os
 import pathlib
 import subprocess
@@ -11,7 +11,7 @@ ROOT = pathlib.Path(__file__).resolve().parents[3]
 DOCKER = os.environ.get("DOCKER") or str(ROOT / "crates/docker/out/docker")
 DESK = os.environ.get("DESK") or str(ROOT / "crates/desk/out/desk")
 
-# The lines that docs/FORMATS.md gives.
+# Lines from docs/FORMATS.md.
 DEVICE_LINE = b"docker: device failed\n"
 MEMORY_LINE = b"docker: want of memory\n"
 DAY_LINE = b"docker: day refused: before horizon plus three days\n"
@@ -26,7 +26,7 @@ class Ended(typing.NamedTuple):
 
 
 def run(command, given=b"", **options):
-    """Runs a program to its end, on this standard input unless the options have another."""
+    """Runs a program to its end. `given` is its standard input, unless the options have another."""
     source = {} if "stdin" in options else {"input": given}
     sinks = {"stdout": subprocess.PIPE, "stderr": subprocess.PIPE} | source | options
     try:
@@ -37,12 +37,12 @@ def run(command, given=b"", **options):
 
 
 def docker(*words, before=(), **options):
-    """Runs a command of `docker`, on an empty input unless the options have another. What stands
-    before it sets its room."""
+    """Runs a command of `docker`. Its input is empty, unless the options have another. The words in
+    `before` come first, and limit the program or preload a library."""
     return run([*before, DOCKER, *words], **options)
 
 
-# What stands before a program, and runs it in a smaller room.
+# The words that run a program with less memory.
 
 
 def in_memory(kilobytes):
@@ -50,49 +50,51 @@ def in_memory(kilobytes):
 
 
 def on_disk(kilobytes):
-    """A file may grow to this size. A write beyond it fails."""
+    """The words that let a file grow only to this size. A write beyond it fails."""
     return ("env", "--ignore-signal=XFSZ", "prlimit", f"--fsize={kilobytes * 1024}")
 
 
 def ended_on_disk(kilobytes):
-    """A file may grow to this size. A write beyond it ends the program."""
+    """The words that let a file grow only to this size. A write beyond it kills the program."""
     limits = ("prlimit", f"--fsize={kilobytes * 1024}", "--core=0")
     return ("env", "--default-signal=XFSZ", *limits)
 
 
 def redirected(text):
-    """The program with these redirections of the shell, such as `<&-`."""
+    """The words that run the program with these redirections of the shell, such as `<&-`."""
     return ("sh", "-c", f'exec "$@" {text}', "sh")
 
 
 def preloading(library, **settings):
-    """The program with a library under it, which gets these settings."""
+    """The words that run the program with this library and these settings for it."""
     words = [f"{name}={value}" for name, value in settings.items()]
     return ("env", f"LD_PRELOAD={library}", *words)
 
 
 def as_nobody():
-    """The program as a user that may not write anywhere, if this one may."""
+    """The words that run the program as a user that may not write anywhere, if this user may do
+    so."""
     if os.getuid():
         return ()
     return ("setpriv", "--reuid=65534", "--regid=65534", "--clear-groups")
 
 
 def build_library(source, target):
-    """Builds what is preloaded under a program, from a source in tests/."""
+    """Builds a library that is preloaded, from a source in tests/."""
     flags = ["-shared", "-fPIC", "-O2", "-o", str(target), str(ROOT / "tests" / source), "-ldl"]
     subprocess.run(["cc", *flags], check=True)
     return str(target)
 
 
 def names_in(kind, path):
-    """The names that a program imports, or a library has."""
+    """The names that a program imports, or that a library defines."""
     listed = subprocess.run(["nm", "-D", f"--{kind}-only", path], check=True, capture_output=True)
     return {line.split()[-1].split("@")[0] for line in listed.stdout.decode().splitlines()}
 
 
 def untried(program, library):
-    """The calls that a program imports and that the device neither wraps nor lists."""
+    """The calls that a program imports, and that the library neither wraps nor lists as left
+    out."""
     lines = (ROOT / "tests/device/untried").read_text(encoding="ascii").splitlines()
     known = {line.split()[0] for line in lines if not line.startswith("#")}
     return sorted(names_in("undefined", program) - names_in("defined", library) - known)
@@ -102,7 +104,7 @@ def untried(program, library):
 
 
 def give(text, name="STATE"):
-    """Makes a file of this text."""
+    """Makes a file with this text."""
     pathlib.Path(name).write_bytes(text)
     return text
 

@@ -1,9 +1,9 @@
-"""Builders of records, as docs/FORMATS.md has them: each has 80 characters and a line feed.
-Dates are YYMMDD and times HHMM, with an H for half a minute."""
+"""Makes records as in docs/FORMATS.md: each has 80 characters and a line feed. Dates are YYMMDD;
+times are HHMM, with an H for half a minute."""
 
 
 def record(text, last=""):
-    """A record of this text, with this character in its last column."""
+    """A record with this text, and with this character in its last column."""
     line = f"{text:79}{last}" if last else text
     assert len(line) <= 80, line
     return f"{line:80}\n"
@@ -19,13 +19,13 @@ def basic(transaction, uid, first, last="", days="", train="", stp="P"):
 
 
 def origin(place, at, platform="", track="", public=None):
-    """Where a train begins. Its public time is the working one, unless another is given."""
+    """A train's origin. Its public time is its working time, unless another is given."""
     public = at[:4] if public is None else public
     return record(f"LO{place:7} {at:5}{public:4}{platform:3}{track:3}")
 
 
 def intermediate(place, arrives="", departs="", passes="", public=("", ""), tracks=(), suffix=""):
-    """Where a train calls or passes, with its public times, and its platform, line and path."""
+    """An intermediate location with its public times, and its platform, line and path."""
     platform, line, path = (*tracks, "", "", "")[:3]
     times = f"{arrives:5}{departs:5}{passes:5}{public[0]:4}{public[1]:4}"
     return record(f"LI{place:7}{suffix:1}{times}{platform:3}{line:3}{path:3}")
@@ -40,13 +40,13 @@ def calls(place, arrives, departs):
 
 
 def terminus(place, at, platform="", path="", public=None):
-    """Where a train ends. Its public time is the working one, unless another is given."""
+    """A train's terminus. Its public time is its working time, unless another is given."""
     public = at[:4] if public is None else public
     return record(f"LT{place:7} {at:5}{public:4}{platform:3}{path:3}")
 
 
 def change(place, train):
-    """A change en route: the train has another identity from here on."""
+    """A change en route: from here on the train has another identity."""
     return record(f"CR{place:7} OO{train:4}")
 
 
@@ -58,7 +58,7 @@ def place(identity, code, description="", new=""):
 def association(
     base, other, first, last, at, category="NP", date="S", suffix="", days="1111111"
 ):
-    """An association of two trains, with its date indicator, and the suffix of the base's call."""
+    """An association of two trains, with its date indicator and the base train's suffix."""
     return record(f"AAN{base}{other}{first}{last}{days}{category:2}{date}{at:7}{suffix:1} TP", "P")
 
 
@@ -68,5 +68,5 @@ NO_END = "999999"
 
 
 def extract(*parts):
-    """The text of a file of these records."""
+    """The text of a file with these records."""
     return "".join(parts) + TRAILER

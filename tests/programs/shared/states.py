@@ -1,11 +1,11 @@
-"""The text of a state, written part by part as docs/FORMATS.md has it. It shares nothing with the
+"""Makes the text of a state part by part, as in docs/FORMATS.md. It shares nothing with the
 program."""
 import datetime
 
 FIRST_DAY = datetime.date(1960, 1, 1)
-# What the text begins with, and the text of the older format.
+# The mark of a state's text, and the mark of the older format.
 MARK, OLD_MARK = b"DKS2", b"DKS1"
-# What stands for the body of an entry that was deleted, and of one that lapsed.
+# The op of a deleted entry and the op of a lapsed one. Neither has a body.
 DELETED, LAPSED = b"\0", b"\2"
 
 
@@ -14,24 +14,24 @@ def number(value, size):
 
 
 def day(date):
-    """The number of a day, YYYY-MM-DD."""
+    """The day number of a date YYYY-MM-DD, in two bytes."""
     return number((datetime.date.fromisoformat(date) - FIRST_DAY).days, 2)
 
 
 def minute(time):
-    """The number of a minute, HHMM."""
+    """The number of a minute of the day HHMM, in two bytes."""
     return number(int(time[:2]) * 60 + int(time[2:]), 2)
 
 
 class File:
-    """A file of which a state knows: its moment, and what its header says besides."""
+    """A file that a state knows: its moment, and the rest of its header."""
 
     def __init__(self, date, reference, indicator="U", last="DFROC1Z"):
         self.moment = day(date) + minute("2100") + reference.encode()
         self.item = self.moment + indicator.encode() + last.encode()
 
     def put(self, key, body, record=2):
-        """An entry by this file: its key, the number of its record, and its body."""
+        """An entry that this file made: its key, the number of its record, and its body."""
         return key + self.moment + number(record, 4) + body
 
 
@@ -56,17 +56,17 @@ def description(place):
 
 
 def state(files=(), entries=(), horizon=None, mark=MARK):
-    """The text of a state of these files and entries, in this order."""
+    """The text of a state with these files and entries, in this order."""
     text = mark + (day(horizon) if horizon else number(0, 2))
     text += number(len(files), 8) + b"".join(file.item for file in files)
     return text + number(len(entries), 8) + b"".join(entries)
 
 
 def under(horizon, text):
-    """The text of a state, with another horizon."""
+    """The text of a state, changed to another horizon."""
     return text[:4] + day(horizon) + text[6:]
 
 
 def older(text):
-    """The text of a state in the older format, which has no horizon."""
+    """The text of a state, changed to the older format, which has no horizon."""
     return OLD_MARK + text[6:]

@@ -1,13 +1,13 @@
-"""How cases stand in tables, and which of them run one after another."""
+"""Makes cases from tables, and says which cases may not run at once."""
 import pytest
 
 
 def each(names, table):
-    """Makes a case of each row of a table, by its name there. A row has a value for each of these
-    names. A table may also be a list of texts, each of which names itself."""
+    """Makes a case from each row of a table, under the row's name. A row has a value for each of
+    these names. If the table is a list of texts, each text is its own name."""
     rows = table.values() if isinstance(table, dict) else table
     return pytest.mark.parametrize(names, list(rows), ids=[str(name) for name in table])
 
 
-# Cases that use signals, locks, clocks or mounts. One process runs them all.
+# Marks cases that use signals, locks, clocks or mounts. One process runs all of them.
 alone = pytest.mark.xdist_group("alone")

@@ -5,7 +5,7 @@ use Rattle.docker_cmd.specs.Grammar.{words_shape}
 use Rattle.docker_cmd.specs.Tasks.{ids_of, name_of}
 use Rattle.docker_cmd.proofs.grammar.command_of.Given as goal
 
--- the subcommand has the ids before this one
+-- the subcommand has the arguments of the ids before this one
 abbrev pub invariant-loop-id : goal.invariant-loop-id
 invariant-loop-id l = record {
   shape : app_of l.command ≡ record { top = words_shape (name_of l.fn.subcommand) (map (λ id. id.now) (take l.id-index l.id-items)); subs = [] };
