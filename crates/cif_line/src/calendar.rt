@@ -1,5 +1,6 @@
 //! The calendar of the years 1960 to 2059, by tables of the months. A day is judged and numbered
-//! without a branch. A year has two digits: 60 to 99 are 1960 to 1999, and 0 to 59 are 2000 to 2059.
+//! without a branch. Years have two digits: 60 to 99 are 1960 to 1999, and 0 to 59 are 2000 to
+//! 2059.
 ghost use Rattle.std.specs.Prelude.{◌≡◌, ◌<◌, ◌≤◌, ◌+◌, true, pos};
 ghost use Rattle.jiff.specs.Words.{is_leap_year};
 ghost use Rattle.docker_model.specs.records.Date.{is_calendar_day, day_number, last_day, full_year};

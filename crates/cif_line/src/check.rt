@@ -1,4 +1,5 @@
-//! Tests of the checked fields, except of dates, days and times, and the fault that names the leftmost bad field.
+//! Tests of the checked fields, except of dates, days run and times. The fault that names the
+//! leftmost bad field.
 ghost use Rattle.std.specs.Prelude.{◌≡◌};
 ghost use Rattle.docker_model.specs.records.Clock.{is_blank};
 ghost use Rattle.docker_model.specs.records.Field.{is_tiploc, is_new_tiploc, is_update_indicator, is_transaction, is_stp_indicator};
