@@ -25,7 +25,7 @@ location_meant location = record {
   departure = location.departure.now;
 }
 
--- the columns that a docker prints of a record of this kind
+-- what a docker prints from a record of this kind
 abbrev pub location_by_kind : Option Kind → List ℕ → Shown
 location_by_kind kind line = record {
   platform = platform_by_kind kind line;
@@ -35,7 +35,7 @@ location_by_kind kind line = record {
   departure = public_by_kind kind departure line;
 }
 
--- the public time for an occasion. It is spaces unless the occasion is an arrival or a departure
+-- the public time for an occasion. Spaces unless the occasion is an arrival or a departure
 abbrev pub public_at : Occasion → Shown → List ℕ
 public_at arrival shown = shown.arrival
 public_at departure shown = shown.departure

@@ -18,8 +18,9 @@ use crate::visit::Visit;
 use cif_line::{Day, Memory, Tiploc};
 use train_choice::{Occurrence, ScheduleView, ends_of, passes_midnight};
 
-/// Adds the docker lines of a schedule for a visit, if its train runs by it on the start day. `row`
-/// is the index of the schedule's row. Returns `Memory` if there is no room for them.
+/// Adds the docker lines of a schedule for a visit, if a train runs by the schedule on the start
+/// day. `row` is the index of the schedule's row. Returns `Memory` if there is no room for the
+/// lines.
 pub(crate) fn add_schedule<'a>(
     lines: &mut Vec<DockerLine<'a>>,
     visit: &mut Visit<'a>,
@@ -52,9 +53,9 @@ pub(crate) fn runs_recently(train: &ScheduleView<'_>, day: Day) -> bool
     train.recent_runs(day).is_some()
 }
 
-/// Whether the train of a schedule may be at a place on a day after an earlier start day. It may if
-/// the schedule runs on one of the two days before, and passes midnight before or at its last event
-/// at the place.
+/// Whether the train of a schedule may be at a place on a day after an earlier start day: the
+/// schedule runs on one of the two days before, and passes midnight before or at its last event at
+/// the place.
 pub(crate) fn is_under_way(train: &ScheduleView<'_>, place: &Tiploc, day: Day) -> bool
     ensures { result ≡ is_under_way place.now train.now.lines day }
 {

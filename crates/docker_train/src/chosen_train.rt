@@ -32,7 +32,7 @@ impl<'a> Model for ChosenTrain<'a> {
 }
 
 impl<'a> ChosenTrain<'a> {
-    /// The UID and the day, with what was found for them.
+    /// The UID and the day, with the schedule found for them.
     pub(crate) fn of(uid: Uid, day: Day, found: Option<Stamped<'a>>) -> ChosenTrain<'a>
         ensures { result ≡ record { uid = uid; day = day; found = found.entry } }
     {

@@ -48,7 +48,7 @@ impl<'a> Stamped<'a> {
     }
 
     /// The stamp of the change that put the schedule: the date, time and reference of its extract,
-    /// and the number of its record there.
+    /// and the number of its record in the extract.
     pub(crate) fn stamp(&self) -> &'a Stamp
         ensures stamp { stamp_meant result.now ≡ self.now.stamp }
         ensures minute { result.now.file.minute < 1440 }
