@@ -79,9 +79,9 @@ lines_there place day start key detail (event ∷ events) =
 abbrev pub runs_recently : List (List ℕ) → ℕ → Bool
 runs_recently lines day = runs_back lines day 0 || runs_back lines day 1 || runs_back lines day 2
 
--- whether the schedule's train may be at the place on the day after an earlier start day: the
--- schedule runs on one of the two days before, and passes midnight before or at its last event at
--- the place
+-- whether the schedule's train may be at the place on the day after an earlier start day. It may if
+-- the schedule runs on one of the two days before, and passes midnight before or at its last event
+-- at the place
 abbrev pub is_under_way : List ℕ → List (List ℕ) → ℕ → Bool
 is_under_way place lines day = (runs_back lines day 1 || runs_back lines day 2) && some_late (occurrences_to place lines)
 

@@ -34,9 +34,9 @@ pub fn known_files_fix_dockers()
         → IsDockerText (live_table two) place day other → text ≡ other }
 {}
 
-/// If no two files that an office knows have the same moment, the files have a plain table: the
-/// newest full extract, with each later update applied in the order of their moments. Each docker
-/// that the office prints is the docker of this table.
+/// If no two files that an office knows have the same moment, the files have a plain table. The
+/// plain table is the newest full extract, with each later update applied in the order of their
+/// moments. Each docker that the office prints is the docker of this table.
 pub fn dockers_are_of_the_plain_table()
     ensures { (known : Known) (state : State) → EndsWith known state
         → HaveDistinctMoments known.files

@@ -1,4 +1,4 @@
--- The concatenation of the lines of all entries of a state is the list of its timing points.
+-- The lines of all entries in a state, concatenated, are the list of its timing points.
 use Rattle.std.proofs.Common.{◌≡◌, List, ℕ, [], ◌∷◌, ◌++◌, map, refl, ap, sym, ◌∙◌}
 use Rattle.std.specs.Prelude.{Option}
 use Rattle.std.specs.List.{flat_map}

@@ -109,9 +109,9 @@ impl<'a> ScheduleView<'a> {
         recent_runs_of(self.first(), self.key.runs_from, day)
     }
 
-    /// Whether the schedule may run on a day or on one of the two days before: it has begun by the
-    /// day, and its days run include at least one of the three weekdays. The call reads only the
-    /// key and three flags, so it costs less than `recent_runs`.
+    /// Whether the schedule may run on a day or on one of the two days before. It may if it has
+    /// begun by the day, and its days run include at least one of the three weekdays. The call
+    /// reads only the key and three flags, so it costs less than `recent_runs`.
     pub fn may_run_recently(&self, day: Day) -> bool
         ensures { result ≡ may_run_recently self.now.key self.now.lines day }
     {
