@@ -134,7 +134,7 @@ module _ (live : Table) (rows : List Row) (are : AreRowsOf live rows) (place : L
   abbrev lines_back : RowView → ℕ → List DockerLine
   lines_back view back = row_back (train_in rows) (link_in rows) place day view back
 
-  -- if a schedule doesn't run on a day, it has no docker lines for the start day that is this day
+  -- if a schedule doesn't run on a day, it has no docker lines with this day as the start day
   idle_back : (train : choices.Train) (back : ℕ) → IsLiveTrain live train → runs_back train.lines day back ≡ false
       → lines_back (Train train) back ≡ []
   idle_back train back is_live idle = by (nat_le back day) refl

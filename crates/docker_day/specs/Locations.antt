@@ -1,4 +1,4 @@
--- The columns of a location record that a docker prints.
+-- What a docker prints from a location record.
 use Rattle.std.specs.Prelude.{ℕ, List, Option}
 use Rattle.docker_model.specs.records.Record.{Kind}
 use Rattle.docker_model.specs.file.Journey.{Occasion, arrival, pass, joining, dividing, next_working, departure}
@@ -6,8 +6,8 @@ use Rattle.docker_model.specs.docker.DockerLine.{platform_by_kind, track_by_kind
 use Rattle.docker_model.specs.records.PrintedTime.{spaces}
 use Rattle.docker_day.specs.declared.location.Location.{Location}
 
--- the columns that a docker prints: platform, line, path, and the public times of arrival and
--- departure
+-- what a docker prints from a location record: platform, line, path, and the public times of
+-- arrival and departure
 pub record Shown : Type 0 where
   pub platform : List ℕ
   pub track : List ℕ
@@ -15,7 +15,7 @@ pub record Shown : Type 0 where
   pub arrival : List ℕ
   pub departure : List ℕ
 
--- the printed columns as the code has them, converted to the definitions' type
+-- the printed columns of the code, converted to the definitions' type
 abbrev pub location_meant : Location → Shown
 location_meant location = record {
   platform = location.platform.now;

@@ -8,8 +8,8 @@ ghost use Rattle.docker_day.specs.Locations.{location_meant, location_by_kind, p
 use cif_line::{Kind, Line, kind};
 use train_choice::Occasion;
 
-/// The columns of a location record that a docker prints. They are spaces if that kind of record
-/// doesn't have them.
+/// What a docker prints from a location record. A field is spaces if the record's kind doesn't have
+/// this field.
 #[derive(Clone, Copy, Debug)]
 pub(crate) struct Location<'a> {
     /// The platform.

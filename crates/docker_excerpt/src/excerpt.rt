@@ -68,9 +68,8 @@ impl Excerpt {
         }
     }
 
-    /// The excerpt for a place and a day, made from the changes of a file that were kept for them.
-    /// The value of the excerpt has the state of the whole file. If memory runs out, the kept
-    /// changes are dropped.
+    /// The excerpt for a place and a day, made from the kept changes of a file. The value of the
+    /// excerpt has the state of the whole file. If memory runs out, the kept changes are dropped.
     pub fn of_file(
         alloc: Global,
         place: Tiploc,

@@ -30,7 +30,7 @@ impl Model for KeptLedger {
 }
 
 impl KeptLedger {
-    /// The ledger of a state with this horizon, if it has one.
+    /// The ledger of a state, with the state's horizon if it has one.
     pub(crate) fn of(ledger: Ledger, horizon: Option<Day>) -> KeptLedger
         requires { IsValid (under (horizon_meant horizon) ledger) }
         ensures { result ≡ under (horizon_meant horizon) ledger }

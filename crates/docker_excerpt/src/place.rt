@@ -1,5 +1,5 @@
-//! An excerpt whose type names its place and its day. A reader gives it a state's parts, as it
-//! gives them to any `Keeper`.
+//! An excerpt whose type names its place and its day. A reader passes a state's parts to it, as to
+//! any `Keeper`.
 ghost use Rattle.std.specs.Prelude.{◌≡◌, []};
 
 use crate::excerpt::Excerpt;

@@ -1,4 +1,4 @@
-//! A schedule with its stamp, which says which extract it came from.
+//! A schedule with its stamp. The stamp identifies the extract that the schedule came from.
 ghost use Rattle.std.specs.Prelude.{◌≡◌, ◌<◌};
 ghost use Rattle.docker_join.specs.Meaning.{stamp_meant};
 

@@ -115,7 +115,8 @@ live_calling live place rows are = live_rows live rows (calling_each live place 
 pub good_calling : (live : Table) (place : List ℕ) (rows : List Row) → HasGoodBodies live → AreCalling live place rows → AreGoodRows rows
 good_calling live place rows good are = good_rows live rows good (calling_each live place rows are)
 
--- updating the best schedule with a schedule's row is the same as updating it with the schedule
+-- updating the best schedule with the row of a schedule is the same as updating it with this
+-- schedule
 pub next_is_one : (uid : List ℕ) (day : ℕ) (found : Option Train) (key : Key) (body : Body) (train : Train) → schedule_of key body ≡ Some train
     → with_one_more (on (λ (t : Train). t.key) schedule_choice_cmp) (is_running uid day) found train ≡ next_chosen uid day found key body
 next_is_one uid day found (schedule_key key) (schedule_body lines) train is =
@@ -129,7 +130,7 @@ next_is_one uid day found (schedule_key key) (association_body line) train is = 
 next_is_one uid day found (tiploc_key code) body train is = absurd (no_train train is)
 next_is_one uid day found (association_key key) body train is = absurd (no_train train is)
 
--- updating the best association with an association's row is the same as updating it with the
+-- updating the best association with the row of an association is the same as updating it with this
 -- association
 pub next_link_is_one : (group : Group) (day : ℕ) (found : Option Link) (key : Key) (body : Body) (link : Link) → association_of key body ≡ Some link
     → with_one_more (on (λ (l : Link). l.key) association_choice_cmp) (is_linked group day) found link ≡ next_link group day found key body
