@@ -218,7 +218,7 @@ impl<K: Keeper> StateReading<K> {
         self.judge(part.as_slice())
     }
 
-    /// Keeps bytes of a part that is still incomplete after them.
+    /// Keeps the next bytes of a part that is still incomplete afterwards.
     fn keep(&mut self, more: &[u8]) -> Result<(), StateFault>
         requires reading { IsReading self.old }
         requires short { length self.old.partial.items + length more.now

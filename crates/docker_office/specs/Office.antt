@@ -45,7 +45,7 @@ pub record KnowsFileToo (limit : ℕ) (left : Option (List ℕ)) (files : List (
   pub is_text : IsFileText limit text file
   pub summary : IsSummary (file ∷ files) horizon new
 
--- says that the source's contract says which bytes it holds, and that they are the text of this
+-- says that contracts know which bytes the source holds, and that these bytes are the text of this
 -- state, in this format and within the limit
 pub record HoldsState (format : Format) (limit : ℕ) (left : Option (List ℕ)) (sent : State) : Type 0 where
   pub text : List ℕ

@@ -14,8 +14,8 @@ use Rattle.docker_office.specs.declared.fault.OfficeFault.TheVariants.{File, Sta
 
 -- ---- a state
 
--- the fault of reading a state that an office's fault was converted from. `None` if the office's
--- fault wasn't converted from such a fault
+-- the fault of reading a state from which an office's fault was converted. `None` if the office's
+-- fault has another origin
 abbrev pub why_unread : OfficeFault → Option ReadFault
 why_unread (State fault) = Some (states.State fault)
 why_unread Source = Some states.Source
@@ -31,9 +31,9 @@ EndsReadingState left failures format limit IsMade source source_now result =
 
 -- ---- a file
 
--- says what the result of taking a file means. After a value, `IsMade` holds for the value, and the
--- source was read to its end. A fault is the file's fault, or it means that memory ran out or that
--- the source failed
+-- says what the result of taking a file means. If the result is a value, `IsMade` holds for the
+-- value, and the source was read to its end. If the result is a fault, it is the file's fault, or
+-- memory ran out, or the source failed
 abbrev pub IsTakingOutcome : {A : Type 0} → ℕ → (A → Type 0) → BytesLeft → BytesLeft → Result A OfficeFault → Type 0
 IsTakingOutcome limit IsMade left left_now (Ok made) = IsMade made × IsEnd left_now
 IsTakingOutcome limit IsMade left left_now (Err (File fault)) = RefusesText limit left fault

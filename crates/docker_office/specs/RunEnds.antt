@@ -53,7 +53,7 @@ HasSummary offices events exchange office = IsStateOf (known_at_end offices even
 abbrev pub TellsSummary : ℕ → List RunEvent → Exchange → ℕ → Type 0
 TellsSummary offices events exchange message = IsMessageOf dks_2 (sent_with offices events exchange message) (message_text exchange.messages message)
 
--- says that at the end of some run an office knows `known` and has this state
+-- says that an office of some run knows `known` and has the state `state` at the end of the run
 pub record EndsWith (known : Known) (state : State) : Type 0 where
   pub offices : ℕ
   pub events : List RunEvent

@@ -47,7 +47,7 @@ const NINTH: Known = Known {
 };
 
 impl Known {
-    /// The files that either of the two knows.
+    /// The union of the files that the two know.
     fn with(self, other: Known) -> Known {
         Known {
             fifth: self.fifth | other.fifth,
@@ -131,7 +131,7 @@ pub(crate) const STEPS: [Step; 18] = [
 /// The reply to an event for which memory runs out.
 const OUT_OF_MEMORY: Reply = Reply::Refused(RunFault::Office(OfficeFault::Memory));
 
-/// What each office and each message knows after some of the events.
+/// What each office and each message knows after a prefix of the events.
 #[derive(Drop)]
 pub(crate) struct Book {
     /// What each office knows.
