@@ -10,8 +10,8 @@ use Rattle.state_text.specs.FaultMeaning.{cause_meant}
 use Rattle.docker_bytes.specs.StateReading.{IsMadeOf, IsWhole, IsOpen, IsWanting}
 use Rattle.docker_bytes.specs.ParserRead.{ParserState, HasRead}
 
--- says that a source held this text. True of every text if the source's contract doesn't say which
--- bytes it holds
+-- says that a source held this text. True of every text if contracts don't know which bytes the
+-- source holds
 abbrev pub Held : Option (List ℕ) → List ℕ → Type 0
 Held None text = ⊤
 Held (Some left) text = left ≡ text

@@ -147,7 +147,7 @@ knows_file_too limit left old new files horizon takes is = record {
       (join_is_summary (takes.file ∷ []) files 0 horizon takes.own old new takes.of_file is (join_commutes old takes.own new takes.joined));
 }
 
--- if a source's contract says which bytes it holds, only one state can be read from the source
+-- if contracts know which bytes a source holds, only one state can be read from the source
 pub one_read : (format : Format) (limit : ℕ) (left : Option (List ℕ)) (read sent : State) → ReadsState format limit left read
     → HoldsState format limit left sent → read ≡ sent
 one_read format limit left read sent reads holds =
@@ -164,25 +164,25 @@ joins_summaries limit left old new joins files others g h sent of_files of_other
 
 -- ---- excerpts
 
--- the place of an excerpt that was read is the place that was given
+-- an excerpt that was read has the place that was given
 pub place_read : (place : List ℕ) (day limit : ℕ) (left : Option (List ℕ)) (excerpt : Excerpt)
     → ReadsMade (IsExcerptAt place day) dks_2 limit left excerpt → excerpt.place ≡ place
 place_read place day limit left excerpt reads = ap (λ (it : Excerpt). it.place) reads.of.made_of
 
--- the day of an excerpt that was read is the day that was given
+-- an excerpt that was read has the day that was given
 pub day_read : (place : List ℕ) (day limit : ℕ) (left : Option (List ℕ)) (excerpt : Excerpt)
     → ReadsMade (IsExcerptAt place day) dks_2 limit left excerpt → excerpt.day ≡ day
 day_read place day limit left excerpt reads = ap (λ (it : Excerpt). it.day) reads.of.made_of
 
--- the state of an excerpt that was read is the state whose text the source held
+-- the value of an excerpt that was read has the state whose text the source held
 pub state_read : (place : List ℕ) (day limit : ℕ) (left : Option (List ℕ)) (excerpt : Excerpt)
     → ReadsMade (IsExcerptAt place day) dks_2 limit left excerpt → ReadsState dks_2 limit left excerpt.state
 state_read place day limit left excerpt reads =
     subst (ReadsState dks_2 limit left) (sym (ap (λ (it : Excerpt). it.state) reads.of.made_of))
     (record { text = reads.text; held = reads.held; is = reads.of.is })
 
--- if the source's contract says which bytes it holds, the state of an excerpt that was read is the
--- state with this text
+-- if contracts know which bytes the source holds, the value of an excerpt that was read has the
+-- state whose text these bytes are
 pub one_excerpt : (place : List ℕ) (day limit : ℕ) (left : Option (List ℕ)) (excerpt : Excerpt)
     → ReadsMade (IsExcerptAt place day) dks_2 limit left excerpt → (sent : State) → HoldsState dks_2 limit left sent → excerpt.state ≡ sent
 one_excerpt place day limit left excerpt reads sent holds =
