@@ -38,7 +38,7 @@ no_parts (in_entry count state (before_body key stamp)) is = cc
 no_parts (in_entry count state (before_line key stamp n lines)) is = cc
 no_parts (at_end state) is = refl
 
--- ---- within an item, the complete items stay the same
+-- ---- a part within an item leaves the complete items unchanged
 
 begins : (format : Format) (before after : Before) → begins_item after ≡ true → begins_item after ≡ false
     → items_before format after ≡ items_before format before
