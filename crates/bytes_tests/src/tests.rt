@@ -28,7 +28,7 @@ mod parts;
 mod pieces;
 mod received;
 
-/// The text of these pieces, one after the other.
+/// The concatenation of these pieces.
 fn joined_text(rt: &impl Abort, alloc: Global, pieces: &[&[u8]]) -> Vec<u8> {
     text(alloc, pieces, b"").expect(rt, "room")
 }
@@ -66,7 +66,7 @@ fn read(rt: &impl Abort, alloc: Global, text: &[u8], step: usize, limit: u64) ->
     read_state(alloc, &mut source, limit).expect(rt, "a state")
 }
 
-/// Reads the ledger of a text, `step` bytes at a time, and returns how many files it has.
+/// Reads the ledger of a text, `step` bytes at a time, and returns the number of its files.
 fn files_in(rt: &impl Abort, alloc: Global, text: &[u8], step: usize, limit: u64) -> usize
     requires { 0 < step }
 {
@@ -85,8 +85,8 @@ fn known_state(rt: &impl Abort, alloc: Global) -> State {
     state(rt, alloc, &[HD, BS, LO, LT, ZZ])
 }
 
-/// Asserts that the text of a state has `len` bytes, and that reading it gives the same state
-/// again.
+/// Asserts that the text of a state has `len` bytes, and that reading the text returns an equal
+/// state.
 fn goes_round(rt: &impl Abort, alloc: Global, state: &State, len: usize, step: usize)
     requires { 0 < step }
 {
@@ -153,7 +153,7 @@ fn at(at: u64, cause: StateCause) -> StateFault {
 }
 
 /// The fault that a parser returns when it is fed a piece, which begins at this offset. If bytes of
-/// the piece follow the state, that is a fault too.
+/// the piece follow the state, the function returns the fault `Tail`.
 fn fault_in(parser: &mut StateParser, piece: &[u8], begins: u64) -> Option<StateFault> {
     match parser.feed(piece) {
         Ok((used, _)) if used < piece.len() => {
@@ -165,8 +165,8 @@ fn fault_in(parser: &mut StateParser, piece: &[u8], begins: u64) -> Option<State
     }
 }
 
-/// The fault of a text that a parser is fed `step` bytes at a time. If bytes follow the state, that
-/// is a fault too.
+/// The fault of a text that a parser is fed `step` bytes at a time. If bytes follow the state, the
+/// function returns the fault `Tail`.
 fn fault_fed(alloc: Global, text: &[u8], limit: u64, step: usize) -> Option<StateFault>
     requires { 0 < step }
 {
@@ -193,7 +193,7 @@ fn day(rt: &impl Abort) -> Day {
 }
 
 /// Asserts that a text has this fault under this limit, both when it is read and when a parser is
-/// fed it, `step` bytes at a time.
+/// fed the text, `step` bytes at a time.
 fn refused_by(
     rt: &impl Abort,
     alloc: Global,
@@ -216,7 +216,7 @@ fn refused_by(
     same(rt, read, Some(ReadFault::State(fault)));
 }
 
-/// Asserts that each way of reading finds this fault in a text of these pieces under this limit.
+/// Asserts that every reader finds this fault in a text of these pieces under this limit.
 fn refused(rt: &impl Abort, alloc: Global, pieces: &[&[u8]], limit: u64, fault: StateFault) {
     let text = joined_text(rt, alloc, pieces);
     refused_by(rt, alloc, text.as_slice(), limit, fault, 1);
@@ -226,8 +226,8 @@ fn refused(rt: &impl Abort, alloc: Global, pieces: &[&[u8]], limit: u64, fault: 
 /// The pieces of a text that is refused, and the offset and cause of its fault.
 type Row = (&'static [&'static [u8]], u64, StateCause);
 
-/// The offsets at which the items of the text of a schedule's state begin, where the fault of a cut
-/// text is.
+/// The offsets at which the items of the text of a schedule's state begin. If the text is cut, its
+/// fault is at one of these offsets.
 const BEGINNINGS: [u64; 6] = [0, 4, 6, 14, 33, 41];
 
 /// The greatest of these offsets that isn't above `len`. The offsets ascend from 0.
@@ -360,15 +360,15 @@ fn a_fault_is_reported_again(rt: HostRuntime) {
     same(&rt, parser.finish().err(), Some(fault));
 }
 
-/// Asserts that a parser's fault is out of memory, at the ledger item or at the entry, and that it
-/// returns the same fault again.
+/// Asserts that a parser's fault is out of memory, at the ledger item or at the entry, and that the
+/// parser returns the same fault again.
 fn runs_out_of_memory(rt: &impl Abort, parser: &mut StateParser, known: &[u8], fault: StateFault) {
     same(rt, fault.cause, StateCause::Memory);
     same(rt, fault.at == 14 || fault.at == 41, true);
     same(rt, parser.feed(known), Err(fault));
 }
 
-/// Asserts that a parser that is fed a text takes it, or runs out of memory.
+/// Asserts that a parser that is fed a text takes the text, or runs out of memory.
 fn fed_or_out_of_memory(rt: &impl Abort, alloc: Global, known: &[u8]) {
     let mut parser = StateParser::new(alloc, 1000);
     match parser.feed(known) {

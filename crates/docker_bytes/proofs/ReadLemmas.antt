@@ -1,4 +1,4 @@
--- Reading a source: the parser was fed exactly what the source held.
+-- Reading a source: the bytes that the parser was fed are exactly the bytes that the source held.
 use Rattle.std.proofs.Common.{◌≡◌, ◌≢◌, ℕ, ◌<◌, List, [], ◌∷◌, ◌++◌, length, take, drop, refl, ap, sym, ◌∙◌, subst, inl, inr, ◌⊎◌, arith, append_assoc, append-nil, length-drop, Some, None, Err, Result}
 use Rattle.std.specs.Prelude.{Option, Ok, IfErr, IsOk, OnOk, ◌^◌}
 use Rattle.std.proofs.lemmas.List.{take-append-drop}
@@ -54,8 +54,8 @@ memory_or_not cause.Long = inr (λ same. cc)
 memory_or_not cause.Memory = inl refl
 memory_or_not cause.Horizon = inr (λ same. cc)
 
--- if the read fault is a fault of the text, it is the one that the parser found, and its cause
--- isn't out of memory
+-- if the read fault is a fault of the text, it equals the parser's fault, and its cause isn't out
+-- of memory
 not_memory : {A : Type 0} (found told : StateFault) (result : ReadFault) → (found.cause ≡ cause.Memory → result ≡ fault.Memory)
     → (found.cause ≢ cause.Memory → result ≡ fault.State found)
     → ◌≡◌ {A = Result A ReadFault} (Err result) (Err (fault.State told)) → (found ≡ told) × (found.cause ≢ cause.Memory)
@@ -83,7 +83,7 @@ told_at_end format limit text at c other = by (cause_meant c) refl
     by None is told = other (none_is_memory c is)
     by (Some k) is short = inr (inr (inl short))
 
--- a fault of the text that is returned for a piece is the fault of each text that begins with the
+-- if a fault of the text is returned for a piece, it is the fault of each text that begins with the
 -- bytes up to the piece's end
 pub told_as_state : {A : Type 0} (format : Format) (limit : ℕ) (text piece rest : List ℕ) (found told : StateFault) (result : ReadFault)
     → IsFaultReported format limit text piece found → (found.cause ≡ cause.Memory → result ≡ fault.Memory)
@@ -93,8 +93,8 @@ told_as_state format limit text piece rest found told result so_far memory state
     let same = not_memory found told result memory state is in
     subst (IsFaultOf format limit ((text ++ piece) ++ rest)) same.0 (told_so_far format limit text piece rest found.at found.cause same.1 so_far)
 
--- a fault found at the end of a text is returned as a fault of the text, or as out of memory after
--- a complete text
+-- a fault of the parser at the end of a text is returned as a fault of the text, or as out of
+-- memory after a complete text
 pub ended_for : {A : Type 0} (format : Format) (limit : ℕ) (text : List ℕ) (IsMade : A → Type 0) (found : StateFault) (result : ReadFault)
     → IsUnended format limit text found → (found.cause ≡ cause.Memory → result ≡ fault.Memory)
     → (found.cause ≢ cause.Memory → result ≡ fault.State found)
@@ -153,7 +153,7 @@ tail_of format limit text piece rest used found below whole at is =
       end_at = at ∙ ap length whole.1.is;
     }
 
--- if a byte of a piece wasn't used, it follows the state, and the text has the fault for that
+-- if a byte of a piece wasn't used, the byte follows the state, and the fault of the text is `Tail`
 pub tail_told : (format : Format) (limit : ℕ) (text piece rest : List ℕ) (used : ℕ) (step : Step) (found : StateFault) → used < length piece
     → IsStep format limit text piece (used, step)
     → found.at ≡ length (text ++ take used piece) → found.cause ≡ cause.Tail → IsFaultOf format limit ((text ++ piece) ++ rest) found
@@ -162,11 +162,11 @@ tail_told format limit text piece rest used More found below more at is = absurd
 
 -- ---- pieces
 
--- the format and the limit that a parser was made for
+-- the format and the limit with which a parser was made
 abbrev pub terms_of : {K : Type 0} → ParserState K → StateTerms
 terms_of parser = record { format = format_of parser.reading; limit = parser.reading.limit }
 
--- a parser that has read nothing has read the empty text
+-- a parser before its first piece has read the empty text
 pub at_start : {K : Type 0} (parser : ParserState K) → IsUnread parser → parser.reading.limit < 2 ^ 64 → TakesState parser (terms_of parser) []
 at_start parser unread small = record { read = unread; small = small }
 
@@ -201,19 +201,21 @@ held_all (Some told) (Some rest) text lost end =
     let same : told ≡ text ++ rest = cc in
     same ∙ ap (λ r. text ++ r) end ∙ append-nil text
 
--- a parser that was fed up to the source's end has read all that the source held
+-- a parser that was fed up to the source's end has read all bytes that the source held
 pub reads_all : {K : Type 0} (terms : StateTerms) (count : ℕ) (initial now : Option (List ℕ)) (parser : ParserState K)
     → HasFed TakesState count terms [] initial now parser → IsEnd now → ReadsAll terms.format terms.limit initial parser
 reads_all terms count initial now parser at end =
     record { text = at.bytes; held = held_all initial now at.bytes at.lost end; read = at.taken.read }
 
--- a text that a parser has read was read in the parser's own format, under its own limit
+-- if a parser has read a text, the format and the limit of this reading are the parser's format and
+-- limit
 pub unread : {K : Type 0} (parser : ParserState K) (format : Format) (limit : ℕ) (text : List ℕ) → HasRead parser format limit text
     → HasRead parser (format_of parser.reading) parser.reading.limit text
 unread parser format limit text has =
     record { no_fault = has.no_fault; sound = has.sound; format_is = refl; limit_is = refl; text_is = has.text_is }
 
--- what holds for the parser's own format and limit holds for those that it was made for
+-- a statement about the parser's format and limit also holds for the format and the limit with
+-- which the parser was made
 pub as_asked : {K : Type 0} (parser : ParserState K) (format : Format) (limit : ℕ) (text : List ℕ) (P : Format → ℕ → Type 0) → HasRead parser format limit text
     → P (format_of parser.reading) parser.reading.limit → P format limit
 as_asked parser format limit text P has told = subst (λ n. P format n) has.limit_is (subst (λ f. P f parser.reading.limit) has.format_is told)
@@ -234,7 +236,8 @@ refused_within terms initial next parser found has = by initial next has.more.lo
     by (Some left) None lost = cc
     by (Some left) (Some rest) lost = record { text = text ++ rest; held = cc; is = of rest }
 
--- the source was read at most one piece past what the parser took, which is a text without a fault
+-- the bytes read from the source are the text that the parser took, which has no fault, followed by
+-- at most one piece
 pub loses_few : {K : Type 0} (terms : StateTerms) (initial next : Option (List ℕ)) → LosesOnePieceMore (TakesState {K = K}) 65536 terms [] initial next
     → ReadsOnePieceMore terms.format 65536 terms.limit initial next
 loses_few terms initial next more = record {
@@ -245,7 +248,8 @@ loses_few terms initial next more = record {
   sound = sound_text more.taker terms.format terms.limit more.bytes more.taken.read;
 }
 
--- if a parser refuses a piece because memory ran out, it ran out for a part that ends in the piece
+-- if a parser refuses a piece because memory ran out, memory ran out for a part that ends in the
+-- piece
 wants_part : {K : Type 0} (terms : StateTerms) (initial next : Option (List ℕ)) (parser : ParserState K)
     → HasRefused TakesState RefusesPart 65536 terms [] initial next parser fault.Memory → WantsSoFar terms.format 65536 terms.limit initial next
 wants_part terms initial next parser has =
@@ -255,7 +259,7 @@ wants_part terms initial next parser has =
 
 -- ---- how reading ends
 
--- nothing was read from a source that is unchanged
+-- if a source is unchanged, nothing was read from it
 pub nothing_lost : (initial next : Option (List ℕ)) → next ≡ initial → Reads initial [] next
 nothing_lost initial next same = subst (Reads initial []) (sym same) (at initial)
   where
@@ -263,7 +267,7 @@ nothing_lost initial next same = subst (Reads initial []) (sym same) (at initial
     at None = refl
     at (Some left) = refl
 
--- if the parser refuses a piece, reading ends there, with that fault
+-- if the parser refuses a piece, reading ends with the fault of this piece
 pub refused_ends : {K : Type 0} (terms : StateTerms) (initial next : Option (List ℕ)) (parser : ParserState K) (told : ReadFault) (failed failed_now : ℕ)
     → ReadsOnePieceMore terms.format 65536 terms.limit initial next → failed_now ≡ failed
     → HasRefused TakesState RefusesPart 65536 terms [] initial next parser told
@@ -275,7 +279,8 @@ refused_ends terms initial next parser (fault.State found) failed failed_now few
 refused_ends terms initial next parser fault.Memory failed failed_now few same has =
     record { few = few; outcome = wants_part terms initial next parser has; failures = same }
 
--- a reason to stop before the end of the text is also a reason to stop at any point of it
+-- `WantsMemory` includes the end of the text, so a reason to stop under `WantsSoFar` is also a reason
+-- to stop under `WantsMemory`
 pub ends_early : (format : Format) (limit : ℕ) (initial next : Option (List ℕ)) (told : ReadFault) (failed failed_now : ℕ)
     → StopsReading format limit initial next (IsWhyUnread WantsSoFar format limit initial next (Some told)) (CountsWhy (Some told) failed failed_now)
     → StopsReading format limit initial next (IsWhyUnread WantsMemory format limit initial next (Some told)) (CountsWhy (Some told) failed failed_now)
@@ -288,7 +293,8 @@ ends_early format limit initial next fault.Memory failed failed_now ends =
     wants_more (inl nothing) = inl nothing
     wants_more (inr part) = inr (inl part)
 
--- if all bytes of a source were read, reading ends with the result that the parser returns for them
+-- if all bytes of a source were read, reading ends with the result that the parser returns for
+-- these bytes
 pub ends_whole : {K A : Type 0} (format : Format) (limit : ℕ) (initial next : Option (List ℕ)) (parser : ParserState K) (failed failed_now : ℕ)
     (IsMade : List ℕ → A → Type 0) (IsRead : A → Type 0) (result : Result A ReadFault)
     → StopsReading format limit initial next (ReadsAll format limit initial parser) (failed_now ≡ failed)
@@ -311,7 +317,7 @@ ends_whole {A = A} format limit initial next parser failed failed_now IsMade IsR
     by (Err fault.Memory) is =
         record { few = read.few; outcome = inr (inr (is.0, record { text = all.text; held = all.held; is = is.1 })); failures = read.failures }
 
--- if reading ends with a value for which `IsMade` holds, and `IsRead` follows from `IsMade`, it
+-- if `IsMade` implies `IsRead`, and reading ends with a value for which `IsMade` holds, then it
 -- ends with a value for which `IsRead` holds
 pub ends_with : {S A E : Type 0} (wants : Wanting) (why : E → Option ReadFault) (left : S → Option (List ℕ)) (failures : S → ℕ) (format : Format) (limit : ℕ)
     (IsMade IsRead : A → Type 0) (source source_now : S) (result : Result A E) → ((made : A) → IsMade made → IsRead made)
@@ -321,18 +327,18 @@ ends_with wants why left failures format limit IsMade IsRead source source_now (
     record { few = ends.few; outcome = of made ends.outcome; failures = ends.failures }
 ends_with wants why left failures format limit IsMade IsRead source source_now (Err fault) of ends = ends
 
--- if a keeper makes the state itself, the value made is the state with the text that was read
+-- if a keeper makes the state itself, the value it makes is the state with the text that was read
 pub made_itself : (format : Format) (limit : ℕ) (text : List ℕ) (made : State) → IsMadeOf (λ made state. made ≡ state) format limit text made
     → IsStateText format limit text made
 made_itself format limit text made of = subst (IsStateText format limit text) (sym of.made_of) of.is
 
--- if a keeper makes the state itself, the value made is the state whose text the source held
+-- if a keeper makes the state itself, the value it makes is the state whose text the source held
 pub read_itself : (format : Format) (limit : ℕ) (initial : Option (List ℕ)) (made : State) → ReadsMade (λ made state. made ≡ state) format limit initial made
     → ReadsState format limit initial made
 read_itself format limit initial made read =
     record { text = read.text; held = read.held; is = made_itself format limit read.text made read.of }
 
--- the join with the state of a text that the source held is the join with the source's state
+-- if a source held a text, the join with the state of this text is the join with the source's state
 pub joined : (format : Format) (limit : ℕ) (initial : Option (List ℕ)) (text : List ℕ) (own after : State) → Held initial text
     → JoinsText format limit text own after → JoinsState format limit initial own after
 joined format limit initial text own after held joins =

@@ -19,11 +19,11 @@ use Rattle.state_text.specs.FaultMeaning.{IsBadHere}
 use Rattle.state_text.specs.Stage.{begins_item, LeadsTo}
 use Rattle.docker_bytes.specs.StateReading.{format_of, before_of, text_of, IsReading, ReadsOn, IsCauseSoFar, IsOpen}
 
--- the bytes of a piece that come before its rest
+-- the bytes of a piece before its rest
 abbrev pub before_rest : List ℕ → List ℕ → List ℕ
 before_rest piece rest = take (length piece - length rest) piece
 
--- if the next part is the first of an item, no part of that item was read yet
+-- if the next part is the first part of an item, no part of this item has been read
 pub no_parts : (before : Before) → begins_item before ≡ true → parts_before before ≡ []
 no_parts before_mark is = refl
 no_parts before_horizon is = refl
@@ -38,7 +38,7 @@ no_parts (in_entry count state (before_body key stamp)) is = cc
 no_parts (in_entry count state (before_line key stamp n lines)) is = cc
 no_parts (at_end state) is = refl
 
--- ---- within an item, the complete items stay the same
+-- ---- a part within an item leaves the complete items unchanged
 
 begins : (format : Format) (before after : Before) → begins_item after ≡ true → begins_item after ≡ false
     → items_before format after ≡ items_before format before
@@ -79,7 +79,7 @@ lines_stay format count state key stamp n lines part = by (nat_le n (length line
         (entries_begin count (with_entry state (schedule_key key) stamp (put_with (schedule_body lines)))) within
     by false within = refl
 
--- if a part isn't followed by the beginning of an item, the complete items stay the same
+-- if the part that follows doesn't begin an item, the complete items are unchanged
 pub items_stay : (format : Format) (before : Before) (bytes : List ℕ) → begins_item (advance format before bytes) ≡ false
     → items_before format (advance format before bytes) ≡ items_before format before
 items_stay format before_mark bytes inner = begins format before_mark (after_mark format) (mark_begins format) inner
@@ -133,7 +133,7 @@ good_next format before bytes good some wide small not_bad = by (judge format be
     by (inl bad) = absurd (not_bad bad.0 bad.1)
     by (inr fine) = fine
 
--- if a part isn't bad, the text up to the part's end was read
+-- if a part isn't bad, the text up to the part's end has been read
 pub part_read : {K : Type 0} (old new : StateReading K) (bytes : List ℕ) → IsReading old → old.partial.items ≡ [] → length bytes ≡ width (before_of old) → 0 < length bytes
     → ((i : ℕ) → get_or bytes i 0 < 256)
     → old.reached + length bytes ≤ old.limit → LeadsTo (format_of old) (before_of old) bytes new.stage new.parts new.lines → new.partial.items ≡ []
@@ -183,7 +183,8 @@ part_read old new bytes is none wide some small fits leads empty reached same ke
         ∙ ap length (sym (items_stay (format_of old) (before_of old) bytes (ap begins_item (sym leads.is) ∙ within.0))
         ∙ ap (items_before (format_of old)) (sym leads.is) ∙ ap (λ f. items_before f (before_of new)) (sym kept))
 
--- if a part that ends with these bytes is bad, or memory ran out for it, the text has that fault
+-- if a part that ends with these bytes is bad, or memory ran out for the part, the text has this
+-- fault
 pub part_refused : {K : Type 0} (old : StateReading K) (front bytes : List ℕ) (at : ℕ) (cause : Option StateCause) → IsReading old → bytes ≡ old.partial.items ++ front
     → length bytes ≡ width (before_of old)
     → 0 < length front → old.reached + length bytes ≤ old.limit → at ≡ old.item_at → IsBadHere (format_of old) (before_of old) bytes cause
@@ -230,7 +231,7 @@ part_refused old front bytes at cause is split wide some fits same bad = by caus
 
 -- ---- reading a piece
 
--- a fault that is returned for the first bytes of a piece is right for the whole piece
+-- a fault that is correct for the first bytes of a piece is correct for the whole piece
 pub told_stays : (format : Format) (limit : ℕ) (text read front behind : List ℕ) (at : ℕ) (cause : Option StateCause)
     → IsCauseSoFar format limit (text ++ read) front at cause
     → IsCauseSoFar format limit text ((read ++ front) ++ behind) at cause
@@ -260,7 +261,7 @@ told_stays format limit text read front behind at cause = by cause
         inr (subst (λ xs. IsLong format limit xs (record { at = at; cause = told })) (sym whole)
         (long_stays format limit ((text ++ read) ++ front) behind (record { at = at; cause = told }) long))
 
--- after bytes are taken from the front of the rest, they belong to the bytes before the rest
+-- bytes that are taken from the front of the rest are appended to the bytes before the rest
 pub rest_more : (piece rest front behind : List ℕ) → before_rest piece rest ++ rest ≡ piece → rest ≡ front ++ behind
     → (before_rest piece behind ≡ before_rest piece rest ++ front) × (before_rest piece behind ++ behind ≡ piece)
 rest_more piece rest front behind whole split = (now, ap (λ xs. xs ++ behind) now ∙ all)
@@ -275,26 +276,26 @@ rest_more piece rest front behind whole split = (now, ap (λ xs. xs ++ behind) n
         ap (λ n. take n piece) count ∙ ap (take (length (before_rest piece rest ++ front))) (sym all)
         ∙ take-append_seam (before_rest piece rest ++ front) behind
 
--- if the rest is the whole piece, no bytes come before it
+-- if the rest is the whole piece, there are no bytes before the rest
 pub rest_first : (piece : List ℕ) → (before_rest piece piece ≡ []) × (before_rest piece piece ++ piece ≡ piece)
 rest_first piece = (none, ap (λ xs. xs ++ piece) none)
   where
     none : before_rest piece piece ≡ []
     none = let zero_left : length piece - length piece ≡ 0 = omega arith in ap (λ n. take n piece) zero_left
 
--- if the rest is the whole piece, nothing of the piece was read
+-- if the rest is the whole piece, no byte of the piece has been read
 pub reads_none : {K : Type 0} (now : StateReading K) (piece : List ℕ) → IsReading now → ReadsOn now now (before_rest piece piece)
 reads_none now piece is =
     subst (ReadsOn now now) (sym (rest_first piece).0) (record { reading = is; text = sym (append-nil (text_of now)); limit = refl; format = refl })
 
 module _ {K : Type 0} (initial now : StateReading K) (piece rest : List ℕ) (whole : before_rest piece rest ++ rest ≡ piece) (on : ReadsOn initial now (before_rest piece rest))
   where
-    -- the text that was read, followed by the rest, is the text before the piece, followed by the
-    -- piece
+    -- the text that was read, followed by the rest, equals the text before the piece, followed by
+    -- the piece
     pub all_text : text_of now ++ rest ≡ text_of initial ++ piece
     all_text = ap (λ xs. xs ++ rest) on.text ∙ append_assoc (text_of initial) (before_rest piece rest) rest ∙ ap (λ xs. text_of initial ++ xs) whole
 
-    -- a fault that is returned for the first bytes of the rest is right for the whole piece
+    -- a fault that is returned for the first bytes of the rest is correct for the whole piece
     pub told_of_piece : (front behind : List ℕ) (at : ℕ) (cause : Option StateCause) → rest ≡ front ++ behind
         → IsCauseSoFar (format_of now) now.limit (text_of now) front at cause
         → IsCauseSoFar (format_of initial) initial.limit (text_of initial) piece at cause
@@ -307,7 +308,7 @@ module _ {K : Type 0} (initial now : StateReading K) (piece rest : List ℕ) (wh
         (subst (λ n. IsCauseSoFar (format_of now) n (text_of initial ++ before_rest piece rest) front at cause) on.limit
         (subst (λ xs. IsCauseSoFar (format_of now) now.limit xs front at cause) on.text told))))
 
-    -- if the first bytes of the rest were read, the piece was read up to their end
+    -- if the first bytes of the rest were read, the piece was read up to the end of these bytes
     pub reads_further : (next : StateReading K) (front behind : List ℕ) → rest ≡ front ++ behind → ReadsOn now next front
         → ReadsOn initial next (before_rest piece behind)
     reads_further next front behind split further = record {
@@ -318,7 +319,7 @@ module _ {K : Type 0} (initial now : StateReading K) (piece rest : List ℕ) (wh
       format = further.format ∙ on.format;
     }
 
-    -- if the rest ends before the next part does, the state needs more bytes after the piece
+    -- if the rest ends before the next part ends, the state needs more bytes after the piece
     pub open_text : (next : StateReading K) → length now.partial.items + length rest < width (before_of now) → ReadsOn now next rest
         → IsOpen (format_of initial) initial.limit (text_of initial ++ piece)
     open_text next short further =

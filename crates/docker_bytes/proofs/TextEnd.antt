@@ -1,4 +1,4 @@
--- A reading that has no next part has read the text of a whole state. A reading that has one
+-- A reading without a next part has read the text of a whole state. A reading with a next part
 -- hasn't.
 use Rattle.std.proofs.Common.{◌≡◌, ℕ, ◌<◌, ◌≤◌, List, [], ◌++◌, length, refl, ap, sym, ◌∙◌, subst, inl, inr, ◌⊎◌, arith, append-nil, length-append, None}
 use Rattle.docker_model.specs.state.State.{State}
@@ -30,7 +30,7 @@ state_at_end (stage.Body count key stamp) parts state lines is = cc
 state_at_end (stage.Line count key stamp n) parts state lines is = cc
 state_at_end stage.End parts state lines is = cc
 
--- if there is no next part, all parts were read
+-- if there is no next part, all parts have been read
 at_its_end : {K : Type 0} (reading : StateReading K) → IsReading reading → width (before_of reading) ≡ 0 → before_of reading ≡ at_end reading.parts
 at_its_end reading is none = by (end_or_part (format_of reading) (before_of reading) is.ready.good)
   where
@@ -38,7 +38,7 @@ at_its_end reading is none = by (end_or_part (format_of reading) (before_of read
     by (inr some) = absurd (omega arith)
     by (inl told) = told.1 ∙ ap at_end (state_at_end reading.stage reading.parts told.0 reading.lines told.1)
 
--- if there is no next part, the text is a whole state's
+-- if there is no next part, the text is the text of a whole state
 pub whole_text : {K : Type 0} (reading : StateReading K) → IsReading reading → width (before_of reading) ≡ 0
     → IsStateText (format_of reading) reading.limit (text_of reading) reading.parts
 whole_text reading is none = record {
@@ -63,8 +63,8 @@ wanting_at_end reading is none =
     let whole = whole_text reading is none in
     ((reading.parts, whole), is.item_is ∙ ap length (ap (items_before (format_of reading)) (at_its_end reading is none) ∙ sym whole.is))
 
--- if there is a next part, the text is too short. The fault's offset is where that part's item
--- begins
+-- if there is a next part, the text is too short, and the offset of the fault is the beginning of
+-- this part's item
 pub short_at_end : {K : Type 0} (reading : StateReading K) → IsReading reading → 0 < width (before_of reading)
     → IsShort (format_of reading) reading.limit (text_of reading) (record { at = reading.item_at; cause = too_short })
 short_at_end reading is some = record {
@@ -96,12 +96,12 @@ open_reading reading is some = (
   },
 )
 
--- a text after which the state needs more bytes isn't a whole state's
+-- if the state needs more bytes after a text, the text isn't the text of a whole state
 pub not_both : (format : Format) (limit : ℕ) (text : List ℕ) → IsOpen format limit text → ¬ IsWhole format limit text
 not_both format limit text open_one whole = no_fault_of_state format limit text whole.0 open_one.0 whole.1 (inr (inr (inl open_one.1)))
 
--- a text that a parser has read has no fault: either the state needs more bytes, or it is a whole
--- state's
+-- a text that a parser has read has no fault: either the state needs more bytes, or the text is the
+-- text of a whole state
 pub sound_text : {K : Type 0} (parser : ParserState K) (format : Format) (limit : ℕ) (text : List ℕ) → HasRead parser format limit text
     → IsOpen format limit text ⊎ IsWhole format limit text
 sound_text parser format limit text has =

@@ -1,4 +1,4 @@
--- The excerpt that is made of a state for a place and a day.
+-- The excerpt of a state for a place and a day.
 use Rattle.std.specs.Prelude.{◌≡◌, ℕ, List}
 use Rattle.docker_model.specs.state.State.{State}
 use Rattle.docker_excerpt.specs.Values.{Excerpt}

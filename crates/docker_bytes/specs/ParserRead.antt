@@ -1,4 +1,4 @@
--- What a parser of a state's text has read.
+-- The text that a parser has read.
 use Rattle.std.specs.Prelude.{◌≡◌, ℕ, List, [], Option, Some, None}
 use Rattle.docker_model.specs.state.StateText.{Format}
 use Rattle.docker_bytes.specs.declared.fault.StateFault.{StateFault}
@@ -14,8 +14,8 @@ pub record ParserState (K : Type 0) : Type 0 where
 abbrev pub IsSound : {K : Type 0} → StateReading K → Option StateFault → Type 0
 IsSound reading fault = fault ≡ None → IsReading reading
 
--- says that the parser has used exactly these bytes and returned no fault, and that it has this
--- format and this limit
+-- says that the parser has used exactly these bytes and returned no fault, and that the parser has
+-- this format and this limit
 pub record HasRead {K : Type 0} (parser : ParserState K) (format : Format) (limit : ℕ) (text : List ℕ) : Type 0 where
   pub no_fault : parser.fault ≡ None
   pub sound : IsReading parser.reading
@@ -27,6 +27,6 @@ pub record HasRead {K : Type 0} (parser : ParserState K) (format : Format) (limi
 abbrev pub HasFailed : {K : Type 0} → ParserState K → StateFault → Type 0
 HasFailed parser fault = parser.fault ≡ Some fault
 
--- says that the parser has read nothing, and returned no fault
+-- says that the parser has read nothing, and has returned no fault
 abbrev pub IsUnread : {K : Type 0} → ParserState K → Type 0
 IsUnread parser = HasRead parser (format_of parser.reading) parser.reading.limit []

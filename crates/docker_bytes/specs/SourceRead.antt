@@ -1,4 +1,4 @@
--- What the result of reading a source says about the text that the source held.
+-- What the result of reading a source implies for the text that the source held.
 use Rattle.std.specs.Prelude.{◌≡◌, ℕ, ◌≤◌, ◌⊎◌, List, [], ◌++◌, length, Option, Some, None, ⊤}
 use Rattle.cif_device.specs.Device.{Reads}
 use Rattle.docker_model.specs.state.State.{State, IsJoin}
@@ -10,7 +10,8 @@ use Rattle.state_text.specs.FaultMeaning.{cause_meant}
 use Rattle.docker_bytes.specs.StateReading.{IsMadeOf, IsWhole, IsOpen, IsWanting}
 use Rattle.docker_bytes.specs.ParserRead.{ParserState, HasRead}
 
--- says that a source held this text. For a source that can't name its bytes it says nothing
+-- says that a source held this text. True of every text if contracts don't know which bytes the
+-- source holds
 abbrev pub Held : Option (List ℕ) → List ℕ → Type 0
 Held None text = ⊤
 Held (Some left) text = left ≡ text
@@ -21,20 +22,20 @@ pub record ReadsState (format : Format) (limit : ℕ) (left : Option (List ℕ))
   pub held : Held left text
   pub is : IsStateText format limit text state
 
--- says that `made` is what a keeper makes of the state whose text the source held, in this format
--- and within the limit
+-- says that `made` is the value that a keeper makes from the state whose text the source held, in
+-- this format and within the limit
 pub record ReadsMade {Made : Type 0} (makes : Made → State → Type 0) (format : Format) (limit : ℕ) (left : Option (List ℕ)) (made : Made) : Type 0 where
   pub text : List ℕ
   pub held : Held left text
   pub of : IsMadeOf makes format limit text made
 
--- says that the text has a fault at this offset, for this cause. `None` stands for out of memory,
--- which is never a fault of a text
+-- says that the text has a fault at this offset, for this cause. The cause `None` means out of
+-- memory, which is never a fault of a text
 abbrev pub IsCauseOf : Format → ℕ → List ℕ → ℕ → Option model.StateCause → Type 0
 IsCauseOf format limit text at None = ⊥
 IsCauseOf format limit text at (Some cause) = IsStateFault format limit text (record { at = at; cause = cause })
 
--- says that the text has this fault, which is given as the code has it
+-- says that the text has this fault, given in the code's type
 abbrev pub IsFaultOf : Format → ℕ → List ℕ → StateFault → Type 0
 IsFaultOf format limit text fault = IsCauseOf format limit text fault.at (cause_meant fault.cause)
 
@@ -44,8 +45,8 @@ pub record RefusesState (format : Format) (limit : ℕ) (left : Option (List ℕ
   pub held : Held left text
   pub is : IsFaultOf format limit text fault
 
--- says that two texts were read from a source: one without a fault, complete or not, and after it
--- one piece of at most `most` bytes
+-- says that a text and then one more piece were read from a source. The text has no fault, and may
+-- be incomplete. The piece has at most `most` bytes
 pub record ReadsOnePieceMore (format : Format) (most limit : ℕ) (old new : Option (List ℕ)) : Type 0 where
   pub text : List ℕ
   pub piece : List ℕ
@@ -63,11 +64,12 @@ pub record WantsPart (format : Format) (most limit : ℕ) (old new : Option (Lis
   pub at : ℕ
   pub wanting : IsWanting format limit text piece at
 
--- says that memory ran out before a byte was read, or for a part. No part up to it is bad
+-- says that memory ran out before a byte was read, or for a part. No part up to and including this
+-- part is bad
 abbrev pub WantsSoFar : Format → ℕ → ℕ → Option (List ℕ) → Option (List ℕ) → Type 0
 WantsSoFar format most limit old new = Reads old [] new ⊎ WantsPart format most limit old new
 
--- says that a parser has read all that a source held
+-- says that a parser has read all bytes that a source held
 pub record ReadsAll {K : Type 0} (format : Format) (limit : ℕ) (left : Option (List ℕ)) (parser : ParserState K) : Type 0 where
   pub text : List ℕ
   pub held : Held left text
@@ -80,6 +82,6 @@ pub record JoinsState (format : Format) (limit : ℕ) (left : Option (List ℕ))
   pub join : IsJoin own received after
 
 -- says that memory ran out before a byte was read, for a part, or at the end of a state's text. No
--- part up to there is bad
+-- part that was read is bad
 abbrev pub WantsMemory : Format → ℕ → ℕ → Option (List ℕ) → Option (List ℕ) → Type 0
 WantsMemory format most limit old new = Reads old [] new ⊎ WantsPart format most limit old new ⊎ ((state : State) × ReadsState format limit old state)

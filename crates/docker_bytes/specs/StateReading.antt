@@ -1,4 +1,4 @@
--- How far the reading of a state's text has come, and what its faults mean.
+-- The progress of reading a state's text, and the meaning of its faults.
 use Rattle.std.specs.Prelude.{◌≡◌, ℕ, ◌+◌, ◌-◌, ◌<◌, ◌≤◌, ◌⊎◌, List, [], ◌++◌, length, take, Option, Some, None}
 use Rattle.docker_model.specs.state.State.{State, IsJoin}
 use Rattle.docker_model.specs.state.StateText.{Format}
@@ -21,15 +21,15 @@ use Rattle.state_text.specs.declared.stage.Stage.TheVariants.{Line}
 abbrev pub format_of : {K : Type 0} → StateReading K → Format
 format_of reading = format_meant reading.format
 
--- what comes before the part that is being read: the parts that are complete
+-- the position of the part that is being read, described by the complete parts before it
 abbrev pub before_of : {K : Type 0} → StateReading K → Before
 before_of reading = stage_meant reading.stage reading.parts reading.lines
 
--- all bytes that were read: the complete parts, and what was read of the next part
+-- all bytes that were read: the complete parts, and the first bytes of the next part
 abbrev pub text_of : {K : Type 0} → StateReading K → List ℕ
 text_of reading = text_before (format_of reading) (before_of reading) ++ reading.partial.items
 
--- says that a reading is sound. The parts that were read are good, the next part isn't complete,
+-- says that a reading is sound: the parts that were read are good, the next part isn't complete,
 -- and all bytes are within the limit
 pub record IsReading {K : Type 0} (reading : StateReading K) : Type 0 where
   pub ready : IsReady (format_of reading) reading.stage reading.parts reading.lines
@@ -38,21 +38,21 @@ pub record IsReading {K : Type 0} (reading : StateReading K) : Type 0 where
   pub item_is : reading.item_at ≡ length (items_before (format_of reading) (before_of reading))
   pub within : reading.reached + length reading.partial.items ≤ reading.limit
 
--- says that the reading `new` has read these bytes after what `old` had read, in the same format
--- and under the same limit
+-- says that the reading `new` has read these bytes after the text of `old`, in the same format and
+-- under the same limit
 pub record ReadsOn {K : Type 0} (old new : StateReading K) (bytes : List ℕ) : Type 0 where
   pub reading : IsReading new
   pub text : text_of new ≡ text_of old ++ bytes
   pub limit : new.limit ≡ old.limit
   pub format : format_of new ≡ format_of old
 
--- says that the next part is bad, or that memory ran out for it. The fault's offset is where the
--- part's item began
+-- says that the next part is bad, or that memory ran out for it. The fault's offset is the
+-- beginning of the part's item
 abbrev pub IsPartRefused : {K : Type 0} → StateReading K → List ℕ → StateFault → Type 0
 IsPartRefused reading bytes fault = (fault.at ≡ reading.item_at) × IsBadHere (format_of reading) (before_of reading) bytes (cause_meant fault.cause)
 
--- says that memory ran out for a part whose last byte is in `piece`, after `text`. No part up to it
--- is bad, and `at` is where the part's item begins
+-- says that memory ran out for a part whose last byte is in `piece`, after `text`. No part up to
+-- and including this part is bad, and `at` is the beginning of the part's item
 pub record IsWanting (format : Format) (limit : ℕ) (text piece : List ℕ) (at : ℕ) : Type 0 where
   pub before : Before
   pub good : AreGood format before
@@ -65,14 +65,14 @@ pub record IsWanting (format : Format) (limit : ℕ) (text piece : List ℕ) (at
   pub ends_in_piece : length text < length (text_before format before) + width before
   pub item_at : at ≡ length (items_before format before)
 
--- says what a fault returned for a piece after a text means: a part is bad, or the state needs a
--- byte at the limit. If the cause is `None`, memory ran out
+-- says what a fault means that is returned for a piece after a text: a part is bad, or the state
+-- needs a byte at the limit. The cause `None` means that memory ran out
 abbrev pub IsCauseSoFar : Format → ℕ → List ℕ → List ℕ → ℕ → Option model.StateCause → Type 0
 IsCauseSoFar format limit text piece at None = IsWanting format limit text piece at
 IsCauseSoFar format limit text piece at (Some cause) =
     HasBadPart format limit (text ++ piece) (record { at = at; cause = cause }) ⊎ IsLong format limit (text ++ piece) (record { at = at; cause = cause })
 
--- says the same as `IsCauseSoFar`, of a fault as the code has it
+-- says the same as `IsCauseSoFar`, for a fault in the code's type
 abbrev pub IsFaultReported : Format → ℕ → List ℕ → List ℕ → StateFault → Type 0
 IsFaultReported format limit text piece fault = IsCauseSoFar format limit text piece fault.at (cause_meant fault.cause)
 
@@ -84,24 +84,25 @@ IsWhole format limit text = (state : State) × IsStateText format limit text sta
 abbrev pub IsOpen : Format → ℕ → List ℕ → Type 0
 IsOpen format limit text = (fault : model.StateFault) × IsShort format limit text fault
 
--- says what a fault returned at the end of a text means: the text ends before the state does. If
--- the cause is `None`, memory ran out at the end of a complete text, and that end is the offset
+-- says what a fault means that is returned at the end of a text: the text ends before the state
+-- does. The cause `None` means that memory ran out at the end of a complete text, and the offset is
+-- this end
 abbrev pub IsCauseAtEnd : Format → ℕ → List ℕ → ℕ → Option model.StateCause → Type 0
 IsCauseAtEnd format limit text at None = IsWhole format limit text × (at ≡ length text)
 IsCauseAtEnd format limit text at (Some cause) = IsShort format limit text (record { at = at; cause = cause })
 
--- says the same as `IsCauseAtEnd`, of a fault as the code has it
+-- says the same as `IsCauseAtEnd`, for a fault in the code's type
 abbrev pub IsUnended : Format → ℕ → List ℕ → StateFault → Type 0
 IsUnended format limit text fault = IsCauseAtEnd format limit text fault.at (cause_meant fault.cause)
 
 -- says what a step means when `n` bytes of a piece were used after a text. `Done` means that the
--- text with these bytes is a whole state's. `More` means that all bytes were used, and that the
--- state needs more
+-- text, followed by these bytes, is the text of a whole state. `More` means that all bytes were
+-- used, and that the state needs more bytes
 abbrev pub IsStep : Format → ℕ → List ℕ → List ℕ → ℕ × Step → Type 0
 IsStep format limit text piece (n, Done) = IsWhole format limit (text ++ take n piece)
 IsStep format limit text piece (n, More) = (n ≡ length piece) × IsOpen format limit (text ++ piece)
 
--- says that `made` is what a keeper makes of the state with this text
+-- says that `made` is the value that a keeper makes from the state with this text
 pub record IsMadeOf {Made : Type 0} (makes : Made → State → Type 0) (format : Format) (limit : ℕ) (text : List ℕ) (made : Made) : Type 0 where
   pub state : State
   pub is : IsStateText format limit text state
@@ -119,8 +120,8 @@ pub record IsLineOf (key : ScheduleKey) (count : ℕ) (at : Stage) : Type 0 wher
   pub stamp : Stamp
   pub is : at ≡ Line entries key stamp count
 
--- says that the next part is one of these lines but not the last, and that none of its bytes was
--- read
+-- says that the next part is one of these lines but not the last line, and that none of its bytes
+-- has been read
 pub record IsInnerLine {K : Type 0} (key : ScheduleKey) (count : ℕ) (reading : StateReading K) : Type 0 where
   pub stage : IsLineOf key count reading.stage
   pub more : length reading.lines + 1 < count

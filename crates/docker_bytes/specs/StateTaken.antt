@@ -1,5 +1,4 @@
--- What a parser of a state's text has read, and what its fault says about the piece that it
--- refuses.
+-- The text that a parser has read, and what its fault means for the piece that it refuses.
 use Rattle.std.specs.Prelude.{◌≡◌, ◌≢◌, ℕ, ◌^◌, ◌<◌, List, ◌++◌, length}
 use Rattle.std.proofs.Common.{arith, ap, length-append}
 use Rattle.docker_model.specs.state.StateText.{Format}
@@ -11,7 +10,8 @@ use Rattle.docker_bytes.specs.ParserRead.{ParserState, HasRead}
 use Rattle.docker_bytes.specs.StateReading.{before_of, format_of, IsWanting}
 use Rattle.docker_bytes.specs.SourceRead.{IsFaultOf}
 
--- what a parser was made for: the format of the text, and the limit on its bytes. They never change
+-- the terms of a parser: the format of the text, and the limit of its length in bytes. They never
+-- change
 pub record StateTerms : Type 0 where
   pub format : Format
   pub limit : ℕ
@@ -21,7 +21,7 @@ pub record TakesState {K : Type 0} (parser : ParserState K) (terms : StateTerms)
   pub read : HasRead parser terms.format terms.limit text
   pub small : terms.limit < 2 ^ 64
 
--- a text that a parser has read is no longer than the limit, so its length fits in 64 bits
+-- a text that a parser has read is at most as long as the limit, so its length fits in 64 bits
 pub taken_is_bounded : {K : Type 0} (parser : ParserState K) (terms : StateTerms) (text : List ℕ) → TakesState parser terms text → length text < 2 ^ 64
 taken_is_bounded parser terms text has =
     let reading = parser.reading in
@@ -34,7 +34,7 @@ taken_is_bounded parser terms text has =
     omega (arith, same, sum, reached, within, limit, small)
 
 -- says what a parser's fault for a piece after a text means. A fault of the text is the fault of
--- every text that begins with that text and that piece. Out of memory means that memory ran out for
+-- every text that begins with this text and this piece. Out of memory means that memory ran out for
 -- a part that ends in the piece
 pub record RefusesPart {K : Type 0} (parser : ParserState K) (terms : StateTerms) (text piece : List ℕ) (told : ReadFault) : Type 0 where
   pub state : (found : StateFault) → told ≡ fault.State found → (rest : List ℕ) → IsFaultOf terms.format terms.limit ((text ++ piece) ++ rest) found

@@ -1,5 +1,5 @@
-//! Reads a state for a command that doesn't write it. It keeps only what the docker of a place and
-//! a day needs, or only the ledger.
+//! Reads a state for a command that doesn't write it. Only the part of the state for the docker of
+//! one place and day is kept, or only the ledger.
 ghost use Rattle.std.specs.Prelude.{◌≡◌, ◌-◌, ◌^◌, ◌<◌};
 ghost use Rattle.docker_model.specs.state.StateText.{dks_2};
 ghost use Rattle.docker_bytes.specs.Excerpts.{IsExcerptAt};
@@ -13,9 +13,9 @@ use state_text::format::Format;
 use std::alloc::Global;
 use std::marker::Brand;
 
-/// Reads a source as `read_state` does, and returns an excerpt of its state: what the docker of a
-/// place and a day is made from. All parts of the text are judged, whether they are kept or not. An
-/// excerpt isn't a state: it is never written, joined or sent.
+/// Reads a source as `read_state` does, and returns an excerpt of its state: the part from which
+/// the docker of a place and a day is made. All parts of the text are judged, whether they are kept
+/// or not. An excerpt isn't a state: it is never written, joined or sent.
 pub fn read_excerpt<S: Source>(
     alloc: Global,
     source: &mut S,
@@ -49,8 +49,8 @@ fn excerpt_at<P: PlaceDay, S: Source>(
 }
 
 /// Reads a source as `read_state` does, and returns the ledger of its state. All parts of the text
-/// are judged, but no entry is kept. So memory is needed only for the ledger and for the lines of
-/// one schedule.
+/// are judged, but no entry is kept. So the call allocates memory only for the ledger and for the
+/// lines of one schedule.
 pub fn read_ledger<S: Source>(
     alloc: Global,
     source: &mut S,

@@ -1,4 +1,4 @@
-//! Why bytes aren't the text of a state, and whether a text is complete.
+//! Why a text isn't the text of a state, and whether the text of a state is complete.
 ghost use Rattle.std.specs.Prelude.{Some};
 ghost use Rattle.docker_bytes.specs.FaultText.{fault_text};
 
@@ -6,13 +6,14 @@ use state_text::StateCause;
 use std::error::Error;
 use std::fmt;
 
-/// Where bytes can't be the text of a state, and why; or where memory ran out.
+/// The place and the reason of a fault in the text of a state, or the place at which memory ran
+/// out.
 #[derive(Clone, Copy, PartialEq, Eq, Debug)]
 pub struct StateFault {
-    /// The offset in the text, from 0: where the item at fault begins, the first byte after the
+    /// The offset in the text, from 0: the beginning of the item at fault, the first byte after the
     /// state, or the limit.
     pub at: u64,
-    /// What is wrong at that offset.
+    /// The cause of the fault at this offset.
     pub cause: StateCause,
 }
 

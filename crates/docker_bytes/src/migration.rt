@@ -10,8 +10,9 @@ use state_text::format::Format;
 use state_text::{State, Whole};
 use std::alloc::Global;
 
-/// Reads a source as `read_state` does, but accepts a text with the mark `DKS1`. That text has no
-/// horizon, so the state has none. A text with the mark `DKS2` is refused with a fault at offset 0.
+/// Reads a source as `read_state` does, but accepts a text with the mark `DKS1`. A text with this
+/// mark has no horizon, so the state has no horizon. A text with the mark `DKS2` is refused with a
+/// fault at offset 0.
 pub fn migrate<S: Source>(alloc: Global, source: &mut S, limit: u64) -> Result<State, ReadFault>
     requires { S.failures source.old < 2 ^ 64 - 1 }
     ensures { EndsReading S.left S.failures dks_1 limit
@@ -20,8 +21,8 @@ pub fn migrate<S: Source>(alloc: Global, source: &mut S, limit: u64) -> Result<S
     migrate_noting(alloc, source, limit, true)
 }
 
-/// Like `migrate`, but notes the places that the entries name only if `noted` is true. Without
-/// these notes the state has no index, and making it takes less time and memory.
+/// Like `migrate`, but notes the places of the entries only if `noted` is true. Without these notes
+/// the state has no index, and making the state takes less time and memory.
 pub fn migrate_noting<S: Source>(
     alloc: Global,
     source: &mut S,

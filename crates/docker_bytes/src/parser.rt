@@ -1,4 +1,4 @@
-//! A parser that is fed the text of a state piece by piece, and gives the parts of the text to a
+//! A parser that is fed the text of a state piece by piece, and passes the parts of the text to a
 //! keeper.
 ghost use Rattle.std.specs.Prelude.{◌≡◌, ℕ, ◌+◌, ◌≤◌, List, [], ◌++◌, length, take, IsOk, IsErr, IfOk, IfErr, Ok, Err, None};
 ghost use Rattle.docker_model.specs.state.StateText as formats;
@@ -13,7 +13,7 @@ use state_text::{Keeper, Maker, PartsSoFar, Received, Receiver, State};
 use std::alloc::Global;
 use std::marker::Model;
 
-/// A parser of the text of one state, which is fed in pieces of any length. It gives each complete
+/// A parser of the text of one state, which is fed in pieces of any length. It passes each complete
 /// part to its keeper, and itself holds at most 80 bytes of the next part.
 #[derive(Debug, Drop)]
 pub(crate) struct Parser<K: Keeper> {
@@ -32,8 +32,8 @@ impl<K: Keeper> Model for Parser<K> {
 }
 
 impl<K: Keeper> Parser<K> {
-    /// A parser of a text in this format, of at most `limit` bytes. It gives the parts to `keeper`,
-    /// which has no parts yet.
+    /// A parser of a text in this format, of at most `limit` bytes. It passes the parts to
+    /// `keeper`, which has no parts yet.
     pub(crate) fn new(alloc: Global, format: Format, limit: u64, keeper: K) -> Parser<K>
         requires { K.given keeper ≡ record { horizon = 0; ledger = []; entries = [] } }
         ensures { HasRead result (format_meant format) limit [] }
@@ -44,12 +44,13 @@ impl<K: Keeper> Parser<K> {
         }
     }
 
-    /// Takes the next bytes of the text, and returns how many of them it used. With `More` it has
-    /// used all of them, and the state needs more. With `Done` it has used the bytes up to the
-    /// state's last byte, and later calls use none. It returns a fault once a part is bad, or once
-    /// the state needs a byte at the limit. It also returns a fault if memory runs out for a part
-    /// that ends in this piece. That fault is at the part's item, and no part up to it is bad.
-    /// After a fault each later call returns the same one.
+    /// Takes the next bytes of the text, and returns how many of these bytes it used. With `More`
+    /// it has used all of them, and the state needs more bytes. With `Done` it has used the bytes
+    /// up to the state's last byte, and later calls use no bytes. Returns a fault once a part is
+    /// bad, or once the state needs a byte at the limit. Also returns a fault if memory runs out
+    /// for a part that ends in this piece. The offset of this fault is the beginning of the part's
+    /// item, and no part up to and including this part is bad. After a fault, each later call
+    /// returns the same fault.
     pub(crate) fn feed(&mut self, piece: &[u8]) -> Result<(usize, Step), StateFault>
         ensures within { IfOk result (λ answer. answer.0 ≤ length piece.now) }
         ensures read { (format : formats.Format) (limit : ℕ) (text : List ℕ) →
@@ -83,7 +84,7 @@ impl<K: Keeper> Parser<K> {
         }
     }
 
-    /// How many bytes were read. No fault may have been returned.
+    /// The number of bytes that were read. No fault may have been returned.
     pub(crate) fn offset(&self) -> u64
         requires { self.now.fault ≡ None }
         ensures { (format : formats.Format) (limit : ℕ) (text : List ℕ) →
@@ -94,10 +95,9 @@ impl<K: Keeper> Parser<K> {
 }
 
 impl<K: Maker> Parser<K> {
-    /// Returns what the keeper makes of the state whose text was read. `Short` if the text ends
-    /// before the state does, with the offset of the incomplete item. `Memory` only after a
-    /// complete text, with the offset of its end. If `feed` returned a fault, that fault is
-    /// returned.
+    /// Returns the value that the keeper makes from the state whose text was read. `Short` if the
+    /// text ends before the state does, with the offset of the incomplete item. `Memory` only after
+    /// a complete text, with the offset of its end. If `feed` returned a fault, returns this fault.
     pub(crate) fn finish(self) -> Result<K::Made, StateFault>
         ensures ok { (format : formats.Format) (limit : ℕ) (text : List ℕ) →
             HasRead self format limit text →
@@ -116,7 +116,7 @@ impl<K: Maker> Parser<K> {
 
 impl<R: Receiver> Parser<Received<R>> {
     /// Returns the receiving state, joined with the state whose text was read. If `feed` returned a
-    /// fault, if the text ends too early, or if memory runs out, it returns the fault and the
+    /// fault, if the text ends too early, or if memory runs out, returns the fault and the
     /// receiving state unchanged.
     pub(crate) fn join(self) -> (State, Result<(), StateFault>)
         ensures ok { (format : formats.Format) (limit : ℕ) (text : List ℕ) →

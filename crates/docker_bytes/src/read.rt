@@ -23,7 +23,7 @@ use std::fmt;
 pub enum ReadFault {
     /// The source failed.
     Source,
-    /// What the source holds isn't the text of a state. The cause is never `Memory`.
+    /// The bytes that the source holds aren't the text of a state. The cause is never `Memory`.
     State(StateFault),
     /// Out of memory: the allocator refused a request. No part that was judged before is bad.
     Memory,
@@ -44,8 +44,8 @@ impl fmt::Display for ReadFault {
 impl Error for ReadFault {}
 
 /// Reads a source to its end, or to the first fault, and returns the state whose text the source
-/// held. It reads in pieces of at most 65,536 bytes, and nothing after the piece that decides the
-/// result. So a source that never ends is read at most to the piece that has the byte at the limit.
+/// held. Reads in pieces of at most 65,536 bytes, and nothing after the piece that determines the
+/// result. So a source that never ends is read at most up to the piece with the byte at the limit.
 pub fn read_state<S: Source>(alloc: Global, source: &mut S, limit: u64) -> Result<State, ReadFault>
     requires { S.failures source.old < 2 ^ 64 - 1 }
     ensures { EndsReading S.left S.failures dks_2 limit
@@ -54,8 +54,8 @@ pub fn read_state<S: Source>(alloc: Global, source: &mut S, limit: u64) -> Resul
     read_state_noting(alloc, source, limit, true)
 }
 
-/// Like `read_state`, but notes the places that the entries name only if `noted` is true. Without
-/// these notes the state has no index, and making it takes less time and memory.
+/// Like `read_state`, but notes the places of the entries only if `noted` is true. Without these
+/// notes the state has no index, and making the state takes less time and memory.
 pub fn read_state_noting<S: Source>(
     alloc: Global,
     source: &mut S,
@@ -69,8 +69,8 @@ pub fn read_state_noting<S: Source>(
     read_format(alloc, Format::Dks2, Whole::new(alloc, noted), source, limit)
 }
 
-/// Like `read_state`, for a text in this format. The parts are given to `keeper`, which has no
-/// parts yet. Returns what the keeper makes of them.
+/// Like `read_state`, for a text in this format. The parts are passed to `keeper`, which has no
+/// parts yet. Returns the value that the keeper makes from them.
 pub(crate) fn read_format<S: Source, K: Maker>(
     alloc: Global,
     format: Format,
@@ -154,7 +154,7 @@ fn feed<K: Keeper>(parser: &mut Parser<K>, piece: &[u8]) -> Result<(), ReadFault
     }
 }
 
-/// Returns what a keeper makes of the state whose text a parser was fed.
+/// Returns the value that a keeper makes from the state whose text a parser was fed.
 fn finish<K: Maker>(parser: Parser<K>) -> Result<K::Made, ReadFault>
     ensures { (format : formats.Format) (limit : ℕ) (text : List ℕ) →
         HasRead parser format limit text →
@@ -166,7 +166,8 @@ fn finish<K: Maker>(parser: Parser<K>) -> Result<K::Made, ReadFault>
     }
 }
 
-/// The fault of a byte that follows the state: its offset is how many bytes the parser has read.
+/// The fault of a byte that follows the state. Its offset is the number of bytes that the parser
+/// has read.
 fn tail<K: Keeper>(parser: &Parser<K>) -> StateFault
     requires { parser.now.fault ≡ None }
     ensures at { (format : formats.Format) (limit : ℕ) (text : List ℕ) →

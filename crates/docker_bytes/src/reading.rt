@@ -14,8 +14,8 @@ use state_text::{
 };
 use std::alloc::Global;
 
-/// The reading of a text up to some byte. It has what the complete parts have said, which part
-/// comes next, the bytes of that part that were read, and where its item began.
+/// The reading of a text up to some byte. It has the data of the complete parts, the kind of the
+/// next part, the bytes of this part that were read, and the offset at which its item began.
 #[derive(Debug, Drop)]
 pub(crate) struct StateReading<K: Keeper> {
     alloc: Global,
@@ -56,7 +56,7 @@ impl<K: Keeper> StateReading<K> {
         }
     }
 
-    /// How many bytes were read.
+    /// The number of bytes that were read.
     pub(crate) fn offset(&self) -> u64
         requires { IsReading self.now }
         ensures { result ≡ length (text_of self.now) }
@@ -64,7 +64,7 @@ impl<K: Keeper> StateReading<K> {
         self.reached + self.partial.len() as u64
     }
 
-    /// Whether the last part of the state was read.
+    /// Whether the last part of the state has been read.
     pub(crate) fn is_done(&self) -> bool
         ensures { IsTrue result ↔ (width (before_of self.now) ≡ 0) }
     {
@@ -81,7 +81,7 @@ impl<K: Keeper> StateReading<K> {
         }
     }
 
-    /// The fault of a bad part. Its offset is where the part's item began.
+    /// The fault of a bad part. Its offset is the beginning of the part's item.
     fn bad(&self, cause: StateCause) -> StateFault
         ensures { result ≡ record { at = self.now.item_at; cause = cause } }
     {
@@ -91,7 +91,7 @@ impl<K: Keeper> StateReading<K> {
         }
     }
 
-    /// Takes a complete line that isn't its schedule's last, so the stage doesn't change.
+    /// Takes a complete line that isn't its schedule's last line, so the stage is unchanged.
     #[inline(always)]
     fn take_line(&mut self, key: &ScheduleKey, count: u32, bytes: &[u8]) -> Result<(), StateFault>
         requires reading { IsReading self.old }
@@ -111,8 +111,8 @@ impl<K: Keeper> StateReading<K> {
         }
     }
 
-    /// How many lines a piece of `len` bytes begins with that are complete, end within the limit,
-    /// and aren't the last of the schedule's `count` lines.
+    /// The number of lines at the front of a piece of `len` bytes that are complete, end within the
+    /// limit, and aren't the last of the schedule's `count` lines.
     fn inner_lines(&self, count: u32, len: usize) -> u64
         requires { self.now.reached ≤ self.now.limit }
         ensures { result ≡ min (min (len / LINE) ((self.now.limit - self.now.reached) / LINE))
@@ -130,10 +130,10 @@ impl<K: Keeper> StateReading<K> {
         self.lines.make_room(self.alloc, count, piece.len());
     }
 
-    /// Takes the complete lines with which a piece begins, up to but not including the schedule's
-    /// last line. Takes none if the next part isn't a line, or if some of its bytes were read
-    /// already. How many lines there are is worked out once for all of them. Returns the bytes that
-    /// follow.
+    /// Takes the complete lines at the front of a piece, up to but not including the schedule's
+    /// last line. Takes no line if the next part isn't a line, or if some of its bytes have already
+    /// been read. The number of lines is computed once for all of them. Returns the bytes after
+    /// these lines.
     fn take_lines<'a>(&mut self, piece: &'a [u8]) -> Result<&'a [u8], StateFault>
         requires { IsReading self.old }
         ensures rest { IfOk result (λ behind.
@@ -161,8 +161,8 @@ impl<K: Keeper> StateReading<K> {
         Ok(rest)
     }
 
-    /// Takes a complete part that lies whole in a piece. The stage doesn't change after a line that
-    /// isn't its schedule's last.
+    /// Takes a complete part that lies whole in a piece. A line that isn't its schedule's last line
+    /// leaves the stage unchanged.
     fn judge(&mut self, bytes: &[u8]) -> Result<(), StateFault>
         requires reading { IsReading self.old }
         requires fresh { self.old.partial.items ≡ [] }
@@ -197,7 +197,7 @@ impl<K: Keeper> StateReading<K> {
         }
     }
 
-    /// Takes the bytes with which a part ends.
+    /// Takes the last bytes of a part.
     fn take(&mut self, front: &[u8]) -> Result<(), StateFault>
         requires reading { IsReading self.old }
         requires wide { length self.old.partial.items + length front.now
@@ -218,7 +218,7 @@ impl<K: Keeper> StateReading<K> {
         self.judge(part.as_slice())
     }
 
-    /// Keeps bytes that end before the part does.
+    /// Keeps the next bytes of a part that is still incomplete afterwards.
     fn keep(&mut self, more: &[u8]) -> Result<(), StateFault>
         requires reading { IsReading self.old }
         requires short { length self.old.partial.items + length more.now
@@ -234,7 +234,8 @@ impl<K: Keeper> StateReading<K> {
         Ok(())
     }
 
-    /// Takes the next bytes, at most up to the end of the state, and returns how many it took.
+    /// Takes the next bytes, at most up to the end of the state, and returns how many bytes it
+    /// took.
     pub(crate) fn read(&mut self, piece: &[u8]) -> Result<(usize, Step), StateFault>
         requires { IsReading self.old }
         ensures within { IfOk result (λ answer. answer.0 ≤ length piece.now) }
@@ -263,8 +264,8 @@ impl<K: Keeper> StateReading<K> {
 }
 
 impl<K: Maker> StateReading<K> {
-    /// Returns what the keeper makes of the state whose text was read. If the text ends before the
-    /// state does, it returns a fault with the cause `Short`.
+    /// Returns the value that the keeper makes from the state whose text was read. If the text ends
+    /// before the state does, returns a fault with the cause `Short`.
     pub(crate) fn finish(self) -> Result<K::Made, StateFault>
         requires { IsReading self }
         ensures ok { IfOk result (IsMadeOf K.makes (format_of self) self.limit (text_of self)) }
@@ -300,7 +301,7 @@ impl<K: Maker> StateReading<K> {
 
 impl<R: Receiver> StateReading<Received<R>> {
     /// Returns the receiving state, joined with the state whose text was read. If the text ends
-    /// before the state does, it returns a fault with the cause `Short`. On any fault the receiving
+    /// before the state does, returns a fault with the cause `Short`. After any fault the receiving
     /// state is unchanged.
     pub(crate) fn join(self) -> (State, Result<(), StateFault>)
         requires { IsReading self }

@@ -13,8 +13,8 @@ use state_text::{State, Whole};
 use std::alloc::Global;
 use std::marker::Model;
 
-/// A parser of the text of one state, which is fed in pieces of any length. It holds the parts that
-/// were read, and at most 80 bytes of the next part.
+/// A parser of the text of one state, which is fed in pieces of any length. It holds the complete
+/// parts, and at most 80 bytes of the next part.
 #[derive(Debug, Drop)]
 pub struct StateParser {
     parser: Parser<Whole>,
@@ -39,12 +39,13 @@ impl StateParser {
         }
     }
 
-    /// Takes the next bytes of the text, and returns how many of them it used. With `More` it has
-    /// used all of them, and the state needs more. With `Done` it has used the bytes up to the
-    /// state's last byte, and later calls use none. It returns a fault once a part is bad, or once
-    /// the state needs a byte at the limit. It also returns a fault if memory runs out for a part
-    /// that ends in this piece. That fault is at the part's item, and no part up to it is bad.
-    /// After a fault each later call returns the same one.
+    /// Takes the next bytes of the text, and returns how many of these bytes it used. With `More`
+    /// it has used all of them, and the state needs more bytes. With `Done` it has used the bytes
+    /// up to the state's last byte, and later calls use no bytes. Returns a fault once a part is
+    /// bad, or once the state needs a byte at the limit. Also returns a fault if memory runs out
+    /// for a part that ends in this piece. The offset of this fault is the beginning of the part's
+    /// item, and no part up to and including this part is bad. After a fault, each later call
+    /// returns the same fault.
     pub fn feed(&mut self, piece: &[u8]) -> Result<(usize, Step), StateFault>
         ensures within { IfOk result (λ answer. answer.0 ≤ length piece.now) }
         ensures read { (format : formats.Format) (limit : ℕ) (text : List ℕ) →
@@ -67,7 +68,7 @@ impl StateParser {
 
     /// Returns the state whose text was read. `Short` if the text ends before the state does, with
     /// the offset of the incomplete item. `Memory` only after a complete text, with the offset of
-    /// its end. If `feed` returned a fault, that fault is returned.
+    /// its end. If `feed` returned a fault, returns this fault.
     pub fn finish(self) -> Result<State, StateFault>
         ensures ok { (format : formats.Format) (limit : ℕ) (text : List ℕ) →
             HasRead self format limit text →

@@ -1,4 +1,4 @@
--- Which day an event is on, and the lines for each start day.
+-- The day of an event, and the lines for each start day.
 use Rattle.std.proofs.Common.{◌≡◌, ℕ, ◌+◌, ◌-◌, ◌≤◌, ◌==◌, Bool, true, false, cond, List, [], ◌∷◌, ◌++◌, map, refl, ap, sym, ◌∙◌, arith, eqb-true}
 use Rattle.std.specs.Prelude.{nat_le, filter}
 use Rattle.std.specs.List.{flat_map}
@@ -19,13 +19,13 @@ same_test a b c d forth back = by (a == b) refl (c == d) refl
         let holds : (a == b) ≡ true = ap (λ (n : ℕ). a == n) (sym (back (eqb-true c d g))) ∙ number_itself a in
         sym h ∙ holds
 
--- an event is on a day if and only if the train has passed midnight as often as there are days from
--- its start day to that day
+-- an event is on a day if and only if the number of midnights before it equals the number of days
+-- from its start day to that day
 pub today_is : (day start falls : ℕ) → start ≤ day → (falls == day - start) ≡ (start + falls == day)
 today_is day start falls low = same_test falls (day - start) (start + falls) day (λ same. omega arith) (λ same. omega arith)
 
--- the lines for the start days are those for the day, for the day before and for two days before,
--- in this order
+-- the lines for the start days are the concatenation of the lines for the day, for the day before
+-- and for two days before
 pub starts_split : {A : Type 0} (piece : ℕ → List A) (day : ℕ) → flat_map piece (start_days day)
     ≡ cond (nat_le 0 day) (piece (day - 0)) [] ++ (cond (nat_le 1 day) (piece (day - 1)) [] ++ (cond (nat_le 2 day) (piece (day - 2)) [] ++ []))
 starts_split {A} piece day = along (0 ∷ 1 ∷ 2 ∷ [])

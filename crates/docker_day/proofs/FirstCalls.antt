@@ -1,4 +1,5 @@
--- The calls of base trains at a place, each with its first event, and how they are kept.
+-- The calls of base trains at a place, each with its first event. Also how the calls of the last
+-- base train are kept.
 use Rattle.std.proofs.Common.{◌≡◌, ℕ, ◌==◌, Bool, true, false, cond, List, refl, ap, sym, ◌∙◌, subst, Some, None, eqb-true}
 use Rattle.std.specs.Prelude.{Option, ◌&&◌, IfSome, IfOk, option_map, Result, Ok, Err}
 use Rattle.std.specs.BTreeMap.{BTreeMap, get, Updates}
@@ -30,7 +31,7 @@ abbrev pub IsFirstCall : Table → List ℕ → ℕ → List ℕ → ℕ → Opt
 IsFirstCall live place day uid suffix event =
     (rows : List Row) → AreRowsOf live rows → meant_if event ≡ first_call (train_in rows uid day) place suffix
 
--- the first event that is kept for a call of a UID is the first event of that call
+-- the kept first event of a UID's call is the first event of this call
 pub known_calls : (live : Table) (place : List ℕ) (day : ℕ) (known : BaseCalls) (uid : List ℕ) (suffix : ℕ) (answer : Option (Option Occurrence))
     → AreKnownCalls live place day (Some known) → option_map meant_if answer ≡ cond (bytes_eq known.uid uid) (Some (get nat_cmp known.calls suffix)) None
     → IfSome answer (IsFirstCall live place day uid suffix)
@@ -47,12 +48,12 @@ known_calls live place day known uid suffix (Some event) are is = by (bytes_eq k
         ∙ ap (λ u. first_call (train_in rows u day) place suffix) ((bytes_eq-Decides known.uid uid).0 same)
     by false other told = cc
 
--- if no later event follows, the kept event is the first one
+-- if no later event follows, the kept event is the first event
 pub kept_alone : (event : Option events.Occurrence) → kept_or event None ≡ event
 kept_alone None = refl
 kept_alone (Some event) = refl
 
--- if a suffix has an event already, another event with the suffix changes nothing
+-- if a suffix already has an event, another event with the suffix leaves the kept events unchanged
 pub there_before : (own : ℕ) (event : events.Occurrence) (calls : BTreeMap ℕ events.Occurrence) → is_some (get nat_cmp calls own) ≡ true
     → HasCall own calls event calls
 there_before own event calls is = λ suffix.
@@ -77,7 +78,7 @@ first_of_suffix own event before after unkept updates = λ suffix.
     by (Some kept) true is = let bad : true ≡ false = is refl in cc
 
 module _ (place : List ℕ) (event : events.Occurrence) where
-  -- an event at another place doesn't change the kept events
+  -- an event at another place leaves the kept events unchanged
   pub elsewhere : (calls : BTreeMap ℕ events.Occurrence) → is_here place event ≡ false → HasEvent place calls event calls
   elsewhere calls away = λ suffix later. λ i.
       kept_or (get nat_cmp calls suffix) (cond (sym away i && (column 10 event.line == suffix)) (Some event) later)
@@ -98,14 +99,14 @@ module _ (place : List ℕ) (event : events.Occurrence) where
 
 -- ---- the docker line at a call
 
--- the train that is found for a UID has that UID
+-- the UID of the train that is chosen for a UID is this UID
 pub uid_of_train : (live : Table) (rows : List Row) (uid : List ℕ) (day : ℕ) (train : Train) → AreRowsOf live rows → train_in rows uid day ≡ Some train
     → train.key.uid ≡ uid
 uid_of_train live rows uid day train are is = (subst (IsTrainOn live uid day) is (trains_tell live rows are uid day)).chosen.running.uid_is
 
 module _ (trains : List ℕ → ℕ → Option Train) (day start : ℕ) (link : Link) (occasion : Occasion) where
-  -- if a base train calls there, the association's docker line is the one at the first event of the
-  -- call
+  -- if a base train calls at the association's place, the association's docker line is the line at
+  -- the first event of the call
   pub line_at_call : (base : Option Train) (event : events.Occurrence) (lines : List DockerLine)
       → Some event ≡ first_call base link.key.location link.key.suffix → ((train : Train) → base ≡ Some train → train.key.uid ≡ link.key.base)
       → ((key : ScheduleKey) → key.uid ≡ link.key.base → lines ≡ link_line_at trains day start link occasion key event)
@@ -114,7 +115,7 @@ module _ (trains : List ℕ → ℕ → Option Train) (day start : ℕ) (link : 
   line_at_call (Some train) event lines is uid_is line =
       line train.key (uid_is train refl) ∙ ap (link_line_by trains day start link occasion train.key) is
 
-  -- if the base train doesn't call there, the association has no docker line
+  -- if a base train doesn't call at the association's place, the association has no docker line
   pub no_line_there : (base : Option Train) → None ≡ first_call base link.key.location link.key.suffix
       → listed None ≡ link_line_with trains day start link (Some occasion) base
   no_line_there None is = refl
@@ -127,15 +128,15 @@ IsAtEvent link occasion event visit line =
     (rows : List Row) → AreRowsOf (live_in visit.timetable) rows → (base : ScheduleKey) → base.uid ≡ link.key.base
     → listed line ≡ link_line_at (train_in rows) visit.day visit.start link occasion base event
 
--- says that the line, if there is one, is the association's line with the base train that is found
--- for its UID
+-- says that the line, if there is one, is the association's line with the train that is chosen for
+-- the base train's UID
 abbrev pub IsWithBase : Link → Occasion → Visit → Option DockerLine → Type 0
 IsWithBase link occasion visit line =
     (rows : List Row) → AreRowsOf (live_in visit.timetable) rows
     → listed line ≡ link_line_with (train_in rows) visit.day visit.start link (Some occasion) (train_in rows link.key.base visit.start)
 
--- if the event is the first of the base train's call, the line at the event is the line with the
--- base train
+-- if the event is the first event of the base train's call, the association's line that is made
+-- from this event is its line with the base train
 pub with_base : {Fault : Type 0} (link : Link) (occasion : Occasion) (event : events.Occurrence) (visit again : Visit) (result : Result (Option DockerLine) Fault) → again ≡ visit
     → ((rows : List Row) → AreRowsOf (live_in visit.timetable) rows
     → Some event ≡ first_call (train_in rows link.key.base visit.start) link.key.location link.key.suffix)

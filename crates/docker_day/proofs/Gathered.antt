@@ -22,7 +22,7 @@ use Rattle.docker_day.specs.Lines.{Adds}
 use Rattle.docker_day.specs.DockerValue.{Docker}
 use Rattle.docker_day.specs.Dockers.{HasGathered, IsDockerOf}
 
--- any walk that leaves out no row of the place gives the docker list
+-- the docker list can be made from any walk that includes every row of the place
 docker_of_walk : (live : Table) (place : List ℕ) (day : ℕ) (rows walk : List Row) (none made lines : List DockerLine) → HasGoodBodies live
     → AreRowsOf live rows → IsWalk live place walk
     → none ≡ [] → Adds live (λ trains links. gathered trains links place day walk) none made → IsPermutation made lines → IsSorted docker_line_cmp lines
@@ -33,8 +33,8 @@ docker_of_walk live place day rows walk none made lines good are walks empty add
     sorted_gathering live (train_in rows) (link_in rows) (trains_tell live rows are) (links_tell live rows are) place day walk walks good lines
     (subst (λ out. IsPermutation out lines) made_is same) sorted
 
--- a walk over the associations at a place, and then one over the schedules that call there, add all
--- docker lines of the place
+-- a walk over the associations at a place, followed by a walk over the schedules that call there,
+-- adds all docker lines of the place
 pub both_gathered : (live : Table) (place : List ℕ) (day : ℕ) (linked calling : List Row) (before between after : List DockerLine)
     → AreLinked live place linked → AreCalling live place calling
     → Adds live (λ trains links. gathered trains links place day linked) before between → Adds live
@@ -54,7 +54,7 @@ both_gathered live place day linked calling before between after are_linked are_
         ∙ append_assoc before (gathered trains links place day linked) (gathered trains links place day calling)
         ∙ ap (λ more. before ++ more) (sym (flat_map-append (λ (row : Row). row_lines trains links place day row.0 row.1) linked calling))
 
--- the docker that is made from the sorted lines is the docker of the definitions
+-- the docker that the code makes from the sorted lines is the docker of the definitions
 pub docker_made : (live : Table) (place : List ℕ) (day : ℕ) (rows : List Row) (none made lines : List DockerLine) (description : List ℕ) (docker : Docker)
     → docker ≡ record { place = place; day = day; description = description; lines = lines } → description ≡ description_in (live (tiploc_key place))
     → HasGoodBodies live → AreRowsOf live rows → none ≡ [] → HasGathered live place day none made

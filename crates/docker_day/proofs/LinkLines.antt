@@ -1,4 +1,4 @@
--- The docker line of an association, made from the events that a walk over its base train meets.
+-- The docker line of an association, made from the events of its base train.
 use Rattle.std.proofs.Common.{◌≡◌, ℕ, Bool, true, false, cond, List, [], ◌∷◌, ◌++◌, map, refl, ap, sym, ◌∙◌, Some, None, append_assoc, append-nil}
 use Rattle.std.specs.Prelude.{Option, option_map, find}
 use Rattle.std.specs.List.{flat_map}
@@ -33,12 +33,13 @@ find_mapped f p (x ∷ xs) = by (p (f x)) (find_mapped f p xs)
     by true rest = refl
     by false rest = rest
 
--- the first event of a call is the first event that a walk meets there
+-- the first event of a call is the first of the train's events that are at the place and have the
+-- call's suffix
 pub first_call_is : (lines : List (List ℕ)) (location : List ℕ) (suffix : ℕ)
     → find (is_call location suffix) (occurrences lines) ≡ option_map (occurrence_of lines) (first_event_at lines location suffix)
 first_call_is lines location suffix = find_mapped (occurrence_of lines) (is_call location suffix) (events_of lines)
 
--- the line of an association that is made in this way is its line in the definitions
+-- the line of an association that the code makes is its line in the definitions
 link_line_is : (trains : List ℕ → ℕ → Option choices.Train) (day start : ℕ) (link : live_rows.Link) (occasion : Option Occasion) (base : Option choices.Train)
     → link_line_with trains day start link occasion base ≡ line_with trains day start link.key link.line occasion base
 link_line_is trains day start link None base = refl
@@ -56,7 +57,7 @@ none_of_all : (days : List ℕ) → flat_map (λ (day : ℕ). no_line) days ≡ 
 none_of_all [] = refl
 none_of_all (day ∷ days) = none_of_all days
 
--- the lines of a row are its lines for the three start days, put together
+-- the lines of a row are the concatenation of its lines for the three start days
 row_pieces : (trains : List ℕ → ℕ → Option choices.Train) (links : Group → ℕ → Option live_rows.Link) (place : List ℕ) (day : ℕ) (view : RowView)
     → flat_map (row_piece trains links place day view) (start_days day) ≡ view_lines trains links place day view
 row_pieces trains links place day (Train train) = refl
@@ -85,8 +86,8 @@ module _ (place : List ℕ) (day : ℕ) (view : RowView) where
       ∙ three_parts first (row_back trains links place day view 0) (row_back trains links place day view 1) (row_back trains links place day view 2)
       ∙ ap (λ more. first ++ more) (sym (starts_split (row_piece trains links place day view) day) ∙ row_pieces trains links place day view)
 
-  -- if the lines for each of the three start days are added, one start day after the other, all
-  -- lines of the row are added
+  -- if the lines for each of the three start days are appended, one start day after the other, all
+  -- lines of the row are appended
   pub three_backs : (live : Table) (first second third last : List DockerLine)
       → Adds live (λ trains links. row_back trains links place day view 0) first second
       → Adds live (λ trains links. row_back trains links place day view 1) second third

@@ -1,4 +1,4 @@
--- The docker lines that a row has for the three visits are, together, all docker lines of the row.
+-- The docker lines of a row are the concatenation of its lines for the three visits.
 use Rattle.std.proofs.Common.{◌≡◌, ℕ, ◌-◌, Bool, true, false, cond, List, [], ◌++◌, refl, ap, sym, ◌∙◌, subst, Some, None, append-nil, arith}
 use Rattle.std.specs.Prelude.{Option, nat_le}
 use Rattle.std.proofs.Math.Dec.{leb-zero}
@@ -19,7 +19,7 @@ module _ (there : PlaceDay) (view : RowView) where
   abbrev AddsBack : ℕ → List DockerLine → List DockerLine → Type 0
   AddsBack back before after = Adds (live_in there.timetable) (λ trains links. row_back trains links there.place there.day view back) before after
 
-  -- what a visit adds is the row's lines for the start day `back` days before
+  -- the lines that a visit adds are the row's lines for the start day `back` days before
   adds_back : (back : ℕ) (visit : Option Visit) (before after : List DockerLine) → visit ≡ visit_back there back → AddsIf visit view before after
       → AddsBack back before after
   adds_back back visit before after is adds = by (nat_le back there.day) refl (subst (λ (v : Option Visit). AddsIf v view before after) is adds)
@@ -40,7 +40,7 @@ module _ (there : PlaceDay) (view : RowView) where
       (λ i. cond (leb-zero there.day i) (Some (record { timetable = there.timetable; place = there.place; day = there.day; start = there.day - 0 })) None)
       ∙ (λ i. Some (record { timetable = there.timetable; place = there.place; day = there.day; start = same i }))
 
-  -- what the visit for the day itself adds is the row's lines for that start day
+  -- the lines that the visit for the day itself adds are the row's lines for that start day
   adds_today : (today : Visit) (before after : List DockerLine)
       → today ≡ record { timetable = there.timetable; place = there.place; day = there.day; start = there.day } → AddsAt today view before after
       → AddsBack 0 before after
@@ -60,7 +60,7 @@ module _ (there again : PlaceDay) (view : RowView) (today : Visit) (day_before t
       (three_backs there.place there.day view (live_in there.timetable) first second third last (adds_today there view today first second are.today_is one)
       (adds_back there view 1 day_before second third are.day_before_is two) (adds_back there view 2 two_before third last are.two_before_is three))
 
-  -- if `row_under_way` is false for the row, the visit for the day itself adds all its lines
+  -- if `row_under_way` is false for the row, the visit for the day itself adds all lines of the row
   pub adds_today_alone : (first second : List DockerLine) → there ≡ again → AreVisits there today day_before two_before
       → IsLiveView (live_in again.timetable) view → row_under_way again.place view again.day ≡ false → AddsAt today view first second
       → AddsRow again view first second

@@ -1,4 +1,4 @@
--- Rows that are passed over without a search have no docker lines.
+-- Rows that are skipped without a search have no docker lines.
 use Rattle.std.proofs.Common.{◌≡◌, ℕ, ◌+◌, ◌-◌, ◌<◌, ◌==◌, ◌⊎◌, inl, inr, Bool, true, false, cond, List, [], ◌∷◌, ◌++◌, refl, ap, sym, ◌∙◌, append-nil, Some, None, arith, eqb-true}
 use Rattle.std.specs.Prelude.{Option, ◌&&◌, ◌||◌, not, nat_le, codes}
 use Rattle.std.specs.Ordering.{is_eq}
@@ -44,7 +44,7 @@ no_line = []
 true_false : true ≡ false → ⊥
 true_false bad = cc
 
--- if a live schedule doesn't run on a day, no train runs by it on that day
+-- if a live schedule doesn't run on a day, no train runs by this schedule on that day
 pub runs_not : (live : Table) (rows : List Row) (train : choices.Train) (start : ℕ) → AreRowsOf live rows → IsLiveTrain live train
     → schedule_runs (first_record train.lines) start ≡ false → runs_by (train_in rows train.key.uid start) train.key ≡ false
 runs_not live rows train start are is_live idle = by (train_in rows train.key.uid start) (trains_tell live rows are train.key.uid start)
@@ -60,7 +60,7 @@ runs_not live rows train start are is_live idle = by (train_in rows train.key.ui
             let lines = one_schedule live other.key train.key other.lines train.lines same runs.chosen.running.is_live is_live in
             absurd (true_false (sym runs.chosen.running.runs_then ∙ ap (λ (ls : List (List ℕ)). schedule_runs (first_record ls) start) lines ∙ idle))
 
--- if a live association doesn't run on a start day, it isn't the one chosen in its group
+-- if a live association doesn't run on a start day, it isn't the association chosen in its group
 pub counts_not : (live : Table) (rows : List Row) (link : live_rows.Link) (start : ℕ) → AreRowsOf live rows → IsLiveLink live link
     → association_runs link.line start ≡ false → counts_as (link_in rows (group_of link.key) start) link.key ≡ false
 counts_not live rows link start are is_live idle = by (link_in rows (group_of link.key) start) (links_tell live rows are (group_of link.key) start)
@@ -84,7 +84,7 @@ not_not : (b : Bool) → not b ≡ false → b ≡ true
 not_not true h = refl
 not_not false h = absurd (true_false h)
 
--- if midnight isn't passed before any event, no event is on a day later than the start day
+-- if no midnight is passed before any event, no event is on a day later than the start day
 none_late : (place : List ℕ) (day start : ℕ) (key : ScheduleKey) (detail : Detail) (events : List Occurrence) → start < day → some_late events ≡ false
     → lines_there place day start key detail events ≡ []
 none_late place day start key detail [] before none = refl
@@ -107,8 +107,8 @@ none_late place day start key detail (event ∷ events) before none =
         let none_behind : some_late events ≡ false = (λ i. sym h i || some_late events) ∙ none in
         (λ i. cond (elsewhere h i) (line_at_event key start detail event ∷ []) [] ++ rest none_behind i)
 
--- if a train doesn't pass midnight up to its last line at a place, it has no docker line there on a
--- day later than the start day
+-- if a train doesn't pass midnight up to its last line at a place, it has no docker line at this
+-- place on a day later than the start day
 no_lines_then : (place : List ℕ) (day start : ℕ) (key : ScheduleKey) (lines : List (List ℕ)) → start < day
     → some_late (occurrences_to place lines) ≡ false → event_lines place day start key lines ≡ []
 no_lines_then place day start key lines before none =
@@ -116,7 +116,7 @@ no_lines_then place day start key lines before none =
     sym (event_lines_are place day start key lines) ∙ sym (lines_to_last place day start key detail lines)
     ∙ none_late place day start key detail (occurrences_to place lines) before none
 
--- if neither of two tests passes together with a third, then both fail or the third fails
+-- if neither of two tests passes together with a third test, then both fail or the third test fails
 none_of_both : (a b c : Bool) → ((a || b) && c) ≡ false → ((a ≡ false) × (b ≡ false)) ⊎ (c ≡ false)
 none_of_both a b false h = inr refl
 none_of_both false false true h = inl (refl, refl)
@@ -134,7 +134,7 @@ module _ (live : Table) (rows : List Row) (are : AreRowsOf live rows) (place : L
   abbrev lines_back : RowView → ℕ → List DockerLine
   lines_back view back = row_back (train_in rows) (link_in rows) place day view back
 
-  -- if a schedule doesn't run on a day, it has no docker lines for a train that starts on that day
+  -- if a schedule doesn't run on a day, it has no docker lines with this day as the start day
   idle_back : (train : choices.Train) (back : ℕ) → IsLiveTrain live train → runs_back train.lines day back ≡ false
       → lines_back (Train train) back ≡ []
   idle_back train back is_live idle = by (nat_le back day) refl
@@ -186,12 +186,12 @@ module _ (live : Table) (rows : List Row) (are : AreRowsOf live rows) (place : L
   none_recently (Link link) is_live not_so = absurd (true_false not_so)
   none_recently Other is_live not_so = absurd (true_false not_so)
 
--- adding no lines leaves the lines as they were
+-- appending an empty list leaves the lines unchanged
 nothing : (before : List DockerLine) {more : List DockerLine} → more ≡ [] → before ≡ before ++ more
 nothing before none = sym (append-nil before) ∙ ap (λ out. before ++ out) (sym none)
 
--- if `row_under_way` is false for a row, all its lines are for the train that starts on the day
--- itself
+-- if `row_under_way` is false for a row, all lines of the row are for the train that starts on the
+-- day itself
 pub first_back_alone : (place : List ℕ) (day : ℕ) (view : RowView) (live : Table) (first second : List DockerLine) → IsLiveView live view
     → row_under_way place view day ≡ false → Adds live (λ trains links. row_back trains links place day view 0) first second
     → Adds live (λ trains links. view_lines trains links place day view) first second
@@ -220,7 +220,7 @@ row_idle (association_key key) (association_body line) day of never = absurd (tr
 row_idle (association_key key) (tiploc_body bytes) day of never = absurd (true_false never)
 row_idle (association_key key) (schedule_body lines) day of never = absurd (true_false never)
 
--- an association that doesn't run on a start day isn't in force on it
+-- an association that doesn't run on a start day isn't in force on that start day
 pub not_in_force : (live : Table) (rows : List Row) (link : live_rows.Link) (start : ℕ) → AreRowsOf live rows → IsLiveLink live link
     → association_runs link.line start ≡ false → false ≡ is_in_force (link_in rows) start link.key link.line
 not_in_force live rows link start are is_live idle =

@@ -1,4 +1,4 @@
--- The text that the code writes is the docker's text of the definitions.
+-- The text that the code writes for a docker equals the docker's text in the definitions.
 use Rattle.std.proofs.Common.{◌≡◌, ℕ, List, ◌++◌, refl, ap, ◌∙◌}
 use Rattle.std.specs.List.{flat_map}
 use Rattle.docker_model.specs.file.Change.{tiploc_key}
@@ -11,7 +11,8 @@ head_is : (live : Table) (place : List ℕ) (day : ℕ) → head place day (desc
 unfolding head
 head_is live place day = refl
 
--- the text written for the docker of a table, a place and a day is its text in the definitions
+-- the text that is written for the docker of a table, a place and a day is the docker's text in the
+-- definitions
 pub printed : (live : Table) (place : List ℕ) (day : ℕ) (docker : Docker) → IsDockerOf live place day docker → IsDockerText live place day (text_of docker)
 printed live place day docker is =
     (docker.lines, is.list, ap (λ text. ended text ++ flat_map (λ line. ended (line_text line)) docker.lines ++ ended last_line) whole)
@@ -19,7 +20,7 @@ printed live place day docker is =
     whole : head docker.place docker.day docker.description ≡ heading live place day
     whole = (λ i. head (is.place_is i) (is.day_is i) (is.described i)) ∙ head_is live place day
 
--- the heading that is written is the heading in the definitions
+-- the heading that is written equals the heading in the definitions
 pub heading_is : (place given : List ℕ) (day told : ℕ) (description shown bytes : List ℕ) → given ≡ place → told ≡ day → shown ≡ description
     → bytes ≡ ended (head given told shown) → bytes ≡ ended (head place day description)
 heading_is place given day told description shown bytes one two three is = is ∙ (λ i. ended (head (one i) (two i) (three i)))

@@ -1,4 +1,4 @@
--- Reading the rows of a walk a portion at a time leads to the same docker lines.
+-- The docker lines are the same if the rows of a walk are read in portions.
 use Rattle.std.proofs.Common.{◌≡◌, ℕ, zero, suc, ◌<◌, Bool, true, false, List, [], ◌∷◌, ◌++◌, length, take, get_or, refl, ap, sym, ◌∙◌, subst, Some, None, arith, append_assoc}
 use Rattle.std.specs.Prelude.{Option, ◌||◌}
 use Rattle.std.proofs.lemmas.Grind.{flat_map-append}
@@ -20,14 +20,14 @@ use Rattle.docker_day.specs.declared.row_view.RowView.{RowView}
 use Rattle.docker_day.proofs.PassedOver.{not_recently, row_idle}
 use Rattle.docker_day.proofs.RowViews.{gathered_viewed, lines_viewed, live_view, live_views}
 
--- a row has no lines on a day if `row_may_run` is false for it
+-- if `row_may_run` is false for a row and a day, the row has no lines on this day
 no_lines : (place : List ℕ) (day : ℕ) (key : Key) (body : Body) (live : Table) (rows : List Row) → AreRowsOf live rows → live key ≡ Some body
     → IsBodyOf key body → row_may_run (view_of key body) day ≡ false → row_lines (train_in rows) (link_in rows) place day key body ≡ []
 no_lines place day key body live rows are is_live of never =
     sym (lines_viewed (train_in rows) (link_in rows) place day key body)
     ∙ sym (not_recently place day (view_of key body) live [] (live_view live key body is_live) (row_idle key body day of never) rows are)
 
--- a row may be passed over if `row_may_run` is false for it
+-- if `row_may_run` is false for a row, the row may be skipped
 pub row_passed : (day : ℕ) (key : Key) (body : Body) (row : RowView) (before after : List Row) (may : Bool) → before ≡ (key, body) ∷ after
     → AreGoodRows before → row ≡ view_of key body → may ≡ row_may_run row day → ¬ (◌≡◌ {A = Option Bool} (Some may) (Some true))
     → ArePassedOver day before after
@@ -38,21 +38,21 @@ row_passed day key body row before after false is good viewed told never = λ pl
     (sym (told ∙ ap (λ (r : RowView). row_may_run r day) viewed)) i
     ++ gathered (train_in rows) (link_in rows) place day after)
 
--- if `rest` is left of `all`, and `fewer` is left of `rest`, then `fewer` is left of `all`
+-- `AreLeft` is transitive
 pub left_again : (all rest fewer : List Row) → AreLeft all rest → AreLeft rest fewer → AreLeft all fewer
 left_again all rest fewer first second = record {
   good = λ good. second.good (first.good good);
   live = λ live are. second.live live (first.live live are);
 }
 
--- if the rows between `all` and `rest` may be passed over, and those between `rest` and `fewer`,
--- then all rows between `all` and `fewer` may be
+-- `ArePassedOver` is transitive: if the rows between `all` and `rest` may be skipped, and the rows
+-- between `rest` and `fewer`, then all rows between `all` and `fewer` may be skipped
 pub passed_again : (day : ℕ) (all rest fewer : List Row) → AreLeft all rest → ArePassedOver day all rest → ArePassedOver day rest fewer
     → ArePassedOver day all fewer
 passed_again day all rest fewer left first second = λ place live are_live rows are.
     first place live are_live rows are ∙ second place live (left.live live are_live) rows are
 
--- if neither the rows read before nor the next one may have lines, all of them may be passed over
+-- if neither the rows read before nor the next row may have lines, all these rows may be skipped
 pub none_behind : (day : ℕ) (all rest fewer : List Row) (so_far may : Bool) → AreLeft all rest → (so_far ≡ false → ArePassedOver day all rest)
     → (¬ (◌≡◌ {A = Option Bool} (Some may) (Some true)) → ArePassedOver day rest fewer) → (so_far || may) ≡ false → ArePassedOver day all fewer
 none_behind day all rest fewer true may left before after none = let bad : true ≡ false = none in cc
@@ -60,8 +60,8 @@ none_behind day all rest fewer false true left before after none = let bad : tru
 none_behind day all rest fewer false false left before after none =
     passed_again day all rest fewer left (before refl) (after (λ bad. cc))
 
--- if the rows read before may have no lines, and no more rows are read, all of them may be passed
--- over
+-- if the rows read before may have no lines, and no more rows are read, all rows that were read may
+-- be skipped
 pub none_after : (day : ℕ) (all rest fewer : List Row) (so_far : Bool) (found : Option Bool) → AreLeft all rest
     → (so_far ≡ false → ArePassedOver day all rest) → ((may : Bool) → ¬ (found ≡ Some may)) → (¬ (found ≡ Some true) → ArePassedOver day rest fewer) → so_far ≡ false
     → ArePassedOver day all fewer
@@ -74,7 +74,7 @@ pub moved_again : (there again : PlaceDay) (all rest fewer : List Row) (first se
 moved_again there again all rest fewer first second third same one two = λ rows are.
     subst (λ (p : PlaceDay). HaveMoved p rest fewer second third) same two rows are ∙ one rows are
 
--- a move of a walk, followed by rows that are passed over, is together one move
+-- a move of a walk, followed by skipped rows, is together one move
 pub moved_over : (there again : PlaceDay) (all rest fewer : List Row) (first second : List DockerLine) → again ≡ there
     → AreLive (live_in again.timetable) rest → HaveMoved there all rest first second → ArePassedOver again.day rest fewer
     → HaveMoved there all fewer first second
@@ -90,7 +90,7 @@ live_again there again rows same live = subst (λ (p : PlaceDay). AreLive (live_
 
 -- ---- the rows of a portion
 
--- if all of some views are live, the first ones are live
+-- if all of some views are live, any prefix of these views is live
 pub live_first : (live : Table) (first second : List RowView) → AreLiveViews live (first ++ second) → AreLiveViews live first
 live_first live [] second are = tt
 live_first live (row ∷ rows) second are = (are.0, live_first live rows second are.1)
@@ -123,7 +123,7 @@ module _ (there : PlaceDay) (portion : List (ℕ × RowView)) where
   AddsFirst n before after =
       Adds (live_in there.timetable) (λ trains links. lines_of trains links there.place there.day (views_in (take n portion))) before after
 
-  -- once all lines of a portion are added, the walk has moved past the portion's rows
+  -- after all lines of a portion have been added, the walk has moved past the portion's rows
   pub moved_open : (all rest : List Row) (rows : List (ℕ × RowView)) (first second : List DockerLine) → AreOpened all rest [] portion → rows ≡ portion
       → Adds (live_in there.timetable) (λ trains links. lines_of trains links there.place there.day (views_in rows)) first second
       → HaveMoved there all rest first second

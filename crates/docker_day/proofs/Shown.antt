@@ -1,4 +1,5 @@
--- Which columns of a location record a docker prints, by the record's kind and the occasion.
+-- The columns of a location record that a docker prints depend on the record's kind and the
+-- occasion.
 use Rattle.std.proofs.Common.{◌≡◌, ℕ, List, refl, sym, Some, None}
 use Rattle.std.specs.Prelude.{Option}
 use Rattle.docker_model.specs.records.Record.{Kind, header, tiploc_insert, tiploc_amend, tiploc_delete, association, basic_schedule, extra_details, origin_location, intermediate_location, terminating_location, change_en_route, trailer}
@@ -7,7 +8,7 @@ use Rattle.docker_model.specs.docker.DockerLine.{public_by_kind}
 use Rattle.docker_model.specs.records.PrintedTime.{spaces}
 use Rattle.docker_day.specs.Locations.{location_by_kind, public_at}
 
--- says that no occasion but an arrival or a departure has a public time
+-- says that only an arrival and a departure have a public time
 record HasNoOther (kind : Option Kind) (line : List ℕ) : Type 0 where
   passing : public_by_kind kind pass line ≡ spaces 4
   join : public_by_kind kind joining line ≡ spaces 4
@@ -29,7 +30,7 @@ no_other (Some terminating_location) line = record { passing = refl; join = refl
 no_other (Some change_en_route) line = record { passing = refl; join = refl; divide = refl; next = refl }
 no_other (Some trailer) line = record { passing = refl; join = refl; divide = refl; next = refl }
 
--- for each occasion, the printed public time is the one in the definitions
+-- for each occasion, the printed public time equals the public time in the definitions
 pub public_is : (occasion : Occasion) (kind : Option Kind) (line : List ℕ) → public_at occasion (location_by_kind kind line) ≡ public_by_kind kind occasion line
 public_is arrival kind line = refl
 public_is departure kind line = refl

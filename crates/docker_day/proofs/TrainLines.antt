@@ -1,4 +1,4 @@
--- The docker lines of a train's events, gathered by a walk.
+-- The docker lines of a train's events, made event by event.
 use Rattle.std.proofs.Common.{◌≡◌, ℕ, ◌==◌, Bool, true, false, cond, List, [], ◌∷◌, ◌++◌, map, refl, ap, sym, ◌∙◌, append-nil}
 use Rattle.std.specs.Prelude.{◌&&◌, filter, codes}
 use Rattle.std.specs.Str.{bytes_eq}
@@ -30,7 +30,7 @@ module _ (place : List ℕ) (day start : ℕ) (key : ScheduleKey) (lines : List 
       by true rest = ap (λ more. line_of_event key start lines event ∷ more) rest
       by false rest = rest
 
-  -- the docker lines that are found event by event are the schedule's docker lines
+  -- the docker lines that are made event by event are the schedule's docker lines
   pub event_lines_are : lines_there place day start key detail (occurrences lines) ≡ event_lines place day start key lines
   event_lines_are = along (events_of lines)
 

@@ -1,4 +1,5 @@
--- The lines after the last one at a place can be left out, because none has an event there.
+-- The lines after the last line at a place can be dropped, because none of these lines has an event
+-- at the place.
 use Rattle.std.proofs.Common.{◌≡◌, ℕ, Bool, true, false, cond, List, [], ◌∷◌, ◌++◌, refl, ap, sym, ◌∙◌, append_assoc}
 use Rattle.std.specs.Prelude.{◌&&◌}
 use Rattle.docker_model.specs.file.Change.{ScheduleKey}
@@ -17,8 +18,7 @@ module _ (place : List ℕ) (day start : ℕ) (key : ScheduleKey) (detail : Deta
   abbrev line_of : Occurrence → List DockerLine
   line_of event = cond (is_here place event && is_today day start event) (line_at_event key start detail event ∷ []) []
 
-  -- two lists of events, one after the other, give the docker lines of the first, and then the
-  -- docker lines of the second
+  -- the docker lines of a concatenation of events are the concatenation of their docker lines
   there_parts : (events behind : List Occurrence) → there (events ++ behind) ≡ there events ++ there behind
   there_parts [] behind = refl
   there_parts (event ∷ events) behind =
@@ -33,8 +33,8 @@ module _ (place : List ℕ) (day start : ℕ) (key : ScheduleKey) (detail : Deta
       [] ++ there (occurrences_at (past_time p time) line times))
       ∙ none_elsewhere (past_time p time) line times elsewhere
 
-  -- for a walk that carries `p`, the lines up to the last one at the place give the same docker
-  -- lines as all lines
+  -- after the progress `p`, the lines up to the last line at the place have the same docker lines
+  -- as all lines
   lines_up_to : (p : Progress) (lines : List (List ℕ)) → there (occurrences_from p (up_to_last place lines)) ≡ there (occurrences_from p lines)
   lines_up_to p [] = refl
   lines_up_to p (line ∷ lines) = by (names_place place line) refl (up_to_last place lines) (lines_up_to next lines)
@@ -59,7 +59,7 @@ module _ (place : List ℕ) (day start : ℕ) (key : ScheduleKey) (detail : Deta
           ∙ sym (there_parts here (occurrences_from next lines))
       by named h (found ∷ rest) same = with_line (found ∷ rest) same
 
-  -- the events of a schedule up to its last line at the place give the same docker lines as all its
+  -- the events of a schedule up to its last line at the place have the same docker lines as all its
   -- events
   pub lines_to_last : (lines : List (List ℕ)) → there (occurrences_to place lines) ≡ there (occurrences lines)
   lines_to_last lines = lines_up_to (before_all (first_record lines)) lines ∙ ap there (all_met lines)

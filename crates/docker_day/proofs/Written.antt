@@ -1,4 +1,5 @@
--- A text that is written part by part: what the sink has taken, and how often it has failed.
+-- A text that is written part by part: the bytes that the sink has gained, and its number of
+-- failures.
 use Rattle.std.proofs.Common.{◌≡◌, ℕ, suc, ◌+◌, ◌<◌, ◌≤◌, List, [], ◌∷◌, ◌++◌, length, take, drop, get_or, refl, ap, sym, ◌∙◌, subst, Some, None, Ok, Err, arith, append_assoc, append-nil, length-append}
 use Rattle.std.specs.Prelude.{◌≢◌, true, false, Option, option_map, Result, IsErr, IsErrAnd, OnOk, OnErr, ⊤}
 use Rattle.std.specs.List.{flat_map}
@@ -9,7 +10,7 @@ use Rattle.std.proofs.lemmas.Result.{on_ok_weaker, on_err_weaker}
 use Rattle.cif_device.proofs.DeviceLemmas.{counts_error}
 use Rattle.cif_device.specs.Device.{CountsFailure, Takes, TakesPart}
 
--- if a sink takes two parts one after the other, it has taken both together
+-- if a sink gains two parts, one after the other, it gains their concatenation
 pub both_taken : (first second third : Option (List ℕ)) (front back : List ℕ) → Takes first front second → Takes second back third
     → Takes first (front ++ back) third
 both_taken None second third front back one two = two ∙ ap (option_map (λ taken. taken ++ back)) one
@@ -23,7 +24,7 @@ part_of_front first second front back (n, short, taken) =
     let same : take n (front ++ back) ≡ take n front = take-append-le n front back (omega arith) in
     (n, omega arith, subst (λ bytes. Takes first bytes second) (sym same) taken)
 
--- the first part with a proper prefix of the second is a proper prefix of both parts
+-- the first part, followed by a proper prefix of the second part, is a proper prefix of both parts
 pub part_of_back : (first second third : Option (List ℕ)) (front back : List ℕ) → Takes first front second → TakesPart second back third
     → TakesPart first (front ++ back) third
 part_of_back first second third front back one (n, short, taken) =
@@ -34,21 +35,21 @@ part_of_back first second third front back one (n, short, taken) =
           (both_taken first second third front (take n back) one taken),
     )
 
--- what holds in any case holds if the result is an error
+-- a proposition that holds also holds on condition that the result is an error
 pub on_any_err : {A E : Type 0} (result : Result A E) {P : Type 0} → P → OnErr result P
 on_any_err (Ok a) holds = tt
 on_any_err (Err e) holds = holds
 
--- ---- how often the sink has failed
+-- ---- the number of failures of the sink
 
 no_error : false ≢ true
 no_error is = cc
 
--- if no write has failed, the number of failures hasn't changed
+-- if no write has failed, the number of failures is unchanged
 pub as_often : (before after : ℕ) → CountsFailure (false ≡ true) before after → after ≡ before
 as_often before after counted = counted.1 no_error
 
--- if the number of failures hasn't changed, no write has failed
+-- if the number of failures is unchanged, no write has failed
 pub none_failed : (before after : ℕ) → after ≡ before → CountsFailure (false ≡ true) before after
 none_failed before after same = counts_error {A = ⊤} {E = ⊤} (Ok tt) before after same tt
 
@@ -64,29 +65,29 @@ pub last_failed : {A E : Type 0} (result : Result A E) (before between after : �
 last_failed result before between after none same more =
     counts_error result before after (on_ok_weaker result (λ is. is ∙ none) same) (on_err_weaker result (λ is. is ∙ ap (λ n. n + 1) none) more)
 
--- the three parts of a text. `a`, `b` and `c` are written, and are equal to `front`, `middle` and
--- `back`
+-- a text in three parts. The parts `a`, `b` and `c` are written, and are equal to `front`, `middle`
+-- and `back`
 module _ (first second third last : Option (List ℕ)) (a b c front middle back : List ℕ) (a_is : a ≡ front) (b_is : b ≡ middle) (c_is : c ≡ back) where
-  -- if the sink takes each of the three parts, it has taken the whole text
+  -- if the sink gains each of the three parts, it gains the whole text
   pub all_taken : Takes first a second → Takes second b third → Takes third c last → Takes first (front ++ middle ++ back) last
   all_taken one two three =
       both_taken first third last (front ++ middle) back
       (both_taken first second third front middle (subst (λ bytes. Takes first bytes second) a_is one) (subst (λ bytes. Takes second bytes third) b_is two))
       (subst (λ bytes. Takes third bytes last) c_is three)
 
-  -- if the first write fails, the sink has taken a proper prefix of the text
+  -- if the first write fails, the sink has gained a proper prefix of the text
   pub part_of_first : TakesPart first a second → TakesPart first (front ++ middle ++ back) second
   part_of_first one =
       part_of_front first second (front ++ middle) back (part_of_front first second front middle (subst (λ bytes. TakesPart first bytes second) a_is one))
 
-  -- if the second write fails, the sink has taken a proper prefix of the text
+  -- if the second write fails, the sink has gained a proper prefix of the text
   pub part_of_second : Takes first a second → TakesPart second b third → TakesPart first (front ++ middle ++ back) third
   part_of_second one two =
       part_of_front first third (front ++ middle) back
       (part_of_back first second third front middle (subst (λ bytes. Takes first bytes second) a_is one)
       (subst (λ bytes. TakesPart second bytes third) b_is two))
 
-  -- if the third write fails, the sink has taken a proper prefix of the text
+  -- if the third write fails, the sink has gained a proper prefix of the text
   pub part_of_third : Takes first a second → Takes second b third → TakesPart third c last → TakesPart first (front ++ middle ++ back) last
   part_of_third one two three =
       part_of_back first third last (front ++ middle) back
@@ -95,9 +96,9 @@ module _ (first second third last : Option (List ℕ)) (a b c front middle back 
 
 -- ---- line by line
 
--- says that writing the remaining lines completes the text. If the sink takes them from now on, it
--- has taken all lines since the start. If it takes a proper prefix of them, it has taken a proper
--- prefix of all lines
+-- says that writing the remaining lines completes the text. If the sink gains all remaining lines,
+-- it has gained all lines since the start. If the sink gains a proper prefix of the remaining
+-- lines, it has gained a proper prefix of all lines
 pub record Leads {A : Type 0} (bytes : A → List ℕ) (lines rest : List A) (first now : Option (List ℕ)) : Type 0 where
   pub whole : (last : Option (List ℕ)) → Takes now (flat_map bytes rest) last → Takes first (flat_map bytes lines) last
   pub part : (last : Option (List ℕ)) → TakesPart now (flat_map bytes rest) last → TakesPart first (flat_map bytes lines) last
@@ -112,7 +113,7 @@ drop_next i xs x below at = drop-cons xs i x below ∙ (λ j. sym at j ∷ drop 
 pub leads_first : {A : Type 0} (bytes : A → List ℕ) (lines : List A) (first : Option (List ℕ)) → Leads bytes lines (drop 0 lines) first first
 leads_first bytes lines first = record { whole = λ last taken. taken; part = λ last taken. taken }
 
--- after a line is written, the lines after it remain
+-- after a line is written, the later lines remain
 pub leads_on : {A : Type 0} (bytes : A → List ℕ) (lines : List A) (i : ℕ) (line : A) (text : List ℕ) (first now next : Option (List ℕ))
     → i < length lines → line ≡ get_or lines i line
     → text ≡ bytes line → Leads bytes lines (drop i lines) first now → Takes now text next → Leads bytes lines (drop (i + 1) lines) first next
@@ -129,7 +130,7 @@ leads_on bytes lines i line text first now next below at is leads taken = record
     joined : bytes line ++ flat_map bytes (drop (i + 1) lines) ≡ flat_map bytes (drop i lines)
     joined = ap (flat_map bytes) (sym (drop_next i lines line below at))
 
--- if only a proper prefix of a line is written, the sink has taken a proper prefix of the text
+-- if only a proper prefix of a line is written, the sink has gained a proper prefix of the text
 pub leads_part : {A : Type 0} (bytes : A → List ℕ) (lines : List A) (i : ℕ) (line : A) (text : List ℕ) (first now next : Option (List ℕ))
     → i < length lines → line ≡ get_or lines i line
     → text ≡ bytes line → Leads bytes lines (drop i lines) first now → TakesPart now text next → TakesPart first (flat_map bytes lines) next

@@ -14,7 +14,7 @@ use Rattle.docker_day.specs.declared.base_calls.BaseCalls.{BaseCalls}
 use Rattle.docker_day.specs.Lines.{is_call}
 
 -- the first event of a train's call with this suffix at a place. `None` if there is no train, or if
--- it has no such call
+-- the train has no call with this suffix at the place
 abbrev pub first_call : Option Train → List ℕ → ℕ → Option events.Occurrence
 first_call None place suffix = None
 first_call (Some train) place suffix = find (is_call place suffix) (occurrences train.lines)
@@ -35,14 +35,14 @@ kept_or None later = later
 kept_or (Some event) later = Some event
 
 -- says how one more event of a call changes the kept events. The event is kept if its suffix,
--- `own`, had none. The events of other suffixes don't change
+-- `own`, has no kept event yet. The events of all other suffixes are unchanged
 abbrev pub HasCall : ℕ → BTreeMap ℕ events.Occurrence → events.Occurrence → BTreeMap ℕ events.Occurrence → Type 0
 HasCall own before event after =
     (suffix : ℕ) → get nat_cmp after suffix ≡ (if own == suffix then kept_or (get nat_cmp before suffix) (Some event) else get nat_cmp before suffix)
 
--- says how one more event changes the kept events, which have the first event of each suffix. A
--- suffix that has an event keeps it. One that has none now has this event, if the event's call is
--- at the place and has that suffix
+-- says how one more event changes the kept events, which are the first events of each suffix. If a
+-- suffix has a kept event, this event is unchanged. If a suffix has no kept event, it gets the new
+-- event, provided that the new event is at the place and has this suffix
 abbrev pub HasEvent : List ℕ → BTreeMap ℕ events.Occurrence → events.Occurrence → BTreeMap ℕ events.Occurrence → Type 0
 HasEvent place before event after =
     (suffix : ℕ) (later : Option events.Occurrence)

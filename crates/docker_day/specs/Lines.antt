@@ -1,4 +1,4 @@
--- The lines of a docker, made from the events that a walk meets.
+-- The lines of a docker, made from the events of a walk.
 use Rattle.std.specs.Prelude.{◌≡◌, ℕ, ◌+◌, Bool, ◌&&◌, ◌||◌, ◌==◌, if◌then◌else◌, find, List, [], ◌∷◌, ◌++◌, Option, Some, None}
 use Rattle.std.specs.Str.{bytes_eq}
 use Rattle.docker_model.specs.records.Record.{kind_of, columns, column}
@@ -22,7 +22,7 @@ use Rattle.train_choice.specs.UpTo.{occurrences_to}
 use Rattle.train_choice.specs.RecentRuns.{runs_back}
 
 -- the docker line of an event. `key` is the schedule's key, `start` the day on which the train
--- starts, and `detail` has its origin and destination
+-- starts, and `detail` has the train's origin and destination
 abbrev pub line_at_event : ScheduleKey → ℕ → Detail → Occurrence → DockerLine
 line_at_event key start detail event = record {
   time = event.time;
@@ -68,7 +68,7 @@ is_here place event = bytes_eq (columns 3 9 event.line) place
 abbrev pub is_today : ℕ → ℕ → Occurrence → Bool
 is_today day start event = start + event.falls == day
 
--- the docker lines of those events that are at the place on the day
+-- the docker lines of all events that are at the place on the day
 abbrev pub lines_there : List ℕ → ℕ → ℕ → ScheduleKey → Detail → List Occurrence → List DockerLine
 lines_there place day start key detail [] = []
 lines_there place day start key detail (event ∷ events) =
@@ -89,22 +89,22 @@ is_under_way place lines day = (runs_back lines day 1 || runs_back lines day 2) 
 abbrev pub is_call : List ℕ → ℕ → Occurrence → Bool
 is_call place suffix event = is_at place suffix event.line
 
--- says that these lines were added. `more` makes them from two functions: one finds the train of a
--- UID and a start day, the other the association chosen in a group
+-- says that these lines were appended. `more` makes the lines from two functions: the first returns
+-- the train of a UID and a start day, the second the association chosen in a group
 abbrev pub Adds : Table → ((List ℕ → ℕ → Option Train) → (Group → ℕ → Option Link) → List DockerLine) → List DockerLine → List DockerLine → Type 0
 Adds live more before after = (rows : List Row) → AreRowsOf live rows → after ≡ before ++ more (train_in rows) (link_in rows)
 
--- the line, if there is one, as a list
+-- a list with the line, or the empty list if there is no line
 abbrev pub listed : Option DockerLine → List DockerLine
 listed None = []
 listed (Some line) = line ∷ []
 
--- the docker lines of a schedule for a start day. There are none unless its train runs by this
--- schedule on that day
+-- the docker lines of a schedule for a start day. Empty unless the train of the schedule's UID runs
+-- by this schedule on that day
 abbrev pub schedule_piece : (List ℕ → ℕ → Option Train) → List ℕ → ℕ → ScheduleKey → List (List ℕ) → ℕ → List DockerLine
 schedule_piece trains place day key lines start = if runs_by (trains key.uid start) key then event_lines place day start key lines else []
 
--- the docker line of an association at an event of the base train. There is none if the event is on
+-- the docker line of an association at an event of the base train. `None` if the event is on
 -- another day
 abbrev pub link_line_at : (List ℕ → ℕ → Option Train) → ℕ → ℕ → Link → Occasion → ScheduleKey → Occurrence → List DockerLine
 link_line_at trains day start link occasion base event =
@@ -112,28 +112,28 @@ link_line_at trains day start link occasion base event =
     then line_of_link occasion link.key base start event (partner_identity trains link.key.associated (partner_start (column 37 link.line) start)) ∷ []
     else []
 
--- like `link_line_at`, or no line if there is no event
+-- like `link_line_at`, or `None` if there is no event
 abbrev pub link_line_by : (List ℕ → ℕ → Option Train) → ℕ → ℕ → Link → Occasion → ScheduleKey → Option Occurrence → List DockerLine
 link_line_by trains day start link occasion base None = []
 link_line_by trains day start link occasion base (Some event) = link_line_at trains day start link occasion base event
 
--- the docker line of an association. There is none if its category gives no line, or if there is no
--- base train
+-- the docker line of an association. `None` if its category gives no line, or if there is no base
+-- train
 abbrev pub link_line_with : (List ℕ → ℕ → Option Train) → ℕ → ℕ → Link → Option Occasion → Option Train → List DockerLine
 link_line_with trains day start link None base = []
 link_line_with trains day start link (Some occasion) None = []
 link_line_with trains day start link (Some occasion) (Some base) =
     link_line_by trains day start link occasion base.key (find (is_call link.key.location link.key.suffix) (occurrences base.lines))
 
--- the docker line of an association for a start day of its base train. There is none if the
--- association isn't in force on that day
+-- the docker line of an association for a start day of its base train. Empty if the association
+-- isn't in force on that day
 abbrev pub link_piece : (List ℕ → ℕ → Option Train) → (Group → ℕ → Option Link) → ℕ → Link → ℕ → List DockerLine
 link_piece trains links day link start =
     if is_in_force links start link.key link.line
     then link_line_with trains day start link (category_occasion (columns 35 36 link.line)) (trains link.key.base start)
     else []
 
--- like `link_piece`, or no line if the association isn't at the place
+-- like `link_piece`, or empty if the association isn't at the place
 abbrev pub link_here : (List ℕ → ℕ → Option Train) → (Group → ℕ → Option Link) → List ℕ → ℕ → Link → ℕ → List DockerLine
 link_here trains links place day link start = if bytes_eq link.key.location place then link_piece trains links day link start else []
 

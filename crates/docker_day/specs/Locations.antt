@@ -1,4 +1,4 @@
--- The columns of a location record that a docker prints.
+-- What a docker prints from a location record.
 use Rattle.std.specs.Prelude.{ℕ, List, Option}
 use Rattle.docker_model.specs.records.Record.{Kind}
 use Rattle.docker_model.specs.file.Journey.{Occasion, arrival, pass, joining, dividing, next_working, departure}
@@ -6,8 +6,8 @@ use Rattle.docker_model.specs.docker.DockerLine.{platform_by_kind, track_by_kind
 use Rattle.docker_model.specs.records.PrintedTime.{spaces}
 use Rattle.docker_day.specs.declared.location.Location.{Location}
 
--- the columns that a docker prints: platform, line, path, and the public times of arrival and
--- departure
+-- what a docker prints from a location record: platform, line, path, and the public times of
+-- arrival and departure
 pub record Shown : Type 0 where
   pub platform : List ℕ
   pub track : List ℕ
@@ -15,7 +15,7 @@ pub record Shown : Type 0 where
   pub arrival : List ℕ
   pub departure : List ℕ
 
--- the printed columns as the code has them, converted to the definitions' type
+-- the printed columns of the code, converted to the definitions' type
 abbrev pub location_meant : Location → Shown
 location_meant location = record {
   platform = location.platform.now;
@@ -25,7 +25,7 @@ location_meant location = record {
   departure = location.departure.now;
 }
 
--- the columns that a docker prints of a record of this kind
+-- what a docker prints from a record of this kind
 abbrev pub location_by_kind : Option Kind → List ℕ → Shown
 location_by_kind kind line = record {
   platform = platform_by_kind kind line;
@@ -35,7 +35,7 @@ location_by_kind kind line = record {
   departure = public_by_kind kind departure line;
 }
 
--- the public time for an occasion. It is spaces unless the occasion is an arrival or a departure
+-- the public time for an occasion. Spaces unless the occasion is an arrival or a departure
 abbrev pub public_at : Occasion → Shown → List ℕ
 public_at arrival shown = shown.arrival
 public_at departure shown = shown.departure

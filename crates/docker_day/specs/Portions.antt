@@ -11,25 +11,26 @@ use Rattle.train_choice.specs.Known.{PlaceDay}
 use Rattle.docker_day.specs.RowViews.{views_in, views_of}
 use Rattle.docker_day.specs.declared.row_view.RowView.{RowView}
 
--- says that the rows `after` are as good as the rows `before`. If all of `before` have good bodies,
--- so have all of `after`. If all of `before` are live, so are all of `after`
+-- says that two properties of the rows `before` hold for the rows `after` too. If all rows of
+-- `before` have good bodies, so have all rows of `after`. If all rows of `before` are live, so are
+-- all rows of `after`
 pub record AreLeft (before after : List Row) : Type 0 where
   pub good : AreGoodRows before → AreGoodRows after
   pub live : (live : Table) → AreLive live before → AreLive live after
 
--- says that rows were read into the portion. The portion and the rows that are left have, together,
--- the same views as before
+-- says that rows were moved from the walk to the portion: the views of the portion, followed by the
+-- views of the remaining rows, are unchanged
 abbrev pub AreOpened : List Row → List Row → List (ℕ × RowView) → List (ℕ × RowView) → Type 0
 AreOpened before after portion more = views_in more ++ views_of after ≡ views_in portion ++ views_of before
 
--- says that the rows read between `before` and `after` have no docker line. At any place on the
--- day, `before` and `after` give the same lines
+-- says that the rows read between `before` and `after` have no docker line: at any place on the
+-- day, `before` and `after` have the same lines
 abbrev pub ArePassedOver : ℕ → List Row → List Row → Type 0
 ArePassedOver day before after = (place : List ℕ) (live : Table) → AreLive live before → (rows : List Row) → AreRowsOf live rows
     → gathered (train_in rows) (link_in rows) place day before ≡ gathered (train_in rows) (link_in rows) place day after
 
--- says that a walk has added the lines of the rows that it passed. The lines added and the lines of
--- the rows still to come are, together, the same as before
+-- says that a walk has added the lines of the rows that it has passed: the lines that were added,
+-- followed by the lines of the remaining rows, are unchanged
 abbrev pub HaveMoved : PlaceDay → List Row → List Row → List DockerLine → List DockerLine → Type 0
 HaveMoved there before after lines more = (rows : List Row) → AreRowsOf (live_in there.timetable) rows
     → more ++ gathered (train_in rows) (link_in rows) there.place there.day after

@@ -15,15 +15,15 @@ pub record Visit : Type 0 where
   pub day : ℕ
   pub start : ℕ
 
--- says that the parts of a visit fit together: each has the visit's timetable, place and start day.
--- The start day isn't after the day
+-- says that the parts of a visit fit together: each part has the visit's timetable, place and start
+-- day. The start day isn't after the day
 pub record IsOnePlace (timetable : Timetable) (place : List ℕ) (day start : ℕ) (trains : StartDay) (links bases : PlaceDay) : Type 0 where
   pub past : start ≤ day
   pub trains_are : trains ≡ record { timetable = timetable; day = start }
   pub links_are : links ≡ record { timetable = timetable; place = place; day = start }
   pub bases_are : bases ≡ record { timetable = timetable; place = place; day = start }
 
--- the visit for the trains that start `back` days before the day. There is none if that would be
+-- the visit for the trains that start `back` days before the day. `None` if the start day would be
 -- before day 0
 abbrev pub visit_back : PlaceDay → ℕ → Option Visit
 visit_back there back =

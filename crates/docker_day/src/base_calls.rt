@@ -15,8 +15,8 @@ use std::alloc::Global;
 use std::collections::BTreeMap;
 use train_choice::{Events, Occurrence};
 
-/// A UID, and the calls of its train at a place on a start day. For each suffix it has the call's
-/// first event. There are no calls if the train doesn't run on that start day.
+/// A UID, and the calls of its train at a place on a start day. For each suffix, the first event of
+/// the call is kept. If the train doesn't run on the start day, there are no calls.
 #[derive(Debug, Drop)]
 pub(crate) struct BaseCalls<'a> {
     pub(crate) uid: Uid,
@@ -24,8 +24,8 @@ pub(crate) struct BaseCalls<'a> {
 }
 
 impl<'a> BaseCalls<'a> {
-    /// The first event of the call with this suffix. The outer `None` says that the calls kept here
-    /// are another UID's. The inner `None` says that the train has no such call.
+    /// The first event of the call with this suffix. The outer `None` means that the kept calls are
+    /// another UID's. The inner `None` means that the train has no call with this suffix.
     pub(crate) fn asked(&self, uid: &Uid, suffix: u8) -> Option<Option<Occurrence<'a>>>
         ensures { option_map meant_if result ≡ (if bytes_eq self.now.uid uid.now
             then Some (get nat_cmp self.now.calls suffix) else None) }
@@ -64,7 +64,7 @@ pub(crate) fn first_calls<'a>(
     Ok(calls)
 }
 
-/// Updates the first events with one more event, which counts only if it is at the place.
+/// Updates the first events with one more event. An event that isn't at the place is ignored.
 fn add_event<'a>(
     calls: &mut BTreeMap<u8, FirstEvent<'a>>,
     event: &Occurrence<'a>,
@@ -80,8 +80,8 @@ fn add_event<'a>(
     }
 }
 
-/// Updates the first events with one more event at the place. It counts only if its suffix has no
-/// event yet.
+/// Updates the first events with one more event at the place. The event is ignored if its suffix
+/// already has an event.
 fn add_call<'a>(
     calls: &mut BTreeMap<u8, FirstEvent<'a>>,
     suffix: u8,

@@ -18,8 +18,8 @@ use std::marker::Model;
 use train_choice::{Occurrence, train_on};
 
 /// The calls at a place of the base trains that start on a day. The calls of the train that was
-/// looked up last are kept. A walk meets all associations of a base train one after the other, so
-/// each base train's lines are read only once.
+/// looked up last are kept. In a walk over a state's rows, all associations of a base train are
+/// consecutive, so each base train's lines are read only once.
 #[derive(Debug, Drop)]
 pub(crate) struct Bases<'a> {
     alloc: Global,
@@ -47,7 +47,7 @@ impl<'a> Model for Bases<'a> {
 }
 
 impl<'a> Bases<'a> {
-    /// The calls at a place of the trains that start on a day. None are kept yet.
+    /// The calls at a place of the trains that start on a day. No calls are kept yet.
     pub(crate) fn at(
         alloc: Global,
         timetable: &Timetable<'a>,
@@ -69,8 +69,9 @@ impl<'a> Bases<'a> {
         }
     }
 
-    /// The first event of a train's call with this suffix at the place. `None` if there is no such
-    /// call, or if the train doesn't run. `Memory` if there is no room for the train's calls.
+    /// The first event of a train's call with this suffix at the place. `None` if the train has no
+    /// call with this suffix, or if it doesn't run. `Memory` if there is no room for the train's
+    /// calls.
     pub(crate) fn first_call(
         &mut self,
         uid: &Uid,
@@ -87,9 +88,9 @@ impl<'a> Bases<'a> {
         }
     }
 
-    /// The first event of the call, if the train's calls are kept. The outer `None` says that no
-    /// calls are kept, or those kept are another train's. The inner `None` says that the train has
-    /// no such call.
+    /// The first event of the call, if the train's calls are kept. The outer `None` means that no
+    /// calls are kept, or that the kept calls are another train's. The inner `None` means that the
+    /// train has no call with this suffix.
     fn known(&self, uid: &Uid, suffix: u8) -> Option<Option<Occurrence<'a>>>
         ensures { IfSome result (λ event. (rows : List Row)
             → AreRowsOf (live_in self.now.timetable) rows → meant_if event

@@ -17,9 +17,10 @@ pub enum Detail {
     },
     /// For an association: the associated train.
     Partner {
-        /// The UID of that train.
+        /// The UID of the associated train.
         uid: Uid,
-        /// The train identity of that train on its start day, or `????` if it doesn't run then.
+        /// The train identity of the associated train on its start day, or `????` if the train
+        /// doesn't run on that day.
         identity: [u8; 4],
     },
 }

@@ -19,8 +19,9 @@ use std::cmp::Ordering;
 use std::marker::Model;
 use train_choice::{LinkView, Occasion, Occurrence, ScheduleView};
 
-/// A line of a docker: an event of a train, or an association of the train with another. Lines are
-/// ordered by time, occasion, UID, start day, event number and UID of the associated train.
+/// A line of a docker: an event of a train, or an association of the train with another train.
+/// Lines are ordered by time, occasion, UID, start day, event number and UID of the associated
+/// train.
 #[derive(Debug, Drop)]
 pub struct DockerLine<'a> {
     time: Time,
@@ -149,14 +150,15 @@ impl<'a> DockerLine<'a> {
         self.identity
     }
 
-    /// The UID of the train. In the line of an association it is the base train's.
+    /// The UID of the train. In the line of an association, the base train's UID.
     pub fn uid(&self) -> Uid
         ensures { result ≡ self.now.uid }
     {
         self.uid
     }
 
-    /// The STP indicator of the schedule. In the line of an association it is the association's.
+    /// The STP indicator of the schedule. In the line of an association, the association's STP
+    /// indicator.
     pub fn stp(&self) -> Stp
         ensures { stp_letter result ≡ self.now.indicator }
     {
@@ -193,7 +195,7 @@ impl<'a> DockerLine<'a> {
         self.path
     }
 
-    /// The public time of the arrival or departure as HHMM. Spaces if there is none.
+    /// The public time of the arrival or departure as HHMM. Spaces if there is no public time.
     pub fn public_time(&self) -> &'a [u8; 4]
         ensures { result.now ≡ self.now.public_time }
     {
@@ -214,7 +216,7 @@ impl<'a> DockerLine<'a> {
         self.number
     }
 
-    /// The origin and destination of the train. In the line of an association it is the associated
+    /// The origin and destination of the train. In the line of an association, the associated
     /// train.
     pub fn detail(&self) -> Detail
         ensures { detail_meant result ≡ self.now.detail }

@@ -16,7 +16,7 @@ use cif_line::{Day, Memory, Tiploc};
 use train_choice::LinkView;
 
 /// Adds the docker lines of a row, for each start day whose trains may be at the place on the day.
-/// `row` is the row's index. Returns `Memory` if there is no room for them.
+/// `row` is the row's index. Returns `Memory` if there is no room for the lines.
 pub(crate) fn add_row<'a>(
     lines: &mut Vec<DockerLine<'a>>,
     visits: &mut Visits<'a>,
@@ -41,7 +41,7 @@ pub(crate) fn add_row<'a>(
 }
 
 /// Whether a row may have lines on a day. A schedule has none if it runs neither on that day nor on
-/// one of the two days before. This reads the fields of the schedule once for all three days.
+/// one of the two days before. The call reads the fields of the schedule once for all three days.
 fn row_runs_recently(view: &RowView<'_>, day: Day) -> bool
     ensures { result ≡ row_runs_recently view.now day }
 {

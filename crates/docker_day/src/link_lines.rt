@@ -19,7 +19,8 @@ use cif_line::Memory;
 use train_choice::{LinkView, Occasion, Occurrence, is_cancellation};
 
 /// The docker line of an association for a visit. `None` if the association isn't in force on the
-/// start day, if its category gives no line, or if its base train doesn't call there on the day.
+/// start day, if its category gives no line, or if its base train doesn't call at the place on the
+/// day.
 pub(crate) fn link_line<'a>(
     visit: &mut Visit<'a>,
     link: &LinkView<'a>,
@@ -80,7 +81,7 @@ fn occasion_of(category: &[u8; 2]) -> Option<Occasion>
 }
 
 /// The docker line of an association in force. `None` if its category gives no line, or if its base
-/// train doesn't run or doesn't call there on the day.
+/// train doesn't run or doesn't call at the place on the day.
 fn line_with<'a>(
     visit: &mut Visit<'a>,
     link: &LinkView<'a>,
@@ -100,7 +101,7 @@ fn line_with<'a>(
 }
 
 /// The docker line of an association with this occasion. `None` if its base train doesn't run, or
-/// doesn't call there on the day.
+/// doesn't call at the place on the day.
 fn line_by<'a>(
     visit: &mut Visit<'a>,
     link: &LinkView<'a>,

@@ -8,8 +8,8 @@ ghost use Rattle.docker_day.specs.Locations.{location_meant, location_by_kind, p
 use cif_line::{Kind, Line, kind};
 use train_choice::Occasion;
 
-/// The columns of a location record that a docker prints. They are spaces if that kind of record
-/// doesn't have them.
+/// What a docker prints from a location record. A field is spaces if the record's kind doesn't have
+/// this field.
 #[derive(Clone, Copy, Debug)]
 pub(crate) struct Location<'a> {
     /// The platform.
@@ -25,9 +25,9 @@ pub(crate) struct Location<'a> {
 }
 
 impl<'a> Location<'a> {
-    /// The columns of a line that a docker prints. It is called only with location records, because
+    /// What a docker prints from a line. The function is called only with location records, because
     /// no other line has an event. For any other line the platform would be columns 20 to 22, and
-    /// all else spaces.
+    /// all other fields spaces.
     pub(crate) fn of(line: &'a Line) -> Location<'a>
         ensures { location_meant result ≡ location_by_kind (kind_of line.entry.now) line.entry.now }
     {
@@ -89,7 +89,8 @@ pub(crate) fn suffix_in(line: &Line) -> u8
     line.bytes()[9]
 }
 
-/// A public time as it is printed. `0000` means that there is none, and becomes spaces.
+/// A public time as it is printed. `0000` means that there is no public time, and is printed as
+/// spaces.
 fn shown_public(field: &[u8; 4]) -> &[u8; 4]
     ensures { result.now ≡ shown_public field.entry.now }
 {

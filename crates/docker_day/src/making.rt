@@ -23,10 +23,11 @@ use docker_state::{State, Timetable};
 use std::alloc::Global;
 use train_choice::{associations_at, schedules_at};
 
-/// Makes the docker of a timing point and a day. It has the events there on that day, of trains
-/// that run, and the associations there. `Lapsed` if and only if the state has a horizon and the
-/// day is earlier than three days after it, because entries that have lapsed could be missing.
-/// `Memory` if there is no room for the lines, or for what is looked up for them.
+/// Makes the docker of a timing point and a day. The docker has the events of trains that run, and
+/// the associations, at this timing point on this day. `Lapsed` if and only if the state has a
+/// horizon and the day is earlier than three days after the horizon, because lapsed entries could
+/// be missing on the docker. `Memory` if there is no room for the lines, or for the trains that are
+/// looked up for them.
 pub fn docker<'a>(
     alloc: Global,
     state: &'a State,
@@ -39,10 +40,10 @@ pub fn docker<'a>(
     docker_of(alloc, &Timetable::of(state), tiploc, day)
 }
 
-/// Like `docker`, without the short-term plan: of schedules and associations, only those with the
-/// STP indicator `P` count. Trains that short-term entries cancel or change appear as they run
-/// otherwise. Trains that short-term entries add don't appear. The same days are refused as by
-/// `docker`.
+/// Like `docker`, without the short-term plan: only schedules and associations with the STP
+/// indicator `P` count. If a short-term entry cancels or changes a train, the docker has the train
+/// as permanently planned. If a short-term entry adds a train, the docker doesn't have the train.
+/// The same days are refused as by `docker`.
 pub fn permanent_docker<'a>(
     alloc: Global,
     state: &'a State,
@@ -78,7 +79,8 @@ fn docker_of<'a>(
     }
 }
 
-/// Adds the docker lines of the associations at a place and of the schedules that call there.
+/// Adds the docker lines of the associations at a place and of the schedules that call at the
+/// place.
 fn add_all<'a>(
     alloc: Global,
     lines: &mut Vec<DockerLine<'a>>,
@@ -103,7 +105,7 @@ fn in_order(mut lines: Vec<DockerLine<'_>>) -> Vec<DockerLine<'_>>
     lines
 }
 
-/// Whether there is a horizon and the day is earlier than three days after it.
+/// Whether there is a horizon and the day is earlier than three days after the horizon.
 fn is_refused(horizon: u16, day: Day) -> bool
     requires day { horizon ≤ 36524 }
     ensures { IsTrue result ↔ IsDayRefused horizon day }
@@ -111,7 +113,7 @@ fn is_refused(horizon: u16, day: Day) -> bool
     (horizon > 0) & (day.number() < horizon + 3)
 }
 
-/// The description of a timing point: 26 bytes. They are spaces if the timing point isn't live.
+/// The description of a timing point: 26 bytes, which are spaces if the timing point isn't live.
 fn description<'a>(timetable: &Timetable<'a>, tiploc: &Tiploc) -> &'a [u8; 26]
     ensures text { result.now ≡ description_in (live_in timetable.now (tiploc_key tiploc.now)) }
     ensures good { IsOfGoodRows (live_in timetable.now) }

@@ -16,13 +16,14 @@ use arrayvec::ArrayVec;
 use cif_line::{Day, Memory};
 use docker_state::TimetableRows;
 
-/// How many rows are read before any line is added. Their cache misses then overlap.
+/// The number of rows that are read before any line is added. Reading several rows at once makes
+/// their cache misses overlap.
 const PORTION: usize = 16;
 
 /// Rows of a walk that have been read, each with its index in the state.
 type Portion<'a> = ArrayVec<(usize, RowView<'a>), PORTION>;
 
-/// Adds the docker lines of all rows of a walk. Returns `Memory` if there is no room for them.
+/// Adds the docker lines of all rows of a walk. Returns `Memory` if there is no room for the lines.
 pub(crate) fn add_rows<'a>(
     lines: &mut Vec<DockerLine<'a>>,
     visits: &mut Visits<'a>,
@@ -48,9 +49,9 @@ pub(crate) fn add_rows<'a>(
     }
 }
 
-/// Refills the portion with the next rows of the walk, and returns whether any of them may have
-/// lines on the day. Reads every row, so that the cache misses overlap. At the end of the walk the
-/// portion is empty.
+/// Refills the portion with the next rows of the walk, and returns whether any of these rows may
+/// have lines on the day. Reads every row, so that the cache misses overlap. At the end of the walk
+/// the portion is empty.
 fn open_portion<'a>(portion: &mut Portion<'a>, rows: &mut TimetableRows<'a>, day: Day) -> bool
     requires { AreGoodRows rows.old }
     ensures left { AreLeft rows.old rows.new }
@@ -66,8 +67,8 @@ fn open_portion<'a>(portion: &mut Portion<'a>, rows: &mut TimetableRows<'a>, day
     some
 }
 
-/// Adds the next row of the walk to the portion, and returns whether it may have lines on the day.
-/// `None` if the portion is full or the walk is at its end.
+/// Adds the next row of the walk to the portion, and returns whether the row may have lines on the
+/// day. `None` if the portion is full or the walk has ended.
 fn open_next<'a>(portion: &mut Portion<'a>, rows: &mut TimetableRows<'a>, day: Day) -> Option<bool>
     requires { AreGoodRows rows.old }
     ensures none { IsNone result → (array_vec_len portion.new ≡ PORTION) ⊎ (rows.new ≡ []) }
@@ -87,7 +88,7 @@ fn open_next<'a>(portion: &mut Portion<'a>, rows: &mut TimetableRows<'a>, day: D
 }
 
 /// Whether a row may have lines on a day. A schedule has none unless it has begun by that day, and
-/// its days-run field marks that weekday or one of the two before.
+/// its days run include the weekday of the day or one of the two weekdays before.
 fn may_row_run(view: &RowView<'_>, day: Day) -> bool
     ensures { result ≡ row_may_run view.now day }
 {

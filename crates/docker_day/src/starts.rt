@@ -9,8 +9,8 @@ use cif_line::{Day, Tiploc};
 use train_choice::{Occurrence, day_back};
 
 /// The start day of the associated train, from the base train's start day and the date indicator.
-/// It is the next day for `N`, the day before for `P`, and otherwise the same day. `None` if there
-/// is no such day: day numbers go from 0 to 36524.
+/// It is the next day for `N`, the day before for `P`, and otherwise the same day. `None` if this
+/// day has no day number. Day numbers are 0 to 36524.
 pub(crate) fn partner_start(indicator: u8, start: Day) -> Option<Day>
     ensures { result ≡ partner_start indicator start }
 {

@@ -1,4 +1,5 @@
-//! A visit: what is looked up for the trains of one start day that may be at a place on a day.
+//! A visit: the trains of one start day that may be at a place on a day, with the data that is
+//! looked up for them.
 ghost use Rattle.std.specs.Prelude.{◌≡◌, ◌≤◌, true, List, IfOk};
 ghost use Rattle.docker_model.specs.file.File.{first_record};
 ghost use Rattle.state_laws.specs.Row.{Row, AreRowsOf};
@@ -18,10 +19,10 @@ use std::alloc::Global;
 use std::marker::Model;
 use train_choice::{DayLinks, DayTrains, Identities, Occurrence, ScheduleView};
 
-/// A visit: the trains that start on one day, and may be at a place on that day or a later one. It
-/// keeps whatever is looked up for them: the trains and associations chosen on the start day, the
-/// calls of base trains, and the identities of associated trains. So each row is read only once,
-/// even if many rows need it.
+/// A visit: the trains that start on one day, and may be at a place on that day or a later day.
+/// Whatever is looked up for these trains is kept: the trains and associations chosen on the start
+/// day, the calls of base trains, and the identities of associated trains. So each row is read only
+/// once, even if many rows need it.
 #[derive(Debug, Drop)]
 pub(crate) struct Visit<'a> {
     place: Tiploc,
@@ -114,7 +115,8 @@ impl<'a> Visit<'a> {
         self.trains.runs_by(row, train)
     }
 
-    /// Whether this association at the place is the one chosen in its group on the start day.
+    /// Whether this association at the place is the association chosen in its group on the start
+    /// day.
     pub(crate) fn counts(&self, key: &AssocKey) -> bool
         requires { key.now.location ≡ self.now.place }
         ensures { (rows : List Row) → AreRowsOf (live_in self.now.timetable) rows → result
@@ -124,9 +126,9 @@ impl<'a> Visit<'a> {
         self.links.counts(key)
     }
 
-    /// The first event of a train's call with this suffix at the place. `None` if there is no such
-    /// call, or if the train doesn't run on the start day. `Memory` if there is no room for the
-    /// train's calls.
+    /// The first event of a train's call with this suffix at the place. `None` if the train has no
+    /// call with this suffix, or if it doesn't run on the start day. `Memory` if there is no room
+    /// for the train's calls.
     pub(crate) fn first_call(
         &mut self,
         uid: &Uid,

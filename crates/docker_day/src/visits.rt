@@ -1,4 +1,5 @@
-//! The visits for a place and a day: one for each day on which a train there may have started.
+//! The visits for a place and a day: one visit for each day on which a train at the place may have
+//! started.
 ghost use Rattle.std.specs.Prelude.{◌≡◌, IfOk};
 ghost use Rattle.train_choice.specs.Known.{PlaceDay};
 ghost use Rattle.docker_day.specs.Visits.{visit_back};
@@ -10,8 +11,8 @@ use std::alloc::Global;
 use std::marker::Model;
 use train_choice::day_back;
 
-/// The visits for a place and a day. One is for the trains that start on that day. The others are
-/// for the trains that start one and two days before, if those days exist.
+/// The visits for a place and a day. One visit is for the trains that start on that day. The others
+/// are for the trains that start one and two days before, if these days exist.
 #[derive(Debug, Drop)]
 pub(crate) struct Visits<'a> {
     pub(crate) today: Visit<'a>,
@@ -74,8 +75,8 @@ impl<'a> Visits<'a> {
     }
 }
 
-/// The visit for the trains that start `back` days before the day. `None` if that would be before
-/// day 0. `Memory` if there is no room for the associations chosen on that start day.
+/// The visit for the trains that start `back` days before the day. `None` if the start day would be
+/// before day 0. `Memory` if there is no room for the associations chosen on that start day.
 fn visit_back<'a>(
     alloc: Global,
     timetable: &Timetable<'a>,

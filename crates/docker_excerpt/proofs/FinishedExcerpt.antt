@@ -16,11 +16,11 @@ use Rattle.docker_day.specs.Dockers.{IsDockerOf}
 use Rattle.state_text.specs.PartsSoFar.{horizon_meant, under}
 use Rattle.docker_excerpt.specs.Values.{Excerpt, with_entries, StandsAt, IsExcerptOf}
 
--- a state without a horizon is the same state under the horizon 0
+-- a state without a horizon equals the same state under the horizon 0
 plain_state : (state : State) → state.horizon ≡ 0 → state ≡ under 0 state
 plain_state state none = λ i. record { horizon = none i; ledger = state.ledger; entries = state.entries }
 
--- setting the horizon changes no entry, because none lapses under it
+-- setting the horizon leaves all entries unchanged, because no entry lapses under this horizon
 pub horizon_set : (state raised : State) (horizon : Option ℕ) (day : ℕ) → state.horizon ≡ 0 → horizon ≡ Some day
     → IsValid (under (horizon_meant horizon) state) → raised ≡ raise_horizon day state → raised ≡ under (horizon_meant horizon) state
 horizon_set state raised horizon day plain read valid set =
@@ -56,7 +56,7 @@ module _ (place : List ℕ) (day horizon : ℕ) (told : State) (valid : IsValid 
       → part.entries ≡ rows → part ≡ excerpt_on place day (under horizon told)
   part_is part rows is same_horizon same entries = λ i. record { horizon = same_horizon i; ledger = same i; entries = (entries ∙ is) i }
 
-  -- what was kept makes the same docker as the state whose entries were given
+  -- the kept entries make the same docker as the state whose entries were given
   pub is_excerpt_of : (part : State) (rows entries : List (Key × Entry)) → rows ≡ (excerpt_on place day told).entries → part.horizon ≡ horizon
       → part.ledger ≡ told.ledger → part.entries ≡ rows → entries ≡ told.entries → StandsAt place day (with_entries part entries) part
   is_excerpt_of part rows entries is same_horizon same kept given =
@@ -65,7 +65,7 @@ module _ (place : List ℕ) (day horizon : ℕ) (told : State) (valid : IsValid 
       (subst (λ (all : List (Key × Entry)). IsExcerptOf place day (with_entries (excerpt_on place day (under horizon told)) all) (excerpt_on place day (under horizon told)))
       (sym given) (record { valid = valid; excerpt = walk_is_excerpt place (near_state day (under horizon told)) (near_valid day (under horizon told) valid).entries.1 })))
 
-  -- the excerpt's value has the state whose parts were given, under the horizon
+  -- the value of the excerpt has the state whose parts were given, under the horizon
   pub stands_for : (part : State) (entries : List (Key × Entry)) → part.horizon ≡ horizon → part.ledger ≡ told.ledger → entries ≡ told.entries
       → ◌≡◌ {A = Excerpt} (record { place = place; day = day; state = with_entries part entries })
       (record { place = place; day = day; state = under horizon told })

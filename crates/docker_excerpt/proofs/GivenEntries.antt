@@ -1,4 +1,4 @@
--- The parts that were given, with one more entry.
+-- The parts of a state that were given, with one more entry.
 use Rattle.std.proofs.Common.{◌≡◌, ℕ, ◌-◌, List, [], ◌∷◌, ◌++◌, length, map, refl, ap, sym, ◌∙◌, subst, arith, length-append, Some}
 use Rattle.std.proofs.lemmas.List.{append_assoc}
 use Rattle.std.specs.Prelude.{Option, slice_get}
@@ -20,7 +20,7 @@ use Rattle.state_text.specs.Parts.{last_key}
 use Rattle.docker_excerpt.specs.Values.{with_entries}
 use Rattle.docker_excerpt.specs.Ledger.{IsLedgerOf}
 
--- if the given parts are valid and one more entry fits, the parts with that entry are valid
+-- if the given parts are valid and one more entry fits, the parts with the new entry are valid
 pub valid_with : (parts : State) (last : Option Key) (count : ℕ) (entries : List (model.Key × Entry)) (told : State) → with_entries parts entries ≡ told
     → IsLedgerOf parts last count entries → (key : model.Key) (entry : Entry) → IsStampHere told key entry.stamp → IsOpOf key entry.op
     → (after : List (model.Key × Entry)) → after ≡ told.entries ++ (key, entry) ∷ [] → IsValid (with_entries told after)
@@ -46,7 +46,7 @@ pub last_with : (entries after : List (model.Key × Entry)) (key : model.Key) (e
 last_with entries after key entry pushed =
     ap last_key pushed ∙ ap (option_map (λ (one : model.Key × Entry). one.0)) (last_of entries (key, entry))
 
--- when rows are added to parts one by one, the next row fits the entries that are there
+-- when rows are added to parts one by one, the next row fits the entries that were added before
 pub row_behind : (parts : State) (ledger : List LedgerItem) (rows rest after : List (Key × Row)) (key : Key) (row : Row)
     → AreEntries ledger (map row_meant rows)
     → parts.ledger ≡ ledger → parts.entries ++ map row_meant rest ≡ map row_meant rows → rest ≡ (key, row) ∷ after
@@ -57,8 +57,8 @@ row_behind parts ledger rows rest after key row are same whole step =
     (sym whole ∙ ap (λ (more : List (Key × Row)). parts.entries ++ map row_meant more) step)
     (subst (λ (items : List LedgerItem). AreEntries items (map row_meant rows)) (sym same) are))
 
--- when one more row has been added, the entries that are there and the remaining rows are still all
--- rows
+-- after one more row has been added, the added entries, followed by the remaining rows, are still
+-- all rows
 pub row_given : (parts after : State) (rows rest later : List (Key × Row)) (key : Key) (row : Row)
     → parts.entries ++ map row_meant rest ≡ map row_meant rows → rest ≡ (key, row) ∷ later
     → after.entries ≡ parts.entries ++ (key_meant key, entry_meant row) ∷ [] → after.entries ++ map row_meant later ≡ map row_meant rows

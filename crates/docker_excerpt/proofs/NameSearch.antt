@@ -1,4 +1,4 @@
--- What a binary search finds in sorted names, among which a name may occur more than once.
+-- The result of a binary search in sorted names, which may have duplicates.
 use Rattle.std.proofs.Common.{◌≡◌, ℕ, ◌<◌, ◌≤◌, List, Bool, true, false, length, get_or, ap, sym, ◌∙◌, inl, inr, ◌⊎◌, Contains, Ok, Err, arith}
 use Rattle.std.proofs.lemmas.Bool.{cases_lt}
 use Rattle.std.proofs.lemmas.List.Sorted.{searchable_from_sorted}
@@ -10,7 +10,7 @@ use Rattle.std.specs.Prelude.{Result, ◌↔◌, is_ok}
 use Rattle.std.specs.declared.cmp.Ordering.TheVariants.{Less, Equal, Greater}
 use Rattle.docker_model.specs.state.Order.{bytes_cmp}
 
--- if each of the names is below or above a UID, the UID isn't among them
+-- if each of the names is less than or greater than a UID, the UID isn't among the names
 absent : (names : List (List ℕ)) (uid : List ℕ) (at : ℕ)
     → IsPartitionPoint (λ name. bytes_cmp name uid ≡ Less) (λ name. bytes_cmp name uid ≡ Greater) names at → ¬ Contains names uid
 absent names uid at parts among = here (cases_lt among.0 at)
@@ -22,7 +22,7 @@ absent names uid at parts among = here (cases_lt among.0 at)
     here (inl before) = let below = parts.0 among.0 uid (let within = among.1 in omega arith) before in let equal = tied in cc
     here (inr after) = let above = parts.1 among.0 uid after among.1 in let equal = tied in cc
 
--- the search finds a UID if and only if it is among the names
+-- the search finds a UID if and only if the UID is among the names
 pub found_iff : (names : List (List ℕ)) (uid : List ℕ) → IsSorted bytes_cmp names → (found : Result ℕ ℕ) → IsSearchInRange found (length names)
     → IsBinarySearchResult (λ name. bytes_cmp name uid) names found → (b : Bool) → b ≡ is_ok found → (b ≡ true) ↔ Contains names uid
 found_iff names uid sorted (Ok at) within is b same = (λ _. (at, within, exact_bytes (get_or names at uid) uid (is uid)), λ _. same)

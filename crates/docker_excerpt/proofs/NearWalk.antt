@@ -1,4 +1,4 @@
--- Skipping the entries that can't count on a day doesn't change the order of the others.
+-- Skipping the entries that can't count on a day leaves the order of the other entries unchanged.
 use Rattle.std.proofs.Common.{◌≡◌, ℕ, List, sym, subst}
 use Rattle.docker_model.specs.file.Change.{Key}
 use Rattle.docker_model.specs.state.Order.{IsBelow}
@@ -12,7 +12,7 @@ use Rattle.docker_excerpt.specs.Walked.{state_of_entries}
 abbrev Keyed : Type 0
 Keyed = Key × Entry
 
--- a key that is above all entries is above those that may count on the day
+-- a key that is above all entries is above all entries that may count on the day
 pub near_above : (day : ℕ) (near entries : List Keyed) (key : Key) → near ≡ near_entries day entries → IsAboveEntries (state_of_entries entries) key
     → IsAboveEntries (state_of_entries near) key
 near_above day near entries key is above =

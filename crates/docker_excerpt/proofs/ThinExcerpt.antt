@@ -1,4 +1,4 @@
--- The state made from the kept changes of a file gives the same docker as the state of the whole
+-- The state made from the kept changes of a file makes the same docker as the state of the whole
 -- file.
 use Rattle.std.proofs.Common.{◌≡◌, ℕ, ◌≤◌, List, [], ◌∷◌, length, map, refl, ap, sym, ◌∙◌, subst, cond, None}
 use Rattle.std.specs.Prelude.{Option, option_and_then, slice_index_or}
@@ -55,8 +55,8 @@ module _ (place : List ℕ) (day : ℕ) (lines : List (List ℕ)) (is_file : IsF
     list = (thin_state_list place day lines is_file few kept thinning part of (summary_of lines) (summary_is lines) docker.lines).1 made.list;
   }
 
--- the state of the kept changes, with the entries of the whole file instead of its own, is the
--- file's state
+-- if the entries of the kept changes' state are replaced by the entries of the whole file, the
+-- result is the file's state
 pub given_is_state : (file : FileRead) (lines : List (List ℕ)) → IsOfRecords file lines → (kept : List Change) (part : State)
     → IsStateOfChanges lines kept part → (entries : List (Key × Entry)) → entries ≡ (state_of_read file).entries
     → with_entries part entries ≡ state_of_read file

@@ -1,4 +1,4 @@
--- What each step of the code's walk adds to the kept rows, to the run and to the names.
+-- How each step of the code's walk changes the kept rows, the run and the names.
 use Rattle.std.proofs.Common.{◌≡◌, ℕ, List, [], ◌∷◌, ◌++◌, map, ap, sym, ◌∙◌, subst, Bool, true, false, cond}
 use Rattle.std.specs.Prelude.{Option, Some, None}
 use Rattle.std.specs.Option.{option_to_list}
@@ -11,13 +11,13 @@ use Rattle.state_text.specs.Entry.{Entry}
 use Rattle.docker_join.specs.Meaning.{entry_meant, row_meant}
 use Rattle.docker_excerpt.specs.Walked.{IsWalk}
 
--- a row that the code adds is the same row in the definitions
+-- a row that the code appends is the same row in the definitions
 pub rows_more : (rows before after : List (Key × Entry)) (key : Key) (entry : Entry) → before ≡ rows → after ≡ before ++ (key, entry) ∷ []
     → map row_meant after ≡ map row_meant rows ++ (key_meant key, entry_meant entry) ∷ []
 rows_more rows before after key entry same pushed =
     ap (map row_meant) (pushed ∙ ap (λ (front : List (Key × Entry)). front ++ (key, entry) ∷ []) same) ∙ map-append row_meant rows ((key, entry) ∷ [])
 
--- if an entry names an associated train, that name is added to the names
+-- if an entry names an associated train, the UID of this train is appended to the names
 pub names_with_some : (names after : List (List ℕ)) (name : List ℕ) (found told : Option (List ℕ)) → after ≡ names ++ name ∷ [] → found ≡ Some name
     → found ≡ told → after ≡ names ++ option_to_list told
 names_with_some names after name found told pushed is same = pushed ∙ ap (λ (one : Option (List ℕ)). names ++ option_to_list one) (sym is ∙ same)
@@ -27,7 +27,7 @@ pub names_with_none : (names : List (List ℕ)) (found told : Option (List ℕ))
 names_with_none names found told is same =
     sym (append-nil names) ∙ ap (λ (one : Option (List ℕ)). names ++ option_to_list one) (sym is ∙ same)
 
--- what is true of a walk is true of a walk with equal parts
+-- if two walks have equal parts, a property of one walk is also a property of the other
 pub walk_by : (place : List ℕ) (entries kept run other_kept other_run : List (model.Key × ops.Entry)) (needed other_needed : Bool)
     (names other_names : List (List ℕ))
     → other_kept ≡ kept → other_run ≡ run → other_needed ≡ needed → other_names ≡ names → IsWalk place entries kept run needed names
@@ -38,7 +38,7 @@ walk_by place entries kept run other_kept other_run needed other_needed names ot
     (subst (λ (b : Bool). IsWalk place entries kept run b other_names) (sym needed_is)
     (subst (λ (n : List (List ℕ)). IsWalk place entries kept run needed n) (sym names_is) is)))
 
--- after a run ends, its rows are among the kept ones if and only if the run is needed
+-- after a run has ended, its rows are among the kept rows if and only if the run is needed
 pub run_ended : (needed other : Bool) (kept run after : List (Key × Entry)) → needed ≡ other → after ≡ cond needed (kept ++ run) kept
     → map row_meant after ≡ cond other (map row_meant kept ++ map row_meant run) (map row_meant kept)
 run_ended true other kept run after same is =

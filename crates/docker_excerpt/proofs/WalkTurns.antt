@@ -1,4 +1,4 @@
--- What stays true of a walk that makes an excerpt, with each step.
+-- Properties of a walk that makes an excerpt, which each step of the walk preserves.
 use Rattle.std.proofs.Common.{◌≡◌, ℕ, List, [], ◌∷◌, ◌++◌, refl, ap, sym, ◌∙◌, subst, inl, inr, ◌⊎◌, Bool, true, false, cond, Contains}
 use Rattle.std.specs.Prelude.{◌||◌, ◌↔◌, Option, Some, None}
 use Rattle.std.specs.Option.{option_to_list}
@@ -32,7 +32,7 @@ unneeded : (place : List ℕ) (entries kept run : List Keyed) (needed : Bool) �
 unneeded place entries kept run needed has none =
     sym has.is_needed ∙ ap (λ (r : List Keyed). is_run_needed place (record { kept = kept; run = r })) none
 
--- the associated trains named in one entry: one or none
+-- the associated trains that a single entry names: at most one
 names_of_one : (key : Key) (entry : Entry) → names_in ((key, entry) ∷ []) ≡ option_to_list (name_in key entry.op)
 names_of_one key entry = by (name_in key entry.op)
   where
@@ -40,7 +40,7 @@ names_of_one key entry = by (name_in key entry.op)
     by None = refl
     by (Some name) = refl
 
--- if one more entry is kept, the associated train that it names is added to the names
+-- if one more entry is kept, the associated train of this entry is appended to the names
 names_more : (names : List (List ℕ)) (kept : List Keyed) (key : Key) (entry : Entry) → AreNames names kept
     → AreNames (names ++ option_to_list (name_in key entry.op)) (kept ++ (key, entry) ∷ [])
 names_more names kept key entry are uid =
@@ -58,8 +58,8 @@ names_more names kept key entry are uid =
 
 module _ (place : List ℕ) (state : State) (kept run : List Keyed) (needed : Bool) (names : List (List ℕ))
     (is : IsWalk place state.entries kept run needed names) where
-  -- when a TIPLOC or an association follows, the run is empty, because schedules come after all
-  -- TIPLOCs and associations
+  -- when the walk reaches a TIPLOC or an association, its run is empty, because schedules come
+  -- after all TIPLOCs and associations
   alone : (key : Key) → IsAboveEntries state key → ((uid : List ℕ) → has_uid uid key ≡ false) → run ≡ []
   alone = kept_alone place state kept run needed is.has_kept
 
@@ -68,8 +68,8 @@ module _ (place : List ℕ) (state : State) (kept run : List Keyed) (needed : Bo
       subst (λ (r : List Keyed). HasKept place entries after r needed) (sym none)
       (subst (λ (b : Bool). HasKept place entries after [] b) (sym (unneeded place state.entries kept run needed is.has_kept none)) has)
 
-  -- a TIPLOC or an association at the place is kept, and the associated train that it names is
-  -- added to the names
+  -- a TIPLOC or an association at the place is kept, and the associated train of the association is
+  -- appended to the names
   pub walk_here : (key : Key) (entry : Entry) → IsAboveEntries state key → ((uid : List ℕ) → has_uid uid key ≡ false) → is_here place key ≡ true
       → IsWalk place (state.entries ++ (key, entry) ∷ []) (kept ++ (key, entry) ∷ []) run needed (names ++ option_to_list (name_in key entry.op))
   walk_here key entry above never here = record {
@@ -125,7 +125,7 @@ module _ (place : List ℕ) (state : State) (kept run : List Keyed) (needed : Bo
           ∙ names_stay place state.entries key entry
           ∙ ap (λ (so_far : ExcerptSoFar). names_in so_far.kept) is.has_kept.so_far
 
-  -- sorting the names doesn't change what the walk has passed and kept
+  -- sorting the names changes neither the passed entries nor the kept entries of the walk
   pub walk_sorted : (after : List (List ℕ)) → IsPermutation names after → IsSorted bytes_cmp after → IsWalk place state.entries kept run needed after
   walk_sorted after moved sorted = record {
     has_kept = is.has_kept;
@@ -136,6 +136,7 @@ module _ (place : List ℕ) (state : State) (kept run : List Keyed) (needed : Bo
     sorted = inr sorted;
   }
 
-  -- at the end, the excerpt has the kept entries, and the entries of the last run if it is needed
+  -- at the end, the excerpt has the kept entries, followed by the entries of the last run if this
+  -- run is needed
   pub walk_last : (excerpt_for place state).entries ≡ cond needed (kept ++ run) kept
   walk_last = kept_last place state kept run needed is.has_kept

@@ -1,5 +1,5 @@
--- The values of excerpts. A part that was kept of a state for a place and a day makes the same
--- docker there on that day as the whole state.
+-- The values of excerpts. The kept part of a state makes the same docker as the whole state, for
+-- the place and the day of the excerpt.
 use Rattle.std.specs.Prelude.{ℕ, List, [], ◌∷◌, map}
 use Rattle.docker_model.specs.file.Change.{Key, Change}
 use Rattle.docker_model.specs.state.Stamp.{ledger_item_of}
@@ -13,8 +13,8 @@ use Rattle.cif_file.specs.FileRead.{FileRead}
 use Rattle.docker_day.specs.DockerValue.{Docker}
 use Rattle.docker_day.specs.Dockers.{IsDockerOf}
 
--- an excerpt while it is made: its place, its day, and the state's parts that were given, without a
--- horizon
+-- an excerpt that isn't finished: its place, its day, and the state's parts that were given,
+-- without a horizon
 pub record Excerpting : Type 0 where
   pub place : List ℕ
   pub day : ℕ
@@ -31,7 +31,7 @@ abbrev pub with_entries : State → List (Key × Entry) → State
 with_entries state entries = record { horizon = state.horizon; ledger = state.ledger; entries = entries }
 
 -- the state that a file's changes make: it has the file's ledger item, and for each key the entry
--- of the last change
+-- of the last change of this key
 abbrev pub state_of_read : FileRead → State
 state_of_read file = record {
   horizon = 0;
@@ -39,8 +39,8 @@ state_of_read file = record {
   entries = latest_entries (map (λ (change : Change). (change.key, entry_of (file.header_line ∷ []) change)) file.changes_made);
 }
 
--- says that `part` makes the same docker as a state. A docker of the part for this place and day is
--- a docker of the state
+-- says that `part` makes the same docker as a state: each docker of the part for this place and day
+-- is a docker of the state
 abbrev pub StandsAt : List ℕ → ℕ → State → State → Type 0
 StandsAt place day state part = (docker : Docker) → IsDockerOf (live_table part) place day docker → IsDockerOf (live_table state) place day docker
 

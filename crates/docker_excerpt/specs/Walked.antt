@@ -1,4 +1,4 @@
--- How far a walk over a state's entries has come when it makes an excerpt.
+-- The progress of a walk over a state's entries that makes an excerpt.
 use Rattle.std.specs.Prelude.{◌≡◌, ℕ, Bool, List, [], ◌⊎◌, ◌↔◌, Contains}
 use Rattle.std.specs.List.Sorted.{IsSorted}
 use Rattle.docker_model.specs.file.Change.{Key}
@@ -7,14 +7,14 @@ use Rattle.docker_model.specs.state.Order.{bytes_cmp}
 use Rattle.docker_model.specs.state.State.{State}
 use Rattle.docker_laws.specs.ExcerptWalk.{names_in, HasKept}
 
--- says that these names are the associated trains that live associations among the entries name.
--- Their order doesn't matter, and a name may occur more than once
+-- says that these names are the associated trains of the live associations among the entries. The
+-- order of the names doesn't matter, and a name may occur more than once
 abbrev pub AreNames : List (List ℕ) → List (Key × Entry) → Type 0
 AreNames names entries = (uid : List ℕ) → Contains names uid ↔ Contains (names_in entries) uid
 
--- says what a walk has kept after these entries. `run` has the schedules of the present UID, and
--- `needed` says whether they will be kept. `names` are the associated trains, which are sorted when
--- a run has begun
+-- says which of these entries a walk has kept. `run` has the schedules of the present UID, and
+-- `needed` says whether the run will be kept. `names` are the associated trains, which are sorted
+-- after the first run has begun
 pub record IsWalk (place : List ℕ) (entries kept run : List (Key × Entry)) (needed : Bool) (names : List (List ℕ)) : Type 0 where
   pub has_kept : HasKept place entries kept run needed
   pub told : AreNames names kept

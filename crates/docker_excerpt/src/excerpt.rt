@@ -16,8 +16,8 @@ use std::alloc::Global;
 use std::fmt;
 use std::marker::Model;
 
-/// What is kept of a state for the docker of one place and day, which is the same as the whole
-/// state's. It can't be used for anything else: it can't be written, joined or sent, and it makes
+/// The part of a state that is kept for the docker of one place and one day. This docker is the
+/// same as the docker of the whole state. An excerpt can't be written, joined or sent, and it makes
 /// no docker of another place or day.
 #[derive(Drop)]
 pub struct Excerpt {
@@ -50,8 +50,8 @@ impl fmt::Debug for Excerpt {
 }
 
 impl Excerpt {
-    /// The excerpt of a state for a place and a day. `part` is what was kept of the state. `given`
-    /// are, for proofs, all entries of the state.
+    /// The excerpt of a state for a place and a day. `part` is the kept part of the state. `given`
+    /// are all entries of the state, and exist only for proofs.
     pub(crate) fn of(place: Tiploc, day: Day, part: State, given: Given) -> Excerpt
         requires { StandsAt place day (with_entries part given.entries) part }
         ensures { result ≡ record {
@@ -68,8 +68,8 @@ impl Excerpt {
         }
     }
 
-    /// The excerpt for a place and a day, made from what was kept of a file for them. Its value has
-    /// the state of the whole file. If memory runs out, what was kept is dropped.
+    /// The excerpt for a place and a day, made from the kept changes of a file. The value of the
+    /// excerpt has the state of the whole file. If memory runs out, the kept changes are dropped.
     pub fn of_file(
         alloc: Global,
         place: Tiploc,
@@ -83,7 +83,7 @@ impl Excerpt {
         ensures state { (records : List (List ℕ)) → IsOfRecords file.file records
             → IfOk result (λ it. it.state ≡ summary_of records) }
     {
-        // This call is made only for its contract, which says that enough of the file was kept.
+        // This call is made only for its contract, which says that the kept changes are enough.
         let _header = file.header();
         let given = given_of(&file);
         let part = State::of_thin(alloc, file)?;

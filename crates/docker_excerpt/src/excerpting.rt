@@ -1,4 +1,4 @@
-//! Makes the excerpt of a state for a place and a day as the state's parts are given.
+//! Makes the excerpt of a state for a place and a day while the state's parts are given.
 ghost use Rattle.std.specs.Prelude.{◌≡◌, ◌-◌, ◌^◌, ◌<◌, [], ◌∷◌, ◌++◌, length, map, IsOk, IsErr, IfOk};
 ghost use Rattle.std.specs.Option.{option_copied, option_map};
 ghost use Rattle.docker_model.specs.state.State.{IsLedger, IsOpOf, IsValid, AreEntries};
@@ -20,12 +20,12 @@ use std::alloc::Global;
 use std::fmt;
 use std::marker::Model;
 
-/// Makes the excerpt of a state for a place and a day. It is given the state's parts in order, as
-/// `Parts` is. It keeps only the entries from which the docker is made: the place's TIPLOC, the
-/// associations there, and all schedules of some UIDs. These are the UIDs of the trains that call
-/// there, and of the associated trains that live associations there name. A schedule that doesn't
-/// run on any start day from three days before the day to the day after is skipped. It is neither
-/// kept nor searched for calls.
+/// Makes the excerpt of a state for a place and a day. The state's parts are given in order, as to
+/// `Parts`. Only the entries from which the docker is made are kept: the place's TIPLOC, the
+/// associations at the place, and all schedules of some UIDs. These are the UIDs of the trains that
+/// call at the place, and of the associated trains of live associations at the place. If a schedule
+/// doesn't run on any start day from three days before the day to the day after, it is skipped: it
+/// is neither kept nor searched for calls.
 #[derive(Drop)]
 pub struct Excerpting {
     ledger: Ledger,
@@ -54,7 +54,7 @@ impl fmt::Debug for Excerpting {
 }
 
 impl Excerpting {
-    /// An excerpt to which no part was given. It allocates nothing.
+    /// An excerpt before its first part. It allocates nothing.
     pub fn new(alloc: Global, place: Tiploc, day: Day) -> Excerpting
         ensures { result ≡ record {
           place = place;
@@ -107,14 +107,15 @@ impl Excerpting {
         self.ledger.items()
     }
 
-    /// How many entries were given, whether kept or not.
+    /// The number of entries that were given, whether they were kept or not.
     pub fn len(&self) -> u64
         ensures { result ≡ length self.now.told.entries }
     {
         self.ledger.len()
     }
 
-    /// The key of the last entry that was given, whether kept or not. `None` if none was given.
+    /// The key of the last entry that was given, whether the entry was kept or not. `None` if no
+    /// entry was given.
     pub fn last(&self) -> Option<&Key>
         ensures { option_map key_meant (option_copied result) ≡ last_key self.now.told.entries }
     {
@@ -123,7 +124,8 @@ impl Excerpting {
 
     /// Makes the excerpt of the state whose parts were given. `horizon` is the state's horizon, if
     /// it has one. `Memory` if memory runs out, or if more than 4,294,967,295 entries or places are
-    /// kept, because they are numbered in 32 bits. What was kept is then dropped.
+    /// kept, because entries and places are numbered in 32 bits. After `Memory`, the kept entries
+    /// are dropped.
     pub fn finish(self, horizon: Option<Day>) -> Result<Excerpt, Memory>
         requires { IsValid (under (horizon_meant horizon) self.told) }
         ensures { IfOk result (λ excerpt. excerpt ≡ record {
@@ -156,7 +158,7 @@ fn with_rows(mut parts: Parts, rows: Vec<(Key, Entry)>) -> Result<Parts, Memory>
     Ok(parts)
 }
 
-/// Sets the horizon of a state, if there is one. No entry of the state lapses under it.
+/// Sets the horizon of a state, if there is one. No entry of the state lapses under this horizon.
 fn under_horizon(mut state: State, horizon: Option<Day>) -> State
     requires plain { state.horizon ≡ 0 }
     requires valid { IsValid (under (horizon_meant horizon) state) }

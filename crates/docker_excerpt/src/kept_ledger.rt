@@ -1,4 +1,4 @@
-//! What is kept of a state to list its files.
+//! The part of a state that is kept to list the state's files.
 ghost use Rattle.std.specs.Prelude.{◌≡◌, map};
 ghost use Rattle.docker_model.specs.state.State.{IsValid};
 ghost use Rattle.docker_day.specs.Meaning.{item_meant};
@@ -9,8 +9,8 @@ use cif_line::{Day, Memory};
 use state_text::{LedgerItem, Maker};
 use std::marker::Model;
 
-/// The ledger and the horizon of a state, without the entries. Its value is the whole state. It is
-/// used only to list the state's files, and can't be written, joined or sent.
+/// The ledger and the horizon of a state, without the entries. Its value is the whole state. A
+/// `KeptLedger` is used only to list the state's files, and can't be written, joined or sent.
 #[derive(Debug, Drop)]
 pub struct KeptLedger {
     ledger: Ledger,
@@ -30,7 +30,7 @@ impl Model for KeptLedger {
 }
 
 impl KeptLedger {
-    /// The ledger of a state with this horizon, if it has one.
+    /// The ledger of a state, with the state's horizon if it has one.
     pub(crate) fn of(ledger: Ledger, horizon: Option<Day>) -> KeptLedger
         requires { IsValid (under (horizon_meant horizon) ledger) }
         ensures { result ≡ under (horizon_meant horizon) ledger }
@@ -54,7 +54,8 @@ impl Maker for Ledger {
 
     ghost makes = { λ made state. made ≡ state };
 
-    /// Returns the ledger with the horizon. It allocates nothing, so it never returns `Memory`.
+    /// Returns the ledger with the horizon. The call allocates nothing, so it never returns
+    /// `Memory`.
     fn finish(self, horizon: Option<Day>) -> Result<KeptLedger, Memory> {
         Ok(KeptLedger::of(self, horizon))
     }

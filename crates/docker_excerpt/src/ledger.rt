@@ -18,7 +18,7 @@ use std::fmt;
 use std::marker::Model;
 
 /// The ledger of a state whose parts are given in order, as to `Parts`: first the ledger items,
-/// then the entries. Of the entries it keeps only their number and the last key.
+/// then the entries. Only the number of the entries and the last key are kept.
 #[derive(Drop)]
 pub struct Ledger {
     // these parts have ledger items and no entries
@@ -47,7 +47,7 @@ impl fmt::Debug for Ledger {
 }
 
 impl Ledger {
-    /// A ledger to which no part was given. It allocates nothing.
+    /// A ledger before its first part. It allocates nothing.
     pub fn new(alloc: Global) -> Ledger
         ensures { result ≡ record { horizon = 0; ledger = []; entries = [] } }
     {
@@ -77,14 +77,14 @@ impl Ledger {
         self.parts.ledger()
     }
 
-    /// How many entries were given.
+    /// The number of entries that were given.
     pub fn len(&self) -> u64
         ensures { result ≡ length self.now.entries }
     {
         self.count
     }
 
-    /// The key of the last entry that was given. `None` if none was given.
+    /// The key of the last entry that was given. `None` if no entry was given.
     pub fn last(&self) -> Option<&Key>
         ensures { option_map key_meant (option_copied result) ≡ last_key self.now.entries }
     {
@@ -98,7 +98,7 @@ impl Ledger {
         &self.given
     }
 
-    /// The entries that were given and one more. They exist only for proofs.
+    /// The entries that were given, followed by one more entry. They exist only for proofs.
     pub(crate) fn with(&self, key: &Key, entry: &Entry) -> Given
         requires here { IsStampHere self.now (key_meant key.now) (entry_meant entry.now).stamp }
         requires op { IsOpOf (key_meant key.now) (entry_meant entry.now).op }
@@ -110,8 +110,8 @@ impl Ledger {
         Given::with(&self.given, key, entry)
     }
 
-    /// Counts one more entry and notes its key. `given` are, for proofs, all entries that were
-    /// given.
+    /// Counts one more entry and keeps its key. `given` are all entries that were given, and exist
+    /// only for proofs.
     pub(crate) fn pass(&mut self, key: Key, given: Given)
         requires few { length self.old.entries < 2 ^ 64 - 1 }
         requires valid { IsValid (with_entries self.old given.entries) }
@@ -124,8 +124,8 @@ impl Ledger {
         self.given = given;
     }
 
-    /// Returns the ledger items as parts of a state, to which entries can then be added. Returns
-    /// also, for proofs, the entries that were given.
+    /// Returns the ledger items as parts of a state, to which entries can then be added. Also
+    /// returns the entries that were given, which exist only for proofs.
     pub(crate) fn into_parts(self) -> (Parts, Given)
         ensures parts { result.0 ≡ record { horizon = 0; ledger = self.ledger; entries = [] } }
         ensures given { result.1.entries ≡ self.entries }
@@ -147,7 +147,7 @@ impl Keeper for Ledger {
         self.parts.item(item)
     }
 
-    /// Counts the entry and drops it. It allocates nothing, so it never returns `Memory`.
+    /// Counts the entry and drops it. The call allocates nothing, so it never returns `Memory`.
     fn entry(&mut self, key: Key, entry: Entry) -> Result<(), Memory> {
         let given = self.with(&key, &entry);
         self.pass(key, given);

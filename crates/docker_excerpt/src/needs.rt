@@ -1,4 +1,4 @@
-//! Which entries of a state the docker of a place needs.
+//! The entries of a state from which the docker of a place is made.
 ghost use Rattle.std.specs.Prelude.{◌≡◌, ◌||◌, ◌↔◌, map, true, Contains};
 ghost use Rattle.std.specs.List.Sorted.{IsSorted};
 ghost use Rattle.docker_model.specs.state.Order.{bytes_cmp};
@@ -22,7 +22,7 @@ pub(crate) fn is_here(place: &Tiploc, key: &Key) -> bool
     }
 }
 
-/// The UID of the associated train that a live association names. `None` for any other entry.
+/// The UID of the associated train of a live association. `None` for any other entry.
 pub(crate) fn name_in(key: &Key, op: &Op) -> Option<Uid>
     ensures { result ≡ name_in (key_meant key.now) (op_meant op.now) }
 {
@@ -43,7 +43,7 @@ pub(crate) fn goes_on(run: &[(Key, Entry)], uid: &Uid) -> bool
     }
 }
 
-/// Whether a UID is among these sorted names. Takes a binary search.
+/// Whether a UID is among these sorted names. The call is a binary search.
 pub(crate) fn has_name(names: &[Uid], uid: &Uid) -> bool
     requires { IsSorted bytes_cmp names.now }
     ensures { (result ≡ true) ↔ Contains names.now uid.now }
@@ -51,8 +51,8 @@ pub(crate) fn has_name(names: &[Uid], uid: &Uid) -> bool
     names.binary_search(uid).is_ok()
 }
 
-/// Whether a run with one more entry is needed. It is if it was needed before, or if the entry is a
-/// live schedule that calls at the place.
+/// Whether a run with one more entry is needed: it was needed before, or the entry is a live
+/// schedule that calls at the place.
 pub(crate) fn is_needed_with(needed: bool, place: &Tiploc, op: &Op) -> bool
     ensures { result ≡ (needed || is_call place.now (op_meant op.now)) }
 {

@@ -1,5 +1,5 @@
-//! An excerpt for a place and a day that are named by a type. A reader gives it a state's parts, as
-//! it would to any `Keeper`.
+//! An excerpt whose type names its place and its day. A reader passes a state's parts to it, as to
+//! any `Keeper`.
 ghost use Rattle.std.specs.Prelude.{◌≡◌, []};
 
 use crate::excerpt::Excerpt;
@@ -31,7 +31,7 @@ impl<P: PlaceDay> Model for ExcerptingAt<P> {
 }
 
 impl<P: PlaceDay> ExcerptingAt<P> {
-    /// An excerpt to which no part was given. It allocates nothing.
+    /// An excerpt before its first part. It allocates nothing.
     pub fn new(alloc: Global, place: Tiploc, day: Day) -> ExcerptingAt<P>
         requires place { place ≡ P.place }
         requires day { day ≡ P.day }

@@ -1,4 +1,4 @@
-//! Walks over a state's entries and keeps those that the dockers of a place need.
+//! Walks over a state's entries and keeps the entries from which the dockers of a place are made.
 ghost use Rattle.std.specs.Prelude.{◌≡◌, ◌<◌, ℕ, List, [], ◌∷◌, ◌++◌, map, true, false, vec_len, vec_capacity, if◌then◌else◌, IsOk, IsErr, IfOk};
 ghost use Rattle.std.specs.List.Sorted.{IsSorted};
 ghost use Rattle.docker_model.specs.state.Order.{bytes_cmp};
@@ -16,8 +16,8 @@ use cif_line::{Memory, Tiploc, Uid};
 use state_text::{Entry, Given};
 use std::alloc::Global;
 
-/// The entries that a walk has kept, and the run that it is in: the schedules of one UID. Only when
-/// a run ends is it kept or dropped, as a whole.
+/// The entries that a walk has kept, and the present run: the schedules of one UID. When the run
+/// ends, it is kept or dropped as a whole.
 #[derive(Debug, Drop)]
 pub(crate) struct ExcerptWalk {
     place: Tiploc,
@@ -25,7 +25,7 @@ pub(crate) struct ExcerptWalk {
     run: Vec<(Key, Entry)>,
     // whether the run is needed: its UID is in `names`, or one of its schedules calls at the place
     needed: bool,
-    // the associated trains that kept associations name, sorted when the first run begins
+    // the associated trains of the kept associations, sorted when the first run begins
     names: Vec<Uid>,
 }
 
@@ -51,8 +51,8 @@ impl ExcerptWalk {
         self.place
     }
 
-    /// Passes the next entry, which has this key. If memory runs out, the walk stays before the
-    /// entry, which is dropped.
+    /// Passes the next entry, which has this key. If memory runs out, the entry is dropped, and the
+    /// walk hasn't passed it.
     pub(crate) fn entry(&mut self, given: &Given, key: Key, entry: Entry) -> Result<(), Memory>
         requires walked { HasWalked self.old given.now.entries }
         requires above { IsAboveEntries (state_of_entries given.now.entries) (key_meant key) }
@@ -68,7 +68,7 @@ impl ExcerptWalk {
         }
     }
 
-    /// Passes a TIPLOC or an association, and keeps it if it is at the place.
+    /// Passes a TIPLOC or an association. The entry is kept if it is at the place.
     fn single(&mut self, given: &Given, key: Key, entry: Entry) -> Result<(), Memory>
         requires walked { HasWalked self.old given.now.entries }
         requires above { IsAboveEntries (state_of_entries given.now.entries) (key_meant key) }
@@ -89,7 +89,7 @@ impl ExcerptWalk {
         Ok(())
     }
 
-    /// Passes a schedule, which belongs to the present run or begins the next.
+    /// Passes a schedule, which belongs to the present run or begins the next run.
     fn schedule(&mut self, given: &Given, key: ScheduleKey, entry: Entry) -> Result<(), Memory>
         requires { HasWalked self.old given.now.entries }
         ensures ok { IsOk result → HasWalked self.new
@@ -119,7 +119,7 @@ impl ExcerptWalk {
         Ok(())
     }
 
-    /// Ends the present run, and begins the next one with a schedule of another UID.
+    /// Ends the present run, and begins the next run with a schedule of another UID.
     fn begin(&mut self, given: &Given, key: ScheduleKey, entry: Entry) -> Result<(), Memory>
         requires walked { HasWalked self.old given.now.entries }
         requires other { goes_on (map row_meant self.old.run.items) key.uid ≡ false }
@@ -138,7 +138,7 @@ impl ExcerptWalk {
         Ok(())
     }
 
-    /// Sorts the names of associated trains. It does so only before the first run.
+    /// Sorts the names of associated trains, if no run has begun yet.
     fn sort_names(&mut self, given: &Given)
         requires { HasWalked self.old given.now.entries }
         ensures walked { HasWalked self.new given.now.entries }
@@ -153,8 +153,8 @@ impl ExcerptWalk {
         }
     }
 
-    /// Ends the run: its schedules are kept if the run is needed, and dropped if not. If memory
-    /// runs out, the run and what was kept are unchanged.
+    /// Ends the run: its schedules are kept if the run is needed, and otherwise dropped. If memory
+    /// runs out, the run and the kept entries are unchanged.
     fn end_run(&mut self) -> Result<(), Memory>
         ensures kept { IsOk result → self.new.kept.items ≡ (if self.old.needed
             then self.old.kept.items ++ self.old.run.items else self.old.kept.items) }

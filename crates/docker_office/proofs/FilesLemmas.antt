@@ -12,11 +12,11 @@ use Rattle.docker_model.specs.state.State.{IsGoodItem}
 use Rattle.docker_day.specs.LedgerItem.{LedgerItem}
 use Rattle.docker_day.specs.Meaning.{item_meant}
 
--- the text of these ledger items of the code
+-- the text of these ledger items, which are given in the code's type
 abbrev pub text_of : List LedgerItem → List ℕ
 text_of items = files_text (map item_meant items)
 
--- the text of two lists, one after the other, is the texts of both, one after the other
+-- the text of a concatenation of lists is the concatenation of their texts
 text_joined : (xs ys : List LedgerItem) → text_of (xs ++ ys) ≡ text_of xs ++ text_of ys
 text_joined xs ys =
     ap files_text (map-append item_meant xs ys) ∙ flat_map-append (λ item. ended (file_text item)) (map item_meant xs) (map item_meant ys)
@@ -30,7 +30,7 @@ pub none_taken : (sink : Option (List ℕ)) → Takes sink [] sink
 none_taken None = refl
 none_taken (Some taken) = ap Some (sym (append-nil taken))
 
--- if a sink takes two pieces one after the other, it has taken both together
+-- if a sink gains two pieces, one after the other, it gains their concatenation
 taken_then : (first now next : Option (List ℕ)) (front back : List ℕ) → Takes first front now → Takes now back next → Takes first (front ++ back) next
 taken_then None now next front back one two = two ∙ ap (option_map (λ taken. taken ++ back)) one
 taken_then (Some taken) now next front back one two =
@@ -45,7 +45,7 @@ minute_at items i item all below at =
     let good : IsGoodItem (item_meant item) = subst IsGoodItem same (all i (item_meant item) (omega arith)) in
     good.minute
 
--- the lines of the items before item `i` were written
+-- the lines of the items before item `i` have been written
 module _ (items : List LedgerItem) (i : ℕ) (item : LedgerItem) (line : List ℕ) (first now next : Option (List ℕ)) (below : i < length items)
     (at : item ≡ get_or items i item) (line_is : line ≡ ended (file_text (item_meant item))) (so_far : Takes first (text_of (take i items)) now) where
   following : suc i ≡ i + 1
@@ -57,7 +57,8 @@ module _ (items : List LedgerItem) (i : ℕ) (item : LedgerItem) (line : List �
       ∙ text_joined (take i items) (get_or items i item ∷ []) ∙ ap (λ one. text_of (take i items) ++ text_of (one ∷ [])) (sym at)
       ∙ ap (λ bytes. text_of (take i items) ++ bytes) (text_of_one item ∙ sym line_is)
 
-  -- once the item's line is written, the lines up to and including it are written
+  -- after the line of item `i` has been written, the lines up to and including this line have been
+  -- written
   pub line_taken : Takes now line next → Takes first (text_of (take (i + 1) items)) next
   line_taken taken = subst (λ bytes. Takes first bytes next) (sym front_and_line) (taken_then first now next (text_of (take i items)) line so_far taken)
 
@@ -68,7 +69,7 @@ module _ (items : List LedgerItem) (i : ℕ) (item : LedgerItem) (line : List �
       ∙ append_assoc (text_of (take i items)) line (text_of (drop (i + 1) items))
 
   -- if only a proper prefix of the item's line is written, only a proper prefix of the whole text
-  -- is
+  -- is written
   pub line_begun : TakesPart now line next → TakesPart first (text_of items) next
   line_begun (n, short, taken) =
       let front = text_of (take i items) in
@@ -84,7 +85,7 @@ module _ (items : List LedgerItem) (i : ℕ) (item : LedgerItem) (line : List �
         subst (λ bytes. Takes first bytes next) (sym cut) (taken_then first now next front (take n line) so_far taken),
       )
 
--- after the last item, the whole text is written
+-- after the last item, the whole text has been written
 pub all_taken : (items : List LedgerItem) (i : ℕ) (first now : Option (List ℕ)) → length items ≤ i → Takes first (text_of (take i items)) now
     → Takes first (text_of items) now
 all_taken items i first now end so_far = subst (λ xs. Takes first (text_of xs) now) all so_far
@@ -93,7 +94,7 @@ all_taken items i first now end so_far = subst (λ xs. Takes first (text_of xs) 
     all =
         sym (append-nil (take i items)) ∙ ap (λ rest. take i items ++ rest) (sym (drop_of_length-le items end)) ∙ take-append-drop i items
 
--- what holds in any case holds if the result is an error
+-- a proposition that holds also holds on condition that the result is an error
 pub on_err : {A E : Type 0} (answer : Result A E) (P : Type 0) → P → OnErr answer P
 on_err (Ok a) P holds = tt
 on_err (Err e) P holds = holds

@@ -1,4 +1,5 @@
--- Whatever an office's call returns, its event in a run gets a reply that the definitions allow.
+-- Whatever an office's call returns, the reply to its event in a run is a reply that the
+-- definitions allow.
 use Rattle.std.proofs.Common.{◌≡◌, ℕ, ◌^◌, ◌<◌, ◌≤◌, List, [], ◌∷◌, ◌++◌, length, set, get_or, refl, sym, ◌∙◌}
 use Rattle.std.proofs.Common.{ap, subst, arith, Option, Some, None, Result, Ok, Err, IsOk, IsErr, IfErr}
 use Rattle.std.proofs.lemmas.List.{length-map, set-get_or, map-append}
@@ -35,7 +36,8 @@ use Rattle.docker_office.specs.declared.steps.Holdings.{Holdings}
 use Rattle.docker_office.specs.RunMeaning.{IsMissing, IsTextCause, refusal_of_file, reply_for, texts_of}
 use Rattle.docker_office.specs.RunSteps.{AreOf, MeetsEvent}
 
--- if the bytes of a source are this text, the source's text has the fault that reading it returns
+-- if the bytes of a source are this text, the text has the fault that the reader of the source
+-- returns
 pub refused_text : (limit : ℕ) (left text : List ℕ) (answer : Result Unit OfficeFault) → left ≡ text
     → ((fault : StateFault) → answer ≡ Err (why.State fault) → RefusesState dks_2 limit (Some left) fault)
     → (fault : StateFault) → answer ≡ Err (why.State fault) → RefusesState dks_2 limit (Some text) fault
@@ -113,7 +115,7 @@ module _ (known : KnownSets) (held : Holdings) (holds : AreOf known held) where
 
   -- ---- the states and messages after an event
 
-  -- says that only the state of this office has changed, and no message
+  -- says that only the state of this office has changed, and that no message has changed
   pub record IsReplaced (office : ℕ) (now : State) (after : Holdings) : Type 0 where
     pub offices : after.offices.items ≡ set held.offices.items office now
     pub messages : after.messages.items ≡ held.messages.items
@@ -124,8 +126,8 @@ module _ (known : KnownSets) (held : Holdings) (holds : AreOf known held) where
       subst (λ states. Holds dks_2 sets states (texts_of after.messages.items)) (sym is.offices)
       (subst (λ kept. Holds dks_2 sets (set held.offices.items office now) (texts_of kept)) (sym is.messages) have)
 
-  -- if the office's new state equals its old one, the offices and messages hold the states of what
-  -- was known before
+  -- if the office's new state equals its old state, the offices and messages still hold the states
+  -- of what was known before
   unchanged : (office : ℕ) (now : State) (after : Holdings) → IsReplaced office now after → now ≡ get_or held.offices.items office no_state
       → AreOf known after
   unchanged office now after is same =
@@ -198,7 +200,7 @@ module _ (known : KnownSets) (held : Holdings) (holds : AreOf known held) where
 
   -- ---- a state is sent
 
-  -- a message that is sent comes after all earlier messages, and has the state of its office
+  -- a message that is sent is appended to the messages, and has the state of its office
   pub send_met : (office : ℕ) (message : Store) (after : Holdings) → office < length held.offices.items → after.offices.items ≡ held.offices.items
       → after.messages.items ≡ held.messages.items ++ message ∷ [] → message.taken ≡ state_text dks_2 (get_or held.offices.items office no_state)
       → MeetsEvent known (send_state office) Done after
@@ -213,7 +215,7 @@ module _ (known : KnownSets) (held : Holdings) (holds : AreOf known held) where
         (after_send dks_2 known held.offices.items (texts_of held.messages.items) holds office (is_office office there)));
   }
 
-  -- if memory runs out for a send, there is no new message
+  -- if memory runs out for a send, no message is appended
   pub send_without_memory : (office : ℕ) → office < length held.offices.items → MeetsEvent known (send_state office) (Refused (Office why.Memory)) held
   send_without_memory office there = record {
     told = tt;
@@ -238,7 +240,7 @@ module _ (known : KnownSets) (held : Holdings) (holds : AreOf known held) where
 
   module _ (office message : ℕ) (text : List ℕ) (there : office < length held.offices.items) (sent : message < length held.messages.items)
       (text_is : text ≡ message_text (texts_of held.messages.items) message) (short : length text < 2 ^ 64) where
-    -- reading the message's text returns no fault of the text
+    -- reading a message's text returns no fault of the text
     no_fault : (fault : StateFault) → RefusesState dks_2 (length text) (Some text) fault → ⊥
     no_fault fault refuses = by (state_cause_meant fault.cause) refuses.is
       where
@@ -254,7 +256,7 @@ module _ (known : KnownSets) (held : Holdings) (holds : AreOf known held) where
             no_fault_of_state dks_2 (length text) text reads.0 (record { at = fault.at; cause = cause }) reads.1
             (subst (λ t. states.IsStateFault dks_2 (length text) t (record { at = fault.at; cause = cause })) (sym refuses.held) is)
 
-    -- the message is the text of the state that was read from it
+    -- the message is the text of the state that was read from the message
     read_of : (state : State) → (read : ReadsState dks_2 (length text) (Some text) state)
         → IsStateText dks_2 (length text) (message_text (texts_of held.messages.items) message) state
     read_of state read = subst (λ t. IsStateText dks_2 (length text) t state) (sym read.held ∙ text_is) read.is

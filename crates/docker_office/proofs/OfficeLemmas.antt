@@ -1,4 +1,4 @@
--- The contracts of an office's calls follow from the contracts of the calls below.
+-- The contracts of an office's calls follow from the contracts of the calls that they make.
 use Rattle.std.proofs.Common.{◌≡◌, ◌≢◌, ℕ, ◌+◌, ◌≤◌, List, [], ◌∷◌, ◌++◌, ap, arith, inl, inr, refl, sym, ◌∙◌, subst, Some, Ok, Err}
 use Rattle.std.specs.Prelude.{Option, Result, max, IsOk, IfErr, OnOk, OnErr}
 use Rattle.std.specs.Result.{is_ok}
@@ -32,21 +32,24 @@ use Rattle.docker_office.specs.Faults.{IsOfFile, IsOfState, office_fault_of_file
 use Rattle.docker_office.specs.Office.{HoldsFile, TakesFile, KnowsFileToo, HoldsState, no_state}
 use Rattle.docker_office.specs.OfficeReads.{CountsTaking, IsTakingOutcome, StopsTaking, why_unread}
 
--- ---- two results, of which both are `Ok` or both are `Err`
+-- ---- two results that are both `Ok` or both `Err`
 
--- what holds if the first result is `Ok` holds if the second one is
+-- if a property holds on condition that the first result is `Ok`, it holds on condition that the
+-- second result is `Ok`
 pub on_ok_with : {A B E F : Type 0} (P : Type 0) (first : Result A E) (second : Result B F) → is_ok second ≡ is_ok first → OnOk first P → OnOk second P
 on_ok_with P (Ok a) (Ok b) same holds = holds
 on_ok_with P (Ok a) (Err f) same holds = tt
 on_ok_with P (Err e) (Err f) same holds = tt
 on_ok_with P (Err e) (Ok b) same holds = let never : ⊥ = cc in absurd never
 
--- what holds if the first result is `Ok` holds for a second one that is `Ok`
+-- if a property holds on condition that the first result is `Ok`, and the second result is `Ok`,
+-- the property holds
 pub of_ok : {A B E F : Type 0} (P : Type 0) (first : Result A E) (second : Result B F) → is_ok second ≡ is_ok first → OnOk first P → IsOk second → P
 of_ok P (Ok a) second same holds is = holds
 of_ok P (Err e) second same holds is = let never : ⊥ = cc in absurd never
 
--- what holds if the first result is `Err` holds for a second one that is `Err`
+-- if a property holds on condition that the first result is `Err`, and the second result is `Err`,
+-- the property holds
 pub of_err : {A B E F : Type 0} (P : Type 0) (first : Result A E) (second : Result B F) → is_ok second ≡ is_ok first → OnErr first P → (e : F) → second ≡ Err e
     → P
 of_err P (Err e) second same holds fault is = holds
@@ -83,7 +86,7 @@ untaken limit IsMade left left_now failures failures_now (file_faults.File fault
 untaken limit IsMade left left_now failures failures_now file_faults.Memory few file memory counted =
     record { no_further = few; outcome = inl (memory refl); failures = counted.1 (λ is. cc) }
 
--- if a file was read whole, either the office takes it or memory runs out for its state
+-- if a file was read whole, either the office takes the file or memory runs out for its state
 pub taken_whole : {A : Type 0} (limit : ℕ) (IsMade : A → Type 0) (left left_now : BytesLeft) (failures failures_now : ℕ) (read : FileRead)
     (result : Result A OfficeFault) → ReadsNoFurther most_at_once limit left left_now → ReadsText limit left read → IsEnd left_now → failures_now ≡ failures
     → ((made : A) → result ≡ Ok made → IsMade made) → IfErr result (λ fault. fault ≡ office.Memory)
@@ -99,7 +102,8 @@ taken_whole {A} limit IsMade left left_now failures failures_now read (Err fault
 
 -- ---- states
 
--- if a file was read, the join of the office's state with the file's is the state after a take
+-- if a file was read, the join of the office's state with the file's state is the office's state
+-- after a take
 pub takes_file : (limit : ℕ) (left : Option (List ℕ)) (read : FileRead) (old own new : State) → ReadsText limit left read
     → ((file : List (List ℕ)) → IsOfRecords read file → IsSummary (file ∷ []) 0 own) → IsJoin old own new → TakesFile limit left old new
 takes_file limit left read old own new reads summary join = record {
@@ -112,8 +116,8 @@ takes_file limit left read old own new reads summary join = record {
   joined = join;
 }
 
--- if an office that knew no file now has the summary of the file that was read, it has taken the
--- file
+-- if an office that knew no file now has the summary of the file that was read, the office has
+-- taken the file
 pub takes_whole : (limit : ℕ) (left : Option (List ℕ)) (read : FileRead) (state : State) → ReadsText limit left read → limit ≤ most_records
     → ((file : List (List ℕ)) → IsOfRecords read file → state ≡ summary_of file) → TakesFile limit left no_state state
 takes_whole limit left read state reads few told =
@@ -130,7 +134,8 @@ takes_whole limit left read state reads few told =
       joined = join_of_nothing state (subst IsValid (sym same) (summary_valid lines reads.of_text.is_text.is (omega arith)));
     }
 
--- after a take, the office's state is the summary of the files known before and of this file
+-- after a take, the office's state is the summary of the files known before and of the file that
+-- was taken
 pub knows_file_too : (limit : ℕ) (left : Option (List ℕ)) (old new : State) (files : List (List (List ℕ))) (horizon : ℕ) → TakesFile limit left old new
     → IsSummary files horizon old → KnowsFileToo limit left files horizon new
 knows_file_too limit left old new files horizon takes is = record {
@@ -142,14 +147,14 @@ knows_file_too limit left old new files horizon takes is = record {
       (join_is_summary (takes.file ∷ []) files 0 horizon takes.own old new takes.of_file is (join_commutes old takes.own new takes.joined));
 }
 
--- if a source can name its bytes, only one state can be read from it
+-- if contracts know which bytes a source holds, only one state can be read from the source
 pub one_read : (format : Format) (limit : ℕ) (left : Option (List ℕ)) (read sent : State) → ReadsState format limit left read
     → HoldsState format limit left sent → read ≡ sent
 one_read format limit left read sent reads holds =
     let same : holds.text ≡ reads.text = subst (λ bytes. Held bytes reads.text) holds.told reads.held in
     one_text format read sent reads.is.valid holds.is.valid (sym reads.is.is ∙ sym same ∙ holds.is.is)
 
--- if two states are summaries, their join is the summary of all their files
+-- if two states are summaries, their join is the summary of the files of both
 pub joins_summaries : (limit : ℕ) (left : Option (List ℕ)) (old new : State) → JoinsState dks_2 limit left old new
     → (files others : List (List (List ℕ))) (g h : ℕ) (sent : State) → IsSummary files g old → IsSummary others h sent → HoldsState dks_2 limit left sent
     → IsSummary (files ++ others) (max g h) new
@@ -159,24 +164,25 @@ joins_summaries limit left old new joins files others g h sent of_files of_other
 
 -- ---- excerpts
 
--- an excerpt that was read is for the place that was given
+-- an excerpt that was read has the place that was given
 pub place_read : (place : List ℕ) (day limit : ℕ) (left : Option (List ℕ)) (excerpt : Excerpt)
     → ReadsMade (IsExcerptAt place day) dks_2 limit left excerpt → excerpt.place ≡ place
 place_read place day limit left excerpt reads = ap (λ (it : Excerpt). it.place) reads.of.made_of
 
--- an excerpt that was read is for the day that was given
+-- an excerpt that was read has the day that was given
 pub day_read : (place : List ℕ) (day limit : ℕ) (left : Option (List ℕ)) (excerpt : Excerpt)
     → ReadsMade (IsExcerptAt place day) dks_2 limit left excerpt → excerpt.day ≡ day
 day_read place day limit left excerpt reads = ap (λ (it : Excerpt). it.day) reads.of.made_of
 
--- an excerpt that was read is of the state whose text the source held
+-- the value of an excerpt that was read has the state whose text the source held
 pub state_read : (place : List ℕ) (day limit : ℕ) (left : Option (List ℕ)) (excerpt : Excerpt)
     → ReadsMade (IsExcerptAt place day) dks_2 limit left excerpt → ReadsState dks_2 limit left excerpt.state
 state_read place day limit left excerpt reads =
     subst (ReadsState dks_2 limit left) (sym (ap (λ (it : Excerpt). it.state) reads.of.made_of))
     (record { text = reads.text; held = reads.held; is = reads.of.is })
 
--- if the source can name its bytes, an excerpt that was read is of the state whose text they are
+-- if contracts know which bytes the source holds, the value of an excerpt that was read has the
+-- state whose text these bytes are
 pub one_excerpt : (place : List ℕ) (day limit : ℕ) (left : Option (List ℕ)) (excerpt : Excerpt)
     → ReadsMade (IsExcerptAt place day) dks_2 limit left excerpt → (sent : State) → HoldsState dks_2 limit left sent → excerpt.state ≡ sent
 one_excerpt place day limit left excerpt reads sent holds =
@@ -184,7 +190,7 @@ one_excerpt place day limit left excerpt reads sent holds =
 
 -- ---- reading from a text in memory
 
--- if reading a state has ended with a value, what holds for such values holds
+-- if reading a state has ended with a value, the property `IsMade` of its values holds
 pub read_ok : {A : Type 0} (wants : Wanting) (format : Format) (limit : ℕ) (IsMade : Type 0) (left left_now : BytesLeft) (result : Result A OfficeFault)
     → IsOutcome wants why_unread format limit (λ _. IsMade) left left_now result → IsOk result → IsMade
 read_ok wants format limit IsMade left left_now (Ok made) outcome is = outcome
@@ -197,7 +203,7 @@ pub read_refused : {A : Type 0} (wants : Wanting) (format : Format) (limit : ℕ
     → RefusesState format limit left fault
 read_refused wants format limit IsMade left left_now result outcome fault is = subst (IsOutcome wants why_unread format limit IsMade left left_now) is outcome
 
--- if the number of the source's failures hasn't grown, reading a state hasn't ended because the
+-- if the number of the source's failures is unchanged, reading a state hasn't ended because the
 -- source failed
 pub read_unfailed : {A : Type 0} (failures : ℕ) (result : Result A OfficeFault) → CountsOutcome why_unread failures failures result → result ≢ Err office.Source
 read_unfailed failures result counted is =
@@ -214,7 +220,7 @@ read_only wants format limit IsMade left left_now (Err (office.File fault)) outc
 read_only wants format limit IsMade left left_now (Err office.Lapsed) outcome = outcome
 read_only wants format limit IsMade left left_now (Err office.Sink) outcome = outcome
 
--- if taking a file has ended with a value, what holds for such values holds
+-- if taking a file has ended with a value, the property `IsMade` of its values holds
 pub taken_ok : {A : Type 0} (limit : ℕ) (IsMade : Type 0) (left left_now : BytesLeft) (result : Result A OfficeFault)
     → IsTakingOutcome limit (λ _. IsMade) left left_now result → IsOk result → IsMade
 taken_ok limit IsMade left left_now (Ok made) outcome is = outcome.0
@@ -225,7 +231,7 @@ pub taken_refused : {A : Type 0} (limit : ℕ) (IsMade : A → Type 0) (left lef
     → IsTakingOutcome limit IsMade left left_now result → (fault : FileFault) → result ≡ Err (office.File fault) → RefusesText limit left fault
 taken_refused limit IsMade left left_now result outcome fault is = subst (IsTakingOutcome limit IsMade left left_now) is outcome
 
--- if the number of the source's failures hasn't grown, taking a file hasn't ended because the
+-- if the number of the source's failures is unchanged, taking a file hasn't ended because the
 -- source failed
 pub taken_unfailed : {A : Type 0} (failures : ℕ) (result : Result A OfficeFault) → CountsTaking failures failures result → result ≢ Err office.Source
 taken_unfailed failures result counted is = let more : failures ≡ failures + 1 = subst (CountsTaking failures failures) is counted in absurd (omega arith)

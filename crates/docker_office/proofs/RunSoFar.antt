@@ -1,4 +1,4 @@
--- A run up to some event, and how it grows by one more event.
+-- A run up to some event, and its extension by one more event.
 use Rattle.std.proofs.Common.{◌≡◌, ℕ, ◌≤◌, List, [], ◌∷◌, ◌++◌, length, map, take, sym, subst, All}
 use Rattle.std.proofs.lemmas.List.{map-append, take_all}
 use Rattle.std.proofs.lemmas.List.Elements.{All-nil, All-push}
@@ -18,14 +18,14 @@ use Rattle.docker_office.specs.RunSteps.{AreOf, MeetsEvent}
 use Rattle.docker_office.specs.RunEnds.{LeavesRun}
 
 -- says that these events had these replies, and that the offices and messages hold the states of
--- what is known after them
+-- what is known after these events
 pub record HasRun (offices : ℕ) (events : List RunEvent) (replies : List Reply) (held : Holdings) : Type 0 where
   pub told : All IsRunReply replies
   pub are : AreReplies (none_known offices) events (map reply_meant replies)
   pub holds : AreOf (known_sets offices events (map reply_meant replies)) held
   pub good : All (IsGoodEvent dks_2) events
 
--- before the first event, a run without events has taken place
+-- before the first event, the run is a run without events
 pub run_at_first : (offices : ℕ) (held : Holdings) → length held.offices.items ≡ offices → All (IsSummary [] 0) held.offices.items
     → held.messages.items ≡ [] → HasRun offices [] [] held
 run_at_first offices held many each none = record {
@@ -37,7 +37,7 @@ run_at_first offices held many each none = record {
   good = All-nil (IsGoodEvent dks_2);
 }
 
--- if a run is followed by one more event with its reply, that is a run too
+-- a run that is followed by one more event and its reply is a run too
 pub run_with_one_more : (offices : ℕ) (events : List RunEvent) (replies : List Reply) (held after : Holdings) (event : RunEvent) (reply : Reply)
     → HasRun offices events replies held → IsGoodEvent dks_2 event → ((known : model.KnownSets) → AreOf known held → MeetsEvent known event reply after)
     → HasRun offices (events ++ event ∷ []) (replies ++ reply ∷ []) after
@@ -66,7 +66,7 @@ run_with_one_more offices events replies held after event reply run good meets =
       good = All-push (IsGoodEvent dks_2) events event run.good good;
     }
 
--- after the last event, the run is one of all events
+-- after the last event, the run is a run of all events
 pub run_at_end : (offices : ℕ) (events : List Event) (index : ℕ) (replies : List Reply) (held : Holdings) (exchange : Exchange)
     → HasRun offices (events_meant (take index events)) replies held → length events ≤ index
     → exchange ≡ record { states = held.offices.items; messages = texts_of held.messages.items; replies = map reply_meant replies }

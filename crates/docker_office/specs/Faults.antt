@@ -1,5 +1,5 @@
--- The faults of an office: the one for each fault of a call below, and those that each kind of call
--- can return.
+-- The faults of an office: how each fault of a lower call is converted, and which faults each kind
+-- of call can return.
 use Rattle.std.specs.Prelude.{⊤}
 use Rattle.cif_file.specs.declared.fault.ReadFault as files
 use Rattle.cif_file.specs.declared.fault.ReadFault.TheVariants as file_faults

@@ -1,4 +1,4 @@
--- What an office does with the state that it keeps.
+-- How an office's calls change the state that it keeps.
 use Rattle.std.specs.Prelude.{◌≡◌, ℕ, max, ◌⊎◌, List, [], ◌∷◌, ◌++◌, Option, Some}
 use Rattle.cif_device.specs.Device.{Takes, TakesPart}
 pub use Rattle.cif_device.specs.FeedEnds.{most_at_once}
@@ -10,7 +10,7 @@ use Rattle.docker_model.specs.state.StateFault.{IsStateText}
 use Rattle.docker_model.specs.docker.DockerText.{IsDockerText}
 use Rattle.cif_file.specs.SourceRead.{Held, WantsMemory}
 
--- the state without any file, and without a horizon
+-- the state without files and without a horizon
 abbrev pub no_state : State
 no_state = record { horizon = 0; ledger = []; entries = [] }
 
@@ -45,16 +45,16 @@ pub record KnowsFileToo (limit : ℕ) (left : Option (List ℕ)) (files : List (
   pub is_text : IsFileText limit text file
   pub summary : IsSummary (file ∷ files) horizon new
 
--- says that the source can name its bytes, and that they are the text of this state, in this format
--- and within the limit
+-- says that contracts know which bytes the source holds, and that these bytes are the text of this
+-- state, in this format and within the limit
 pub record HoldsState (format : Format) (limit : ℕ) (left : Option (List ℕ)) (sent : State) : Type 0 where
   pub text : List ℕ
   pub told : left ≡ Some text
   pub is : IsStateText format limit text sent
 
--- says what a join makes of summaries. Suppose that `old` is the summary of some files, and that
--- the source held the text of a summary of others. Then `new` is the summary of all these files,
--- under the greater horizon
+-- says that joining preserves summaries. Suppose that `old` is the summary of some files, and that
+-- the source held the text of the summary of other files. Then `new` is the summary of all these
+-- files, under the greater horizon
 abbrev pub JoinsSummaries : ℕ → Option (List ℕ) → State → State → Type 0
 JoinsSummaries limit left old new =
     (files others : List (List (List ℕ))) (g h : ℕ) (sent : State) → IsSummary files g old → IsSummary others h sent → HoldsState dks_2 limit left sent

@@ -14,8 +14,8 @@ use Rattle.docker_office.specs.declared.fault.OfficeFault.TheVariants.{File, Sta
 
 -- ---- a state
 
--- the fault of reading a state from which an office's fault comes. `None` if an office's fault
--- doesn't come from reading a state
+-- the fault of reading a state from which an office's fault was converted. `None` if the office's
+-- fault has another origin
 abbrev pub why_unread : OfficeFault → Option ReadFault
 why_unread (State fault) = Some (states.State fault)
 why_unread Source = Some states.Source
@@ -31,9 +31,9 @@ EndsReadingState left failures format limit IsMade source source_now result =
 
 -- ---- a file
 
--- says what the result of taking a file means. A value is one for which `IsMade` holds, and the
--- source was read to its end. A fault is the file's, or it says that memory ran out or that the
--- source failed
+-- says what the result of taking a file means. If the result is a value, `IsMade` holds for the
+-- value, and the source was read to its end. If the result is a fault, it is the file's fault, or
+-- memory ran out, or the source failed
 abbrev pub IsTakingOutcome : {A : Type 0} → ℕ → (A → Type 0) → BytesLeft → BytesLeft → Result A OfficeFault → Type 0
 IsTakingOutcome limit IsMade left left_now (Ok made) = IsMade made × IsEnd left_now
 IsTakingOutcome limit IsMade left left_now (Err (File fault)) = RefusesText limit left fault
@@ -43,8 +43,8 @@ IsTakingOutcome limit IsMade left left_now (Err (State fault)) = ⊥
 IsTakingOutcome limit IsMade left left_now (Err Lapsed) = ⊥
 IsTakingOutcome limit IsMade left left_now (Err Sink) = ⊥
 
--- says how the number of the source's failures has changed. It has grown by one if the fault is
--- that the source failed, and otherwise not at all
+-- says how the number of the source's failures has changed. If the fault is that the source failed,
+-- the number has grown by one. Otherwise it is unchanged
 abbrev pub CountsTaking : {A : Type 0} → ℕ → ℕ → Result A OfficeFault → Type 0
 CountsTaking failures failures_now (Ok made) = failures_now ≡ failures
 CountsTaking failures failures_now (Err (File fault)) = failures_now ≡ failures
@@ -54,7 +54,7 @@ CountsTaking failures failures_now (Err (State fault)) = ⊥
 CountsTaking failures failures_now (Err Lapsed) = ⊥
 CountsTaking failures failures_now (Err Sink) = ⊥
 
--- says that reading stopped at the piece that decides the result. `Outcome` says what the result
+-- says that reading stopped at the piece that determines the result. `Outcome` says what the result
 -- means for the file, and `Counted` how often the source has failed
 pub record StopsTaking (limit : ℕ) (left left_now : BytesLeft) (Outcome Counted : Type 0) : Type 0 where
   pub no_further : ReadsNoFurther most_at_once limit left left_now

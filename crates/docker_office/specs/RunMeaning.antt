@@ -26,8 +26,8 @@ event_meant (event.Horizon office day) = horizon_event office day
 abbrev pub events_meant : List Event → List model.RunEvent
 events_meant = map event_meant
 
--- the refusal of a file for its fault at this record, in the definitions' type. `None` as the cause
--- stands for out of memory
+-- the refusal of a file for its fault at this record, in the definitions' type. The cause `None`
+-- means out of memory
 abbrev pub refusal_of_file : ℕ → Option files.FileCause → model.Refusal
 refusal_of_file number None = no_memory
 refusal_of_file number (Some cause) = bad_file (record { number = number; cause = cause })
@@ -45,13 +45,13 @@ reply_meant (Refused NoOffice) = refused no_office
 reply_meant (Refused NoMessage) = refused no_message
 reply_meant (Refused (Office why)) = refused (refusal_meant why)
 
--- says that the cause is one that a file's text can have. Out of memory isn't
+-- says that the cause can be the cause of a text's fault. Out of memory can't
 abbrev pub IsTextCause : Option files.FileCause → Type 0
 IsTextCause None = ⊥
 IsTextCause (Some cause) = ⊤
 
--- says that an office's fault can occur in a run: it is a file's fault, whose cause isn't out of
--- memory, or it is out of memory
+-- says that an office's fault can occur in a run: it is a file's fault with a cause other than out
+-- of memory, or it is out of memory
 abbrev pub IsRunRefusal : OfficeFault → Type 0
 IsRunRefusal (fault.File why) = IsTextCause (cause_meant why.cause)
 IsRunRefusal fault.Memory = ⊤
@@ -72,8 +72,8 @@ abbrev pub reply_for : Result Unit OfficeFault → Reply
 reply_for (Ok unit) = Done
 reply_for (Err why) = Refused (Office why)
 
--- says what doesn't exist among this many offices and messages: the office, or otherwise the
--- message
+-- says which of the two doesn't exist among this many offices and messages: the office, or
+-- otherwise the message
 abbrev pub IsMissing : (offices messages office message : ℕ) → RunFault → Type 0
 IsMissing offices messages office message NoOffice = offices ≤ office
 IsMissing offices messages office message NoMessage = (office < offices) × (messages ≤ message)

@@ -1,4 +1,4 @@
--- One event in the middle of a run: what offices and messages hold before it and after it.
+-- One event in the middle of a run: the states of offices and messages before and after it.
 use Rattle.docker_model.specs.state.StateText.{dks_2}
 use Rattle.docker_model.specs.run.Run.{RunEvent, KnownSets, IsReply, after_reply}
 use Rattle.docker_model.specs.run.Knowledge.{Holds}
@@ -10,8 +10,8 @@ use Rattle.docker_office.specs.RunMeaning.{IsRunReply, reply_meant, texts_of}
 abbrev pub AreOf : KnownSets → Holdings → Type 0
 AreOf known held = Holds dks_2 known held.offices.items (texts_of held.messages.items)
 
--- says that an event may have this reply, and that after it the offices and messages hold the
--- states of what is then known
+-- says that an event may have this reply, and that after the event the offices and messages hold
+-- the states of what is then known
 pub record MeetsEvent (known : KnownSets) (event : RunEvent) (reply : Reply) (held : Holdings) : Type 0 where
   pub told : IsRunReply reply
   pub may : IsReply known event (reply_meant reply)

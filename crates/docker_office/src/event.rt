@@ -5,13 +5,13 @@ use cif_line::Day;
 /// event delivers is lost.
 #[derive(Clone, Copy, Debug)]
 pub enum Event<'a> {
-    /// The office takes a file: it joins its state with the file's.
+    /// The office takes a file: it joins its state with the file's state.
     Take {
         /// The office.
         office: usize,
         /// The text of the file.
         text: &'a [u8],
-        /// The most records that the file may have. It is at most 4,294,967,294.
+        /// The most records that the file may have: at most 4,294,967,294.
         limit: u32,
     },
     /// The office sends its state, as a new message.
@@ -19,14 +19,14 @@ pub enum Event<'a> {
         /// The office.
         office: usize,
     },
-    /// The office receives a message: it joins its state with the one in the message.
+    /// The office receives a message: it joins its state with the state in the message.
     Deliver {
         /// The office.
         office: usize,
         /// The message.
         message: usize,
     },
-    /// The office replaces its state by the one in a message.
+    /// The office replaces its state with the state in a message.
     Reload {
         /// The office.
         office: usize,
@@ -37,7 +37,7 @@ pub enum Event<'a> {
     Horizon {
         /// The office.
         office: usize,
-        /// The horizon: whatever ended before this day lapses.
+        /// The horizon. Schedules and associations that ended before this day lapse.
         day: Day,
     },
 }

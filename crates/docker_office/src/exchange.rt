@@ -56,7 +56,7 @@ impl Exchange {
     }
 
     /// All messages, whether they were delivered or not, in the order in which they were sent. Each
-    /// holds its whole text.
+    /// message holds its whole text.
     pub fn messages(&self) -> &[Kept]
         ensures { texts_of result.now ≡ self.now.messages }
     {
@@ -64,7 +64,7 @@ impl Exchange {
     }
 
     /// The replies, one for each event, in the order of the events. The only office faults among
-    /// them are a file's fault and out of memory.
+    /// the replies are a file's fault and out of memory.
     pub fn replies(&self) -> &[Reply]
         ensures meant { map reply_meant result.now ≡ self.now.replies }
         ensures each { All IsRunReply result.now }

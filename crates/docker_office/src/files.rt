@@ -11,7 +11,7 @@ use cif_line::{Failed, Sink, write_all};
 use docker_day::LedgerItem;
 use fixed_text::{put, whole};
 
-/// How many bytes a line has: 33 columns and a line feed.
+/// The number of bytes of a line: 33 columns and a line feed.
 const WIDTH: usize = 34;
 
 /// Writes a line for each ledger item, in order.

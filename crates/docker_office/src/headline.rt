@@ -24,7 +24,7 @@ pub fn known_files_fix_states()
 {}
 
 /// Two offices that know the same files print the same dockers, for each timing point and each day
-/// that neither of them refuses. Their horizons may differ. The offices may be in one run or in two
+/// that neither office refuses. Their horizons may differ. The offices may be in one run or in two
 /// different runs.
 pub fn known_files_fix_dockers()
     ensures { (first second : Known) (one two : State) → EndsWith first one → EndsWith second two
@@ -34,9 +34,9 @@ pub fn known_files_fix_dockers()
         → IsDockerText (live_table two) place day other → text ≡ other }
 {}
 
-/// If no two files that an office knows have the same moment, the files have a plain table. It is
-/// the newest full extract, with each later update applied in the order of their moments. Each
-/// docker that the office prints is the docker of this table.
+/// If no two files that an office knows have the same moment, the files have a plain table. The
+/// plain table is the newest full extract, with each later update applied in the order of their
+/// moments. Each docker that the office prints is the docker of this table.
 pub fn dockers_are_of_the_plain_table()
     ensures { (known : Known) (state : State) → EndsWith known state
         → HaveDistinctMoments known.files

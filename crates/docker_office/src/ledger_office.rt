@@ -32,8 +32,8 @@ impl Model for LedgerOffice {
 
 impl LedgerOffice {
     /// Reads a state from a source, and keeps its ledger. A text with more than `limit` bytes is
-    /// refused. It refuses, by `State`, `Source` or `Memory`, what `Office::reload` refuses: all
-    /// parts of the text are judged, although no entry is kept.
+    /// refused. Every text that `Office::reload` refuses is refused here too, by `State`, `Source`
+    /// or `Memory`: all parts of the text are judged, although no entry is kept.
     pub fn read<S: Source>(
         alloc: Global,
         source: &mut S,
@@ -49,8 +49,9 @@ impl LedgerOffice {
         Ok(LedgerOffice { ledger })
     }
 
-    /// Writes a line for each file that the state knows, in the order of the ledger. It allocates
-    /// nothing, so it fails only with `Sink`; the sink has then gained a proper prefix of the text.
+    /// Writes a line for each file that the state knows, in the order of the ledger. The call
+    /// allocates nothing, so it fails only with `Sink`; the sink has then gained a proper prefix of
+    /// the text.
     pub fn files<K: Sink>(&self, sink: &mut K) -> Result<(), OfficeFault>
         requires { K.failures sink.old < 2 ^ 64 - 1 }
         ensures whole { OnOk result

@@ -1,5 +1,5 @@
-//! Offices and runs. Each office keeps a state, takes files, swaps states with the others, and
-//! prints. A run is a list of events at several offices.
+//! Offices and runs. Each office keeps a state, takes files, exchanges states with the other
+//! offices, and prints. A run is a list of events at several offices.
 #![tactic(auto)]
 
 mod event;

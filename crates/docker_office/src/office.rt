@@ -1,4 +1,4 @@
-//! An office, and the requests that it answers.
+//! An office, and its calls.
 ghost use Rattle.std.specs.Prelude.{◌≡◌, ℕ, List, [], ◌-◌, ◌^◌, ◌<◌, ◌≤◌, ◌⊎◌, ◌↔◌, max, IsOk, IsErr, IfErr, OnOk, OnErr, Err};
 ghost use Rattle.cif_device.specs.Device.{CountsFailure, Takes, TakesPart};
 ghost use Rattle.docker_bytes.specs.SourceRead.{JoinsState, ReadsState};
@@ -23,7 +23,7 @@ use std::marker::Model;
 use std::mem;
 
 /// An office: the state of the files that it knows, under its horizon. `noted` says whether the
-/// states that it reads get an index.
+/// states that the office reads get an index.
 #[derive(Debug, Drop)]
 pub struct Office {
     alloc: Global,
@@ -52,8 +52,8 @@ impl Office {
         }
     }
 
-    /// Like `new`, but the office's state has no index, so reading takes less time and memory. This
-    /// suits an office that prints no docker.
+    /// Like `new`, but the office's state has no index, so reading takes less time and memory. An
+    /// office that prints no docker needs no index.
     pub fn unindexed(alloc: Global) -> Office
         ensures empty { result ≡ no_state }
         ensures summary { IsSummary [] 0 result }
@@ -75,10 +75,10 @@ impl Office {
         &self.state
     }
 
-    /// Takes the file whose text a source holds: joins the office's state with the file's. A file
-    /// with more than `limit` records is refused. The source is read in pieces of at most 65,536
-    /// bytes, to its end or to the piece that shows the first fault. A refusal, by `File`, `Source`
-    /// or `Memory`, leaves the office unchanged.
+    /// Takes the file whose text a source holds: joins the office's state with the file's state. A
+    /// file with more than `limit` records is refused. The source is read in pieces of at most
+    /// 65,536 bytes, to its end or to the piece with the first fault. A refusal, by `File`,
+    /// `Source` or `Memory`, leaves the office unchanged.
     pub fn take<S: Source>(&mut self, source: &mut S, limit: u32) -> Result<(), OfficeFault>
         requires failures { S.failures source.old < 2 ^ 64 - 1 }
         requires limit { limit ≤ MOST_RECORDS }
@@ -97,7 +97,7 @@ impl Office {
         self.join(taken)
     }
 
-    /// Joins the office's state with another. If memory runs out, the office is unchanged.
+    /// Joins the office's state with another state. If memory runs out, the office is unchanged.
     fn join(&mut self, other: State) -> Result<(), OfficeFault>
         requires { IsValid other }
         ensures ok { IsOk result → IsJoin self.old other self.new }
@@ -133,9 +133,9 @@ impl Office {
         Ok(())
     }
 
-    /// Replaces the office's state by the state whose text a source holds. The office forgets every
-    /// file that isn't in that state. A text with more than `limit` bytes is refused. A refusal, by
-    /// `State`, `Source` or `Memory`, leaves the office unchanged.
+    /// Replaces the office's state with the state whose text a source holds. The office forgets
+    /// every file that isn't in the new state. A text with more than `limit` bytes is refused. A
+    /// refusal, by `State`, `Source` or `Memory`, leaves the office unchanged.
     pub fn reload<S: Source>(&mut self, source: &mut S, limit: u64) -> Result<(), OfficeFault>
         requires { S.failures source.old < 2 ^ 64 - 1 }
         ensures reads { EndsReadingState S.left S.failures dks_2 limit
@@ -149,10 +149,10 @@ impl Office {
         Ok(())
     }
 
-    /// Replaces the office's state by the state whose text a source holds. The text has the mark
-    /// `DKS1`, and so no horizon: the new state has none. A text with the mark `DKS2` is refused
-    /// with a fault at offset 0, and so is a text with more than `limit` bytes. A refusal, by
-    /// `State`, `Source` or `Memory`, leaves the office unchanged.
+    /// Replaces the office's state with the state whose text a source holds. The text has the mark
+    /// `DKS1`, so neither the text nor the new state has a horizon. A text with the mark `DKS2` is
+    /// refused with a fault at offset 0. A text with more than `limit` bytes is also refused. A
+    /// refusal, by `State`, `Source` or `Memory`, leaves the office unchanged.
     pub fn migrate<S: Source>(&mut self, source: &mut S, limit: u64) -> Result<(), OfficeFault>
         requires { S.failures source.old < 2 ^ 64 - 1 }
         ensures reads { EndsReadingState S.left S.failures dks_1 limit
@@ -164,9 +164,9 @@ impl Office {
         Ok(())
     }
 
-    /// Sets the horizon: each entry whose body ends before this day lapses. Setting a day that
-    /// isn't after the present horizon changes nothing. It never fails. It may use one byte of
-    /// memory per row while it works, and takes longer if there is no memory for them.
+    /// Sets the horizon: each entry whose body ends before this day lapses. A day that isn't after
+    /// the present horizon changes nothing. The call never fails. It may use one byte of memory per
+    /// row while it works, and takes longer if this memory isn't available.
     pub fn set_horizon(&mut self, day: Day)
         ensures raised { self.new ≡ raise_horizon day self.old }
         ensures summary { (files : List (List (List ℕ))) (horizon : ℕ)
@@ -175,8 +175,8 @@ impl Office {
         self.state.set_horizon(day);
     }
 
-    /// Writes the text of the state, for another office to receive or reload. It allocates nothing,
-    /// so it fails only with `Sink`; the sink has then gained a proper prefix of the text.
+    /// Writes the text of the state, for another office to receive or reload. The call allocates
+    /// nothing, so it fails only with `Sink`; the sink has then gained a proper prefix of the text.
     pub fn send<K: Sink>(&self, sink: &mut K) -> Result<(), OfficeFault>
         requires { K.failures sink.old < 2 ^ 64 - 1 }
         ensures whole { OnOk result
@@ -192,8 +192,8 @@ impl Office {
 
     /// Prints the docker of a timing point and a day. The docker is made before its first byte is
     /// written, so nothing is written on `Lapsed` or `Memory`. `Lapsed` if the state has a horizon
-    /// and the day is earlier than three days after it. On `Sink` the sink has gained a proper
-    /// prefix of the text.
+    /// and the day is earlier than three days after the horizon. On `Sink` the sink has gained a
+    /// proper prefix of the text.
     pub fn print<K: Sink>(&self, place: &Tiploc, day: Day, sink: &mut K) -> Result<(), OfficeFault>
         requires { K.failures sink.old < 2 ^ 64 - 1 }
         ensures ok { IsOk result
@@ -211,8 +211,9 @@ impl Office {
         write_docker(&docker, sink).map_err(|_| OfficeFault::Sink)
     }
 
-    /// Writes a line for each file that the office knows, in the order of the ledger. It allocates
-    /// nothing, so it fails only with `Sink`; the sink has then gained a proper prefix of the text.
+    /// Writes a line for each file that the office knows, in the order of the ledger. The call
+    /// allocates nothing, so it fails only with `Sink`; the sink has then gained a proper prefix of
+    /// the text.
     pub fn files<K: Sink>(&self, sink: &mut K) -> Result<(), OfficeFault>
         requires { K.failures sink.old < 2 ^ 64 - 1 }
         ensures whole { OnOk result

@@ -1,5 +1,5 @@
-//! An office that prints the docker of one timing point and one day. Of a state it keeps only what
-//! that docker may need.
+//! An office that prints the docker of one timing point and one day. It keeps only the part of a
+//! state from which this docker is made.
 ghost use Rattle.std.specs.Prelude.{◌≡◌, ◌-◌, ◌^◌, ◌<◌, ◌≤◌, ◌⊎◌, ◌↔◌, IsOk, IfOk, IfErr, Err};
 ghost use Rattle.cif_device.specs.Device.{CountsFailure};
 ghost use Rattle.docker_bytes.specs.SourceRead.{ReadsState};
@@ -19,8 +19,8 @@ use std::alloc::Global;
 use std::marker::Model;
 
 /// An office for the docker of one timing point and one day. In contracts its value is the timing
-/// point, the day and the whole state, of which it keeps an excerpt. It can only print that docker:
-/// the state can't be written, joined or sent.
+/// point, the day and the whole state, of which it keeps an excerpt. The office can only print this
+/// docker: the state can't be written, joined or sent.
 #[derive(Debug, Drop)]
 pub struct PlaceOffice {
     alloc: Global,
@@ -37,8 +37,9 @@ impl Model for PlaceOffice {
 
 impl PlaceOffice {
     /// Reads a state from a source, and keeps an excerpt of it for a timing point and a day. A text
-    /// with more than `limit` bytes is refused. It refuses, by `State`, `Source` or `Memory`, what
-    /// `Office::reload` refuses: every part of the text is judged, whether it is kept or not.
+    /// with more than `limit` bytes is refused. Every text that `Office::reload` refuses is refused
+    /// here too, by `State`, `Source` or `Memory`: every part of the text is judged, whether it is
+    /// kept or not.
     pub fn read<S: Source>(
         alloc: Global,
         place: Tiploc,
@@ -59,9 +60,10 @@ impl PlaceOffice {
         Ok(PlaceOffice { alloc, excerpt })
     }
 
-    /// Reads a file from a source, and keeps what its docker of a timing point and a day needs. A
-    /// file with more than `limit` records is refused. It refuses, by `File`, `Source` or `Memory`,
-    /// what `Office::take` refuses: every record is judged, whether anything of it is kept or not.
+    /// Reads a file from a source, and keeps the changes from which its docker of a timing point
+    /// and a day is made. A file with more than `limit` records is refused. Every file that
+    /// `Office::take` refuses is refused here too, by `File`, `Source` or `Memory`: every record is
+    /// judged, whether a part of it is kept or not.
     pub fn take<S: Source>(
         alloc: Global,
         place: Tiploc,
@@ -84,10 +86,10 @@ impl PlaceOffice {
         }
     }
 
-    /// Prints the docker of the office's timing point and day, which is the same as the whole
-    /// state's. The docker is made before its first byte is written, so nothing is written on
-    /// `Lapsed` or `Memory`. `Lapsed` if the state has a horizon and the day is earlier than three
-    /// days after it. On `Sink` the sink has gained a proper prefix of the text.
+    /// Prints the docker of the office's timing point and day, which is the same as the docker of
+    /// the whole state. The docker is made before its first byte is written, so nothing is written
+    /// on `Lapsed` or `Memory`. `Lapsed` if the state has a horizon and the day is earlier than
+    /// three days after the horizon. On `Sink` the sink has gained a proper prefix of the text.
     pub fn print<K: Sink>(&self, sink: &mut K) -> Result<(), OfficeFault>
         requires { K.failures sink.old < 2 ^ 64 - 1 }
         ensures ok { IsOk result → PrintsDocker self.now.state self.now.place self.now.day

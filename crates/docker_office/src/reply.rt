@@ -20,8 +20,8 @@ pub enum RunFault {
     /// The office exists, but the message doesn't.
     #[error("no such message")]
     NoMessage,
-    /// The office refused the event: at a `Take` because of the file's fault, or because memory ran
-    /// out.
+    /// The office refused the event: for a `Take`, because of the file's fault or because memory
+    /// ran out; for another event, because memory ran out.
     #[error("{0}")]
     Office(OfficeFault),
 }

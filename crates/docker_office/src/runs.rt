@@ -14,15 +14,15 @@ use std::alloc::Global;
 /// result. Fails with `Memory` only before the first event, if there is no room for the offices,
 /// the messages or the replies. Otherwise each event gets one reply. A refused event has no effect.
 ///
-/// Each reply is one that its event may have at that point. It is `NoOffice` if the office doesn't
-/// exist, and otherwise `NoMessage` if the message doesn't. Otherwise a `Take` is done, or refused
-/// for its text's fault or because memory ran out. A `Send`, a `Deliver` or a `Reload` is done, or
-/// refused because memory ran out. A `Horizon` is done. Each office has the state of exactly the
-/// files and the horizon that it knows. Each message has the state that its office had when it was
-/// sent.
+/// Each reply is a reply that its event may have after the earlier events. The reply is `NoOffice`
+/// if the office doesn't exist, and `NoMessage` if the office exists and the message doesn't. If
+/// both exist, a `Take` is done, or refused for its text's fault or because memory ran out. A
+/// `Send`, a `Deliver` or a `Reload` is done, or refused because memory ran out. A `Horizon` is
+/// done. Each office has the state of exactly the files and the horizon that it knows. Each message
+/// has the state that its office had when the message was sent.
 ///
 /// So the files and the horizon that an office knows determine its bytes and its dockers, whatever
-/// was lost, repeated or reordered. The laws of `headline` say this.
+/// was lost, repeated or reordered. The laws of `headline` state this.
 pub fn run(alloc: Global, offices: usize, events: &[Event<'_>]) -> Result<Exchange, Memory>
     requires { All HasGoodLimit (events_meant events.now) }
     ensures run { IfOk result (LeavesRun offices (events_meant events.now)) }

@@ -30,8 +30,8 @@ pub(crate) struct Holdings {
 impl Holdings {
     ghost use Rattle.docker_office.specs.RunSteps.{AreOf, MeetsEvent};
 
-    /// As many offices as asked for, which know nothing, and room for this many messages. `Memory`
-    /// if there is no room for both.
+    /// `offices` offices that know nothing, and room for `messages` messages. `Memory` if there is
+    /// no room for both.
     pub(crate) fn new(alloc: Global, offices: usize, messages: usize) -> Result<Holdings, Memory>
         ensures offices { IfOk result (λ held. length held.offices.items ≡ offices) }
         ensures each { IfOk result (λ held. All (IsSummary [] 0) held.offices.items) }
@@ -49,7 +49,7 @@ impl Holdings {
         })
     }
 
-    /// Does an event, or refuses it. Returns the reply.
+    /// Does or refuses an event, and returns the reply.
     pub(crate) fn meet(&mut self, alloc: Global, event: &Event<'_>) -> Reply
         requires limit { HasGoodLimit (event_meant event.now) }
         requires room { vec_len self.old.messages < vec_capacity self.old.messages }
@@ -72,8 +72,8 @@ impl Holdings {
         }
     }
 
-    /// Returns why an event can't be done: its office doesn't exist, or otherwise its message
-    /// doesn't. `None` if both exist.
+    /// Returns why an event can't be done: its office doesn't exist, or its office exists and its
+    /// message doesn't. `None` if both exist.
     fn missing(&self, office: usize, message: usize) -> Option<RunFault>
         ensures some { IfSome result (IsMissing (length self.now.offices.items)
             (length self.now.messages.items) office message) }
@@ -137,7 +137,7 @@ impl Holdings {
         }
     }
 
-    /// An office replaces its state by the one in a message.
+    /// An office replaces its state with the state in a message.
     fn reload(&mut self, office: usize, message: usize) -> Reply
         ensures met { (known : KnownSets) → AreOf known self.old
             → MeetsEvent known (reload office message) result self.new }
@@ -195,7 +195,7 @@ fn receive_text(office: &mut Office, text: &[u8]) -> Result<(), OfficeFault>
     office.receive(&mut Bytes::new(text, PIECE), text.len() as u64)
 }
 
-/// An office replaces its state by the one with this text.
+/// An office replaces its state with the state that has this text.
 fn reload_text(office: &mut Office, text: &[u8]) -> Result<(), OfficeFault>
     ensures ok { IsOk result → ReadsState dks_2 (length text.now) (Some text.now) office.new }
     ensures unchanged { IsErr result → office.new ≡ office.old }
@@ -207,8 +207,8 @@ fn reload_text(office: &mut Office, text: &[u8]) -> Result<(), OfficeFault>
     office.reload(&mut Bytes::new(text, PIECE), text.len() as u64)
 }
 
-/// The message that an office sends, which is the text of its state. Room for all of it is reserved
-/// before the first byte is written. `Memory` if there is no such room, or if the length doesn't
+/// The message that an office sends: the text of its state. Room for the whole text is reserved
+/// before the first byte is written. `Memory` if there isn't enough room, or if the length doesn't
 /// fit in a `usize`.
 fn message_of(alloc: Global, office: &Office) -> Result<Kept, Memory>
     ensures { IfOk result (λ kept. kept.taken ≡ state_text dks_2 office.now) }
@@ -217,7 +217,7 @@ fn message_of(alloc: Global, office: &Office) -> Result<Kept, Memory>
         return Err(Memory);
     };
     let mut message = Kept::new(alloc, room)?;
-    // A sink in memory fails only if its room is used up.
+    // A sink in memory fails only if it is full.
     match office.send(&mut message) {
         Ok(()) => Ok(message),
         Err(_) => Err(Memory),

@@ -1,5 +1,5 @@
--- What is found for a UID and a day is unique. It came from one of the state's files, and it is the
--- train of the lines on a docker.
+-- The schedule found for a UID and a day is unique. It came from one of the state's files, and it
+-- is the schedule of the train on a docker's lines.
 use Rattle.std.proofs.Common.{◌≡◌, ℕ, ◌+◌, ◌<◌, ◌≤◌, List, Bool, true, false, cond, refl, ap, sym, ◌∙◌, subst, inl, inr, ◌⊎◌, Some, None, Contains, arith}
 use Rattle.std.specs.Prelude.{Option, option_map, IsTrue, ◌&&◌, nat_le, nat_lt}
 use Rattle.std.proofs.lemmas.Bool.{cases_lt, leb-true}
@@ -75,7 +75,7 @@ act_of_put : (act : Act) (body : Body) → op_of act ≡ put_with body → act �
 act_of_put delete body is = cc
 act_of_put (put own) body is = cc
 
--- a schedule that is found in the summary of some files came from one of them
+-- a schedule that is found in the summary of some files came from one of these files
 pub came_from : (files : List (List (List ℕ))) (horizon : ℕ) (state : State) (uid : List ℕ) (day : ℕ) (found : Stamped) → IsSummary files horizon state
     → IsFoundFor state uid day (Some found) → CameFrom files found
 came_from files horizon state uid day found is (chosen, at) =
@@ -130,7 +130,7 @@ still_runs horizon table uid day key lines bound from is = record {
 }
 
 -- on a day that isn't before the horizon, the schedule chosen in the lapsed table is also chosen in
--- the table
+-- the table before the lapse
 chosen_unlapsed : (horizon : ℕ) (table : Table) (uid : List ℕ) (day : ℕ) (found : Option Train) → horizon ≤ no_end_number → horizon ≤ day
     → IsChosenOn (lapse_table horizon table) uid day found → IsChosenOn table uid day found
 chosen_unlapsed horizon table uid day None bound from none = λ key lines runs. none key lines (still_runs horizon table uid day key lines bound from runs)
@@ -141,7 +141,7 @@ schedules_are : (state : State) (uid : List ℕ) (day : ℕ) (found : Option Sta
 schedules_are state uid day None is = is
 schedules_are state uid day (Some found) (is, stamp) = is
 
--- the schedule found in the summary of some files is the one chosen in their plain table
+-- the schedule found in the summary of some files is the schedule chosen in their plain table
 pub found_is_plain : (files : List (List (List ℕ))) (horizon : ℕ) (state : State) (table : Table) (uid : List ℕ) (day : ℕ) (found : Option Stamped)
     → IsSummary files horizon state → IsPlainTable files table → IsDay horizon → horizon ≤ day → IsFoundFor state uid day found
     → IsChosenOn table uid day (option_map (λ (it : Stamped). it.schedule) found)
@@ -178,7 +178,7 @@ found_to_run state start day key lines open_day near runs =
       runs = runs.no_cancellation;
     }
 
--- the train of an event on a docker is the one found for its UID on its start day
+-- the schedule of an event's train on a docker is the schedule found for its UID on its start day
 pub event_train : (state : State) (place : List ℕ) (day : ℕ) (line : DockerLine) → IsValid state → ¬ IsDayRefused state.horizon day
     → (made : IsEventLine (live_table state) place day line)
     → IsFoundToRun state line.uid line.start (record { key = made.key; lines = made.schedule })
@@ -187,7 +187,8 @@ event_train state place day line valid open_day made =
     subst (λ (l : DockerLine). IsFoundToRun state l.uid l.start (record { key = made.key; lines = made.schedule })) (sym made.is)
     (found_to_run state made.start day made.key made.schedule open_day near.1 made.train_runs)
 
--- the base train of an association on a docker is the one found for its UID on its start day
+-- the schedule of an association's base train on a docker is the schedule found for its UID on its
+-- start day
 pub base_train : (state : State) (place : List ℕ) (day : ℕ) (line : DockerLine) → IsValid state → ¬ IsDayRefused state.horizon day
     → (made : IsAssociationLine (live_table state) place day line)
     → IsFoundToRun state line.uid line.start (record { key = made.base_key; lines = made.base })

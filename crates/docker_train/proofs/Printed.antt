@@ -1,4 +1,4 @@
--- The text that the code writes is the train text of the definitions.
+-- The text that the code writes equals the train text of the definitions.
 use Rattle.std.proofs.Common.{◌≡◌, ℕ, List, ◌∙◌}
 use Rattle.std.specs.Prelude.{Option}
 use Rattle.docker_model.specs.docker.DockerText.{ended}
@@ -6,12 +6,12 @@ use Rattle.docker_model.specs.state.State.{State}
 use Rattle.docker_train.specs.TrainText.{IsTrainText, Stamped, found_text, heading, heading_with, train_text}
 use Rattle.docker_train.specs.Answer.{Answer, IsAnswerOf, text_of}
 
--- the text written for what is found in a state is the train text for the state, the UID and the
--- day
+-- the text that is written for the schedule found in a state is the train text for the state, the
+-- UID and the day
 pub printed : (state : State) (uid : List ℕ) (day : ℕ) (answer : Answer) → IsAnswerOf state uid day answer → IsTrainText state uid day (text_of answer)
 printed state uid day answer is = (answer.found, is.is_found, λ i. train_text (is.uid_is i) (is.day_is i) answer.found)
 
--- the heading that is written is the heading in the definitions
+-- the heading that is written equals the heading in the definitions
 pub heading_is : (uid given : List ℕ) (day told : ℕ) (found : Option Stamped) (shown bytes : List ℕ) → given ≡ uid → told ≡ day → shown ≡ found_text found
     → bytes ≡ ended (heading_with given told shown) → bytes ≡ ended (heading uid day found)
 heading_is uid given day told found shown bytes one two three is = is ∙ (λ i. ended (heading_with (one i) (two i) (three i)))

@@ -1,23 +1,24 @@
--- What is found in a state for a UID and a day, and what a sink gains when it is printed.
+-- The schedule found in a state for a UID and a day, and the bytes that a sink gains when the
+-- schedule is printed.
 use Rattle.std.specs.Prelude.{◌≡◌, ℕ, List, Option}
 use Rattle.cif_device.specs.Device.{Takes, TakesPart}
 use Rattle.docker_model.specs.state.State.{State}
 use Rattle.docker_train.specs.TrainText.{Stamped, IsFoundFor, IsTrainText, train_text}
 
--- a UID, a day, and what is found for them: a schedule with its stamp, or `None` if no schedule
--- runs
+-- a UID, a day, and the schedule found for them with its stamp. The schedule is `None` if no
+-- schedule runs
 pub record Answer : Type 0 where
   pub uid : List ℕ
   pub day : ℕ
   pub found : Option Stamped
 
--- says that this is what is found in the state for the UID and the day
+-- says that this is the schedule found in the state for the UID and the day
 pub record IsAnswerOf (state : State) (uid : List ℕ) (day : ℕ) (answer : Answer) : Type 0 where
   pub uid_is : answer.uid ≡ uid
   pub day_is : answer.day ≡ day
   pub is_found : IsFoundFor state uid day answer.found
 
--- the text for the UID, the day and what was found
+-- the text for the UID, the day and the schedule found
 abbrev pub text_of : Answer → List ℕ
 text_of answer = train_text answer.uid answer.day answer.found
 

@@ -1,4 +1,4 @@
--- Which extract a schedule came from, and which trains are found for the lines of a docker.
+-- The extract that a schedule came from, and the trains of a docker's lines.
 use Rattle.std.specs.Prelude.{◌≡◌, ◌≤◌, ℕ, List, Some, Contains}
 use Rattle.docker_model.specs.file.Change.{Change, changes, schedule_key, schedule_body, put}
 use Rattle.docker_model.specs.state.Stamp.{Stamp, file_stamp_of}
@@ -14,7 +14,7 @@ change_of found = record {
   act = put (schedule_body found.schedule.lines);
 }
 
--- says that the schedule came from one of these files. That file has the stamp's date, time and
+-- says that the schedule came from one of these files. This file has the stamp's date, time and
 -- reference, and makes the change that put the schedule
 pub record CameFrom (files : List (List (List ℕ))) (found : Stamped) : Type 0 where
   pub file : List (List ℕ)

@@ -12,7 +12,7 @@ use Rattle.docker_model.specs.docker.DockerText.{ended}
 use Rattle.train_choice.specs.Ranked.{is_cancellation}
 
 -- a schedule with the stamp of the change that put it. The stamp has the extract's date, time and
--- reference, and the number of the schedule's record there
+-- reference, and the number of the schedule's record in the extract
 pub record Stamped : Type 0 where
   pub schedule : Train
   pub stamp : Stamp
@@ -22,8 +22,8 @@ abbrev pub IsStampOf : State → Train → Stamp → Type 0
 IsStampOf state schedule stamp =
     entry_at state (schedule_key schedule.key) ≡ Some (record { stamp = stamp; op = put_with (schedule_body schedule.lines) })
 
--- says that this is found: the schedule chosen for the UID on the day, with its stamp, or `None` if
--- no schedule runs
+-- says that `found` is the schedule chosen for the UID on the day, with its stamp, or `None` if no
+-- schedule runs
 abbrev pub IsFoundFor : State → List ℕ → ℕ → Option Stamped → Type 0
 IsFoundFor state uid day None = IsChosenOn (live_table state) uid day None
 IsFoundFor state uid day (Some found) =
@@ -40,13 +40,13 @@ stamp_text stamp =
     day_text stamp.file.moment.day ++ spaces 1 ++ minute_text stamp.file.moment.minute ++ spaces 1 ++ stamp.file.reference ++ spaces 1
     ++ number_text stamp.number
 
--- whether a train runs by a schedule with this STP indicator, as a word of nine columns. By a
--- cancellation it doesn't run
+-- whether a train runs by a schedule with this STP indicator, as a word of nine columns. It doesn't
+-- run if the indicator is `C`
 abbrev pub running_text : ℕ → List ℕ
 running_text indicator = if is_cancellation indicator then codes "CANCELLED" else codes "RUNS     "
 
 -- columns 27 to 72 of the heading: the STP indicator, whether the train runs, and the stamp. If no
--- schedule runs, they say `NONE`
+-- schedule runs, these columns have `NONE`
 unfoldable pub found_text : Option Stamped → List ℕ
 found_text None = spaces 2 ++ codes "NONE" ++ spaces 40
 found_text (Some found) =
@@ -56,11 +56,11 @@ found_text (Some found) =
 unfoldable pub heading_with : List ℕ → ℕ → List ℕ → List ℕ
 heading_with uid day found = codes "TRAIN  " ++ uid ++ spaces 2 ++ day_text day ++ spaces 1 ++ found ++ spaces 8
 
--- the 80 columns of the heading for a UID, a day and what was found
+-- the 80 columns of the heading for a UID, a day and the schedule found
 abbrev pub heading : List ℕ → ℕ → Option Stamped → List ℕ
 heading uid day found = heading_with uid day (found_text found)
 
--- the lines of the schedule that was found, each with 80 columns. None if no schedule runs
+-- the lines of the schedule found, each with 80 columns. Empty if no schedule runs
 abbrev pub lines_of : Option Stamped → List (List ℕ)
 lines_of None = []
 lines_of (Some found) = found.schedule.lines
@@ -69,7 +69,8 @@ lines_of (Some found) = found.schedule.lines
 abbrev pub last_line : List ℕ
 last_line = codes "END" ++ spaces 77
 
--- the text for a UID, a day and what was found: heading, lines and last line, each with a line feed
+-- the text for a UID, a day and the schedule found: heading, lines and last line, each with a line
+-- feed
 abbrev pub train_text : List ℕ → ℕ → Option Stamped → List ℕ
 train_text uid day found = ended (heading uid day found) ++ flat_map ended (lines_of found) ++ ended last_line
 

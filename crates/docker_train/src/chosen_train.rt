@@ -11,7 +11,7 @@ use docker_join::Stamp;
 use std::marker::Model;
 use train_choice::ScheduleView;
 
-/// A UID and a day, with the schedule that is chosen for them, if one runs.
+/// A UID, a day, and the schedule that is chosen for them. There is no schedule if none runs.
 #[derive(Debug, Drop)]
 pub struct ChosenTrain<'a> {
     uid: Uid,
@@ -32,7 +32,7 @@ impl<'a> Model for ChosenTrain<'a> {
 }
 
 impl<'a> ChosenTrain<'a> {
-    /// The UID and the day, with what was found for them.
+    /// The UID and the day, with the schedule found for them.
     pub(crate) fn of(uid: Uid, day: Day, found: Option<Stamped<'a>>) -> ChosenTrain<'a>
         ensures { result ≡ record { uid = uid; day = day; found = found.entry } }
     {
@@ -65,8 +65,8 @@ impl<'a> ChosenTrain<'a> {
         }
     }
 
-    /// The stamp of the chosen schedule: the date, time and reference of the extract that it came
-    /// from, and the number of its record there. `None` if no schedule runs.
+    /// The stamp of the chosen schedule: the date, time and reference of the schedule's extract,
+    /// and the number of its record in this extract. `None` if no schedule runs.
     pub fn stamp(&self) -> Option<&'a Stamp>
         ensures { option_map stamp_meant (option_copied result)
             ≡ option_map (λ (it : text.Stamped). it.stamp) self.now.found }

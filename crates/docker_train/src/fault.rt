@@ -4,7 +4,7 @@ use thiserror::Error;
 /// Why the schedule chosen for a UID on a day isn't printed.
 #[derive(Clone, Copy, PartialEq, Eq, Debug, Error)]
 pub enum TrainFault {
-    /// The day is before the state's horizon. Schedules that ran on it may have lapsed.
+    /// The day is before the state's horizon. Schedules that ran on the day may have lapsed.
     #[error("lapsed")]
     Lapsed,
     /// The sink failed.

@@ -1,5 +1,5 @@
-//! Laws of what is found and printed for a UID and a day. Each law is the contract of a function
-//! with an empty body, so it holds for all values of its variables.
+//! Laws of the schedule that is found and printed for a UID and a day. Each law is the contract of
+//! a function with an empty body, so it holds for all values of its variables.
 ghost use Rattle.std.specs.Prelude.{◌≡◌, ◌≤◌, ℕ, List, Option, Some, option_map};
 ghost use Rattle.docker_model.specs.records.Date.{IsDay};
 ghost use Rattle.docker_model.specs.state.Lapse.{IsDayRefused};
@@ -19,17 +19,17 @@ pub fn one_train_text()
         → IsTrainText state uid day text → IsTrainText state uid day other → text ≡ other }
 {}
 
-/// A schedule found in the summary of some files came from one of them. That file has the stamp's
-/// date, time and reference. At the stamp's record number it makes the change that puts this
-/// schedule.
+/// A schedule found in the summary of some files came from one of these files. This file has the
+/// stamp's date, time and reference. The file's record with the stamp's record number makes the
+/// change that puts this schedule.
 pub fn train_came_from_a_file()
     ensures { (files : List (List (List ℕ))) (horizon : ℕ) (state : State) (uid : List ℕ) (day : ℕ)
         (found : Stamped) → IsSummary files horizon state → IsFoundFor state uid day (Some found)
         → CameFrom files found }
 {}
 
-/// If some files have distinct moments, their summary and their plain table have the same schedule
-/// chosen for a UID, on each day from the horizon on.
+/// If some files have distinct moments, the schedule chosen for a UID is the same in their summary
+/// and in their plain table, on each day from the horizon on.
 pub fn found_train_is_plain()
     ensures { (files : List (List (List ℕ))) (horizon : ℕ) (state : State) (table : Table)
         (uid : List ℕ) (day : ℕ) (found : Option Stamped) → IsSummary files horizon state
@@ -37,8 +37,8 @@ pub fn found_train_is_plain()
         → IsChosenOn table uid day (option_map (λ (it : Stamped). it.schedule) found) }
 {}
 
-/// On a docker that isn't refused, each event's train is the one found for its UID on its start
-/// day, and it runs then. The same holds for the base train of each association on the docker.
+/// On a docker that isn't refused, each event's train runs by the schedule found for its UID on its
+/// start day. The same holds for the base train of each association on the docker.
 pub fn trains_of_a_docker()
     ensures events { (state : State) (place : List ℕ) (day : ℕ) (line : DockerLine)
         → IsValid state → ¬ IsDayRefused state.horizon day

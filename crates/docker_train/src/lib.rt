@@ -1,5 +1,5 @@
-//! Which schedule is chosen for a UID on a day, and which extract it came from. It is printed as a
-//! heading, the schedule's records and a last line.
+//! Which schedule is chosen for a UID on a day, and which extract it came from. The schedule is
+//! printed as a heading, the schedule's records and a last line.
 #![tactic(auto)]
 
 mod chosen_train;

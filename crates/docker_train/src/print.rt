@@ -26,10 +26,10 @@ use itoa::Buffer;
 /// How many bytes a line has: 80 columns and a line feed.
 const WIDTH: usize = 81;
 
-/// Prints the schedule chosen for a UID on a day, or that none runs. The schedule is found before
-/// the first byte is written. `Lapsed` if the day is before the horizon; nothing is written then.
-/// `Sink` if a write fails; the sink has then gained a proper prefix of the text. It allocates
-/// nothing.
+/// Prints the schedule chosen for a UID on a day, or that no schedule runs. The schedule is found
+/// before the first byte is written. `Lapsed` if the day is before the horizon; nothing is written
+/// then. `Sink` if a write fails; the sink has then gained a proper prefix of the text. The call
+/// allocates nothing.
 pub fn print_train<K: Sink>(
     state: &State,
     uid: &Uid,
@@ -102,7 +102,7 @@ fn heading(uid: &Uid, day: Day, found: &[u8; 46]) -> [u8; WIDTH]
     whole(text)
 }
 
-/// Columns 27 to 72 of the heading: what was found, or `NONE`.
+/// Columns 27 to 72 of the heading: the schedule found, or `NONE`.
 #[tactic(auto, unfolding(crate::specs::TrainText::found_text))]
 fn text_of_found(found: Option<&Stamped<'_>>) -> [u8; 46]
     ensures { result ≡ found_text (option_copied found.entry) }

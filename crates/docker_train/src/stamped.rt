@@ -1,4 +1,4 @@
-//! A schedule with its stamp, which says which extract it came from.
+//! A schedule with its stamp. The stamp identifies the extract that the schedule came from.
 ghost use Rattle.std.specs.Prelude.{◌≡◌, ◌<◌};
 ghost use Rattle.docker_join.specs.Meaning.{stamp_meant};
 
@@ -48,7 +48,7 @@ impl<'a> Stamped<'a> {
     }
 
     /// The stamp of the change that put the schedule: the date, time and reference of its extract,
-    /// and the number of its record there.
+    /// and the number of its record in the extract.
     pub(crate) fn stamp(&self) -> &'a Stamp
         ensures stamp { stamp_meant result.now ≡ self.now.stamp }
         ensures minute { result.now.file.minute < 1440 }

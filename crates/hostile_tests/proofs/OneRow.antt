@@ -1,5 +1,5 @@
--- A state with one ledger item and one entry is given to another state: the item itself, and a copy
--- of the entry.
+-- The parts of a state with one ledger item and one entry are given to another state: the item
+-- itself, and a copy of the entry.
 use Rattle.std.proofs.Common.{◌≡◌, List, [], ◌∷◌, ◌++◌, map, length, get_or, refl, ap, sym, ◌∙◌, subst, arith}
 use Rattle.docker_model.specs.state.Stamp as stamps
 use Rattle.docker_model.specs.state.State.{State, IsLedger, IsValid, IsGoodEntry}
@@ -50,7 +50,7 @@ pub pushed_item : (item : LedgerItem) (before after : List LedgerItem) → befor
     → map item_meant after ≡ item_meant item ∷ []
 pushed_item item before after none pushed = ap (map item_meant) (pushed ∙ ap (λ (xs : List LedgerItem). xs ++ item ∷ []) none)
 
--- the copy of the entry may be given after the item
+-- the copy of the entry fits after the item
 pub here_copy : (items : List LedgerItem) (item other : LedgerItem) → length items ≡ 1 → item ≡ get_or items 0 other
     → (rows : List (Key × Entry)) (row next : Key × Entry) → length rows ≡ 1 → row ≡ get_or rows 0 next
     → (state : State) → map item_meant items ≡ state.ledger → map row_meant rows ≡ state.entries → IsValid state

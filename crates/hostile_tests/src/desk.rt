@@ -1,4 +1,4 @@
-//! What a row needs while it is run: the texts that it names, and the printing of what comes out.
+//! The texts that a row names, and the printing of its results.
 
 use crate::endings::Ending;
 use crate::records::lines_of;
@@ -33,7 +33,7 @@ impl<'a> Desk<'a> {
         }
     }
 
-    /// The text with this name. It is made of records or of a docker's lines, or read from the
+    /// The text with this name: the text of records, the text of a docker's lines, or a file in the
     /// folder `data`.
     pub(crate) fn text(&self, name: &str) -> Vec<u8> {
         match self.found(name) {
@@ -68,7 +68,7 @@ impl<'a> Desk<'a> {
         }
     }
 
-    /// Prints how the row's call ended. It allocates no memory.
+    /// Prints how the row's call ended. Allocates no memory.
     pub(crate) fn end(&self, ending: Ending) {
         self.print(ending.line());
     }

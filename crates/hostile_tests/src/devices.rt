@@ -12,10 +12,11 @@ use cif_line::{Day, Fuse, Sink, Source, Tiploc};
 use docker_cmd::{Fault, job_line};
 use docker_office::{Office, OfficeFault};
 
-/// More calls than any row makes.
+/// A number that is greater than the number of calls of any row.
 const MOST_CALLS: u64 = 5000;
 
-/// `CALL STATE TEXT STATE`: the office reads the text from sources that fail at one read.
+/// `CALL STATE TEXT STATE`: the office reads the text from a source that fails at the first read,
+/// then from a source that fails at the second read, and so on.
 pub(crate) fn source(desk: &Desk, words: &[&str]) {
     let [call, own, name, wanted] = words else {
         return desk.trouble("CALL STATE TEXT STATE");
@@ -31,8 +32,8 @@ pub(crate) fn source(desk: &Desk, words: &[&str]) {
     sources(desk, asked, text.as_slice());
 }
 
-/// Prints the answer for a source that fails at the first read, at the second, and so on, up to one
-/// that doesn't fail.
+/// Prints the answer for a source that fails at the first read, at the second, and so on, up to a
+/// source that doesn't fail.
 fn sources(desk: &Desk, asked: Asked<'_>, text: &[u8]) {
     let good = asked.answer_to(desk, text);
     let mut spans = Spans::new();
@@ -46,8 +47,8 @@ fn sources(desk: &Desk, asked: Asked<'_>, text: &[u8]) {
     spans.report(desk);
 }
 
-/// The answer for a source that fails at this read, and whether it did fail. After a failure the
-/// same call is made with a good source.
+/// The answer for a source that fails at this read, and whether the source did fail. After a
+/// failure the same call is made with a good source.
 fn fused(desk: &Desk, asked: Asked<'_>, text: &[u8], call: u64, good: Answer) -> (Answer, bool)
     requires { 0 < call }
 {
@@ -85,7 +86,8 @@ fn write<K: Sink>(output: &Output, office: &Office, sink: &mut K) -> Result<(), 
     }
 }
 
-/// `STATE TIPLOC DATE DOCKER`: the office prints the docker to sinks that fail at one write.
+/// `STATE TIPLOC DATE DOCKER`: the office prints the docker to a sink that fails at the first
+/// write, then to a sink that fails at the second write, and so on.
 pub(crate) fn print(desk: &Desk, words: &[&str]) {
     let [own, place, day, wanted] = words else {
         return desk.trouble("STATE TIPLOC DATE DOCKER");
@@ -95,7 +97,8 @@ pub(crate) fn print(desk: &Desk, words: &[&str]) {
     }
 }
 
-/// `STATE`: the office sends its state to sinks that fail at one write.
+/// `STATE`: the office sends its state to a sink that fails at the first write, then to a sink that
+/// fails at the second write, and so on.
 pub(crate) fn send(desk: &Desk, words: &[&str]) {
     let [own] = words else {
         return desk.trouble("STATE");
@@ -103,7 +106,8 @@ pub(crate) fn send(desk: &Desk, words: &[&str]) {
     sinks(desk, own, Output::State, own);
 }
 
-/// `STATE FILES`: the office lists its files to sinks that fail at one write.
+/// `STATE FILES`: the office lists its files to a sink that fails at the first write, then to a
+/// sink that fails at the second write, and so on.
 pub(crate) fn files(desk: &Desk, words: &[&str]) {
     let [own, wanted] = words else {
         return desk.trouble("STATE FILES");
@@ -111,8 +115,8 @@ pub(crate) fn files(desk: &Desk, words: &[&str]) {
     sinks(desk, own, Output::Files, wanted);
 }
 
-/// Lets an office write to a sink that fails at the first write, at the second, and so on, up to
-/// one that doesn't fail.
+/// Lets an office write to a sink that fails at the first write, at the second, and so on, up to a
+/// sink that doesn't fail.
 fn sinks(desk: &Desk, own: &str, output: Output, wanted: &str) {
     let (before, wanted) = (desk.text(own), desk.text(wanted));
     let office = office_of(desk, before.as_slice());
@@ -134,8 +138,9 @@ fn write_all(desk: &Desk, office: &Office, output: Output, before: &[u8], wanted
     spans.report(desk);
 }
 
-/// The answer for a sink that fails at this write, and whether it did fail. After a failure the
-/// sink has to have the bytes of the earlier writes, and a good sink has to get the whole text.
+/// The answer for a sink that fails at this write, and whether the sink did fail. After a failure
+/// the sink has to have the bytes of the earlier writes, and a good sink has to gain the whole
+/// text.
 fn written(
     desk: &Desk,
     office: &Office,
@@ -158,8 +163,8 @@ fn written(
     (if again { answer } else { Answer::Stuck }, true)
 }
 
-/// The answer for a sink that has these bytes. If it failed, they have to be the bytes of the
-/// earlier writes, and otherwise the whole text.
+/// The answer for a sink that has these bytes. If the sink failed, the bytes have to be the bytes
+/// of the earlier writes, and otherwise the whole text.
 fn written_answer(done: Result<(), OfficeFault>, bytes: &[u8], wanted: &[u8], call: u64) -> Answer {
     match done {
         Ok(()) => {
@@ -192,7 +197,8 @@ fn is_front(bytes: &[u8], wanted: &[u8], call: u64) -> bool {
     bytes.len() as u64 == call.saturating_sub(1) && wanted.starts_with(bytes)
 }
 
-/// `LINE`: a job is read from the line, by sources that fail at one read.
+/// `LINE`: a job is read from the line, by a source that fails at the first read, then by a source
+/// that fails at the second read, and so on.
 pub(crate) fn line(desk: &Desk, words: &[&str]) {
     let [name] = words else {
         return desk.trouble("LINE");
@@ -210,8 +216,8 @@ pub(crate) fn line(desk: &Desk, words: &[&str]) {
     spans.report(desk);
 }
 
-/// The answer for a source of the line that fails at this read, and whether it did fail. After a
-/// failure a good source has to give a job.
+/// The answer for a source of the line that fails at this read, and whether the source did fail.
+/// After a failure, a job has to be read from a good source.
 fn line_read(desk: &Desk, text: &[u8], call: u64) -> (Answer, bool)
     requires { 0 < call }
 {

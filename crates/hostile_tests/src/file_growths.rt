@@ -52,7 +52,7 @@ fn feed_again(desk: &Desk, text: &[u8], wanted: &str) {
     }
 }
 
-/// `FILE STATE`: a parser is fed the file, which has to give the state.
+/// `FILE STATE`: a parser is fed the file. The file's state has to be the given state.
 pub(crate) fn feed(desk: &Desk, words: &[&str]) {
     let [name, wanted] = words else {
         return desk.trouble("FILE STATE");
@@ -71,7 +71,8 @@ pub(crate) fn feed(desk: &Desk, words: &[&str]) {
     }
 }
 
-/// `FILE STATE`: a parser that was fed the file finishes. The file has to give the state.
+/// `FILE STATE`: a parser that was fed the file finishes. The file's state has to be the given
+/// state.
 pub(crate) fn finish(desk: &Desk, words: &[&str]) {
     let [name, wanted] = words else {
         return desk.trouble("FILE STATE");
@@ -99,8 +100,9 @@ fn fed(desk: &Desk, pieces: &[&[u8]]) -> Result<CifFile, FileFault> {
     parser.finish()
 }
 
-/// `FILE STATE`: the file is read from pieces, by `read_pieces` or by a parser that is fed them. If
-/// memory runs out, both have to name the same record, which no clause says.
+/// `FILE STATE`: the file is read from pieces, by `read_pieces` or by a parser that is fed these
+/// pieces. If memory runs out, the two faults must have the same record number, which no clause
+/// says.
 pub(crate) fn read(desk: &Desk, call: &str, words: &[&str]) {
     let [name, wanted] = words else {
         return desk.trouble("FILE STATE");

@@ -123,8 +123,8 @@ fn prepared<'a>(
     )
 }
 
-/// Writes what a job has prepared, and prints whether it is this text. Returns the fault if the
-/// call is refused and nothing is written.
+/// Writes what a job has prepared, and prints whether the written text is this text. Returns the
+/// fault if the call is refused and nothing is written.
 fn has_written(
     desk: &Desk,
     prepared: &Prepared<'_>,
@@ -155,7 +155,7 @@ fn write_again(desk: &Desk, prepared: &Prepared<'_>, wanted: &str) {
     }
 }
 
-/// The job that these words name. Prints a line if there is none.
+/// The job that these words name. Prints a line if they name no job.
 fn job_of(desk: &Desk, words: &[&str]) -> Option<Job> {
     match job(desk.alloc(), words) {
         Ok(named) => Some(named),
@@ -167,7 +167,7 @@ fn job_of(desk: &Desk, words: &[&str]) -> Option<Job> {
 }
 
 /// `FIRST SECOND TEXT WORDS`: the job of these words reads the first two texts, and then has to
-/// write the third.
+/// write the third text.
 pub(crate) fn read_for_job(desk: &Desk, words: &[&str]) {
     let [first, second, wanted, words @ ..] = words else {
         return desk.trouble("FIRST SECOND TEXT WORDS");
@@ -204,7 +204,7 @@ fn read_texts(desk: &Desk, named: &Job, texts: [&[u8]; 2], wanted: &str, words: 
 }
 
 /// `FIRST SECOND TEXT WORDS`: the job of these words, which has read the first two texts, has to
-/// write the third.
+/// write the third text.
 pub(crate) fn write_for_job(desk: &Desk, words: &[&str]) {
     let [first, second, wanted, words @ ..] = words else {
         return desk.trouble("FIRST SECOND TEXT WORDS");

@@ -1,10 +1,10 @@
-//! What offices know after the events of a run, worked out from the replies.
+//! What offices know after the events of a run, computed from the replies.
 
 use cif_file::{FileCause, FileFault};
 use docker_office::{OfficeFault, Reply, RunFault};
 use std::alloc::{AllocError, Global};
 
-/// How many offices there are.
+/// The number of offices.
 pub(crate) const OFFICES: usize = 3;
 
 /// Which of the three files an office or a message knows.
@@ -47,7 +47,7 @@ const NINTH: Known = Known {
 };
 
 impl Known {
-    /// The files that either of the two knows.
+    /// The union of the files that the two know.
     fn with(self, other: Known) -> Known {
         Known {
             fifth: self.fifth | other.fifth,
@@ -131,14 +131,14 @@ pub(crate) const STEPS: [Step; 18] = [
 /// The reply to an event for which memory runs out.
 const OUT_OF_MEMORY: Reply = Reply::Refused(RunFault::Office(OfficeFault::Memory));
 
-/// What each office and each message knows after the events up to some point.
+/// What each office and each message knows after a prefix of the events.
 #[derive(Drop)]
 pub(crate) struct Book {
     /// What each office knows.
     pub(crate) offices: [Known; OFFICES],
     /// What each message knows.
     pub(crate) messages: Vec<Known>,
-    /// Whether each reply was one that its event may get.
+    /// Whether each reply was a reply that its event may get.
     pub(crate) fits: bool,
     /// How many replies said that memory ran out.
     pub(crate) wanting: u32,
@@ -155,7 +155,7 @@ impl Book {
         }
     }
 
-    /// Enters an event and its reply.
+    /// Records an event and its reply.
     pub(crate) fn enter(&mut self, step: Step, reply: Reply) -> Result<(), AllocError> {
         let wanted = self.reply_to(step);
         if reply == OUT_OF_MEMORY {
@@ -190,7 +190,7 @@ impl Book {
         }
     }
 
-    /// Enters the effect of an event that was done.
+    /// Records the effect of an event that was done.
     fn meet(&mut self, step: Step) -> Result<(), AllocError> {
         match step {
             Step::Take(office, file) => self.learn(office, file),
@@ -240,8 +240,8 @@ pub(crate) fn is_out_of_memory(reply: &Reply) -> bool {
     *reply == OUT_OF_MEMORY
 }
 
-/// Whether memory may run out for an event that should get this reply. It may not if the office or
-/// the message doesn't exist.
+/// Whether memory may run out for an event that should get this reply. Memory can't run out if the
+/// office or the message doesn't exist.
 fn is_tried(reply: Reply) -> bool {
     match reply {
         Reply::Done => true,

@@ -1,7 +1,7 @@
-//! Runs rows of hostile use, one per line of standard input. A row names a call, the texts that it
-//! gets, and the text that has to come out. Files and dockers are made in `records.rt`, and other
-//! texts are in the folder `data`. The program prints what comes out. It also prints what is wrong,
-//! so that its output then differs from the file `stdout`.
+//! Runs rows of hostile use, one per line of standard input. A row names a call, the texts that the
+//! call gets, and the expected text. Files and dockers are made in `records.rt`, and other texts
+//! are in the folder `data`. The program prints the results. If a result isn't the expected text,
+//! the program also prints a statement about it, so its output differs from the file `stdout`.
 //!
 //! A row that begins with `growth` is a call that allocates memory. The call is made once, and once
 //! more if memory runs out. `tests/growth/calls` runs the program once for each allocation of the
@@ -38,7 +38,7 @@ fn main(rt: HostRuntime) {
     }
 }
 
-/// Runs a row. Its first word says whether its call is one that allocates memory.
+/// Runs a row. The first word of the row says whether its call is a call that allocates memory.
 fn do_row(desk: &Desk) {
     let words = desk.words();
     match words.as_slice() {

@@ -61,8 +61,8 @@ pub(crate) fn print(desk: &Desk, words: &[&str]) {
     }
 }
 
-/// Lets an office print and prints whether the docker is the expected one. If this is the row's
-/// call, how it ended is printed first. Returns false if the call is refused and nothing is
+/// Lets an office print and prints whether the docker is the expected docker. If this is the row's
+/// call, the call's ending is printed first. Returns false if the call is refused and nothing is
 /// written.
 fn has_printed(desk: &Desk, office: &Office, words: [&str; 3], is_first: bool) -> bool {
     let [place, day, wanted] = words;
@@ -137,7 +137,7 @@ pub(crate) fn print_at_place(desk: &Desk, words: &[&str]) {
     }
 }
 
-/// Lets an office for one timing point print, and a second time if nothing was written.
+/// Lets an office for one timing point print, and print a second time if nothing was written.
 fn print_there(desk: &Desk, office: &PlaceOffice, wanted: &str) {
     let Some(mut kept) = sink(desk) else {
         return;

@@ -10,7 +10,7 @@ use crate::texts::{compare_state, has_text, state_of};
 use cif_line::Memory;
 use docker_state::{Parts, Staging, State};
 
-/// The call that a row is about.
+/// The call that a row tests.
 #[derive(Clone, Copy, PartialEq, Eq)]
 enum At {
     Item,
@@ -32,14 +32,14 @@ fn call_of(call: &str) -> At {
     }
 }
 
-/// Prints the row if it is about this call.
+/// Prints the row if it tests this call.
 fn begin(desk: &Desk, here: bool) {
     if here {
         desk.begin();
     }
 }
 
-/// Prints how a call ended if the row is about it.
+/// Prints how a call ended if the row tests this call.
 fn end<T>(desk: &Desk, here: bool, done: &Result<T, Memory>) {
     if here {
         desk.end(ending_of(done));
@@ -96,7 +96,7 @@ pub(crate) fn parts(desk: &Desk, call: &str, words: &[&str]) {
     }
 }
 
-/// Lets a state receive the parts of another, which has one ledger item and one entry.
+/// Lets a state receive the parts of another state, which has one ledger item and one entry.
 fn receive(desk: &Desk, own: &mut State, other: &State, at: At) -> Result<(), Memory> {
     let (items, rows) = (other.ledger(), other.entries());
     if items.len() != 1 {
@@ -123,7 +123,7 @@ fn receive(desk: &Desk, own: &mut State, other: &State, at: At) -> Result<(), Me
     }
 }
 
-/// Commits what was staged.
+/// Commits the staged entries.
 fn commit(desk: &Desk, own: &mut State, staging: Staging, at: At) -> Result<(), Memory>
     requires { IsFloor (own.old.ledger ++ staging.items) staging.floor }
 {
@@ -135,8 +135,8 @@ fn commit(desk: &Desk, own: &mut State, staging: Staging, at: At) -> Result<(), 
     done
 }
 
-/// `STATE OTHER JOINED`: the first state receives the second, which has one file and one entry. It
-/// then has to be the third.
+/// `STATE OTHER JOINED`: the first state receives the second, which has one file and one entry. The
+/// first state then has to equal the third.
 pub(crate) fn staging(desk: &Desk, call: &str, words: &[&str]) {
     let [own, other, wanted] = words else {
         return desk.trouble("STATE OTHER JOINED");

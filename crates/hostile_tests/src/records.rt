@@ -40,7 +40,7 @@ const SEVENTH: &[&[u8]] = &[HD_7B, BS_C10002, LO_1000, LT_1030, ZZ];
 /// The update of 9 June.
 const NINTH: &[&[u8]] = &[HD_9C, BS, LO_1100, LT_1130, ZZ];
 
-/// The lines of a text. Those in `ended` each end with `end`. The last line, `open`, has no line
+/// The lines of a text. Each line in `ended` ends with `end`. The last line, `open`, has no line
 /// end, and may be empty.
 #[derive(Drop)]
 pub(crate) struct Lines<'a> {

@@ -76,7 +76,7 @@ fn left_by_run(alloc: Global, files: &Files) -> Result<Exchange, Memory> {
     )
 }
 
-/// What offices and messages know after a run, worked out from its replies.
+/// What offices and messages know after a run, computed from its replies.
 fn book_of(desk: &Desk, left: &Exchange) -> Book {
     let mut book = Book::new(desk.alloc());
     for (step, reply) in STEPS.iter().zip(left.replies()) {
@@ -133,8 +133,8 @@ fn word_of<'a>(reply: &Reply) -> &'a str {
     }
 }
 
-/// Prints the replies, and whether each office and each message has the state that the replies lead
-/// to.
+/// Prints the replies, and whether each office and each message has the state that follows from the
+/// replies.
 fn report_left(desk: &Desk, left: &Exchange) {
     let book = book_of(desk, left);
     for reply in left.replies() {
@@ -149,8 +149,8 @@ fn report_left(desk: &Desk, left: &Exchange) {
     report_same(desk, left, &book, 0);
 }
 
-/// Prints whether `wanting` replies say that memory ran out, and everything else is as the replies
-/// say.
+/// Prints whether `wanting` replies say that memory ran out, and whether everything else follows
+/// from the replies.
 fn report_same(desk: &Desk, left: &Exchange, book: &Book, wanting: u32) {
     let same = book.wanting == wanting && is_left(desk, left, book);
     desk.report(
@@ -180,8 +180,8 @@ pub(crate) fn run_events(desk: &Desk, words: &[&str]) {
     }
 }
 
-/// Prints how a run ended. If memory ran out for an event, it prints whether the run left what its
-/// replies say.
+/// Prints how a run ended. If memory ran out for an event, also prints whether the result of the
+/// run follows from its replies.
 fn report_first(desk: &Desk, left: Result<Exchange, Memory>) {
     match left {
         Ok(left) => report_ended(desk, &left),

@@ -3,7 +3,7 @@
 use crate::answers::Answer;
 use crate::desk::Desk;
 
-/// The present span: from which number to which, and their answer. There is no answer before the
+/// The present span: its first and its last number, and their answer. There is no answer before the
 /// first number.
 #[derive(Drop)]
 pub(crate) struct Spans {
@@ -22,8 +22,8 @@ impl Spans {
         }
     }
 
-    /// Adds the answer for the next number. If it differs from the span's answer, the span is
-    /// printed and another begins.
+    /// Adds the answer for the next number. If the answer differs from the span's answer, the span
+    /// is printed and another span begins.
     pub(crate) fn add(&mut self, desk: &Desk, number: u64, answer: Answer) {
         if self.answer != Some(answer) {
             self.report(desk);

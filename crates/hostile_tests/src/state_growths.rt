@@ -12,7 +12,7 @@ use docker_day::{Docker, docker, write_docker};
 use docker_join::Merge;
 use docker_state::State;
 
-/// `STATE OTHER JOINED`: two states are joined, and have to give the third.
+/// `STATE OTHER JOINED`: the join of the first two states has to equal the third state.
 pub(crate) fn join(desk: &Desk, words: &[&str]) {
     let [first, second, wanted] = words else {
         return desk.trouble("STATE OTHER JOINED");
@@ -29,7 +29,7 @@ pub(crate) fn join(desk: &Desk, words: &[&str]) {
     }
 }
 
-/// Joins two states, and prints whether the result is the expected one. If memory runs out, both
+/// Joins two states, and prints whether the result is the expected state. If memory runs out, both
 /// states are returned.
 fn joined(desk: &Desk, one: State, other: State, wanted: &str) -> Result<(), (State, State)> {
     match one.join(desk.alloc(), other) {
@@ -149,8 +149,8 @@ fn receive(desk: &Desk, state: &mut State, text: &[u8]) -> Result<(), ReadFault>
     join_state(desk.alloc(), state, &mut source_of(text), MOST_BYTES)
 }
 
-/// `STATE OTHER JOINED`: the first state receives the second from a source, and then has to be the
-/// third.
+/// `STATE OTHER JOINED`: the first state receives the second from a source, and then has to equal
+/// the third.
 pub(crate) fn join_text(desk: &Desk, words: &[&str]) {
     let [own, other, wanted] = words else {
         return desk.trouble("STATE OTHER JOINED");
@@ -175,7 +175,8 @@ fn migrated(desk: &Desk, text: &[u8]) -> Result<State, ReadFault> {
     migrate(desk.alloc(), &mut source_of(text), MOST_BYTES)
 }
 
-/// `OLDER STATE`: a text in the older format is read from a source, and has to give the state.
+/// `OLDER STATE`: a text in the older format is read from a source. Its state has to equal the
+/// given state.
 pub(crate) fn migrate_text(desk: &Desk, words: &[&str]) {
     let [name, wanted] = words else {
         return desk.trouble("OLDER STATE");
@@ -193,7 +194,7 @@ pub(crate) fn migrate_text(desk: &Desk, words: &[&str]) {
     }
 }
 
-/// Prints whether the text of a docker is the one named `wanted`.
+/// Prints whether the text of a docker is the text named `wanted`.
 fn compare_docker(desk: &Desk, docker: &Docker<'_>, wanted: &str) {
     if let Some(mut kept) = sink(desk) {
         let whole = write_docker(docker, &mut kept).is_ok();
@@ -217,8 +218,8 @@ pub(crate) fn make_docker(desk: &Desk, words: &[&str]) {
     }
 }
 
-/// Makes a docker, and prints whether it is the expected one. If this is the row's call, how it
-/// ended is printed first. Returns false if memory runs out.
+/// Makes a docker, and prints whether it is the expected docker. If this is the row's call, the
+/// call's ending is printed first. Returns false if memory runs out.
 fn has_made(desk: &Desk, state: &State, words: [&str; 3], is_first: bool) -> bool {
     let [place, day, wanted] = words;
     let Some((place, day)) = occasion_of(desk, place, day) else {
@@ -245,7 +246,7 @@ fn room_for(desk: &Desk, text: &[u8]) -> Result<Kept, Memory> {
     Kept::new(desk.alloc(), text.len())
 }
 
-/// Writes a text to a sink, and prints whether the sink then has it.
+/// Writes a text to a sink, and prints whether the sink then has this text.
 fn compare_kept(desk: &Desk, kept: Result<Kept, Memory>, text: &[u8], name: &str) {
     match kept {
         Ok(mut kept) => {
@@ -256,7 +257,7 @@ fn compare_kept(desk: &Desk, kept: Result<Kept, Memory>, text: &[u8], name: &str
     }
 }
 
-/// The text with this name, this many times. `None` if memory runs out, which is printed.
+/// The text with this name, this many times. If memory runs out, prints a line and returns `None`.
 fn repeated(desk: &Desk, name: &str, times: &str) -> Option<Vec<u8>> {
     let text = desk.text(name);
     let mut all = Vec::new(desk.alloc());
@@ -269,8 +270,8 @@ fn repeated(desk: &Desk, name: &str, times: &str) -> Option<Vec<u8>> {
     Some(all)
 }
 
-/// `TEXT TIMES`: a sink is made that has room for the text this many times, and the text is written
-/// to it.
+/// `TEXT TIMES`: a sink with room for the text this many times is made, and the text is written to
+/// it.
 pub(crate) fn keep(desk: &Desk, words: &[&str]) {
     let [name, times] = words else {
         return desk.trouble("TEXT TIMES");

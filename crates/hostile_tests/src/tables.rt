@@ -1,5 +1,5 @@
-//! Rows that stand for many calls: texts that are cut, limits, sources without end, and devices
-//! that fail.
+//! Tables of rows, each of which makes many calls: texts that are cut, limits, sources without end,
+//! and devices that fail.
 ghost use Rattle.std.specs.Prelude.{◌<◌, length};
 
 use crate::answers::Answer;
@@ -29,8 +29,8 @@ pub(crate) struct Asked<'a> {
 }
 
 impl<'a> Asked<'a> {
-    /// The answer for this result of the call. It depends also on the state that the office has
-    /// then.
+    /// The answer for this result of the call. The answer also depends on the office's state after
+    /// the call.
     pub(crate) fn judge(
         &self,
         desk: &Desk,
@@ -69,8 +69,8 @@ impl<'a> Asked<'a> {
         self.judge(desk, &office, done)
     }
 
-    /// The answer for a source that gives this text. It is `Uneven` if it depends on the number of
-    /// bytes per read.
+    /// The answer for a source that gives this text. The answer is `Uneven` if it depends on the
+    /// number of bytes per read.
     pub(crate) fn answer_to(&self, desk: &Desk, text: &[u8]) -> Answer {
         let mut answer = self.answer(desk, text, 1);
         for step in STEPS {
@@ -146,7 +146,7 @@ fn cut_all(desk: &Desk, asked: Asked<'_>, text: &[u8]) {
     spans.report(desk);
 }
 
-/// The limit that a word names. It is 0 if the word isn't a number.
+/// The limit that a word gives. 0 if the word isn't a number.
 fn limit_of(word: &str) -> u64 {
     word.parse::<u64>().unwrap_or(0)
 }

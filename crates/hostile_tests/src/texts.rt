@@ -9,13 +9,13 @@ use docker_bytes::{read_state, write_state};
 use docker_office::Office;
 use docker_state::State;
 
-/// The most bytes that a written text has here.
+/// The capacity in bytes of a sink for a written text.
 pub(crate) const ROOM: usize = 2000;
 
-/// How many bytes a source gives per read, where that doesn't matter.
+/// The number of bytes that a source gives per read, unless a row sets another number.
 pub(crate) const STEP: usize = 100;
 
-/// The most bytes that a state's text may have, where that doesn't matter.
+/// The most bytes that a state's text may have, unless a row sets another limit.
 pub(crate) const MOST_BYTES: u64 = 1_099_511_627_776;
 
 /// A source that gives this text.
@@ -23,7 +23,7 @@ pub(crate) fn source_of<'a>(text: &'a [u8]) -> Bytes<'a> {
     Bytes::new(text, STEP)
 }
 
-/// The file with this text. Prints a line if there is none.
+/// The file with this text. Prints a line if the text isn't a file's.
 pub(crate) fn file_of(desk: &Desk, text: &[u8]) -> Option<CifFile> {
     match read_pieces(desk.alloc(), &[text], MOST_RECORDS) {
         Ok(file) => Some(file),
@@ -34,7 +34,7 @@ pub(crate) fn file_of(desk: &Desk, text: &[u8]) -> Option<CifFile> {
     }
 }
 
-/// The state with this text. Prints a line if there is none, and returns an empty state.
+/// The state with this text. Prints a line and returns an empty state if the text isn't a state's.
 pub(crate) fn state_of(desk: &Desk, text: &[u8]) -> State {
     match read_state(desk.alloc(), &mut source_of(text), MOST_BYTES) {
         Ok(state) => state,
@@ -45,7 +45,7 @@ pub(crate) fn state_of(desk: &Desk, text: &[u8]) -> State {
     }
 }
 
-/// An office whose state has this text. Prints a line if there is no such state.
+/// An office whose state has this text. Prints a line if the text isn't a state's.
 pub(crate) fn office_of(desk: &Desk, text: &[u8]) -> Office {
     let mut office = Office::new(desk.alloc());
     if office.reload(&mut source_of(text), MOST_BYTES).is_err() {
@@ -54,7 +54,7 @@ pub(crate) fn office_of(desk: &Desk, text: &[u8]) -> Office {
     office
 }
 
-/// A sink that has room for any text written here. Prints a line if memory runs out.
+/// A sink with room for any text written here. Prints a line if memory runs out.
 pub(crate) fn sink(desk: &Desk) -> Option<Kept>
     ensures { IfSome result (λ kept. kept.failures ≡ 0) }
 {
@@ -75,13 +75,14 @@ pub(crate) fn has_text(desk: &Desk, state: &State, text: &[u8]) -> bool {
     }
 }
 
-/// Prints the name of a text, and whether a state has that text.
+/// Prints the name of a text, and whether the state has this text.
 pub(crate) fn compare_state(desk: &Desk, state: &State, name: &str) {
     let text = desk.text(name);
     desk.report(has_text(desk, state, text.as_slice()), name);
 }
 
-/// The timing point and the day that two words name. Prints a line if they don't name both.
+/// The timing point and the day that two words name. Prints a line if a word names neither a timing
+/// point nor a day.
 pub(crate) fn occasion_of(desk: &Desk, place: &str, day: &str) -> Option<(Tiploc, Day)> {
     match (Tiploc::from_text(place), Day::from_iso(day)) {
         (Some(place), Some(day)) => Some((place, day)),

@@ -1,4 +1,5 @@
--- How many schedules call at a place is how many live rows pass the test `calls_at` for that place.
+-- The number of schedules that call at a place equals the number of live rows that pass the test
+-- `calls_at` for that place.
 use Rattle.std.proofs.Common.{◌≡◌, ℕ, List, [], ◌∷◌, length, refl, ap, sym, ◌∙◌, subst, inl, inr, ◌⊎◌, Bool, true, false, Contains, Some}
 use Rattle.std.specs.Prelude.{filter, ◌||◌}
 use Rattle.std.specs.List.{list_any}
@@ -29,7 +30,7 @@ use Rattle.state_lists.specs.Places.{calls_at, count_at}
 rows_total : IsTotalOrder (on (λ (row : Row). row.0) key_cmp)
 rows_total = on_total (λ (row : Row). row.0) key_total
 
--- a table has only one list of all its rows in order
+-- a table has exactly one list of all its rows in order
 pub one_rows : (live : Table) (rows others : List Row) → AreRowsOf live rows → AreRowsOf live others → rows ≡ others
 one_rows live rows others one two =
     same_list rows_total rows others one.ascending two.ascending
@@ -38,7 +39,7 @@ one_rows live rows others one two =
       λ among. (one.members row.0 row.1).1 ((two.members row.0 row.1).0 among),
     ))
 
--- a list of places that has this one passes the test for it
+-- if a list of places contains this place, the list passes the test for the place
 has_place : (place : List ℕ) (places : List (List ℕ)) → Contains places place → list_any (bytes_eq place) places ≡ true
 has_place place [] among = absurd (nil-Contains place among)
 has_place place (other ∷ places) among = by (has_place place places) (Contains-cons other places place among)
@@ -52,7 +53,7 @@ has_place place (other ∷ places) among = by (has_place place places) (Contains
     by rest (inl same) = ap (λ b. b || list_any (bytes_eq place) places) ((bytes_eq-Decides place other).1 (sym same))
     by rest (inr inside) = ap (λ b. bytes_eq place other || b) (rest inside) ∙ either (bytes_eq place other)
 
--- a live row that passes the test is a schedule that calls at the place
+-- each live row that passes the test is a schedule that calls at the place
 passes_back : (place : List ℕ) (key : Key) (body : Body) → calls_at place (key, body) ≡ true → Calls key (put_with body) place
 passes_back place key body passes =
     call_back key (put_with body) place
@@ -104,7 +105,7 @@ rows_are state valid = record {
   members = live_walks state valid (live_rows state.entries) refl;
 }
 
--- the number of schedules that call at a place is the number of live rows that pass the test
+-- the number of schedules that call at a place equals the number of live rows that pass the test
 pub count_is : (state : State) → IsValid state → (place : List ℕ) (count : ℕ) → IsCallingCount (live_table state) place count
     → count ≡ count_at place (live_rows state.entries)
 count_is state valid place count counted =

@@ -1,4 +1,4 @@
--- The text that the code writes is the text of what a state knows.
+-- The text that the code writes equals the text of what a state knows.
 use Rattle.std.proofs.Common.{◌≡◌, ℕ, ◌<◌, List, ◌++◌, ap, ◌∙◌, subst, Some, None}
 use Rattle.std.specs.Prelude.{Option, IfSome, codes, option_map}
 use Rattle.std.proofs.lemmas.List.Elements.{All-contains}
@@ -42,10 +42,11 @@ module _ (state : State) (valid : IsValid state) (entries : List (model.Key × o
         ++ count_line (codes "ASSOCIATIONS") (of_all.associations i) ++ count_line (codes "PLACES      ") (of_all.places i));
   }
 
-  -- a sink that takes all bytes written has gained the text of what the state knows
+  -- if a sink gains all bytes that are written, it gains the text of what the state knows
   pub known_taken : (old new : Option (List ℕ)) → Takes old bytes new → Gains (IsKnownText state) old new
   known_taken old new taken = record { text = bytes; is = is_known; gained = taken }
 
-  -- a sink that takes a proper prefix of the bytes written has gained a proper prefix of that text
+  -- if a sink gains a proper prefix of the bytes that are written, it gains a proper prefix of the
+  -- text of what the state knows
   pub known_begun : (old new : Option (List ℕ)) → TakesPart old bytes new → GainsPart (IsKnownText state) old new
   known_begun old new taken = record { text = bytes; is = is_known; gained = taken }

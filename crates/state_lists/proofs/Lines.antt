@@ -1,4 +1,4 @@
--- The lines of all entries of a state, put together, are the list of its timing points.
+-- The lines of all entries in a state, concatenated, are the list of its timing points.
 use Rattle.std.proofs.Common.{◌≡◌, List, ℕ, [], ◌∷◌, ◌++◌, map, refl, ap, sym, ◌∙◌}
 use Rattle.std.specs.Prelude.{Option}
 use Rattle.std.specs.List.{flat_map}
@@ -23,7 +23,8 @@ use Rattle.state_lists.proofs.Counts.{count_is, rows_are}
 abbrev pub kept_line : List Row → Kept × Held → List ℕ
 kept_line rows row = row_line rows (row_meant row)
 
--- the lines of all entries are the lines of the live ones, because no other entry has a line
+-- the lines of all entries are the lines of the live entries, because an entry that isn't live has
+-- no line
 lines_are : (rows : List Row) (entries : List (Key × Entry))
     → flat_map (row_line rows) entries ≡ flat_map (λ (row : Row). place_line rows row.0 row.1) (live_rows entries)
 lines_are rows [] = refl
@@ -45,12 +46,13 @@ module _ (state : State) (valid : IsValid state) (rows : List (Kept × Held)) (a
   is_text : IsPlacesText (live_table state) (flat_map (kept_line (live_rows state.entries)) rows)
   is_text = record { rows = live_rows state.entries; are = rows_are state valid; text_is = text_is }
 
-  -- a sink that takes the lines of all entries has gained the list
+  -- if a sink gains the lines of all entries, it gains the list of timing points
   pub list_taken : (old new : Option (List ℕ)) → Takes old (flat_map (kept_line (live_rows state.entries)) rows) new
       → Gains (IsPlacesText (live_table state)) old new
   list_taken old new taken = record { text = flat_map (kept_line (live_rows state.entries)) rows; is = is_text; gained = taken }
 
-  -- a sink that takes a proper prefix of these lines has gained a proper prefix of the list
+  -- if a sink gains a proper prefix of the lines of all entries, it gains a proper prefix of the
+  -- list of timing points
   pub list_begun : (old new : Option (List ℕ)) → TakesPart old (flat_map (kept_line (live_rows state.entries)) rows) new
       → GainsPart (IsPlacesText (live_table state)) old new
   list_begun old new taken = record { text = flat_map (kept_line (live_rows state.entries)) rows; is = is_text; gained = taken }

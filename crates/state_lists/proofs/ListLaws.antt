@@ -1,5 +1,4 @@
--- At most one text lists the timing points of a live table, and at most one says what a state
--- knows.
+-- The list of timing points of a live table is unique, and so is the text of what a state knows.
 use Rattle.std.proofs.Common.{◌≡◌, ℕ, ◌≤◌, List, refl, ap, sym, ◌∙◌, subst, Contains, Some, None, arith}
 use Rattle.std.specs.Prelude.{Option}
 use Rattle.docker_model.specs.state.State.{State, live_table}

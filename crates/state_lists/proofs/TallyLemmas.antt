@@ -26,7 +26,7 @@ use Rattle.state_lists.specs.declared.tally.Tally.{Tally}
 abbrev one_if : ℕ → Key → ℕ
 one_if tag key = cond (key_tag key == tag) 1 0
 
--- the list that has only this key with its body
+-- the list whose only row is this key with its body
 abbrev one_row : Key → Body → List Row
 one_row key body = (key, body) ∷ []
 
@@ -92,7 +92,7 @@ module _ (rows : List Row) (tally : Tally) (body : Body) (is : IsTallyOf rows ta
 
 -- ---- the greater of two days
 
--- some days with their greatest, `one`, before one more day, `other`, is looked at
+-- some days with their greatest day, `one`, before a further day, `other`, is compared
 module _ (days : List ℕ) (one other : ℕ) (is : IsGreatest days (Some one)) where
   later_wins : one ≤ other → IsGreatest (days ++ other ∷ []) (Some other)
   later_wins below =
@@ -110,7 +110,7 @@ module _ (days : List ℕ) (one other : ℕ) (is : IsGreatest days (Some one)) w
       by day (inl inside) = is.1 day inside
       by day (inr last) = let same : other ≡ day = Contains-single other day last in omega arith
 
--- if one more day isn't earlier than the greatest before, it is the greatest
+-- if the further day isn't earlier than the greatest day before, it is the greatest
 pub other_later : (days : List ℕ) (first second : Option ℕ) (one other : ℕ) → first ≡ Some one → second ≡ Some other → one ≤ other
     → IsGreatest days first → IsGreatest (with_day days second) (Some other)
 other_later days first second one other first_is second_is below is =
@@ -126,7 +126,7 @@ pub one_alone : (days : List ℕ) (first second : Option ℕ) (one : ℕ) → fi
 one_alone days first second one first_is second_is is =
     subst (λ o. IsGreatest (with_day days o) (Some one)) (sym second_is) (subst (IsGreatest days) first_is is)
 
--- if there was no day before, one more day is the greatest
+-- if there was no day before, the further day is the greatest
 pub first_day : (days : List ℕ) (first second : Option ℕ) → first ≡ None → IsGreatest days first → IsGreatest (with_day days second) second
 first_day days first second first_is is = by second (subst (IsGreatest days) first_is is)
   where
@@ -179,8 +179,8 @@ are_few i rows tally is short = record {
   places = (let most = count_few 1 i rows in let told = is.places in omega arith);
 }
 
--- the live rows among one row more are those among the first `i` rows, and then the next row if it
--- is live
+-- the live rows among the first `i + 1` rows are the live rows among the first `i` rows, followed
+-- by the next row if it is live
 pub live_more : (rows : List (Kept × Held)) (i : ℕ) (row : Kept × Held) → i < length rows → row ≡ get_or rows i row
     → live_up_to (i + 1) rows ≡ live_up_to i rows ++ live_rows (row_meant row ∷ [])
 live_more rows i row below at =
@@ -190,7 +190,7 @@ live_more rows i row below at =
     ∙ live_append (map row_meant (take i rows)) (map row_meant (get_or rows i row ∷ []))
     ∙ ap (λ (it : Kept × Held). live_up_to i rows ++ live_rows (row_meant it ∷ [])) (sym at)
 
--- if a tally is right after an op, it is right after the row that has this op
+-- if a tally is correct after an op, it is correct after the row that has this op
 pub with_op : (before : List Row) (row : Kept × Held) (op : Op) (tally : Tally) → op_meant row.1.op ≡ op
     → IsTallyOf (before ++ put_before (row_meant row).0 op []) tally → IsTallyOf (before ++ live_rows (row_meant row ∷ [])) tally
 with_op before row op tally is told =
@@ -207,6 +207,6 @@ tally_all rows i tally end is = subst (λ (all : List (Kept × Held)). IsTallyOf
     all : take i rows ≡ rows
     all = sym (append-nil (take i rows)) ∙ ap (λ (rest : List (Kept × Held)). take i rows ++ rest) (sym (drop_of_length-le rows end)) ∙ take-append-drop i rows
 
--- before the first row, the tally that has only zeros and no last day is right
+-- before the first row, the correct tally has only zeros and no last day
 pub no_rows : (rows : List (Kept × Held)) → IsTallyOf (live_up_to 0 rows) (record { schedules = 0; associations = 0; places = 0; last = None })
 no_rows rows = record { schedules = refl; associations = refl; places = refl; last = refl }

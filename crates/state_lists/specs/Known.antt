@@ -1,6 +1,6 @@
 -- The text of what a state knows: its horizon, its newest full extract, the last day of its
--- schedules, and how much is live. Days are numbered from 1960-01-01, which is 0, to 2059-12-31,
--- which is 36524.
+-- schedules, and the numbers of live schedules, associations and timing points. Days are numbered
+-- from 1960-01-01, which is 0, to 2059-12-31, which is 36524.
 use Rattle.std.specs.Prelude.{◌≡◌, ℕ, ◌≤◌, ◌==◌, nat_le, if◌then◌else◌, List, [], ◌++◌, length, filter, codes, decimal, Contains, Option, Some, None}
 use Rattle.std.specs.List.{filter_map}
 use Rattle.docker_model.specs.records.Date.{last_day}
@@ -12,17 +12,16 @@ use Rattle.docker_model.specs.state.State.{State, live_table}
 use Rattle.docker_model.specs.docker.DockerText.{ended}
 use Rattle.state_laws.specs.Row.{Row, AreRowsOf}
 
--- how many of these rows are of one kind, given by its tag: 1 for TIPLOCs, 2 for associations, 3
--- for schedules
+-- the number of these rows with this tag: 1 for TIPLOCs, 2 for associations, 3 for schedules
 abbrev pub count_of : ℕ → List Row → ℕ
 count_of tag rows = length (filter (λ (row : Row). key_tag row.0 == tag) rows)
 
--- the day of an end number. `None` for the number that means no end, which is greater than any
--- day's
+-- the day of an end number. `None` if the end number is greater than every day number, as 65535 is,
+-- which means no end
 abbrev pub day_in : ℕ → Option ℕ
 day_in end = if nat_le end last_day then Some end else None
 
--- the last day of a schedule. `None` if it has no end, and for any other kind of row
+-- the last day of a schedule. `None` for a schedule without an end, and for any other kind of row
 abbrev pub end_of : Key → Body → Option ℕ
 end_of (schedule_key key) body = day_in (body_end body)
 end_of _ _ = None
@@ -48,14 +47,14 @@ horizon_text horizon = if horizon == 0 then codes "NONE" else day_text horizon
 unfoldable pub horizon_line : ℕ → List ℕ
 horizon_line horizon = named_line (codes "HORIZON     ") (horizon_text horizon)
 
--- the line of the newest full extract: date, time and reference. Empty if there is none
+-- the line of the newest full extract: date, time and reference. Empty if there is no full extract
 unfoldable pub full_line : Option FileStamp → List ℕ
 full_line None = []
 full_line (Some stamp) =
     named_line (codes "FULL        ")
     (day_text stamp.moment.day ++ spaces 1 ++ minute_text stamp.moment.minute ++ spaces 1 ++ stamp.reference)
 
--- the line of the greatest last day of a schedule. Empty if there is none
+-- the line of the greatest last day of a schedule. Empty if no schedule has a last day
 unfoldable pub last_line : Option ℕ → List ℕ
 last_line None = []
 last_line (Some day) = named_line (codes "LAST        ") (day_text day)

@@ -1,4 +1,4 @@
--- The list of timing points: each live one, with how many live schedules call there.
+-- The list of the live timing points, each with the number of live schedules that call there.
 use Rattle.std.specs.Prelude.{◌≡◌, ℕ, ◌-◌, Bool, List, [], ◌++◌, length, filter, decimal}
 use Rattle.std.specs.List.{flat_map, list_any}
 use Rattle.std.specs.Str.{bytes_eq}
@@ -15,12 +15,12 @@ use Rattle.state_laws.specs.Row.{Row, AreRowsOf}
 abbrev pub calls_at : List ℕ → Row → Bool
 calls_at place row = list_any (bytes_eq place) (call_places row.0 (put_with row.1))
 
--- how many of these live rows are schedules that have a location record at the place
+-- the number of these live rows that are schedules with a location record at the place
 abbrev pub count_at : List ℕ → List Row → ℕ
 count_at place rows = length (filter (calls_at place) rows)
 
--- a number in ten columns, padded with spaces on the left. A number with more than ten digits takes
--- as many columns as it has digits
+-- a number in ten columns, padded with spaces on the left. A number with more than ten digits has
+-- as many columns as digits
 abbrev pub number_text : ℕ → List ℕ
 number_text number = spaces (10 - length (decimal number)) ++ decimal number
 
@@ -32,7 +32,7 @@ place_text code bytes count =
     code ++ spaces 1 ++ columns 45 47 bytes ++ spaces 1 ++ columns 36 40 bytes ++ spaces 1 ++ columns 10 35 bytes ++ spaces 1
     ++ number_text count
 
--- the line of a live key. Empty unless the key is a timing point's. `rows` are all live rows
+-- the line of a live key. Empty unless the key is a timing point. `rows` are all live rows
 abbrev pub place_line : List Row → Key → Body → List ℕ
 place_line rows (tiploc_key code) (tiploc_body bytes) = ended (place_text code bytes (count_at code rows))
 place_line _ _ _ = []

@@ -5,7 +5,7 @@ use Rattle.state_laws.specs.Row.{Row}
 use Rattle.state_lists.specs.Known.{IsGreatest, count_line, count_of, ends_of, full_line, horizon_line, last_line}
 use Rattle.state_lists.specs.declared.tally.Tally.{Tally}
 
--- says that the tally is right for these live rows
+-- says that the tally is correct for these live rows
 pub record IsTallyOf (rows : List Row) (tally : Tally) : Type 0 where
   pub schedules : tally.schedules ≡ count_of 3 rows
   pub associations : tally.associations ≡ count_of 2 rows
@@ -18,12 +18,12 @@ pub record AreFew (tally : Tally) : Type 0 where
   pub associations : tally.associations < 2 ^ 63
   pub places : tally.places < 2 ^ 63
 
--- these days, and one more if there is one
+-- these days with the further day appended, if there is one
 abbrev pub with_day : List ℕ → Option ℕ → List ℕ
 with_day days None = days
 with_day days (Some day) = days ++ day ∷ []
 
--- the lines of what a state knows. The counts and the last day are from a tally
+-- the lines of what a state knows. The counts and the last day are taken from a tally
 abbrev pub known_lines : ℕ → Option FileStamp → Tally → List ℕ
 known_lines horizon full tally =
     horizon_line horizon ++ full_line full ++ last_line tally.last ++ count_line (codes "SCHEDULES   ") tally.schedules

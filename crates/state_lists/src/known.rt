@@ -17,13 +17,14 @@ use docker_state::State;
 use fixed_text::put;
 use itoa::Buffer;
 
-/// The whole text. It has room for all lines, however great the counts are.
+/// The whole text. Its capacity is enough for all lines, however great the counts are.
 type KnownText = ArrayVec<u8, 187>;
 
 /// Prints what a state knows: its horizon, its newest full extract, the greatest last day of a live
-/// schedule, and how many schedules, associations and timing points are live. There is no line for
-/// the full extract if there was none, and none for the last day if no schedule has one. It
-/// allocates nothing. If the write fails, the sink has gained a proper prefix of the text.
+/// schedule, and how many schedules, associations and timing points are live. The line of the full
+/// extract is omitted if there is no full extract, and the line of the last day if no schedule has
+/// a last day. The call allocates nothing. If the write fails, the sink has gained a proper prefix
+/// of the text.
 pub fn print_known<K: Sink>(state: &State, sink: &mut K) -> Result<(), Failed>
     requires { K.failures sink.old < 2 ^ 64 - 1 }
     ensures whole { OnOk result (Gains (IsKnownText state.now)
@@ -101,7 +102,7 @@ fn day_of(number: u16) -> Day
 }
 
 /// The line of the newest full extract: date, time and reference, with a line feed. Empty if there
-/// is none.
+/// is no full extract.
 #[tactic(auto, unfolding(crate::specs::Known::full_line))]
 fn full_line(full: Option<FileStamp>) -> ArrayVec<u8, 37>
     requires { IfSome full (λ stamp. stamp.minute < 1440) }
@@ -120,7 +121,8 @@ fn full_line(full: Option<FileStamp>) -> ArrayVec<u8, 37>
     text
 }
 
-/// The line of the greatest last day of a schedule, with a line feed. Empty if there is none.
+/// The line of the greatest last day of a schedule, with a line feed. Empty if no schedule has a
+/// last day.
 #[tactic(auto, unfolding(crate::specs::Known::last_line))]
 fn last_line(last: Option<Day>) -> ArrayVec<u8, 24>
     ensures { result.items ≡ last_line last }

@@ -1,4 +1,4 @@
-//! Prints the list of timing points. Each has a line of 55 columns and a line feed.
+//! Prints the list of timing points. Each timing point has a line of 55 columns and a line feed.
 ghost use Rattle.std.specs.Prelude.{◌≡◌, ◌+◌, ◌-◌, ◌^◌, ◌<◌, IsErr, OnOk, OnErr};
 ghost use Rattle.cif_device.specs.Device.{CountsFailure, Takes, TakesPart};
 ghost use Rattle.docker_model.specs.state.State.{IsValid, live_table};
@@ -18,12 +18,12 @@ use docker_state::State;
 use fixed_text::put;
 use itoa::Buffer;
 
-/// A line with its line feed. It has room for any count.
+/// A line with its line feed. Its capacity is enough for any count.
 type PlaceLine = ArrayVec<u8, 66>;
 
 /// Prints a line for each live timing point, in the order of their codes: TIPLOC, CRS, STANOX, TPS
-/// description, and how many live schedules call there. It allocates nothing. If a write fails, the
-/// sink has gained a proper prefix of the text.
+/// description, and the number of live schedules that call there. The call allocates nothing. If a
+/// write fails, the sink has gained a proper prefix of the text.
 pub fn print_places<K: Sink>(state: &State, sink: &mut K) -> Result<(), Failed>
     requires { K.failures sink.old < 2 ^ 64 - 1 }
     ensures whole { OnOk result (Gains (IsPlacesText (live_table state.now))
@@ -57,7 +57,7 @@ fn write_row<K: Sink>(state: &State, row: &(Key, Entry), sink: &mut K) -> Result
     }
 }
 
-/// Writes the line of a live key. Writes nothing unless the key is a timing point's.
+/// Writes the line of a live key. Writes nothing unless the key is a timing point.
 fn write_live<K: Sink>(state: &State, key: &Key, body: &Body, sink: &mut K) -> Result<(), Failed>
     requires failures { K.failures sink.old < 2 ^ 64 - 1 }
     requires valid { IsValid state.now }
@@ -98,8 +98,8 @@ fn line_of(code: &Tiploc, details: &[u8; 63], count: usize) -> PlaceLine
     text
 }
 
-/// A number in ten columns, padded with spaces on the left. A number with more than ten digits
-/// takes as many columns as it has digits.
+/// A number in ten columns, padded with spaces on the left. A number with more than ten digits has
+/// as many columns as digits.
 fn number_text(number: usize) -> ArrayVec<u8, 20>
     ensures { result.items ≡ number_text number }
 {

@@ -1,4 +1,4 @@
-//! Counts what is live in one walk over a state's rows.
+//! Counts the live rows of a state in one walk over all its rows.
 ghost use Rattle.std.specs.Prelude.{◌≡◌, ℕ, ◌++◌, ◌∷◌, [], List, map};
 ghost use Rattle.docker_model.specs.state.Op.{body_end};
 ghost use Rattle.cif_change.specs.Meaning.{body_meant, key_meant};
@@ -74,14 +74,14 @@ fn counted(tally: Tally, key: &Key, body: &Body) -> Tally
     }
 }
 
-/// The last day of a body. `None` if it has no end date, or one that means no end.
+/// The last day of a body. `None` if the body has no end date, or an end date that means no end.
 fn last_day(body: &Body) -> Option<Day>
     ensures { result ≡ day_in (body_end (body_meant body.now)) }
 {
     Day::from_number(body.end_number())
 }
 
-/// The later of two days. `None` only if there is neither.
+/// The later of two days. `None` if both are `None`.
 fn later_of(first: Option<Day>, second: Option<Day>) -> Option<Day>
     ensures { (days : List ℕ) → IsGreatest days first → IsGreatest (with_day days second) result }
 {

@@ -1,4 +1,4 @@
--- The best schedule or association that a walk over rows finds is the chosen one.
+-- A walk over rows computes the chosen schedule, or the chosen association.
 use Rattle.std.proofs.Common.{◌≡◌, ℕ, true, cond, List, [], ◌∷◌, ◌++◌, refl, ap, sym, ◌∙◌, subst, inl, inr, ◌⊎◌, Some, None, Contains, append_assoc, append-nil}
 use Rattle.std.specs.Prelude.{Option, ◌&&◌}
 use Rattle.std.proofs.lemmas.Slice.Eq.{bytes_eq-Decides}
@@ -39,14 +39,14 @@ link_behind group day front (row ∷ rows) found best =
     subst (λ (rs : List Row). IsLinkSoFar group day rs (link_along group day found (row ∷ rows))) (append_assoc front (row ∷ []) rows)
     (link_behind group day (front ++ row ∷ []) rows _ (link_more group day front row.0 row.1 found best))
 
--- if rows have each schedule of a UID, the best that a walk over them finds is the chosen schedule
+-- if the rows include every schedule of a UID, a walk over the rows computes the chosen schedule
 pub chosen_of_uid : (live : Table) (uid : List ℕ) (day : ℕ) (rows : List Row) (found : Option Train) → HasSchedulesOf live uid rows
     → found ≡ chosen_along uid day None rows → IsChosenOn live uid day found
 chosen_of_uid live uid day rows found has is =
     best_is_chosen live rows uid has day found
     (subst (IsChosenSoFar uid day rows) (sym is) (chosen_behind uid day [] rows None (none_chosen uid day)))
 
--- if rows have each association of a group, the best that a walk over them finds is the chosen
+-- if the rows include every association of a group, a walk over the rows computes the chosen
 -- association
 pub link_of_group : (live : Table) (group : Group) (day : ℕ) (rows : List Row) (found : Option Link) → HasAssociationsOf live group rows
     → found ≡ link_along group day None rows → IsLinkOn live group day found
@@ -54,14 +54,14 @@ link_of_group live group day rows found has is =
     best_is_link live rows group has day found
     (subst (IsLinkSoFar group day rows) (sym is) (link_behind group day [] rows None (none_linked group day)))
 
--- the chosen schedule, unless it is a cancellation, is the train that `train_in` finds in the
--- table's rows
+-- for the rows of a table, `train_in` equals the chosen schedule, or `None` if the chosen schedule
+-- is a cancellation
 pub train_of_rows : (live : Table) (rows : List Row) (uid : List ℕ) (day : ℕ) (found : Option Train) → AreRowsOf live rows
     → IsChosenOn live uid day found → unless_cancelled found ≡ train_in rows uid day
 train_of_rows live rows uid day found are chosen =
     ap unless_cancelled (one_answer live uid day found _ chosen (chosen_tells live rows uid (rows_have live rows are uid) day))
 
--- the chosen association is the one that `link_in` finds in the table's rows
+-- for the rows of a table, `link_in` equals the chosen association
 pub link_of_rows : (live : Table) (rows : List Row) (group : Group) (day : ℕ) (found : Option Link) → AreRowsOf live rows
     → IsLinkOn live group day found → found ≡ link_in rows group day
 link_of_rows live rows group day found are is = one_link_answer live group day found (link_in rows group day) is (links_tell live rows are group day)
@@ -80,7 +80,7 @@ good_rows live (row ∷ rows) good each = (
 pub good_of_uid : (live : Table) (uid : List ℕ) (rows : List Row) → HasGoodBodies live → AreOfUid live uid rows → AreGoodRows rows
 good_of_uid live uid rows good are = good_rows live rows good (λ key body among. ((are.members key body).0 among).4)
 
--- if each of some rows is live, `AreLive` holds for all of them together
+-- if each row of a list is live, `AreLive` holds for the list
 live_rows : (live : Table) (rows : List Row) → ((key : Key) (body : Body) → Contains rows (key, body) → live key ≡ Some body) → AreLive live rows
 live_rows live [] each = tt
 live_rows live (row ∷ rows) each = (
@@ -115,7 +115,8 @@ live_calling live place rows are = live_rows live rows (calling_each live place 
 pub good_calling : (live : Table) (place : List ℕ) (rows : List Row) → HasGoodBodies live → AreCalling live place rows → AreGoodRows rows
 good_calling live place rows good are = good_rows live rows good (calling_each live place rows are)
 
--- a row that is a schedule changes the best as that schedule does
+-- updating the best schedule with the row of a schedule is the same as updating it with this
+-- schedule
 pub next_is_one : (uid : List ℕ) (day : ℕ) (found : Option Train) (key : Key) (body : Body) (train : Train) → schedule_of key body ≡ Some train
     → with_one_more (on (λ (t : Train). t.key) schedule_choice_cmp) (is_running uid day) found train ≡ next_chosen uid day found key body
 next_is_one uid day found (schedule_key key) (schedule_body lines) train is =
@@ -129,7 +130,8 @@ next_is_one uid day found (schedule_key key) (association_body line) train is = 
 next_is_one uid day found (tiploc_key code) body train is = absurd (no_train train is)
 next_is_one uid day found (association_key key) body train is = absurd (no_train train is)
 
--- a row that is an association changes the best as that association does
+-- updating the best association with the row of an association is the same as updating it with this
+-- association
 pub next_link_is_one : (group : Group) (day : ℕ) (found : Option Link) (key : Key) (body : Body) (link : Link) → association_of key body ≡ Some link
     → with_one_more (on (λ (l : Link). l.key) association_choice_cmp) (is_linked group day) found link ≡ next_link group day found key body
 next_link_is_one group day found (association_key key) (association_body line) link is =
@@ -143,7 +145,7 @@ next_link_is_one group day found (association_key key) (schedule_body lines) lin
 next_link_is_one group day found (tiploc_key code) body link is = absurd (no_link link is)
 next_link_is_one group day found (schedule_key key) body link is = absurd (no_link link is)
 
--- a row that isn't an association doesn't change the best
+-- a row that isn't an association leaves the best association unchanged
 pub next_link_is_none : (group : Group) (day : ℕ) (found : Option Link) (key : Key) (body : Body) → association_of key body ≡ None
     → found ≡ next_link group day found key body
 next_link_is_none group day found (association_key key) (association_body line) none = absurd (no_link (record { key = key; line = line }) (sym none))
@@ -156,7 +158,7 @@ next_link_is_none group day found (schedule_key key) body none = refl
 abbrev row_of : Train → Row
 row_of train = (schedule_key train.key, schedule_body train.lines)
 
--- if rows have each live schedule of a UID, they still do with one more live row in front
+-- if rows include every live schedule of a UID, they still do after a live row is prepended
 has_in_front : (live : Table) (train : Train) (rows : List Row) → IsLiveTrain live train → HasSchedulesOf live train.key.uid rows
     → HasSchedulesOf live train.key.uid (row_of train ∷ rows)
 has_in_front live train rows is_live has = record {
@@ -168,7 +170,8 @@ has_in_front live train rows is_live has = record {
     by key body (inl same) = subst (λ (row : Row). live row.0 ≡ Some row.1) same is_live
     by key body (inr among) = has.each key body among
 
--- in a row that has only one schedule, which runs on the day, that schedule is the best
+-- if a list has a single row, and its schedule runs on the day, this schedule is the best in the
+-- list
 best_alone : (train : Train) (day : ℕ) → schedule_runs (first_record train.lines) day ≡ true
     → IsChosenSoFar train.key.uid day (row_of train ∷ []) (Some train)
 best_alone train day runs =
@@ -178,8 +181,8 @@ best_alone train day runs =
     running : is_running train.key.uid day train ≡ true
     running = λ i. (bytes_eq-Decides train.key.uid train.key.uid).1 refl i && runs i
 
--- if a walk over a UID's rows begins with a schedule of that UID as the best, it finds the chosen
--- one. Unless the chosen one is a cancellation, it is the day's train
+-- if a walk over a UID's rows starts with one of the UID's schedules as the best, it computes the
+-- chosen schedule. If the chosen schedule isn't a cancellation, it is the train of the day
 train_from_it : (live : Table) (rows : List Row) (train : Train) (day : ℕ) (walk : List Row) (found : Option Train) → AreRowsOf live rows
     → IsLiveTrain live train → schedule_runs (first_record train.lines) day ≡ true → HasSchedulesOf live train.key.uid walk
     → found ≡ chosen_along train.key.uid day (Some train) walk → unless_cancelled found ≡ train_in rows train.key.uid day
@@ -189,7 +192,8 @@ train_from_it live rows train day walk found are is_live runs has is =
     (subst (IsChosenSoFar train.key.uid day (row_of train ∷ walk)) (sym is)
     (chosen_behind train.key.uid day (row_of train ∷ []) walk (Some train) (best_alone train day runs))))
 
--- a walk that begins with a schedule as the best finds the day's train
+-- if a walk over a UID's rows starts with one of the UID's schedules as the best, its result is the
+-- day's train, unless it is a cancellation
 pub train_from_told : (live : Table) (rows : List Row) (train : Train) (key : ScheduleKey) (day : ℕ) (walk : List Row) (best found : Option Train)
     → key ≡ train.key → AreRowsOf live rows → IsLiveTrain live train → schedule_runs (first_record train.lines) day ≡ true → HasSchedulesOf live key.uid walk
     → best ≡ chosen_along key.uid day (Some train) walk → found ≡ unless_cancelled best → found ≡ train_in rows train.key.uid day

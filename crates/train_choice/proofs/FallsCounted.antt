@@ -1,5 +1,5 @@
--- What `falls_among` finds for an event's number is how often the train passes midnight before that
--- event. Here `falls` counts these midnights.
+-- `falls_among` returns how often a train passes midnight before the event with a given number. In
+-- these lemmas, `falls` is this number of midnights.
 use Rattle.std.proofs.Common.{◌≡◌, ℕ, ◌≤◌, ◌==◌, List, ap, sym, ◌∙◌, subst, refl, Some, None, Contains, eqb-true, true, false}
 use Rattle.std.specs.Prelude.{Option, option_map, find, ◌↔◌, IsSome, IfSome}
 use Rattle.docker_model.specs.docker.Event.{Event, events_of, falls_to}
@@ -9,12 +9,12 @@ use Rattle.docker_laws.proofs.dockers.ScheduleLines.{number_itself}
 use Rattle.train_choice.specs.Occurrences.{Occurrence, occurrence_of, occurrences}
 use Rattle.train_choice.specs.Falls.{falls_among}
 
--- says that there is an event with this number
+-- says that the schedule has an event with this number
 abbrev pub HasNumber : List (List ℕ) → ℕ → Type 0
 HasNumber lines number = (event : Event) × Contains (events_of lines) event × (event.number ≡ number)
 
--- says that there is an event with this number, and that the train passes midnight `falls` times
--- before it
+-- says that the schedule has an event with this number, and that the train passes midnight `falls`
+-- times before this event
 pub record IsTold (lines : List (List ℕ)) (number : ℕ) (falls : ℕ) : Type 0 where
   pub there : HasNumber lines number
   pub is : falls ≡ falls_to lines number
@@ -47,7 +47,7 @@ untold lines number none there = by (find (λ (event : Occurrence). event.number
         let bad : true ≡ false = sym passes ∙ fails in cc
     by (Some event) h is = let bad : Some event.falls ≡ None = is in cc
 
--- a number of midnights is found if and only if there is an event with the number
+-- `falls_among` returns `Some` if and only if the schedule has an event with this number
 pub falls_there : (lines : List (List ℕ)) (number : ℕ) (falls : Option ℕ) → falls ≡ falls_among number (occurrences lines)
     → IsSome falls ↔ HasNumber lines number
 falls_there lines number None is = ((λ some. absurd (none_is some)), λ there. absurd (untold lines number (sym is) there))
@@ -56,12 +56,13 @@ falls_there lines number None is = ((λ some. absurd (none_is some)), λ there. 
     none_is some = cc
 falls_there lines number (Some falls) is = ((λ some. (told lines number falls (sym is)).there), λ there. refl)
 
--- the number of midnights that is found is the number before that event
+-- if `falls_among` returns a number, the train passes midnight this number of times before the
+-- event
 pub falls_are : (lines : List (List ℕ)) (number : ℕ) (falls : Option ℕ) → falls ≡ falls_among number (occurrences lines)
     → IfSome falls (λ n. n ≡ falls_to lines number)
 falls_are lines number None is = tt
 falls_are lines number (Some falls) is = (told lines number falls (sym is)).is
 
--- the number of midnights that is found is at most two
+-- if `falls_among` returns a number, the number is at most two
 pub falls_few : (lines : List (List ℕ)) (number falls : ℕ) → falls_among number (occurrences lines) ≡ Some falls → ((n : ℕ) → falls_to lines n ≤ 2) → falls ≤ 2
 falls_few lines number falls found few = subst (λ (n : ℕ). n ≤ 2) (sym (told lines number falls found).is) (few number)

@@ -1,4 +1,4 @@
--- Facts about the lines of a schedule, and about the record of an association, that fit their key.
+-- Facts about a schedule's lines, and about an association's record, that fit their keys.
 use Rattle.std.proofs.Common.{◌≡◌, ℕ, ◌<◌, ◌≤◌, ◌^◌, true, false, List, ◌∷◌, ◌++◌, length, ap, sym, ◌∙◌, subst, inl, inr, ◌⊎◌, All, arith}
 use Rattle.std.specs.Prelude.{IsTrue, ◌==◌, ◌&&◌, nat_le}
 use Rattle.std.specs.List.{AllByRecursion}
@@ -52,8 +52,8 @@ falls_few key lines number of = let all = few_midnights key lines of in let some
 same_key : (a b : ScheduleKey) → schedule_key a ≡ schedule_key b → a ≡ b
 same_key a b h = cc
 
--- a schedule runs on a day from the runs-from date in its key to its last date, if its days-run
--- field marks that weekday
+-- a schedule runs on a day if and only if its dates include the day and its days run include the
+-- weekday. The first date is the runs-from date in its key
 pub runs_by_key : (key : ScheduleKey) (lines : List (List ℕ)) (day : ℕ) → IsScheduleOf key lines
     → (nat_le key.runs_from day && runs_until (columns 16 21 (first_record lines)) (columns 22 28 (first_record lines)) day)
     ≡ schedule_runs (first_record lines) day

@@ -1,4 +1,4 @@
--- The kept identities and associations are right, and stay right after one more look-up.
+-- The kept train identities and associations are correct, and each look-up preserves this.
 use Rattle.std.proofs.Common.{◌≡◌, ℕ, Bool, true, false, cond, List, refl, ap, sym, ◌∙◌, subst, Some}
 use Rattle.std.specs.Prelude.{Option, ◌&&◌, ◌==◌}
 use Rattle.std.specs.declared.cmp.Ordering.{Ordering}
@@ -26,7 +26,7 @@ use Rattle.train_choice.proofs.BestSoFar.{best_stays, best_goes}
 
 -- ---- identities
 
--- if the kept identities are right and one more is right, all of them are right
+-- adding a correct identity to correct identities preserves their correctness
 pub one_more_identity : (live : Table) (before after : BTreeMap (List ℕ × ℕ) (List ℕ)) (uid : List ℕ) (day : ℕ) (identity : List ℕ)
     → AreIdentities live before → Updates uid_day_cmp before after (uid, day) (Some identity)
     → ((rows : List Row) → AreRowsOf live rows → identity ≡ identity_of (train_in rows uid day)) → AreIdentities live after
@@ -84,7 +84,8 @@ at_group key group =
 own_group : (key : AssociationKey) (group : Group) → is_of_group group key ≡ true → group_of key ≡ group
 own_group key group is = exact_group (group_of key) group (eq_is (group_cmp (group_of key) group) (at_group key group ∙ is))
 
--- an association is the chosen one if and only if it is the one kept for its group
+-- an association is the chosen association of its group if and only if it is the kept association
+-- of this group
 pub counts_told : (live : Table) (place : List ℕ) (day : ℕ) (best : GroupLinks) (key : AssociationKey) (link : Link) (answer : Bool)
     → AreDayLinks live place day best → key.location ≡ place → Some link ≡ get group_cmp best (group_of key)
     → answer ≡ is_eq (association_key_cmp link.key key)
@@ -96,7 +97,7 @@ module _ (day : ℕ) (link : Link) where
   abbrev by_key : Link → Link → Ordering
   by_key = on (λ (l : Link). l.key) association_choice_cmp
 
-  -- an association that doesn't run on the day changes no group's best
+  -- an association that doesn't run on the day leaves every group's best association unchanged
   pub not_running : (before : GroupLinks) → association_runs link.line day ≡ false → HasOneMore day before link before
   not_running before idle = λ group. by (get group_cmp before group) (is_of_group group link.key)
     where
@@ -104,7 +105,8 @@ module _ (day : ℕ) (link : Link) where
       by found true = λ i. cond (sym idle i) (better by_key found link) found
       by found false = refl
 
-  -- an association that isn't better than the best of its group changes no group's best
+  -- an association that isn't better than its group's best association leaves every group's best
+  -- association unchanged
   pub better_there : (before : GroupLinks) → is_better by_key link (get group_cmp before (group_of link.key)) ≡ false → HasOneMore day before link before
   better_there before is = λ group. by group (is_of_group group link.key) refl
     where
@@ -120,8 +122,8 @@ module _ (day : ℕ) (link : Link) where
           (subst (λ (g : Group). is_better by_key link (get group_cmp before g) ≡ false) (own_group link.key group own) is))
       by group false other = refl
 
-  -- an association that runs on the day, and is better than its group's best, becomes that group's
-  -- best
+  -- an association that runs on the day, and is better than its group's best association, replaces
+  -- this best association
   pub best_of_group : (before after : GroupLinks) → association_runs link.line day ≡ true
       → is_better by_key link (get group_cmp before (group_of link.key)) ≡ true → Updates group_cmp before after (group_of link.key) (Some link)
       → HasOneMore day before link after

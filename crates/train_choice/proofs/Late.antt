@@ -1,5 +1,5 @@
--- A train passes midnight before some event if and only if, somewhere in its schedule, a time is
--- below the time before it.
+-- A train passes midnight before some event if and only if some time in its schedule is below the
+-- preceding time.
 use Rattle.std.proofs.Common.{◌≡◌, ℕ, ◌+◌, ◌==◌, ◌<◌, Bool, true, false, cond, List, [], ◌∷◌, ◌++◌, refl, sym, ◌∙◌, subst, Some, None, All, arith}
 use Rattle.std.specs.Prelude.{Option, ◌||◌, not, nat_lt}
 use Rattle.std.proofs.lemmas.Bool.{ltb-true}
@@ -13,7 +13,7 @@ use Rattle.train_choice.specs.Midnights.{some_late, ascends, falls_after, falls_
 abbrev Times : Type 0
 Times = List (Occasion × ℕ)
 
--- the last time met, or 0 before the first time
+-- the last time that the walk has passed, or 0 before the first time
 abbrev last_or_midnight : Option ℕ → ℕ
 last_or_midnight None = 0
 last_or_midnight (Some last) = last
@@ -29,8 +29,9 @@ fall_is (Some last) time = refl
 sum : (a b c : ℕ) → a ≡ 0 → b ≡ c → a + b ≡ c
 sum a b c none same = omega arith
 
--- says what the times of a line show about midnight. If they ascend, no midnight is passed, and the
--- last time is the one given. If they don't, a midnight is passed before some event
+-- says that the times of a line determine whether midnight is passed. If the times ascend, no
+-- midnight is passed, and the given time is the last time of the line. Otherwise midnight is passed
+-- before some event
 abbrev Told : Progress → List ℕ → Times → Option ℕ → Type 0
 Told p line times None = (rest : List Occurrence) → some_late (occurrences_at p line times ++ rest) ≡ true
 Told p line times (Some last) =
@@ -77,7 +78,7 @@ along p (line ∷ lines) zero =
     by (Some last) (falls, same, early) rec =
         (λ i. falls_along (sym same i) lines) ∙ rec falls ∙ sym (early (occurrences_from next lines))
 
--- the times of the lines decide whether a midnight is passed before some event
+-- the times in the lines determine whether midnight is passed before some event
 pub late_by_times : (basic : List ℕ) (lines : List (List ℕ)) → falls_along 0 lines ≡ some_late (occurrences_from (before_all basic) lines)
 late_by_times basic lines = along (before_all basic) lines refl
 
@@ -89,7 +90,8 @@ first_good lines rest line good is = (recursion_from_All HasGoodFields (line ∷
 pub rest_good : (lines rest : List (List ℕ)) (line : List ℕ) → All HasGoodFields lines → lines ≡ line ∷ rest → All HasGoodFields rest
 rest_good lines rest line good is = All-from_recursion HasGoodFields rest (recursion_from_All HasGoodFields (line ∷ rest) (subst (All HasGoodFields) is good)).1
 
--- if the times of the first line ascend, whether midnight is passed depends only on the other lines
+-- if the times of the first line ascend, midnight is passed if and only if it is passed in the
+-- other lines
 pub goes_on : (last time : ℕ) (line : List ℕ) (rest lines : List (List ℕ)) → lines ≡ line ∷ rest → ascends last (times_of line) ≡ Some time
     → falls_along time rest ≡ falls_along last lines
 goes_on last time line rest lines is up =

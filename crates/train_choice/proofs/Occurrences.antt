@@ -1,4 +1,4 @@
--- A walk over a schedule's lines meets all its events.
+-- A walk over a schedule's lines yields exactly the schedule's events, in order.
 use Rattle.std.proofs.Common.{◌≡◌, ℕ, ◌+◌, Bool, true, false, cond, List, [], ◌∷◌, ◌++◌, map, length, refl, ap, sym, ◌∙◌, subst, arith, Some, None, append_assoc, append-nil, length-append}
 use Rattle.std.specs.Prelude.{Option, codes, option_map, find}
 use Rattle.std.specs.Str.{bytes_eq}
@@ -18,7 +18,7 @@ Times = List (Occasion × ℕ)
 abbrev clock_times : Times → List ℕ
 clock_times times = map (λ (time : Occasion × ℕ). time.1) times
 
--- says that the walk has met exactly these times
+-- says that the walk has passed exactly these times
 pub record HasMet (times : List ℕ) (p : Progress) : Type 0 where
   pub number_is : p.number ≡ length times + 1
   pub falls_are : p.falls ≡ fall_count times
@@ -38,8 +38,8 @@ met_one_more times p time has = record {
   last_is = sym (last_behind times time.1);
 }
 
--- the walk's events for the times of one line are the schedule's events there. The line is given by
--- its place in the schedule
+-- for one line, the events of the walk equal the schedule's events at this line. `place` is the
+-- index of the line in the schedule
 module _ (whole : List (List ℕ)) (place : ℕ) (line : List ℕ) (identity : List ℕ)
     (line_is : (event : Event) → event.place ≡ place → event_line whole event ≡ line)
     (identity_is : (event : Event) → event.place ≡ place → event_identity whole event ≡ identity) where
@@ -66,7 +66,8 @@ module _ (whole : List (List ℕ)) (place : ℕ) (line : List ℕ) (identity : L
         identity = (same ∙ sym (identity_is event refl)) i;
       }
 
--- after a walk has passed more times of a line, it has met these times too
+-- if a walk has passed some times, and then passes the times of a line, it has passed the
+-- concatenation of both
 times_passed : (before : List ℕ) (times : Times) (p : Progress) → HasMet before p → HasMet (before ++ clock_times times) (past_times p times)
 times_passed before [] p has = subst (λ (ts : List ℕ). HasMet ts p) (sym (append-nil before)) has
 times_passed before (time ∷ times) p has =
@@ -86,8 +87,8 @@ change_by_identity line is =
 change_has_no_times : (line : List ℕ) → has_identity (codes "CR") line ≡ true → times_of line ≡ []
 change_has_no_times line is = ap (λ (kind : Option Kind). times_by_kind kind line) (change_by_identity line is)
 
--- the train identity that the walk carries after one more line is the one of the last change up to
--- there
+-- after one more line, the train identity of the walk is the identity of the last change en route
+-- up to and including this line
 identity_more : (basic front : List (List ℕ)) (line : List ℕ) (p : Progress) → p.identity ≡ changed_identity (last_change front) (first_record basic)
     → (turned p line).identity ≡ changed_identity (last_change (front ++ line ∷ [])) (first_record basic)
 identity_more basic front line p same =
@@ -97,8 +98,8 @@ identity_more basic front line p same =
     by true = refl
     by false = same
 
--- if a walk has met the events of a schedule's first lines, it then meets the events of the other
--- lines
+-- if a walk has yielded the events of a prefix of a schedule's lines, it then yields the events of
+-- the remaining lines
 lines_met : (whole front rest : List (List ℕ)) (p : Progress) → whole ≡ front ++ rest → HasMet (times_along front) p
     → p.identity ≡ changed_identity (last_change front) (first_record whole)
     → occurrences_from p rest ≡ map (occurrence_of whole) (events_from p.number (length front) rest)
@@ -162,14 +163,14 @@ lines_met whole front (line ∷ lines) p is has same =
         (identity_stays q (times_of line) ∙ identity_more whole front line p same)
         ∙ (λ i. map (occurrence_of whole) (events_from (counted i) (longer i) lines))
 
--- a walk over all lines of a schedule meets its events
+-- a walk over all lines of a schedule yields the schedule's events
 pub all_met : (lines : List (List ℕ)) → occurrences_from (before_all (first_record lines)) lines ≡ occurrences lines
 all_met lines =
     lines_met lines [] lines (before_all (first_record lines)) refl (record { number_is = refl; falls_are = refl; last_is = refl }) refl
     ∙ ap (map (occurrence_of lines)) (sym (events_walked lines))
 
--- if the walked lines are the schedule's, and the walk begins with the identity in the first line,
--- it meets the schedule's events
+-- if the walked lines are the schedule's lines, and the walk begins with the train identity in the
+-- first line, the walk yields the schedule's events
 pub events_met : (lines walked : List (List ℕ)) (identity : List ℕ) (events : List Occurrence) → walked ≡ lines → identity ≡ columns 33 36 (first_record lines)
     → events ≡ occurrences_from (record { number = 1; falls = 0; last = None; identity = identity }) walked → events ≡ occurrences lines
 events_met lines walked identity events same named is =

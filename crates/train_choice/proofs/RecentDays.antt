@@ -1,5 +1,5 @@
--- When a schedule runs on a day, on the day before or two days before. The runs-from date in its
--- key and two fields of its basic schedule decide it.
+-- Whether a schedule runs on a day, on the day before and two days before. The runs-from date in
+-- its key and two fields of its basic schedule determine this.
 use Rattle.std.proofs.Common.{◌≡◌, ℕ, ◌-◌, ◌<◌, Bool, true, false, List, refl, ap, sym, ◌∙◌, subst, arith}
 use Rattle.std.specs.Prelude.{◌&&◌, ◌||◌, not, nat_le, nat_lt}
 use Rattle.std.proofs.lemmas.Bool.{leb-true, ltb-true}
@@ -14,8 +14,8 @@ use Rattle.train_choice.specs.RecentRuns.{AreRecentRuns, runs_back, runs_back_by
 use Rattle.train_choice.specs.declared.recent_runs.RecentRuns.{RecentRuns}
 use Rattle.train_choice.proofs.KeptLines.{runs_by_key}
 
--- if two tests agree for every number of days back, the three flags that are right for one are
--- right for the other
+-- if two tests are equal for every number of days back, flags that are correct for the first test
+-- are correct for the second test
 pub same_recent_runs : (test other : ℕ → Bool) (recent : RecentRuns) → ((back : ℕ) → test back ≡ other back) → AreRecentRuns test recent → AreRecentRuns other recent
 same_recent_runs test other recent same are = record {
   today_is = are.today_is ∙ same 0;
@@ -39,7 +39,7 @@ never_yet key lines day of late back =
         (λ i. sym h i && runs_until (columns 16 21 (first_record lines)) (columns 22 28 (first_record lines)) (day - back))
         ∙ runs_by_key key lines (day - back) of
 
--- the code makes four tests in another order than the definition, with the same result
+-- the conjunction of these four tests doesn't depend on their order
 four_tests : (a b c e : Bool) → ((a && (b && c)) && e) ≡ (a && (b && (e && c)))
 four_tests false b c e = refl
 four_tests true false c e = refl
@@ -48,8 +48,8 @@ four_tests true true true false = refl
 four_tests true true false true = refl
 four_tests true true false false = refl
 
--- whether a schedule runs can be decided by the runs-from date in its key and two fields of its
--- basic schedule
+-- the runs-from date in the key and two fields of the basic schedule determine whether a schedule
+-- runs
 pub recent_runs_are : (key : ScheduleKey) (lines : List (List ℕ)) (day : ℕ) → IsScheduleOf key lines
     → (back : ℕ) → runs_back_by_fields (first_record lines) key.runs_from day back ≡ runs_back lines day back
 recent_runs_are key lines day of back =
@@ -57,8 +57,8 @@ recent_runs_are key lines day of back =
     (nat_le (day - back) (end_number (columns 16 21 (first_record lines))))
     ∙ ap (λ b. nat_le back day && b) (runs_by_key key lines (day - back) of)
 
--- if the schedule has begun by the day, the flags found from its fields say on which of the three
--- days it runs
+-- the three flags that are computed from the key and the fields of a schedule are correct for the
+-- schedule
 pub recent_runs_told : (key : ScheduleKey) (lines : List (List ℕ)) (line : List ℕ) (first day : ℕ) (recent : RecentRuns) → IsScheduleOf key lines
     → line ≡ first_record lines → first ≡ key.runs_from → AreRecentRuns (runs_back_by_fields line first day) recent → AreRecentRuns (runs_back lines day) recent
 recent_runs_told key lines line first day recent of line_is first_is are =
@@ -66,15 +66,15 @@ recent_runs_told key lines line first day recent of line_is first_is are =
     (subst (λ (n : ℕ). AreRecentRuns (runs_back_by_fields (first_record lines) n day) recent) first_is
     (subst (λ (l : List ℕ). AreRecentRuns (runs_back_by_fields l first day) recent) line_is are))
 
--- if the schedule begins after the day, three flags that are false say on which of the three days
--- it runs
+-- if a schedule begins after the day, three flags that are false are correct for the schedule
 pub never_told : (key : ScheduleKey) (lines : List (List ℕ)) (first day : ℕ) (recent : RecentRuns) → IsScheduleOf key lines
     → first ≡ key.runs_from → nat_lt day first ≡ true → AreRecentRuns (λ back. false) recent → AreRecentRuns (runs_back lines day) recent
 never_told key lines first day recent of first_is late are =
     let behind = ltb-true day first late in
     same_recent_runs (λ back. false) (runs_back lines day) recent (never_yet key lines day of (omega arith)) are
 
--- if the first and the third of four tests don't both pass, then the four don't all pass
+-- if the first and the third of four tests don't both pass, the conjunction of the four tests is
+-- false
 both_of : (a b c e : Bool) → (a && c) ≡ false → ((a && (b && c)) && e) ≡ false
 both_of false b c e none = refl
 both_of true false c e none = refl

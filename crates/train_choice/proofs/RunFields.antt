@@ -9,7 +9,7 @@ use Rattle.docker_model.specs.records.Field.{CheckedField, checked, HasGoodField
 use Rattle.cif_laws.proofs.records.Columns.{good_fields, IsGoodIn}
 use Rattle.docker_laws.proofs.dockers.KeptSchedules.{schedule_first, schedule_last, schedule_days}
 
--- three tests give the same result however they are grouped
+-- the conjunction of three tests is associative
 pub three_tests : (a b c : Bool) → (a && (b && c)) ≡ ((a && b) && c)
 three_tests true b c = refl
 three_tests false b c = refl
@@ -31,12 +31,12 @@ unfolding association_later
 association_behind line is good stays =
     subst (λ b. AllByRecursion (IsGoodIn line) (association_later b)) stays (good_fields association line is good).1.1
 
--- the last date of an association is a date that may end a period
+-- the last date of an association is an end date: a date, or `999999` for no end
 pub association_last : (line : List ℕ) → HasKind association line → HasGoodFields line → is_deletion line ≡ false → is_end_date (columns 22 27 line) ≡ true
 unfolding association_later
 association_last line is good stays = (association_behind line is good stays).0
 
--- the days-run field of an association is seven digits that are 0 or 1
+-- the days-run field of an association has seven flags, each `0` or `1`
 pub association_days : (line : List ℕ) → HasKind association line → HasGoodFields line → is_deletion line ≡ false → is_days (columns 28 34 line) ≡ true
 unfolding association_later
 association_days line is good stays = (association_behind line is good stays).1.0

@@ -1,4 +1,5 @@
--- The lines up to the last one at a place, found from the end.
+-- The lines up to and including the last line at a place. The search for this line begins at the
+-- end.
 use Rattle.std.proofs.Common.{◌≡◌, ◌≤◌, ◌<◌, ◌^◌, ◌+◌, ℕ, Bool, true, false, List, [], ◌∷◌, ◌++◌, length, refl, ap, ◌∙◌, All, arith}
 use Rattle.std.specs.List.{AllByRecursion}
 use Rattle.std.proofs.lemmas.List.Elements.{All-from_recursion, recursion_from_All}
@@ -8,19 +9,19 @@ use Rattle.docker_model.specs.state.State.{IsScheduleOf}
 use Rattle.train_choice.specs.UpTo.{names_place, before_named, up_to_last}
 use Rattle.train_choice.proofs.KeptLines.{lines_good, lines_few}
 
--- a line isn't left out if a line after it stays
+-- a line is kept if a line after it is kept
 kept : (named : Bool) (line last : List ℕ) (lines : List (List ℕ)) → before_named named line (lines ++ last ∷ []) ≡ (line ∷ lines) ++ last ∷ []
 kept named line last [] = refl
 kept named line last (next ∷ lines) = refl
 
--- if the last line is at the place, all lines stay
+-- if the last line is at the place, all lines are kept
 pub last_named : (place last : List ℕ) (lines : List (List ℕ)) → names_place place last ≡ true
     → up_to_last place (lines ++ last ∷ []) ≡ lines ++ last ∷ []
 last_named place last [] named = λ i. before_named (named i) last []
 last_named place last (line ∷ lines) named =
     ap (before_named (names_place place line) line) (last_named place last lines named) ∙ kept (names_place place line) line last lines
 
--- if the last line isn't at the place, it is left out
+-- if the last line isn't at the place, it is dropped
 pub last_elsewhere : (place last : List ℕ) (lines : List (List ℕ)) → names_place place last ≡ false
     → up_to_last place (lines ++ last ∷ []) ≡ up_to_last place lines
 last_elsewhere place last [] elsewhere = λ i. before_named (elsewhere i) last []
@@ -38,7 +39,7 @@ all_before P place [] good = tt
 all_before P place (line ∷ lines) good =
     good_before P (names_place place line) line (up_to_last place lines) good.0 (all_before P place lines good.1)
 
--- what holds for all lines holds for the lines up to the last one at a place
+-- a property of all lines holds for the lines up to the last line at a place
 pub all_up_to : (P : List ℕ → Type 0) (place : List ℕ) (lines : List (List ℕ)) → All P lines → All P (up_to_last place lines)
 all_up_to P place lines good =
     All-from_recursion P (up_to_last place lines) (all_before P place lines (recursion_from_All P lines good))
@@ -48,18 +49,18 @@ few_before true line [] n few = omega arith
 few_before false line [] n few = omega arith
 few_before named line (next ∷ lines) n few = omega arith
 
--- the lines up to the last one at a place are no more than all lines
+-- the number of lines up to the last line at a place is at most the number of all lines
 pub few_up_to : (place : List ℕ) (lines : List (List ℕ)) → length (up_to_last place lines) ≤ length lines
 few_up_to place [] = omega arith
 few_up_to place (line ∷ lines) =
     let few = few_before (names_place place line) line (up_to_last place lines) (length lines) (few_up_to place lines) in omega arith
 
--- the lines of a schedule up to its last one at a place have good fields
+-- the lines of a schedule up to its last line at a place have good fields
 pub lines_to_good : (place : List ℕ) (key : ScheduleKey) (lines : List (List ℕ)) → IsScheduleOf key lines
     → All HasGoodFields (up_to_last place lines)
 lines_to_good place key lines of = all_up_to HasGoodFields place lines (lines_good key lines of)
 
--- the number of a schedule's lines up to its last one at a place fits in 32 bits
+-- the number of a schedule's lines up to its last line at a place fits in 32 bits
 pub lines_to_few : (place : List ℕ) (key : ScheduleKey) (lines : List (List ℕ)) → IsScheduleOf key lines
     → length (up_to_last place lines) < 2 ^ 32
 lines_to_few place key lines of =

@@ -1,4 +1,4 @@
--- What stays true of a walk as it moves from one line to the next.
+-- Properties of a walk that are preserved when the walk moves to the next line.
 use Rattle.std.proofs.Common.{◌≡◌, ℕ, ◌+◌, ◌*◌, ◌≤◌, List, [], ◌∷◌, ◌++◌, length, ap, sym, ◌∙◌, subst, refl, All, arith}
 use Rattle.std.proofs.lemmas.List.Elements.{All-from_recursion, recursion_from_All}
 use Rattle.docker_model.specs.records.Field.{HasGoodFields}
@@ -16,8 +16,8 @@ no_times p line (time ∷ times) none = absurd (let bad : occurrences_at p line 
 pub next_good : (walk : EventWalk) (lines rest : List (List ℕ)) (line : List ℕ) → lines ≡ line ∷ rest → CanWalk walk lines → HasGoodFields line
 next_good walk lines rest line is can = (recursion_from_All HasGoodFields (line ∷ rest) (subst (All HasGoodFields) is can.good)).0
 
--- if the current line has no more events, the events still to come are the next line's and all
--- later ones
+-- if the current line has no further events, the remaining events are the events of the next line
+-- and of all later lines
 pub goes_on : (before ended after : EventWalk) (lines rest : List (List ℕ)) (line : List ℕ) → lines ≡ line ∷ rest → events_here before ≡ [] → events_here ended ≡ []
     → progress_after_line ended ≡ progress_after_line before → after.line.now ≡ line → times_meant after.times ≡ times_of line → progress_of after ≡ turned
     (progress_of ended) line
@@ -27,7 +27,7 @@ goes_on before ended after lines rest line is none_before none behind at times p
     ∙ (λ i. occurrences_from (past_times (progress_of ended) (no_times (progress_of ended) ended.line.now (times_meant ended.times) none i)) (line ∷ rest))
     ∙ (λ i. occurrences_at (sym progress i) (sym at i) (sym times i) ++ occurrences_from (past_times (sym progress i) (sym times i)) rest)
 
--- the walk can continue over the remaining lines once it has moved to the next one
+-- after the walk has moved to the next line, it can continue over the remaining lines
 pub still_can : (before ended after : EventWalk) (lines rest : List (List ℕ)) (line : List ℕ) → lines ≡ line ∷ rest → CanWalk before lines
     → ((more : ℕ) → HasRoom before more → HasRoom ended more) → length (times_meant after.times) ≤ 3 → progress_of after ≡ turned (progress_of ended) line
     → CanWalk after rest

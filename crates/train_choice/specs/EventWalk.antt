@@ -1,4 +1,4 @@
--- The state of a walk over a schedule's lines, and which events are still to come.
+-- The state of a walk over a schedule's lines, and the remaining events.
 use Rattle.std.specs.Prelude.{ℕ, ◌+◌, ◌*◌, ◌^◌, ◌≤◌, List, ◌++◌, length, All}
 use Rattle.docker_model.specs.records.Field.{HasGoodFields}
 use Rattle.train_choice.specs.Meaning.{occasion_meant, times_meant}
@@ -18,25 +18,25 @@ occurrence_meant event = record {
   identity = event.identity.now;
 }
 
--- what the walk carries from line to line, converted to the definitions' type
+-- the progress of the walk, converted to the definitions' type
 abbrev pub progress_of : EventWalk → Progress
 progress_of walk = record { number = walk.number; falls = walk.falls; last = walk.last; identity = walk.identity.now }
 
--- the events of the current line that are still to come
+-- the remaining events of the current line
 abbrev pub events_here : EventWalk → List model.Occurrence
 events_here walk = occurrences_at (progress_of walk) walk.line.now (times_meant walk.times)
 
--- what the walk will carry after the current line
+-- the progress of the walk after the current line
 abbrev pub progress_after_line : EventWalk → Progress
 progress_after_line walk = past_times (progress_of walk) (times_meant walk.times)
 
--- says that the remaining times of the current line and `more` others can be numbered without
--- overflow
+-- says that the remaining times of the current line and `more` further times can be numbered
+-- without overflow
 pub record HasRoom (walk : EventWalk) (more : ℕ) : Type 0 where
   pub bound : walk.number + length (times_meant walk.times) + more ≤ 2 ^ 40
   pub few : walk.falls ≤ walk.number
 
--- all events that are still to come: in the current line and in the lines after it
+-- all remaining events: of the current line, and of the lines after it
 abbrev pub events_left : EventWalk → List (List ℕ) → List model.Occurrence
 events_left walk lines = events_here walk ++ occurrences_from (progress_after_line walk) lines
 

@@ -1,4 +1,4 @@
--- How often a train passes midnight before an event, which is found by its number.
+-- How often a train passes midnight before the event with a given number.
 use Rattle.std.specs.Prelude.{ℕ, ◌==◌, List, Option, option_map, find}
 use Rattle.train_choice.specs.Occurrences.{Occurrence}
 

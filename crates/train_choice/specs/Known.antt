@@ -1,5 +1,5 @@
--- What is kept after it has been looked up: trains, train identities, and the associations chosen
--- at a place.
+-- The trains, train identities and chosen associations that are kept after they have been looked
+-- up.
 use Rattle.std.specs.Prelude.{◌≡◌, ℕ, List, Option, Some, None, ⊤}
 use Rattle.std.specs.BTreeMap.{BTreeMap, get}
 use Rattle.std.specs.declared.cmp.Ordering.{Ordering}
@@ -50,13 +50,14 @@ group_cmp a b =
 abbrev pub GroupLinks : Type 0
 GroupLinks = BTreeMap Group Link
 
--- says that for each group at the place, the kept association is the one chosen on the day
+-- says that for each group at the place, the kept association is the association chosen on the day
 abbrev pub AreDayLinks : Table → List ℕ → ℕ → GroupLinks → Type 0
 AreDayLinks live place day best =
     (group : Group) → group.location ≡ place → (rows : List Row) → AreRowsOf live rows → get group_cmp best group ≡ link_in rows group day
 
--- says how one more association changes the kept ones. If it runs on the day, its group keeps the
--- better of it and the one kept before. No other group changes
+-- says how one more association changes the kept associations. If the new association runs on the
+-- day, its group keeps the better of its old association and the new one. All other groups are
+-- unchanged
 abbrev pub HasOneMore : ℕ → GroupLinks → Link → GroupLinks → Type 0
 HasOneMore day before link after =
     (group : Group) → get group_cmp after group

@@ -1,14 +1,14 @@
--- The events of a schedule in the order of its lines, with what a walk over the lines carries to
--- find them.
+-- The events of a schedule in the order of its lines, and the progress of a walk that computes
+-- them.
 use Rattle.std.specs.Prelude.{ℕ, ◌+◌, if◌then◌else◌, List, [], ◌∷◌, ◌++◌, map, Option, Some, None, codes}
 use Rattle.docker_model.specs.records.Record.{columns}
 use Rattle.docker_model.specs.file.Journey.{Occasion, times_of}
 use Rattle.docker_model.specs.docker.Event.{Event, events_of, falls_to, event_line, event_identity, has_identity}
 use Rattle.docker_laws.specs.EventWalk.{fall_at}
 
--- an event with what a walk knows about it. `number` counts the schedule's events from 1, `time` is
--- in half minutes, `falls` is how often the train has passed midnight, and `identity` is the train
--- identity there
+-- an event, with the data that a walk computes for it. `number` counts the schedule's events from
+-- 1, `time` is in half minutes, `falls` is how often the train has passed midnight, and `identity`
+-- is the train identity at the event
 pub record Occurrence : Type 0 where
   pub number : ℕ
   pub occasion : Occasion
@@ -17,7 +17,8 @@ pub record Occurrence : Type 0 where
   pub line : List ℕ
   pub identity : List ℕ
 
--- an event of these lines, with its line, the midnights before it, and the train identity there
+-- an event of these lines, with its line, the number of midnights before it, and the train identity
+-- at the event
 abbrev pub occurrence_of : List (List ℕ) → Event → Occurrence
 occurrence_of lines event = record {
   number = event.number;
@@ -32,19 +33,19 @@ occurrence_of lines event = record {
 abbrev pub occurrences : List (List ℕ) → List Occurrence
 occurrences lines = map (occurrence_of lines) (events_of lines)
 
--- what a walk carries: the number of the next event, the midnights passed, the last time if there
--- was one, and the train identity
+-- the progress of a walk: the number of the next event, the number of midnights passed, the last
+-- time if there was one, and the train identity
 pub record Progress : Type 0 where
   pub number : ℕ
   pub falls : ℕ
   pub last : Option ℕ
   pub identity : List ℕ
 
--- what a walk carries before the first line, which is the basic schedule
+-- the progress of a walk before the first line, which is the basic schedule
 abbrev pub before_all : List ℕ → Progress
 before_all basic = record { number = 1; falls = 0; last = None; identity = columns 33 36 basic }
 
--- the event for one time of a line, if the walk carries `p` before that time
+-- the event for one time of a line. `p` is the progress before this time
 abbrev pub occurrence_at : Progress → List ℕ → Occasion × ℕ → Occurrence
 occurrence_at p line time = record {
   number = p.number;
@@ -55,7 +56,7 @@ occurrence_at p line time = record {
   identity = p.identity;
 }
 
--- what the walk carries after one time of a line
+-- the progress after one time of a line
 abbrev pub past_time : Progress → Occasion × ℕ → Progress
 past_time p time = record {
   number = p.number + 1;
@@ -64,21 +65,23 @@ past_time p time = record {
   identity = p.identity;
 }
 
--- the events for some times of a line, if the walk carries `p` before these times
+-- the events for some times of a line. `p` is the progress before these times
 abbrev pub occurrences_at : Progress → List ℕ → List (Occasion × ℕ) → List Occurrence
 occurrences_at p line [] = []
 occurrences_at p line (time ∷ times) = occurrence_at p line time ∷ occurrences_at (past_time p time) line times
 
--- what the walk carries after some times of a line
+-- the progress after some times of a line
 abbrev pub past_times : Progress → List (Occasion × ℕ) → Progress
 past_times p [] = p
 past_times p (time ∷ times) = past_times (past_time p time) times
 
--- the train identity after a line. A change en route brings a new one, and no other line changes it
+-- the train identity after a line. A change en route sets a new train identity, and all other lines
+-- leave it unchanged
 abbrev pub identity_after : List ℕ → List ℕ → List ℕ
 identity_after line identity = if has_identity (codes "CR") line then columns 13 16 line else identity
 
--- what the walk carries when it reaches a line. A change en route has changed the train identity
+-- the progress when the walk reaches a line. If the line is a change en route, the train identity
+-- is already the new one
 abbrev pub turned : Progress → List ℕ → Progress
 turned p line = record {
   number = p.number;
@@ -87,7 +90,7 @@ turned p line = record {
   identity = identity_after line p.identity;
 }
 
--- the events of some lines, if the walk carries `p` before these lines
+-- the events of some lines. `p` is the progress before these lines
 abbrev pub occurrences_from : Progress → List (List ℕ) → List Occurrence
 occurrences_from p [] = []
 occurrences_from p (line ∷ lines) =

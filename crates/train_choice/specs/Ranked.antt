@@ -17,7 +17,7 @@ rank_cmp rank a b = choice_cmp (rank a).0 (rank a).1 (rank b).0 (rank b).1
 abbrev pub rank_meant : Stp × ℕ → ℕ × ℕ
 rank_meant rank = (stp_letter rank.0, rank.1)
 
--- whether `more` comes before the best, or there is no best yet
+-- whether `more` comes before the best value in the order of choice, or there is no best value yet
 abbrev pub is_better : {A : Type 0} → (A → A → Ordering) → A → Option A → Bool
 is_better cmp more None = true
 is_better cmp more (Some best) = is_lt (cmp more best)

@@ -19,7 +19,7 @@ abbrev pub runs_back : List (List ℕ) → ℕ → ℕ → Bool
 runs_back lines day back = nat_le back day && schedule_runs (first_record lines) (day - back)
 
 -- whether the day `back` days before exists, isn't before the first date, and falls on a weekday
--- that the days-run field marks
+-- that the days run include
 abbrev pub begun_back : List ℕ → ℕ → ℕ → ℕ → Bool
 begun_back days first day back = nat_le back day && (nat_le first (day - back) && runs_on_weekday days (weekday_of (day - back)))
 
@@ -32,12 +32,12 @@ lasts_back last day back = nat_le (day - back) last
 abbrev pub runs_back_by_fields : List ℕ → ℕ → ℕ → ℕ → Bool
 runs_back_by_fields line first day back = begun_back (columns 22 28 line) first day back && lasts_back (end_number (columns 16 21 line)) day back
 
--- whether the day `back` days before exists and falls on a weekday that the days-run field marks
+-- whether the day `back` days before exists and falls on a weekday that the days run include
 abbrev pub marked_back : List ℕ → ℕ → ℕ → Bool
 marked_back days day back = nat_le back day && runs_on_weekday days (weekday_of (day - back))
 
--- whether the schedule has begun by the day, and its days-run field marks the weekday of the day,
--- of the day before or of two days before
+-- whether the schedule has begun by the day, and its days run include the weekday of the day, of
+-- the day before or of two days before
 abbrev pub may_run_recently : ScheduleKey → List (List ℕ) → ℕ → Bool
 may_run_recently key lines day = not (nat_lt day key.runs_from)
     && (marked_back (columns 22 28 (first_record lines)) day 0 || marked_back (columns 22 28 (first_record lines)) day 1

@@ -1,4 +1,4 @@
--- The lines of a schedule up to the last one at a place, and their events.
+-- The lines of a schedule up to its last line at a place, and the events of these lines.
 use Rattle.std.specs.Prelude.{Bool, if◌then◌else◌, List, [], ◌∷◌, ℕ}
 use Rattle.std.specs.Str.{bytes_eq}
 use Rattle.docker_model.specs.records.Record.{columns}
@@ -9,14 +9,14 @@ use Rattle.train_choice.specs.Occurrences.{Occurrence, before_all, occurrences_f
 abbrev pub names_place : List ℕ → List ℕ → Bool
 names_place place line = bytes_eq (columns 3 9 line) place
 
--- a line and the lines after it. The line is left out if no line follows it and it isn't at the
--- place
+-- prepends a line to the lines after it. The line is dropped if there are no lines after it and it
+-- isn't at the place
 abbrev pub before_named : Bool → List ℕ → List (List ℕ) → List (List ℕ)
 before_named named line [] = if named then line ∷ [] else []
 before_named named line (next ∷ rest) = line ∷ next ∷ rest
 
--- the lines up to and including the last one at the place. For example, of lines at A, B, C, B and
--- D, those up to the last one at B are the first four
+-- the lines up to and including the last line at the place. For example, of lines at A, B, C, B and
+-- D, the lines up to the last line at B are the first four
 abbrev pub up_to_last : List ℕ → List (List ℕ) → List (List ℕ)
 up_to_last place [] = []
 up_to_last place (line ∷ lines) = before_named (names_place place line) line (up_to_last place lines)

@@ -25,7 +25,7 @@ use docker_state::{State, Timetable, UidSchedules};
 
 /// The schedule chosen for a UID on a day: among the UID's live schedules that run on the day, the
 /// one with the lowest STP indicator. If several have that indicator, the one with the latest first
-/// date is chosen. It may be a cancellation. `None` if no schedule runs.
+/// date is chosen. The chosen schedule may be a cancellation. `None` if no schedule runs.
 pub fn chosen<'a>(state: &'a State, uid: &Uid, day: Day) -> Option<ScheduleView<'a>>
     ensures { IsChosenOn (live_table state.now) uid.now day result }
 {
@@ -40,8 +40,8 @@ fn chosen_in<'a>(timetable: &Timetable<'a>, uid: &Uid, day: Day) -> Option<Sched
     best_of(None, schedules_of(&from, uid), uid, day)
 }
 
-/// The train of a UID that starts on a day: the schedule chosen in a timetable, unless it is a
-/// cancellation. `None` if the train doesn't run.
+/// The train of a UID that starts on a day: the schedule chosen in a timetable, unless the chosen
+/// schedule is a cancellation. `None` if the train doesn't run.
 pub fn train_on<'a>(timetable: &Timetable<'a>, uid: &Uid, day: Day) -> Option<ScheduleView<'a>>
     ensures { (rows : List Row) → AreRowsOf (live_in timetable.now) rows
         → result ≡ train_in rows uid.now day }
@@ -119,8 +119,8 @@ fn with_row<'a>(
     }
 }
 
-/// Returns the better of `found` and one more schedule. Whether that schedule runs is checked only
-/// if it would be the better one.
+/// Returns the better of `found` and one more schedule. The call checks whether the new schedule
+/// runs only if it would be better than `found`.
 fn with_one<'a>(
     found: Option<ScheduleView<'a>>,
     view: ScheduleView<'a>,

@@ -27,8 +27,8 @@ use std::marker::Model;
 
 /// The associations chosen at a place on a start day of their base trains, one for each group. Of a
 /// group's associations that run on the day, the one with the lowest STP indicator is chosen. If
-/// several have that indicator, the one with the latest first date is chosen. One walk over the
-/// associations at the place finds them all.
+/// several have that indicator, the one with the latest first date is chosen. All chosen
+/// associations are found in one walk over the associations at the place.
 #[derive(Debug, Drop)]
 pub struct DayLinks<'a> {
     timetable: Timetable<'a>,
@@ -74,7 +74,7 @@ impl<'a> DayLinks<'a> {
         })
     }
 
-    /// Whether this association at the place is the one chosen in its group.
+    /// Whether this association at the place is the association chosen in its group.
     pub fn counts(&self, key: &AssocKey) -> bool
         requires { key.now.location ≡ self.now.place }
         ensures { (rows : List Row) → AreRowsOf (live_in self.now.timetable) rows → result

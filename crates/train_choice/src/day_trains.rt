@@ -18,8 +18,9 @@ use cif_line::Day;
 use docker_state::Timetable;
 use std::marker::Model;
 
-/// The trains that start on a day. It keeps the train of the UID that was looked up last. A walk
-/// meets all schedules of a UID one after the other, so each UID is searched for only once.
+/// The trains that start on a day. The train of the UID that was looked up last is kept. In a walk
+/// over a state's rows, all schedules of a UID are consecutive, so each UID is searched for only
+/// once.
 #[derive(Debug, Drop)]
 pub struct DayTrains<'a> {
     timetable: Timetable<'a>,
@@ -43,7 +44,7 @@ impl<'a> Model for DayTrains<'a> {
 }
 
 impl<'a> DayTrains<'a> {
-    /// The trains that start on a day in a timetable. None is kept yet.
+    /// The trains that start on a day in a timetable. No train is kept yet.
     pub fn of(timetable: &Timetable<'a>, day: Day) -> DayTrains<'a>
         ensures { result ≡ record { timetable = timetable.entry.now; day = day } }
     {
@@ -57,7 +58,7 @@ impl<'a> DayTrains<'a> {
     /// Whether a train runs by this schedule: whether the schedule is the one chosen for its UID on
     /// the start day, and isn't a cancellation. The schedule has to run on the day. `row` is a
     /// hint: the row at which the search for the UID's schedules begins. A wrong hint makes the
-    /// search longer, and doesn't change the result.
+    /// search longer, and leaves the result unchanged.
     pub fn runs_by(&mut self, row: usize, train: &ScheduleView<'a>) -> bool
         requires live { IsLiveTrain (live_in self.old.timetable) train.now }
         requires runs { schedule_runs (first_record train.now.lines) self.old.day ≡ true }
@@ -85,7 +86,8 @@ impl<'a> DayTrains<'a> {
         }
     }
 
-    /// Like `runs_by`, but always searches the schedules of the UID. Keeps the train that it finds.
+    /// Like `runs_by`, but always searches the schedules of the UID. Keeps the train that was
+    /// found.
     fn look_up(&mut self, row: usize, train: &ScheduleView<'a>) -> bool
         requires live { IsLiveTrain (live_in self.old.timetable) train.now }
         requires runs { schedule_runs (first_record train.now.lines) self.old.day ≡ true }

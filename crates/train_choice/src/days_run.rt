@@ -9,8 +9,8 @@ ghost use Rattle.train_choice.specs.Runs.{runs_until};
 
 use cif_line::{Day, Kind, Line, kind};
 
-/// Whether a basic schedule (BS) or an association (AA) runs on a day: the day is from its first
-/// date to its last, and its days-run field marks that weekday.
+/// Whether a basic schedule (BS) or an association (AA) runs on a day. It does if the day is in the
+/// period from its first date to its last date, and its days run include the weekday.
 pub fn runs(line: &Line, day: Day) -> bool
     requires kind { HasKind basic_schedule line.now ⊎ HasKind association line.now }
     requires good { HasGoodFields line.now }
@@ -58,7 +58,7 @@ pub(crate) fn association_runs(line: &Line, day: Day) -> bool
     (line.day(16).number() <= day.number()) & runs_until(line, 22, 28, day)
 }
 
-/// Whether the day isn't after the last date, and the days-run field marks its weekday. `last` and
+/// Whether the day isn't after the last date, and the days run include its weekday. `last` and
 /// `days` are the first columns of these two fields.
 fn runs_until(line: &Line, last: usize, days: usize, day: Day) -> bool
     requires last_from { 0 < last }

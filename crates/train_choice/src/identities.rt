@@ -13,7 +13,7 @@ use std::alloc::Global;
 use std::collections::BTreeMap;
 use std::marker::Model;
 
-/// Train identities by UID and start day. Each is kept after it has been looked up, so the
+/// Train identities by UID and start day. Each identity is kept after it has been looked up, so the
 /// schedules of a UID are searched only once for each day.
 #[derive(Debug, Drop)]
 pub struct Identities<'a> {
@@ -35,7 +35,7 @@ impl<'a> Model for Identities<'a> {
 }
 
 impl<'a> Identities<'a> {
-    /// The train identities of a timetable. None is kept yet.
+    /// The train identities of a timetable. No identity is kept yet.
     pub fn of(alloc: Global, timetable: &Timetable<'a>) -> Identities<'a>
         ensures { result ≡ timetable.entry.now }
     {
@@ -60,8 +60,8 @@ impl<'a> Identities<'a> {
         }
     }
 
-    /// Like `identity`, but always searches the schedules of the UID. Keeps the identity that it
-    /// finds.
+    /// Like `identity`, but always searches the schedules of the UID. Keeps the identity that was
+    /// found.
     fn look_up(&mut self, uid: &Uid, day: Day) -> Result<[u8; 4], Memory>
         ensures same { self.new ≡ self.old }
         ensures identity { IfOk result (λ identity. (rows : List Row)

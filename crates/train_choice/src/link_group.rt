@@ -7,7 +7,7 @@ use cif_change::AssocKey;
 use cif_line::{Tiploc, Uid};
 use std::marker::Model;
 
-/// A group of associations: those with the same two trains, at the same place and with the same
+/// A group of associations: all associations with the same two trains, the same place and the same
 /// suffix. For each start day of the base train, at most one association of a group is chosen.
 #[derive(Clone, Copy, PartialEq, Eq, PartialOrd, Ord, Debug)]
 pub(crate) struct LinkGroup {

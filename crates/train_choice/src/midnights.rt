@@ -25,7 +25,7 @@ pub fn falls(view: &ScheduleView<'_>, event: u64) -> Option<u8>
     Some(falls as u8)
 }
 
-/// How often midnight is passed before the event with this number. `None` if no event here has this
+/// How often midnight is passed before the event with this number. `None` if no event has this
 /// number.
 fn falls_among(events: Events<'_>, event: u64) -> Option<u64>
     ensures { result ≡ falls_among event events.entry }
@@ -39,15 +39,15 @@ fn falls_among(events: Events<'_>, event: u64) -> Option<u64>
 }
 
 /// Whether a train passes midnight before some event, among the events up to its last line at a
-/// place. Reads only the times of the lines, which costs less than a walk over the events.
+/// place. The call reads only the times of the lines, so it costs less than a walk over the events.
 pub fn passes_midnight(view: &ScheduleView<'_>, place: &Tiploc) -> bool
     ensures { result ≡ some_late (occurrences_to place.now view.now.lines) }
 {
     falls_along(view.lines_to(place))
 }
 
-/// Whether some time in these lines is below the time before it. Times are in half minutes from
-/// midnight, so the train passes midnight between the two.
+/// Whether some time in these lines is below the preceding time. Times are in half minutes from
+/// midnight, so the train passes midnight between these two times.
 fn falls_along(lines: &[Line]) -> bool
     requires good { All HasGoodFields lines.now }
     ensures { result ≡ falls_along 0 lines.now }
@@ -65,7 +65,7 @@ fn falls_along(lines: &[Line]) -> bool
 }
 
 /// The last time in the line, in half minutes. `before` if the line has no time. `None` if a time
-/// is below the one before it, where `before` comes before the first.
+/// is below the preceding time, where `before` precedes the first time.
 fn ascending_to(line: &Line, before: u16) -> Option<u16>
     requires good { HasGoodFields line.now }
     ensures { result ≡ ascends before (times_of line.now) }

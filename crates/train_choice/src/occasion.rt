@@ -5,7 +5,7 @@ ghost use Rattle.docker_model.specs.docker.DockerText.{occasion_text};
 ghost use Rattle.train_choice.specs.Meaning.{occasion_meant};
 
 /// What happens at a line of a docker: an event of a train, or an association of the train with
-/// another. Lines with the same time come in this order.
+/// another train. The order of these variants is the order of lines with the same time.
 #[derive(Clone, Copy, PartialEq, Eq, Debug)]
 pub enum Occasion {
     /// The train arrives.

@@ -16,7 +16,7 @@ pub(crate) trait Ranked {
         ensures { rank_meant result ≡ rank self.now };
 }
 
-/// Whether `more` is better than the best found before it, or is the first.
+/// Whether `more` is better than `best`, or there is no `best` yet.
 pub(crate) fn is_better<R: Ranked>(more: &R, best: Option<&R>) -> bool
     ensures { result ≡ is_better (rank_cmp R.rank) more.now (option_copied best.entry) }
 {

@@ -49,8 +49,8 @@ pub fn day_back(day: Day, back: u16) -> Option<Day>
 }
 
 /// Whether a schedule that begins on `first` runs on a day, on the day before and two days before.
-/// The days-run field and the last date are read from its basic schedule, and the last date only if
-/// it can matter.
+/// The days-run field and the last date are read from its basic schedule. The last date is read
+/// only if the result depends on it.
 #[tactic(auto, using(crate::proofs::RunFields::schedule_fields))]
 pub(crate) fn recent_runs_of(line: &Line, first: Day, day: Day) -> RecentRuns
     requires kind { HasKind basic_schedule line.now }
@@ -81,7 +81,7 @@ pub(crate) fn recent_runs_of(line: &Line, first: Day, day: Day) -> RecentRuns
 }
 
 /// Whether the day `back` days before exists, isn't before the first date, and falls on a weekday
-/// that the days-run field marks.
+/// that the days run include.
 fn begun_back(days: &Days, first: Day, day: Day, back: u16) -> bool
     ensures { result ≡ begun_back days.now first day back }
 {
@@ -98,8 +98,8 @@ fn lasts_back(last: u16, day: Day, back: u16) -> bool
     day.number().saturating_sub(back) <= last
 }
 
-/// Whether the days-run field of a basic schedule marks the weekday of the day, of the day before
-/// or of two days before.
+/// Whether the days run of a basic schedule include the weekday of the day, of the day before or of
+/// two days before.
 pub(crate) fn runs_on_recent_weekday(line: &Line, day: Day) -> bool
     ensures { result ≡ (marked_back (columns 22 28 line.now) day 0
         || marked_back (columns 22 28 line.now) day 1 || marked_back (columns 22 28 line.now) day 2) }
@@ -109,7 +109,7 @@ pub(crate) fn runs_on_recent_weekday(line: &Line, day: Day) -> bool
         | runs_on_weekday_back(line, day, 2)
 }
 
-/// Whether the days-run field of a basic schedule marks the weekday of the day `back` days before.
+/// Whether the days run of a basic schedule include the weekday of the day `back` days before.
 fn runs_on_weekday_back(line: &Line, day: Day, back: u16) -> bool
     ensures { result ≡ marked_back (columns 22 28 line.now) day back }
 {

@@ -110,8 +110,8 @@ impl<'a> ScheduleView<'a> {
     }
 
     /// Whether the schedule may run on a day or on one of the two days before. It may if it has
-    /// begun by the day, and if its days-run field marks one of the three weekdays. This reads only
-    /// the key and three digits, which costs less than `recent_runs`.
+    /// begun by the day, and its days run include at least one of the three weekdays. The call
+    /// reads only the key and three flags, so it costs less than `recent_runs`.
     pub fn may_run_recently(&self, day: Day) -> bool
         ensures { result ≡ may_run_recently self.now.key self.now.lines day }
     {
@@ -140,7 +140,7 @@ impl<'a> ScheduleView<'a> {
         Events::of(self.first(), self.identity(), self.lines_to(place))
     }
 
-    /// The lines of the schedule, up to and including the last one at a place.
+    /// The lines of the schedule, up to and including the last line at a place.
     pub(crate) fn lines_to(&self, place: &Tiploc) -> &'a [Line]
         ensures lines { result.now ≡ up_to_last place.now self.now.lines }
         ensures good { All HasGoodFields result.now }

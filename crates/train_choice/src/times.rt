@@ -10,7 +10,7 @@ ghost use Rattle.train_choice.specs.Meaning.{occasion_meant, times_meant};
 use crate::occasion::Occasion;
 use cif_line::{Kind, Line, Time};
 
-/// The times in a line, in order: an arrival, a pass and a departure. Each may be absent.
+/// The times in a line, in order: an arrival, a pass and a departure. Each time may be absent.
 #[derive(Clone, Copy, Debug)]
 pub(crate) struct EventTimes {
     arrival: Option<Time>,
@@ -19,7 +19,7 @@ pub(crate) struct EventTimes {
 }
 
 impl EventTimes {
-    /// The times of a line that has none.
+    /// No times, for a line without times.
     pub(crate) fn none() -> EventTimes
         ensures { times_meant result ≡ [] }
     {

@@ -9,7 +9,7 @@ use docker_state::{Timetable, UidSchedules};
 use std::marker::Model;
 
 /// A timetable, and the index of the row at which a search for a UID's schedules begins. The index
-/// is only a hint: a wrong one makes the search longer, and doesn't change the result.
+/// is only a hint: a wrong index makes the search longer, and leaves the result unchanged.
 #[derive(Debug, Drop)]
 pub(crate) struct UidSearch<'a> {
     timetable: Timetable<'a>,

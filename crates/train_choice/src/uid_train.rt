@@ -8,8 +8,8 @@ use crate::schedule_view::ScheduleView;
 use cif_change::ScheduleKey;
 use cif_line::Uid;
 
-/// A UID, and the schedule by which its train runs on a start day. `None` if the train doesn't run
-/// then.
+/// A UID, and the schedule by which its train runs on a start day. The schedule is `None` if the
+/// train doesn't run on that day.
 #[derive(Debug, Drop)]
 pub(crate) struct UidTrain<'a> {
     pub(crate) uid: Uid,

@@ -1,11 +1,11 @@
-//! The lines of a schedule up to its last one at a place.
+//! The lines of a schedule up to its last line at a place.
 ghost use Rattle.std.specs.Prelude.{◌≡◌};
 ghost use Rattle.train_choice.specs.UpTo.{names_place, up_to_last};
 
 use cif_line::{Line, Tiploc};
 
-/// The lines up to and including the last one at a place, which are all that can have an event
-/// there. The search begins at the end.
+/// The lines up to and including the last line at a place. No later line has an event at the place.
+/// The search begins at the end.
 pub(crate) fn up_to_last<'a>(lines: &'a [Line], place: &Tiploc) -> &'a [Line]
     ensures { result.now ≡ up_to_last place.now lines.entry.now }
 {

@@ -14,7 +14,7 @@ use crate::occasion::Occasion;
 use crate::times::EventTimes;
 use cif_line::{Kind, Line, Time, change, kind};
 
-/// An event of a schedule, with what a walk over the lines knows about it.
+/// An event of a schedule, with the data that a walk over the lines computes for it.
 #[derive(Clone, Copy, Debug)]
 pub struct Occurrence<'a> {
     /// The event's number in the schedule, from 1.
@@ -31,9 +31,9 @@ pub struct Occurrence<'a> {
     pub identity: &'a [u8; 4],
 }
 
-/// A walk over the lines of a schedule. It has the current line and the times of that line that are
-/// still to come. From line to line it carries the number of the next event, the midnights passed,
-/// the last time and the train identity.
+/// A walk over the lines of a schedule. It has the current line and the remaining times of this
+/// line. It also has the number of the next event, the number of midnights passed, the last time
+/// and the train identity.
 #[derive(Clone, Copy, Debug)]
 pub(crate) struct EventWalk<'a> {
     line: &'a Line,
@@ -45,8 +45,8 @@ pub(crate) struct EventWalk<'a> {
 }
 
 impl<'a> EventWalk<'a> {
-    /// A walk that hasn't reached a line yet. `basic` is the schedule's first line, and `identity`
-    /// is the train identity at the start.
+    /// A walk before its first line. `basic` is the schedule's first line, and `identity` is the
+    /// train identity at the start.
     pub(crate) fn new(basic: &'a Line, identity: &'a [u8; 4]) -> EventWalk<'a>
         ensures times { times_meant result.times ≡ [] }
         ensures progress { progress_of result
@@ -76,7 +76,7 @@ impl<'a> EventWalk<'a> {
         self.identity = identity_after(kind, line, self.identity);
     }
 
-    /// The next event of the line, if there is one.
+    /// The next event of the current line. `None` if the line has no further event.
     pub(crate) fn next_event(&mut self) -> Option<Occurrence<'a>>
         requires room { HasRoom self.old 0 }
         ensures event { YieldsFirstBy occurrence_meant events_here self.old result self.new }
@@ -100,8 +100,8 @@ impl<'a> EventWalk<'a> {
     }
 }
 
-/// Returns 1 if the train passes midnight between the last time and this one, so that this one is
-/// lower. Otherwise 0.
+/// Returns 1 if `time` is below the last time, because the train then passes midnight between the
+/// two times. Otherwise 0.
 fn fall(last: Option<Time>, time: Time) -> u64
     ensures value { result ≡ fall_at last time }
     ensures few { result ≤ 1 }
@@ -112,8 +112,8 @@ fn fall(last: Option<Time>, time: Time) -> u64
     }
 }
 
-/// The train identity after a line of this kind. A change en route (CR) brings a new one. No other
-/// line changes it.
+/// The train identity after a line of this kind. A change en route (CR) sets a new train identity.
+/// All other lines leave the train identity unchanged.
 fn identity_after<'a>(kind: Option<Kind>, line: &'a Line, identity: &'a [u8; 4]) -> &'a [u8; 4]
     requires { option_map meaning kind ≡ kind_of line.now }
     ensures { result.now ≡ identity_after line.entry.now identity.entry.now }

@@ -1,4 +1,5 @@
-//! Texts that are cut short, that never end, or that have huge counts. Each is read in every way.
+//! Texts that are cut short, that never end, or that have huge counts. Each text is read by every
+//! reader.
 ghost use Rattle.std.specs.Prelude.{◌<◌, length};
 
 use super::compare::same;
@@ -26,17 +27,17 @@ const HEAD_OF_MOST: &[u8] =
 const HEAD_ABOVE_MOST: &[u8] =
     b"\x03C10001\x5b\xf1P\x5b\xf0\x04\xecDFROC1A\x00\x00\x00\x02\x01\xff\xff\xff\xff";
 
-/// The mark, and then as the horizon the last day of C10001's schedule, 2024-06-14.
+/// The mark, followed by the last day of C10001's schedule, 2024-06-14, as the horizon.
 const UNDER_LAST: &[u8] = b"DKS2\x5b\xf5";
 
-/// The mark, and then as the horizon the day after the last day of C10001's schedule.
+/// The mark, followed by the day after the last day of C10001's schedule as the horizon.
 const UNDER_AFTER: &[u8] = b"DKS2\x5b\xf6";
 
-/// The mark, and then as the horizon a number above the last day of the calendar.
+/// The mark, followed by a number above the last day of the calendar as the horizon.
 const UNDER_TOO_LATE: &[u8] = b"DKS2\x8e\xad";
 
 /// Asserts that a text is refused, both when it is read `step` bytes at a time and when a state
-/// receives it. That state still has the text `before`.
+/// receives it. The receiving state still has the text `before`.
 fn refused_by(
     rt: &impl Abort,
     alloc: Global,
@@ -57,8 +58,8 @@ fn refused_by(
     text_is(rt, alloc, own, before);
 }
 
-/// Asserts that a text is refused in every way of reading it. A state that tries to receive it
-/// stays unchanged.
+/// Asserts that a text is refused by every reader. A state that tries to receive the text is
+/// unchanged.
 pub(super) fn refused_each_way(
     rt: &impl Abort,
     alloc: Global,
@@ -74,8 +75,8 @@ pub(super) fn refused_each_way(
     refused_by(rt, alloc, &mut own, before, text, limit, fault, 4096);
 }
 
-/// Asserts that a text that begins with `front` and then repeats `again` without end is refused. It
-/// is read `step` bytes at a time, and then received.
+/// Asserts that a text that begins with `front` and then repeats `again` without end is refused.
+/// The text is read `step` bytes at a time, and then received.
 fn refused_endless_by(
     rt: &impl Abort,
     alloc: Global,
@@ -120,7 +121,8 @@ fn refused_without_end(
     );
 }
 
-/// The first parts of a text, and then 60 ledger items, each a minute after the one before it.
+/// The first parts of a text, followed by 60 ledger items, each a minute later than the item before
+/// it.
 fn with_items(rt: &impl Abort, alloc: Global, front: &[&[u8]]) -> Vec<u8> {
     let mut items = joined_text(rt, alloc, front);
     for minute in 0..60u16 {
@@ -236,8 +238,8 @@ const HUGE: &[Row] = &[
     ),
 ];
 
-/// Asserts that a text of these pieces is refused in every way of reading it, and that a state that
-/// tries to receive it is unchanged.
+/// Asserts that a text of these pieces is refused by every reader, and that a state that tries to
+/// receive the text is unchanged.
 fn refused_everywhere(
     rt: &impl Abort,
     alloc: Global,

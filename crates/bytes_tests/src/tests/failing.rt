@@ -15,7 +15,7 @@ use std::process::Abort;
 use test_records::{AA_JOIN, BS, HD, LO, LT, ZZ};
 
 /// Asserts the result of writing a state to a sink that fails at one call, and the bytes that the
-/// sink has then.
+/// sink then has.
 fn writes(
     rt: &impl Abort,
     alloc: Global,
@@ -32,7 +32,8 @@ fn writes(
     same(rt, sink.device().bytes(), bytes);
 }
 
-/// Asserts that writing fails at this call, and that the sink has only the bytes before it.
+/// Asserts that writing fails at this call, and that the sink has only the bytes of the earlier
+/// calls.
 fn fails_to_write(rt: &impl Abort, alloc: Global, state: &State, known: &[u8], call: u64)
     requires { 0 < call }
 {
@@ -106,7 +107,7 @@ fn fails_at(rt: &impl Abort, alloc: Global, text: &[u8], call: u64, joined: &[u8
     text_is(rt, alloc, &own, joined);
 }
 
-/// Asserts that a text is read and received if its source would fail only after the last call.
+/// Asserts that a text is read and received if its source fails only after the last call.
 fn passes(rt: &impl Abort, alloc: Global, text: &[u8], joined: &[u8]) {
     let mut source = Fuse::new(Bytes::new(text, 4096), 313);
     let state_read = read_state(alloc, &mut source, 1000).expect(rt, "a state");

@@ -20,7 +20,8 @@ fn under(rt: &impl Abort, alloc: Global, horizon: &[u8], parts: &[&[u8]]) -> Vec
     joined_text(rt, alloc, &pieces)
 }
 
-/// Asserts that a text is read as a state with this horizon, and is written again unchanged.
+/// Asserts that a text is read as a state with this horizon, and that the state is written as the
+/// same text.
 fn accepted(rt: &impl Abort, alloc: Global, text: &[u8], horizon: u16) {
     let state = read(rt, alloc, text, 4096, 1000);
     same(rt, state.horizon(), horizon);

@@ -1,4 +1,4 @@
-//! Texts of the states of several files, which are joined and received in each order.
+//! Texts of the states of several files. The states are joined and received in every order.
 ghost use Rattle.std.specs.Prelude.{◌<◌};
 
 use super::compare::{same, same_in};
@@ -44,7 +44,7 @@ fn receive_file(rt: &impl Abort, alloc: Global, all: &mut State, file: &[&[u8]],
 }
 
 /// Asserts the text of a state that receives the states of these files in this order, read `step`
-/// bytes at a time. Receiving their joined state then changes nothing.
+/// bytes at a time. Receiving their joined state afterwards changes nothing.
 fn receives(rt: &impl Abort, alloc: Global, files: &[&[&[u8]]], wanted: &[u8], step: usize)
     requires { 0 < step }
 {
@@ -57,8 +57,8 @@ fn receives(rt: &impl Abort, alloc: Global, files: &[&[&[u8]]], wanted: &[u8], s
     text_is(rt, alloc, &all, wanted);
 }
 
-/// Asserts that the states of these files, joined in this order, have this text. A state that
-/// receives their texts has it too.
+/// Asserts that the join of these files' states, in this order, has this text. A state that
+/// receives the texts of these states has this text too.
 fn merges_to(rt: &impl Abort, alloc: Global, files: &[&[&[u8]]], pieces: &[&[u8]], name: &str) {
     let all = merged(rt, alloc, files);
     let wanted = joined_text(rt, alloc, pieces);

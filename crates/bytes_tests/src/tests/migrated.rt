@@ -18,7 +18,8 @@ fn old_text(rt: &impl Abort, alloc: Global) -> Vec<u8> {
     joined_text(rt, alloc, &[OLD_MARK, ONE, ITEM, ONE, HEAD, BS, LO, LT])
 }
 
-/// The offsets at which the items of the older text begin, where the fault of a cut text is.
+/// The offsets at which the items of the older text begin. If the text is cut, its fault is at one
+/// of these offsets.
 const BEGINNINGS: [u64; 5] = [0, 4, 12, 31, 39];
 
 /// Asserts that migrating from a source is refused with this fault.
@@ -50,8 +51,8 @@ pub(super) fn refused_old(
     refused_old_source(rt, alloc, &mut Bytes::new(text, 4096), limit, fault);
 }
 
-/// Asserts that a text in the older format, read `step` bytes at a time, gives a state with the
-/// text `known` in the present format.
+/// Asserts that a text in the older format, read `step` bytes at a time, is migrated to a state
+/// with the text `known` in the present format.
 fn gives(rt: &impl Abort, alloc: Global, old: &[u8], known: &[u8], step: usize)
     requires { 0 < step }
 {

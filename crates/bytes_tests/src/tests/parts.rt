@@ -7,14 +7,14 @@ use std::alloc::Global;
 use std::process::Abort;
 use test_records::{AA_JOIN, BS, BS_DELETED, LO, LT};
 
-/// The text with a ledger of one file and one entry, which has these parts.
+/// The text with a ledger of one file and one entry. The entry has these parts.
 fn with_entry(rt: &impl Abort, alloc: Global, parts: &[&[u8]]) -> Vec<u8> {
     let entry = joined_text(rt, alloc, parts);
     joined_text(rt, alloc, &[MARK, ONE, ITEM, ONE, entry.as_slice()])
 }
 
-/// Asserts that a text with one entry of these parts is read, is written again unchanged, and has
-/// `len` bytes.
+/// Asserts that a text with one entry of these parts is read, that its state is written as the same
+/// text, and that the text has `len` bytes.
 fn accepted(rt: &impl Abort, alloc: Global, parts: &[&[u8]], len: usize) {
     let text = with_entry(rt, alloc, parts);
     let state = read(rt, alloc, text.as_slice(), 4096, 1000);
@@ -59,7 +59,7 @@ fn entries_at_their_bounds(rt: HostRuntime) {
     accepted(&rt, alloc, schedule, 311);
 }
 
-/// Keys that no record can name.
+/// Keys that no record can have.
 const BAD_KEYS: &[&[u8]] = &[
     b"\x01 SHFELD",
     b"\x01ASHFEL\x7f",

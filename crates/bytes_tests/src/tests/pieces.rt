@@ -1,4 +1,4 @@
-//! Parts of texts, from which the texts of the examples are put together.
+//! Parts of texts. The texts of the examples are concatenations of these parts.
 
 /// The beginning of a text: the mark, and the horizon 0.
 pub(super) const MARK: &[u8] = b"DKS2\0\0";
@@ -18,7 +18,7 @@ pub(super) const MOST: &[u8] = b"\xff\xff\xff\xff\xff\xff\xff\xff";
 /// The ledger item of the file of 9 June.
 pub(super) const ITEM: &[u8] = b"\x5b\xf0\x04\xecDFROC1AUDFROC1Z";
 
-/// Like `ITEM`, with a day number above the greatest.
+/// Like `ITEM`, with a day number above the greatest day number.
 pub(super) const ITEM_LATE: &[u8] = b"\x8e\xad\x04\xecDFROC1AUDFROC1Z";
 
 /// The ledger item of an update of 5 June.
@@ -27,7 +27,7 @@ pub(super) const ITEM_5A: &[u8] = b"\x5b\xec\x04\xecDFROC1AUDFROC1Z";
 /// The ledger item of a full extract of 7 June.
 pub(super) const ITEM_7B: &[u8] = b"\x5b\xee\x04\xecDFROC1BFDFROC1A";
 
-/// The head of the entry for C10001's schedule: all of it before the lines.
+/// The head of the entry for C10001's schedule: all bytes before the lines.
 pub(super) const HEAD: &[u8] =
     b"\x03C10001\x5b\xf1P\x5b\xf0\x04\xecDFROC1A\x00\x00\x00\x02\x01\x00\x00\x00\x03";
 
@@ -70,8 +70,7 @@ pub(super) const DELETED: &[u8] = b"\x00";
 /// The op of a put.
 pub(super) const PUT: &[u8] = b"\x01";
 
-/// The body of a TIPLOC: 63 printable bytes. Among them are the least and the greatest printable
-/// byte.
+/// The body of a TIPLOC: 63 printable bytes, including the least and the greatest printable byte.
 pub(super) const CENTRAL: &[u8] =
     b"         ASHFIELD CENTRAL                                     ~";
 

@@ -1,4 +1,4 @@
-//! States that receive texts. A text that is refused leaves the state unchanged.
+//! States that receive texts. A refused text leaves the state unchanged.
 
 use super::compare::same;
 use super::endless::refused_each_way;
@@ -11,8 +11,8 @@ use std::alloc::Global;
 use std::process::Abort;
 use test_records::{AA_JOIN, BS, HD, LO, LO_0905, LT, LT_0935, ZZ};
 
-/// Asserts that an empty state that receives two texts then has the text `wanted`, with the second
-/// one's horizon.
+/// Asserts that an empty state that receives two texts then has the text `wanted`, with the horizon
+/// of the second text.
 fn receives(rt: &impl Abort, alloc: Global, first: &[u8], second: &[u8], wanted: &[u8]) {
     let mut all = State::empty(alloc);
     let answer = join_state(alloc, &mut all, &mut Bytes::new(first, 7), 1000);
@@ -37,8 +37,8 @@ fn a_horizon_received(rt: HostRuntime) {
     receives(&rt, alloc, lapsed, known, lapsed);
 }
 
-/// Asserts that a text of these pieces is refused, and that a state that tries to receive it is
-/// unchanged.
+/// Asserts that a text of these pieces is refused, and that a state that tries to receive the text
+/// is unchanged.
 fn refused(rt: &impl Abort, alloc: Global, pieces: &[&[u8]], limit: u64, fault: StateFault) {
     let text = joined_text(rt, alloc, pieces);
     refused_each_way(rt, alloc, text.as_slice(), limit, fault);
@@ -69,7 +69,7 @@ fn what_is_refused_changes_nothing(rt: HostRuntime) {
     refused(&rt, alloc, twice, 1000, at(311, StateCause::Order));
 }
 
-/// A source that gives these bytes and then fails.
+/// A source from which these bytes can be read, and which then fails.
 #[derive(Drop)]
 struct Broken<'a> {
     front: &'a [u8],

@@ -14,7 +14,7 @@ use test_records::{
     LT_ASHFELD_0100, LT_COLWELL_2350, LT_DUNMERE_1100, ZZ,
 };
 
-/// A train calls twice at one place, and another divides from it at the second call.
+/// A train calls twice at one place, and another train divides from it at the second call.
 #[test]
 fn suffixes(rt: HostRuntime) {
     let file: &[&[u8]] = &[
@@ -50,8 +50,8 @@ fn last_day_of_the_calendar(rt: HostRuntime) {
     shows(&rt, rt.alloc(), &[file], "COLWELL", "2059-12-31", lines);
 }
 
-/// Asserts the lines at Colwell when this record cancels one of two trains. The trains are C40001
-/// and C40002, which is the next working of C40001 a day later.
+/// Asserts the lines at Colwell when this record cancels one of two trains: C40001, or C40002,
+/// which is the next working of C40001 a day later.
 fn without(rt: &impl Abort, alloc: Global, cancellation: &[u8], lines: &[&[u8]]) {
     let file: &[&[u8]] = &[
         HD,
@@ -98,8 +98,8 @@ fn works_on(rt: &impl Abort, alloc: Global, association: &[u8], lines: &[&[u8]])
     shows(rt, alloc, &[file], "COLWELL", "2024-06-10", lines);
 }
 
-/// Each date indicator, an unknown date indicator, and an unknown category. The last two give no
-/// line.
+/// Each date indicator, an unknown date indicator, and an unknown category. An unknown date
+/// indicator and an unknown category give no line.
 #[test]
 fn date_indicators(rt: HostRuntime) {
     let only: &[&[u8]] = &[COMES_2350];

@@ -11,7 +11,8 @@ use test_records::{
     BS, BS_CANCELLED, BS_OVERLAY, BS_WEEK, BS_WEEKEND, HD, LO, LO_0910, LO_0915, LT, ZZ,
 };
 
-/// A permanent schedule, its overlay and its cancellation: which one is chosen on each day.
+/// A permanent schedule, its overlay and its cancellation. The test checks which of them is chosen
+/// on each day.
 #[test]
 fn choice(rt: HostRuntime) {
     let alloc = rt.alloc();
@@ -35,7 +36,7 @@ fn choice(rt: HostRuntime) {
     shows(&rt, alloc, files, "ASHFELD", "2024-06-16", &[LEAVES_0900]);
 }
 
-/// The same file with a fourth schedule, which begins later than the permanent one.
+/// The same file with a fourth schedule, which begins later than the permanent schedule.
 #[test]
 fn choice_with_a_later_schedule(rt: HostRuntime) {
     let alloc = rt.alloc();

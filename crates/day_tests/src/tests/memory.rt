@@ -1,4 +1,4 @@
-//! Dockers while memory runs out. The state doesn't change, and a second call gives the docker. The
+//! Dockers while memory runs out. The state is unchanged, and a second call returns the docker. The
 //! test run decides which allocation is refused. Each call is made at most twice.
 
 use super::compare::same;
@@ -14,7 +14,8 @@ use test_records::{
     LT_1100_PLAIN, LT_DUNMERE_1100, ZZ, text,
 };
 
-/// A file with a train that calls twice at Colwell, and with another that divides from it there.
+/// A file with a train that calls twice at Colwell, and with another train that divides from it at
+/// Colwell.
 const DIVIDED: &[&[u8]] = &[
     HD,
     BS_C30001,

@@ -67,8 +67,8 @@ fn keeps(rt: &impl Abort, alloc: Global, files: &[&[&[u8]]], at: &str, on: &str,
     lines_are(rt, alloc, &joined_back(rt, alloc, files), at, on, wanted);
 }
 
-/// A permanent schedule is on the docker of each of its days, even if it is overlaid or cancelled
-/// on that day.
+/// A permanent schedule is on the docker of each of its days, even of a day on which it is overlaid
+/// or cancelled.
 #[test]
 fn overlaid_and_cancelled(rt: HostRuntime) {
     let alloc = rt.alloc();
@@ -111,7 +111,7 @@ fn new_trains_left_out(rt: HostRuntime) {
     keeps(&rt, alloc, beside, "ASHFELD", "2024-06-15", &[LEAVES_0910]);
 }
 
-/// If an overlay moves a train to other places, its permanent schedule stays on the docker.
+/// If an overlay moves a train to other places, its permanent schedule is still on the docker.
 #[test]
 fn train_moved_away(rt: HostRuntime) {
     let alloc = rt.alloc();
@@ -132,7 +132,7 @@ fn train_moved_away(rt: HostRuntime) {
     keeps(&rt, alloc, files, "COLWELL", "2024-06-11", &[]);
 }
 
-/// Of two permanent schedules that both run on a day, the one that begins later is chosen.
+/// Of two permanent schedules that both run on a day, the schedule that begins later is chosen.
 #[test]
 fn two_permanent_schedules(rt: HostRuntime) {
     let alloc = rt.alloc();
@@ -225,7 +225,7 @@ fn works_on(rt: &impl Abort, alloc: Global, association: &[u8], now: &[u8], want
 }
 
 /// A cancelled associated train has its identity on the permanent docker. A short-term association
-/// has no line there.
+/// has no line on the permanent docker.
 #[test]
 fn identity_of_a_cancelled_partner(rt: HostRuntime) {
     let unknown = WORKS_ON_UNKNOWN;

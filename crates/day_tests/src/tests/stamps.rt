@@ -1,4 +1,4 @@
-//! Which file's change counts at a key that several files change.
+//! Which change counts if several files change the same key.
 
 use super::shows;
 use std::alloc::Global;
@@ -23,7 +23,8 @@ fn revision(rt: HostRuntime) {
     at_ashfeld(&rt, rt.alloc(), &[first, second], &[LEAVES_0905]);
 }
 
-/// Files older than the full extract don't count, whether they are joined before it or after it.
+/// Files older than the full extract don't count, whether they are joined before or after the full
+/// extract.
 #[test]
 fn late_full_extract(rt: HostRuntime) {
     let first: &[&[u8]] = &[HD_5A, BS_C10003_PLAIN, BS, LO, LT, ZZ];
@@ -46,7 +47,7 @@ fn deletion_first(rt: HostRuntime) {
     shows(&rt, alloc, files, "BRAYTON", "2024-06-10", &[]);
 }
 
-/// Of two puts with equal stamps, the one with the later end date wins.
+/// Of two puts with equal stamps, the put with the later end date wins.
 #[test]
 fn later_end_of_equal_stamps(rt: HostRuntime) {
     let first: &[&[u8]] = &[HD, BS, LO, LT, ZZ];
@@ -54,7 +55,7 @@ fn later_end_of_equal_stamps(rt: HostRuntime) {
     at_ashfeld(&rt, rt.alloc(), &[first, second], &[LEAVES_0850]);
 }
 
-/// Of two puts with equal stamps and end dates, the one with the greater bytes wins.
+/// Of two puts with equal stamps and end dates, the put with the greater bytes wins.
 #[test]
 fn greater_bytes_of_equal_stamps(rt: HostRuntime) {
     let first: &[&[u8]] = &[HD, BS, LO, LT, ZZ];

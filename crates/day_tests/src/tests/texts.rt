@@ -10,7 +10,7 @@ use std::process::Abort;
 use test_records::dockers::{ASHFELD_0900, NONE_AT_ASHFELD, NONE_AT_ASHFLDN, NONE_AT_ELM};
 use test_records::{BS, HD, HD_10B, LO, LT, TA, TI, ZZ, text};
 
-/// Asserts that these files give this docker for a place on 10 June.
+/// Asserts that the docker of these files for a place on 10 June has exactly this text.
 fn prints(rt: &impl Abort, alloc: Global, files: &[&[&[u8]]], at: &str, wanted: &[&[u8]]) {
     let state = joined(rt, alloc, files);
     let kept = printed(rt, alloc, &state, at, "2024-06-10");
@@ -49,7 +49,7 @@ fn fits(rt: &impl Abort, alloc: Global, state: &State, room: usize, wanted: bool
     same(rt, write_docker(&docker, &mut kept).is_ok(), wanted);
 }
 
-/// A sink that lacks room for the last byte fails, and one with room for all bytes doesn't.
+/// A sink without room for the last byte fails, and a sink with room for all bytes doesn't.
 #[test]
 fn full_sink(rt: HostRuntime) {
     let state = state(&rt, rt.alloc(), &[HD, BS, LO, LT, ZZ]);

@@ -9,8 +9,8 @@ use test_records::{
     LT_1230, ZZ,
 };
 
-/// A train runs on weekdays: it has a line at each end of its journey on a Monday, and none on a
-/// Saturday or at another place.
+/// A train runs on weekdays. On a Monday it has a line at each end of its journey, and no line at
+/// another place. On a Saturday it has no line.
 #[test]
 fn one_schedule(rt: HostRuntime) {
     let alloc = rt.alloc();
@@ -22,7 +22,7 @@ fn one_schedule(rt: HostRuntime) {
     shows(&rt, alloc, files, "ELM", "2024-06-10", &[]);
 }
 
-/// A call without times has no line, and the train's other calls have theirs.
+/// A call without times has no line, and the train's other calls have their lines.
 #[test]
 fn no_line_without_a_time(rt: HostRuntime) {
     let alloc = rt.alloc();

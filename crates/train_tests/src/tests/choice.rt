@@ -10,8 +10,9 @@ use test_records::{
     LO_0940, LT, ZZ,
 };
 
-/// A file with five schedules of C10001 and one of C10002. Those of C10001 are a permanent one, its
-/// overlay, its cancellation, a new one, and a second permanent one that begins later.
+/// A file with five schedules of C10001 and one schedule of C10002. C10001 has a permanent
+/// schedule, its overlay, its cancellation, a new schedule, and a second permanent schedule that
+/// begins later.
 const TRAINS: &[&[u8]] = &[
     HD,
     BS_C10002_WEEK,
@@ -70,7 +71,7 @@ fn trains(rt: &impl Abort, alloc: Global) -> State {
     joined(rt, alloc, &[TRAINS])
 }
 
-/// Days on which the permanent schedule is chosen, and one on which its overlay is.
+/// Days on which the permanent schedule is chosen, and a day on which its overlay is chosen.
 #[test]
 fn permanent_and_overlay(rt: HostRuntime) {
     let state = trains(&rt, rt.alloc());
@@ -90,7 +91,7 @@ fn cancellation(rt: HostRuntime) {
     says(&rt, rt.alloc(), &state, "C10002", "2024-06-14", other);
 }
 
-/// A new schedule is chosen before an overlay. Of two permanent schedules, the one that begins
+/// A new schedule is chosen before an overlay. Of two permanent schedules, the schedule that begins
 /// later is chosen.
 #[test]
 fn new_and_later(rt: HostRuntime) {

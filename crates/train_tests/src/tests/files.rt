@@ -1,4 +1,4 @@
-//! Which of two files the chosen schedule came from.
+//! Which of two files is the file of the chosen schedule.
 
 use super::texts::END;
 use super::{joined, says};
@@ -51,13 +51,14 @@ const NONE: &[u8] =
 const NONE_AFTER: &[u8] =
     b"TRAIN  C10001  2024-06-15   NONE                                                ";
 
-/// Asserts that these files, joined in this order, give these lines for C10001 on this day.
+/// Asserts that the text for C10001 on this day has these lines, after these files are joined in
+/// this order.
 fn files_say(rt: &impl Abort, alloc: Global, files: &[&[&[u8]]], on: &str, wanted: &[&[u8]]) {
     let state = joined(rt, alloc, files);
     says(rt, alloc, &state, "C10001", on, wanted);
 }
 
-/// A later file deletes the permanent schedule, and the overlay stays.
+/// A later file deletes the permanent schedule, and the overlay is still chosen.
 #[test]
 fn deleted(rt: HostRuntime) {
     let overlay: &[&[u8]] = &[OVERLAY, BS_OVERLAY, LO_0915, LT, END];

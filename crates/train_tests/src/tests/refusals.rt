@@ -1,4 +1,4 @@
-//! What is refused: a day before the horizon, a word that names no UID, and a sink without room.
+//! Refusals: of a day before the horizon, of a word that isn't a UID, and by a sink without room.
 
 use super::compare::same;
 use super::texts::{END, NONE_ON_17_JUNE};
@@ -21,7 +21,7 @@ const THURSDAY: &[u8] =
 const MONDAY: &[u8] =
     b"TRAIN  C10001  2024-06-10 P RUNS      2024-06-09 2100 DFROC1A          2        ";
 
-/// Asserts that a day is refused for C10001, and that nothing is written then.
+/// Asserts that a day is refused for C10001, and that nothing is written.
 fn is_refused(rt: &impl Abort, alloc: Global, state: &State, on: &str) {
     let mut kept = Kept::new(alloc, 1000).expect(rt, "room");
     let (uid, day) = (uid(rt, "C10001"), day(rt, on));
@@ -35,7 +35,7 @@ fn is_refused(rt: &impl Abort, alloc: Global, state: &State, on: &str) {
     );
 }
 
-/// A day before the horizon is refused. The day of the horizon isn't.
+/// A day before the horizon is refused. The day of the horizon isn't refused.
 #[test]
 fn before_the_horizon(rt: HostRuntime) {
     let thursday: &[&[u8]] = &[THURSDAY, BS_WEEK, LO, LT, END];
@@ -77,8 +77,7 @@ fn takes(rt: &impl Abort, alloc: Global, state: &State, room: usize, wanted: Opt
     );
 }
 
-/// Five lines of 81 bytes are 405 bytes. A sink with less room gets as many of the first bytes as
-/// fit.
+/// Five lines of 81 bytes are 405 bytes. A sink with less room gains the prefix that fits.
 #[test]
 fn full_sink(rt: HostRuntime) {
     let state = joined(&rt, rt.alloc(), &[WEEK]);
@@ -88,12 +87,12 @@ fn full_sink(rt: HostRuntime) {
     takes(&rt, rt.alloc(), &state, 0, Some(TrainFault::Sink));
 }
 
-/// Asserts whether a word names a UID.
+/// Asserts whether a word is a UID.
 fn is_uid(rt: &impl Abort, word: &str, wanted: bool) {
     same(rt, uid_of_word(word).is_some(), wanted);
 }
 
-/// A word of six printable bytes names a UID. No other word does.
+/// A word of six printable bytes is a UID, and no other word is.
 #[test]
 fn words(rt: HostRuntime) {
     is_uid(&rt, "C10001", true);

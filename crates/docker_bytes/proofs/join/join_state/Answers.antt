@@ -1,5 +1,5 @@
--- The tactic `auto` proves the second goal too. It is written out so that a wrong body is refused
--- without a long search.
+-- The tactic `auto` proves the second goal too. Its answer is written out so that a wrong body is
+-- refused without a long search.
 use Rattle.std.proofs.Common.{◌≡◌, rules, subst}
 use Rattle.docker_model.specs.state.StateText.{dks_2}
 use Rattle.docker_bytes.specs.ReadEnds.{EndsReading}

@@ -28,7 +28,7 @@ pub returns-in-Err-clause-memory : goal.returns-in-Err-clause-memory
 returns-in-Err-clause-memory g c = λ format limit text has is.
     told_as_memory format limit text c.args.piece.now c.in-Err.fault c.fault_of.result (c.in-Err.ensures.err format limit text has) c.fault_of.ensures.state is
 
--- The tactic `auto` proves these goals too. They are written out so that a wrong body is refused
--- without a long search.
+-- The tactic `auto` proves these goals too. Their answers are written out so that a wrong body is
+-- refused without a long search.
 pub returns-then-used-piece-clause-memory : goal.returns-then-used-piece-clause-memory
 returns-then-used-piece-clause-memory g c = search rules

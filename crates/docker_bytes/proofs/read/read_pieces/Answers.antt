@@ -1,4 +1,4 @@
--- The parser was fed the bytes that the source gave.
+-- The bytes that the parser was fed are the bytes that were read from the source.
 use Rattle.std.proofs.Common.{[], ap, inl, subst, Err}
 use Rattle.cif_device.specs.FeedEnds.{EndsFeeding}
 use Rattle.docker_bytes.specs.StateTaken.{RefusesPart, TakesState}

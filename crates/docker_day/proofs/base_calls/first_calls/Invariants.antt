@@ -6,8 +6,8 @@ use Rattle.docker_day.specs.Bases.{kept_or}
 use Rattle.docker_day.specs.Lines.{is_call}
 use Rattle.docker_day.proofs.base_calls.first_calls.Given as goal
 
--- for each suffix, the first event is the kept one, or else the first among the events still to
--- come
+-- for each suffix, the first event is the kept event, or the first of the remaining events if no
+-- event is kept
 abbrev pub invariant-loop-event : goal.invariant-loop-event
 invariant-loop-event l = (suffix : ℕ)
     → kept_or (get nat_cmp l.calls suffix) (find (is_call l.place suffix) l.event-iterator) ≡ find (is_call l.place suffix) l.fn.events

@@ -4,7 +4,7 @@ use Rattle.docker_model.specs.docker.DockerText.{line_text, ended}
 use Rattle.docker_day.proofs.Written.{Leads}
 use Rattle.docker_day.proofs.print.write_lines.Given as goal
 
--- the sink has taken the lines before this one
+-- the sink has gained the lines before the current line
 abbrev pub invariant-loop-line : goal.invariant-loop-line
 invariant-loop-line g l = record {
   leads : Leads (λ (line : DockerLine). ended (line_text line)) l.lines (drop l.line-index l.lines) (g.K.Sink.taken l.fn.sink) (g.K.Sink.taken l.sink);

@@ -3,7 +3,7 @@ use Rattle.docker_model.specs.docker.DockerText.{ended}
 use Rattle.docker_day.proofs.Written.{Leads}
 use Rattle.docker_train.proofs.print.write_lines.Given as goal
 
--- the sink has taken the lines before this one
+-- the sink has gained the lines before the current line
 abbrev pub invariant-loop-line : goal.invariant-loop-line
 invariant-loop-line g l = record {
   leads : Leads ended l.lines (drop l.line-index l.lines) (g.K.Sink.taken l.fn.sink) (g.K.Sink.taken l.sink);

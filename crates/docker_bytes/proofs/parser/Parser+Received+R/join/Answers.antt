@@ -1,5 +1,5 @@
--- The tactic `auto` proves these goals too. They are written out so that a wrong body is refused
--- without a long search.
+-- The tactic `auto` proves these goals too. Their answers are written out so that a wrong body is
+-- refused without a long search.
 use Rattle.std.proofs.Common.{rules}
 use Rattle.docker_bytes.proofs.parser.Parser+Received+R.join.Goals as goal
 

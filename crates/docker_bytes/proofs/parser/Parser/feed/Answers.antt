@@ -13,8 +13,8 @@ returns-in-Err-clause-done g c = λ format limit text has whole.
     absurd (not_whole_yet c.args.self.now c.self.inside.reading format limit text (ap (λ (p : ParserState _). p.reading) (sym c.self.view_is)) has
     (λ none. let is : c.is_done.result ≡ true = c.is_done.ensures.1 none in let other : c.is_done.result ≡ false = c.if-is_done.false in cc) whole)
 
--- The tactic `auto` proves these goals too. They are written out so that a wrong body is refused
--- without a long search.
+-- The tactic `auto` proves these goals too. Their answers are written out so that a wrong body is
+-- refused without a long search.
 pub invariant_of-self-in-Err : goal.invariant_of-self-in-Err
 invariant_of-self-in-Err g c = search rules
 

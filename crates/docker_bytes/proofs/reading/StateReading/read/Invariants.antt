@@ -1,4 +1,4 @@
--- The bytes before the rest of the piece were read.
+-- The bytes before the rest of the piece have been read.
 use Rattle.std.proofs.Common.{◌≡◌, ◌++◌, length}
 use Rattle.docker_bytes.specs.StateReading.{ReadsOn}
 use Rattle.docker_bytes.proofs.ReadingLemmas.{before_rest}

@@ -1,4 +1,4 @@
--- The bytes before the rest were read, and the next part is a line. The lines still to be taken lie
+-- The bytes before the rest have been read, and the next part is a line. The remaining lines lie
 -- whole in the rest and within the limit, and the schedule's last line isn't among them.
 use Rattle.std.proofs.Common.{◌≡◌, ◌+◌, ◌-◌, ◌*◌, ◌≤◌, [], ◌++◌, length}
 use Rattle.docker_bytes.specs.StateReading.{ReadsOn, IsLineOf}
