@@ -130,7 +130,7 @@ pub fn known_files_fix_states()
         → IsDockerText (live_table two) place day other → text ≡ other }
 {}
 
-/// If no two files that a session knows have the same session_view, these files have a plain table, and
+/// If no two files that a session knows have the same moment, these files have a plain table, and
 /// each docker that is printed is the docker of this table.
 pub fn dockers_are_of_the_plain_table()
     ensures { (known : Known) (state : State) → IsKnown known state
@@ -140,7 +140,7 @@ pub fn dockers_are_of_the_plain_table()
 
 /// Two sessions that know the same files have the same dockers without the short-term plan. So have
 /// a session and an office of a run. This holds for each timing point and each day that neither
-/// refuses, even if their horizons differ. If no two of the files have the same session_view, these are
+/// refuses, even if their horizons differ. If no two of the files have the same moment, these are
 /// the dockers of the plain table without its short-term entries.
 pub fn known_files_fix_permanent_answers()
     ensures docker { (first second : Known) (one two : State) → IsKnown first one
@@ -154,7 +154,7 @@ pub fn known_files_fix_permanent_answers()
 {}
 
 /// Each schedule that `train` shows came from a known file. If no two known files have the same
-/// session_view, it is the schedule that their plain table has for the UID on the day.
+/// moment, it is the schedule that their plain table has for the UID on the day.
 pub fn trains_came_from_known_files()
     ensures { (known : Known) (state : State) (uid : List ℕ) (day : ℕ) (text : List ℕ)
         → IsKnown known state → IsTrainText state uid day text → state.horizon ≤ day
@@ -181,7 +181,7 @@ pub fn known_files_fix_lists()
     one_known_text();
 }
 
-/// If no two files that a session knows have the same session_view, its list of timing points is the list
+/// If no two files that a session knows have the same moment, its list of timing points is the list
 /// for their plain table, without what has lapsed.
 pub fn places_are_of_the_plain_table()
     ensures { (known : Known) (state : State) → IsKnown known state
