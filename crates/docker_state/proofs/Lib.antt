@@ -21,3 +21,4 @@ pub mod UidRows
 pub mod Newest
 pub mod NothingToStage
 pub mod Timetables
+pub mod Gap

@@ -1,5 +1,6 @@
 -- Rows that changes make, without numbers, and the last row of each key among them.
-use Rattle.std.proofs.Common.{◌≡◌, ℕ, suc, ◌<◌, List, [], ◌∷◌, ◌++◌, map, length, get_or, refl, ap, sym, ◌∙◌, subst, Contains, All, Bool, false, cond, Some, arith}
+use Rattle.std.proofs.Common.{◌≡◌, ℕ, suc, ◌<◌, List, [], ◌∷◌, ◌++◌, map, length, get_or}
+use Rattle.std.proofs.Common.{refl, ap, sym, ◌∙◌, subst, Contains, All, Bool, false, cond, Some, arith}
 use Rattle.std.specs.Prelude.{slice_get, ◌↔◌}
 use Rattle.std.specs.List.{AllByRecursion}
 use Rattle.std.specs.List.Sorted.{IsSorted, IsPermutation}
@@ -88,4 +89,5 @@ module _ (old new out : List (Key × Entry)) (sorted : IsSorted by_entry new) (m
 
       records : (row : Key × Entry) → Contains new row → HasRecords (op_meant row.1.op)
       records row among =
-          All-contains (λ (r : Key × Entry). HasRecords (op_meant r.1.op)) old row have (Contains-permutation new old row (IsPermutation-sym old new moved) among)
+          All-contains (λ (r : Key × Entry). HasRecords (op_meant r.1.op)) old row have
+          (Contains-permutation new old row (IsPermutation-sym old new moved) among)

@@ -5,7 +5,8 @@ use Rattle.std.specs.List.{cons_option}
 use Rattle.std.specs.Ordering.{on}
 use Rattle.std.specs.Str.{bytes_eq}
 use Rattle.std.proofs.lemmas.Slice.Eq.{bytes_eq-Decides}
-use Rattle.docker_model.specs.file.Change.{Key, tiploc_key, association_key, schedule_key, AssociationKey, ScheduleKey, Body, tiploc_body, association_body, schedule_body}
+use Rattle.docker_model.specs.file.Change.{Key, tiploc_key, association_key, schedule_key, AssociationKey, ScheduleKey}
+use Rattle.docker_model.specs.file.Change.{Body, tiploc_body, association_body, schedule_body}
 use Rattle.docker_model.specs.file.Journey.{CallsAt, calls_at}
 use Rattle.docker_model.specs.state.Op.{Op, deleted, lapsed, put_with, Entry, key_cmp, body_of}
 use Rattle.docker_model.specs.state.State.{State, IsValid, live_table}

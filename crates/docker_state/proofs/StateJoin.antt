@@ -77,7 +77,7 @@ module _ (g h : ℕ) (items others : List LedgerItem) (first second : List (Key 
       → AreAscending rows
       → HasKeptRows rows joined floor
       → IsJoin (state_meant g items first) (state_meant h others second) (state_meant horizon ledger rows)
-  states_joined floor is_floor union ledger in_union up_ledger in_ledger horizon horizon_is left right left_is right_is joined rows is up_rows in_rows = record {
+  states_joined floor is_floor union ledger in_union up_ledger in_ledger horizon horizon_is left right left_is right_is joined rows is up_rows row_in = record {
     horizon = horizon_is;
     floor = floor;
     is_floor = is_floor;
@@ -89,7 +89,7 @@ module _ (g h : ℕ) (items others : List LedgerItem) (first second : List (Key 
     entries_ascend = ascending_meant row_meant (λ (a b : model.Key × ops.Entry). key_cmp a.0 b.0) rows up_rows;
     entries = λ key entry. (
       λ among.
-          let kept = (in_rows (key, entry)).0 among in
+          let kept = (row_in (key, entry)).0 among in
           let from = (lapses key entry).0 kept.0 in (
             from.0,
             joined_greatest first second whole up_first up_second whole_is key from.0 from.1,
@@ -99,7 +99,7 @@ module _ (g h : ℕ) (items others : List LedgerItem) (first second : List (Key 
       λ told.
           let same = sym (under told.0) ∙ told.3 in
           let best = greatest_joined first second whole up_first up_second whole_is entry_records key told.0 told.1 in
-          (in_rows (key, entry)).1 ((lapses key entry).1 (told.0, best, same), subst (λ (e : ops.Entry). IsKept floor e.stamp.file) same told.2),
+          (row_in (key, entry)).1 ((lapses key entry).1 (told.0, best, same), subst (λ (e : ops.Entry). IsKept floor e.stamp.file) same told.2),
     );
   }
     where

@@ -8,5 +8,6 @@ pub mod UidPiece
 pub mod Indexed
 pub mod PlaceRows
 pub mod Walked
+pub mod Near
 pub mod Timetables
 pub use Rattle.state_index.specs.Counts

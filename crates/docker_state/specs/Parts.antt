@@ -1,9 +1,9 @@
 -- What holds of the parts of a state while they are given one by one.
-use Rattle.std.specs.Prelude.{List, map, length, ◌-◌, slice_get, Option}
+use Rattle.std.specs.Prelude.{ℕ, List, map, length, ◌-◌, slice_get, Option}
 use Rattle.std.specs.Option.{option_map}
 use Rattle.docker_model.specs.file.Change.{Key}
 use Rattle.docker_model.specs.state.Op.{Entry}
-use Rattle.docker_model.specs.state.State.{IsValid}
+use Rattle.docker_model.specs.state.State.{State, IsValid}
 use Rattle.cif_file.specs.Key.{Key as Kept}
 use Rattle.docker_join.specs.declared.entry.Entry.{Entry as Row}
 use Rattle.state_index.specs.Notes.{Notes}
@@ -17,6 +17,10 @@ use Rattle.docker_state.specs.Meaning.{row_meant, state_meant}
 pub record AreParts (ledger : List LedgerItem) (rows : List (Kept × Row)) (notes : Option Notes) : Type 0 where
   pub valid : IsValid (state_meant 0 ledger rows)
   pub noted : HasNotedIfAny (items_of (map row_meant rows)) notes
+
+-- the ledger and the entries of a state under this horizon, instead of the state's own
+abbrev pub under_horizon : ℕ → State → State
+under_horizon horizon state = record { horizon = horizon; ledger = state.ledger; entries = state.entries }
 
 -- the key of the last entry; none if there are no entries
 abbrev pub last_key : List (Key × Entry) → Option Key

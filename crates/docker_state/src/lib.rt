@@ -14,6 +14,7 @@ mod parts;
 mod place_rows;
 mod rows;
 mod sifted;
+mod sort;
 mod staging;
 mod state;
 mod timetable;

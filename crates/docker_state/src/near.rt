@@ -1,15 +1,17 @@
 //! Looks up an entry, and first looks at the row where it is likely to be.
-ghost use Rattle.std.specs.Prelude.{◌≡◌};
+ghost use Rattle.std.specs.Prelude.{◌≡◌, IsTrue};
 ghost use Rattle.std.specs.Option.{option_copied};
 ghost use Rattle.cif_change.specs.Meaning.{key_meant};
 ghost use Rattle.docker_join.specs.Rows.{AreAscending, value_at};
+ghost use Rattle.docker_state.specs.Near.{IsAboveBefore, IsBelowAt};
 
 use cif_file::Key;
 use docker_join::Entry;
 
-/// The entry of a key. None if no row has the key. First looks at the row at index `near`, and only
-/// if that row has another key searches all rows. If the entry is found, `near` is set to the index
-/// of the next row: the next key to be looked up is likely to be there.
+/// The entry of a key, or None if no row has the key. The row at index `near` is looked at first,
+/// and the row before it. If the key isn't found there, and doesn't lie between the two, there is a
+/// binary search. Then `near` becomes the index of the first row after the key, which is likely to
+/// have the next key in order.
 pub(crate) fn entry_near<'a>(
     rows: &'a [(Key, Entry)],
     key: &Key,
@@ -24,11 +26,40 @@ pub(crate) fn entry_near<'a>(
             return Some(&row.1);
         }
     }
+    if is_below_at(rows, *near, key) && is_above_before(rows, *near, key) {
+        return None;
+    }
     match rows.binary_search_by(|row| row.0.cmp(key)) {
         Ok(at) => {
             *near = at + 1;
             Some(&rows[at].1)
         }
-        Err(_) => None,
+        Err(at) => {
+            *near = at;
+            None
+        }
+    }
+}
+
+/// Whether a key is below the row at this index, or the rows end there.
+fn is_below_at(rows: &[(Key, Entry)], at: usize, key: &Key) -> bool
+    ensures { IsTrue result → IsBelowAt (key_meant key.now) rows.now at }
+{
+    match rows.get(at) {
+        Some(row) => row.0.cmp(key).is_gt(),
+        None => at == rows.len(),
+    }
+}
+
+/// Whether a key is above the row before this index, or there is no row before it.
+fn is_above_before(rows: &[(Key, Entry)], at: usize, key: &Key) -> bool
+    ensures { IsTrue result → IsAboveBefore (key_meant key.now) rows.now at }
+{
+    match at.checked_sub(1) {
+        Some(last) => match rows.get(last) {
+            Some(row) => row.0.cmp(key).is_lt(),
+            None => false,
+        },
+        None => true,
     }
 }

@@ -1,18 +1,20 @@
 //! A state built from its parts, in their order.
 ghost use Rattle.std.specs.Prelude.{◌≡◌, ◌++◌, [], ◌∷◌, ◌-◌, map, IsOk, IsErr, IfOk};
 ghost use Rattle.std.specs.Option.{option_copied, option_map};
-ghost use Rattle.docker_model.specs.state.State.{IsLedger, IsOpOf};
+ghost use Rattle.docker_model.specs.state.State.{IsLedger, IsOpOf, IsValid};
 ghost use Rattle.docker_model.specs.state.StatePart.{IsStampHere};
 ghost use Rattle.cif_change.specs.Meaning.{key_meant};
 ghost use Rattle.docker_join.specs.Meaning.{entry_meant};
-ghost use Rattle.docker_state.specs.Meaning.{item_meant, row_meant};
-ghost use Rattle.docker_state.specs.Parts.{last_key};
+ghost use Rattle.state_index.specs.Noted.{items_of};
+ghost use Rattle.docker_state.specs.Indexed.{HasNotedIfAny};
+ghost use Rattle.docker_state.specs.Meaning.{item_meant, row_meant, state_meant};
+ghost use Rattle.docker_state.specs.Parts.{last_key, under_horizon};
 
 use crate::indexing::{index_of_notes, note_if};
 use crate::item::LedgerItem;
 use crate::state::State;
 use cif_file::Key;
-use cif_line::Memory;
+use cif_line::{Day, Memory};
 use docker_join::Entry;
 use state_index::Notes;
 use std::alloc::Global;
@@ -119,8 +121,8 @@ impl Parts {
     }
 
     /// The state of the parts. If memory runs out, the parts are dropped. If the state is to have an
-    /// index, they are also dropped if there are more than 4,294,967,295 entries or places, which are
-    /// numbered in 32 bits.
+    /// index, they are also dropped if there are more than 4,294,967,295 entries or places, which
+    /// are numbered in 32 bits.
     pub fn finish(self) -> Result<State, Memory>
         ensures { IfOk result (λ state. state ≡ self) }
     {
@@ -129,7 +131,35 @@ impl Parts {
             entries,
             notes,
         } = self;
-        let index = index_of_notes(*entries.allocator(), notes, entries.as_slice())?;
-        Ok(State::of_rows(ledger, entries, index))
+        state_of(0, ledger, entries, notes)
     }
+
+    /// The state of the parts under a horizon. No entry may have to lapse under it, and no end date
+    /// is looked at. It fails as `finish` does.
+    pub fn finish_under(self, horizon: Day) -> Result<State, Memory>
+        requires { IsValid (under_horizon horizon self) }
+        ensures { IfOk result (λ state. state ≡ under_horizon horizon self) }
+    {
+        let Parts {
+            ledger,
+            entries,
+            notes,
+        } = self;
+        state_of(horizon.number(), ledger, entries, notes)
+    }
+}
+
+/// The state of ledger items and entries under a horizon. It has an index if places are noted.
+fn state_of(
+    horizon: u16,
+    ledger: Vec<LedgerItem>,
+    entries: Vec<(Key, Entry)>,
+    notes: Option<Notes>,
+) -> Result<State, Memory>
+    requires valid { IsValid (state_meant horizon ledger.items entries.items) }
+    requires noted { HasNotedIfAny (items_of (map row_meant entries.items)) notes }
+    ensures { IfOk result (λ state. state ≡ state_meant horizon ledger.items entries.items) }
+{
+    let index = index_of_notes(*entries.allocator(), notes, entries.as_slice())?;
+    Ok(State::of_rows(horizon, ledger, entries, index))
 }

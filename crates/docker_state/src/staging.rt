@@ -178,7 +178,7 @@ impl State {
         }
         let alloc = *staging.staged.allocator();
         let index = index_if(alloc, staging.staged.as_slice(), self.is_indexed())?;
-        let received = State::of_rows(staging.items, staging.staged, index);
+        let received = State::of_rows(0, staging.items, staging.staged, index);
         let own = mem::replace(self, State::empty(alloc));
         match own.join(alloc, received) {
             Ok(joined) => {

@@ -82,10 +82,9 @@ impl Maker for Whole {
 
     fn finish(self, horizon: Option<Day>) -> Result<State, Memory> {
         let Whole { parts } = self;
-        let mut state = parts.finish()?;
-        if let Some(day) = horizon {
-            state.set_horizon(day);
+        match horizon {
+            Some(day) => parts.finish_under(day),
+            None => parts.finish(),
         }
-        Ok(state)
     }
 }

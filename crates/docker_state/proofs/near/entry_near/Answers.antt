@@ -5,6 +5,7 @@ use Rattle.std.proofs.lemmas.List.{get_or_default}
 use Rattle.cif_change.specs.Meaning.{key_meant}
 use Rattle.docker_model.specs.state.Op.{key_cmp}
 use Rattle.docker_join.proofs.Lookup.{by_key, row_found, row_missing, rows_rise}
+use Rattle.docker_state.proofs.Gap.{parts_at_gap}
 use Rattle.docker_state.proofs.near.entry_near.Goals as goal
 
 pub returns-then-eq : goal.returns-then-eq
@@ -14,6 +15,12 @@ returns-then-eq c =
     row_found c.args.rows.now (key_meant c.args.key.now) c.args.near.now c.in-Some.row.now c.requires found.0 (found.1 c.in-Some.row.now)
     (λ d. ap (by_key (key_meant c.args.key.now)) (sym (found.1 d)) ∙ tied)
 
+pub returns-then-is_above_before : goal.returns-then-is_above_before
+returns-then-is_above_before c =
+    row_missing c.args.rows.now (key_meant c.args.key.now) c.args.near.now c.requires
+    (parts_at_gap c.args.rows.now (key_meant c.args.key.now) c.args.near.now c.requires (c.is_below_at.ensures c.if-is_below_at.true)
+    (c.is_above_before.ensures c.if-is_above_before.true))
+
 pub returns-in-Ok : goal.returns-in-Ok
 returns-in-Ok c =
     row_found c.args.rows.now (key_meant c.args.key.now) c.in-Ok.at _ c.requires c.in-Ok.ensures.bound
@@ -22,6 +29,6 @@ returns-in-Ok c =
 
 pub returns-in-Err : goal.returns-in-Err
 returns-in-Err c =
-    row_missing c.args.rows.now (key_meant c.args.key.now) c.in-Err.field-0 c.requires
+    row_missing c.args.rows.now (key_meant c.args.key.now) c.in-Err.at c.requires
     (c.in-Err.ensures.position (by_key (key_meant c.args.key.now)) (always_returns_same _ _ _ (λ a r f h. search rules))
     (rows_rise c.args.rows.now (key_meant c.args.key.now) c.requires))

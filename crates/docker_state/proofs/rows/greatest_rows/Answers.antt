@@ -25,16 +25,16 @@ along xs ys to from key entry best = record { among = to (key, entry) best.among
 
 pub returns-clause-ascending : goal.returns-clause-ascending
 returns-clause-ascending c =
-    subst (λ (rows : List (Key × Entry)). AreAscending rows) (sym (c.last_of_each.ensures.rows ∙ last_is c.sort_unstable.new.self.items))
-    (lasts_ascend (rows_in c.sort_unstable.new.self.items) (sorted_made c.sort_unstable.new.self.items c.sort_unstable.ensures.sorted))
+    subst (λ (rows : List (Key × Entry)). AreAscending rows) (sym (c.last_of_each.ensures.rows ∙ last_is c.sort_nearly.new.items.items))
+    (lasts_ascend (rows_in c.sort_nearly.new.items.items) (sorted_made c.sort_nearly.new.items.items c.sort_nearly.ensures.sorted))
 
 pub returns-clause-greatest : goal.returns-clause-greatest
 returns-clause-greatest c = λ key entry.
     let old = rows_in c.args.made.items in
-    let new = rows_in c.sort_unstable.new.self.items in
-    let sorted = sorted_made c.sort_unstable.new.self.items c.sort_unstable.ensures.sorted in
-    let moved = IsPermutation-map (λ (m : Made). m.0) c.args.made.items c.sort_unstable.new.self.items c.sort_unstable.ensures.permutation in
-    let last = c.last_of_each.ensures.rows ∙ last_is c.sort_unstable.new.self.items in
+    let new = rows_in c.sort_nearly.new.items.items in
+    let sorted = sorted_made c.sort_nearly.new.items.items c.sort_nearly.ensures.sorted in
+    let moved = IsPermutation-map (λ (m : Made). m.0) c.args.made.items c.sort_nearly.new.items.items c.sort_nearly.ensures.permutation in
+    let last = c.last_of_each.ensures.rows ∙ last_is c.sort_nearly.new.items.items in
     let meant = IsPermutation-map row_meant old new moved in
     let to : (pair : model.Key × ops.Entry) → Contains (map row_meant old) pair
     → Contains (map row_meant new) pair = λ pair among. Contains-permutation (map row_meant old) (map row_meant new) pair meant among in
@@ -57,14 +57,14 @@ pub returns-clause-order : goal.returns-clause-order
 returns-clause-order c = λ items are.
     subst (λ (p : List ℕ × List (Key × Entry)). ArePicked items p.0 (items_of (map row_meant p.1)))
     (λ i. (sym c.last_of_each.ensures.order i, sym c.last_of_each.ensures.rows i))
-    (last_picked items c.args.made.items c.sort_unstable.new.self.items
-    (λ z among. Contains-permutation c.sort_unstable.new.self.items c.args.made.items z
-    (IsPermutation-sym c.args.made.items c.sort_unstable.new.self.items c.sort_unstable.ensures.permutation) among) are)
+    (last_picked items c.args.made.items c.sort_nearly.new.items.items
+    (λ z among. Contains-permutation c.sort_nearly.new.items.items c.args.made.items z
+    (IsPermutation-sym c.args.made.items c.sort_nearly.new.items.items c.sort_nearly.ensures.permutation) among) are)
 
 pub returns-clause-few : goal.returns-clause-few
 returns-clause-few c =
     let order = ap length c.last_of_each.ensures.order in
-    let few = last_len c.sort_unstable.new.self.items in
-    let same = c.sort_unstable.ensures.len in
-    let size = c.sort_unstable.new.self.ok.0 in
+    let few = last_len c.sort_nearly.new.items.items in
+    let same = c.sort_nearly.ensures.len in
+    let size = c.sort_nearly.new.items.ok.0 in
     omega arith

@@ -7,23 +7,23 @@ use Rattle.docker_state.proofs.rows.last_greatest.Goals as goal
 
 pub returns-then-are_apart-clause-ascending : goal.returns-then-are_apart-clause-ascending
 returns-then-are_apart-clause-ascending c =
-    lasts_in_order c.args.made.items c.sort_unstable.new.self.items c.sort_unstable.new.self.items c.sort_unstable.ensures.sorted
-    c.sort_unstable.ensures.permutation
+    lasts_in_order c.args.made.items c.sort_nearly.new.items.items c.sort_nearly.new.items.items c.sort_nearly.ensures.sorted
+    c.sort_nearly.ensures.permutation
     (subst (λ (rows : List (Key × Entry)). rows ≡ last_rows rows) c.as_slice.ensures.value (sym (c.are_apart.ensures c.if-are_apart.true)))
 
 pub returns-then-are_apart-clause-greatest : goal.returns-then-are_apart-clause-greatest
 returns-then-are_apart-clause-greatest c =
-    lasts_are_greatest c.args.made.items c.sort_unstable.new.self.items c.sort_unstable.new.self.items c.sort_unstable.ensures.sorted
-    c.sort_unstable.ensures.permutation
+    lasts_are_greatest c.args.made.items c.sort_nearly.new.items.items c.sort_nearly.new.items.items c.sort_nearly.ensures.sorted
+    c.sort_nearly.ensures.permutation
     (subst (λ (rows : List (Key × Entry)). rows ≡ last_rows rows) c.as_slice.ensures.value (sym (c.are_apart.ensures c.if-are_apart.true)))
     c.requires.records
 
 pub returns-clause-ascending : goal.returns-clause-ascending
 returns-clause-ascending c =
-    lasts_in_order c.args.made.items c.sort_unstable.new.self.items c.last_rows.result.items c.sort_unstable.ensures.sorted
-    c.sort_unstable.ensures.permutation c.last_rows.ensures
+    lasts_in_order c.args.made.items c.sort_nearly.new.items.items c.last_rows.result.items c.sort_nearly.ensures.sorted
+    c.sort_nearly.ensures.permutation c.last_rows.ensures
 
 pub returns-clause-greatest : goal.returns-clause-greatest
 returns-clause-greatest c =
-    lasts_are_greatest c.args.made.items c.sort_unstable.new.self.items c.last_rows.result.items c.sort_unstable.ensures.sorted
-    c.sort_unstable.ensures.permutation c.last_rows.ensures c.requires.records
+    lasts_are_greatest c.args.made.items c.sort_nearly.new.items.items c.last_rows.result.items c.sort_nearly.ensures.sorted
+    c.sort_nearly.ensures.permutation c.last_rows.ensures c.requires.records

@@ -1,16 +1,6 @@
-use Rattle.std.proofs.Common.{List, map, sym, subst}
-use Rattle.cif_file.specs.Key.{Key}
-use Rattle.docker_join.specs.declared.entry.Entry.{Entry}
-use Rattle.state_index.specs.Noted.{items_of}
-use Rattle.docker_state.specs.Indexed.{HasNotedIfAny, IsIndexIfAny}
-use Rattle.docker_state.specs.Meaning.{row_meant}
+use Rattle.std.proofs.Common.{◌∙◌}
+use Rattle.std.proofs.lemmas.Result.{IfOk-weaker}
 use Rattle.docker_state.proofs.parts.Parts.finish.Goals as goal
 
-pub index_of_notes-requires : goal.index_of_notes-requires
-index_of_notes-requires c =
-    subst (λ (rows : List (Key × Entry)). HasNotedIfAny (items_of (map row_meant rows)) c.self.inside.notes) (sym c.as_slice.ensures.value)
-    c.self.invariant.noted
-
-pub of_rows-requires-clause-index : goal.of_rows-requires-clause-index
-of_rows-requires-clause-index c =
-    subst (λ (rows : List (Key × Entry)). IsIndexIfAny (map row_meant rows) c.in_ok-index.index) c.as_slice.ensures.value c.in_ok-index.ensures
+pub returns : goal.returns
+returns c = IfOk-weaker c.state_of.result _ _ (λ state is. is ∙ c.self.view_is) c.state_of.ensures

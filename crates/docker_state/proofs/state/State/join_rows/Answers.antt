@@ -41,11 +41,12 @@ union_of-items-requires-clause-room c =
 
 pub returns-clause-ok : goal.returns-clause-ok
 returns-clause-ok c =
-    subst (λ (s : State). IsJoin s c.args.other (state_meant c.max.result c.kept_items-ledger.result.items c.from_rows-entries.result)) c.in-Ok-opened.ensures.parts
+    subst (λ (s : State). IsJoin s c.args.other (state_meant c.max.result c.kept_items-ledger.result.items c.from_rows-entries.result))
+    c.in-Ok-opened.ensures.parts
     (subst (λ (s : State). IsJoin (state_meant c.in-Ok-opened.opened.horizon c.in-Ok-opened.opened.ledger.items c.in-Ok-opened.opened.rows.items) s
     (state_meant c.max.result c.kept_items-ledger.result.items c.from_rows-entries.result)) c.other.view_is
-    (states_joined c.in-Ok-opened.opened.horizon c.other.inside.horizon c.in-Ok-opened.opened.ledger.items c.other.inside.ledger.items c.in-Ok-opened.opened.rows.items
-    c.other.inside.entries
+    (states_joined c.in-Ok-opened.opened.horizon c.other.inside.horizon c.in-Ok-opened.opened.ledger.items c.other.inside.ledger.items
+    c.in-Ok-opened.opened.rows.items c.other.inside.entries
     c.in-Ok-opened.ensures.valid c.other.invariant.valid (floor_meant c.floor_with-floor.result)
     (subst (λ (s : State). IsFloor (s.ledger ++ map item_meant c.other.inside.ledger.items) (floor_meant c.floor_with-floor.result))
     (sym c.in-Ok-opened.ensures.parts)
@@ -67,8 +68,8 @@ returns-clause-ok c =
 pub invariant_of-result : goal.invariant_of-result
 invariant_of-result c =
     let join =
-    (states_joined c.in-Ok-opened.opened.horizon c.other.inside.horizon c.in-Ok-opened.opened.ledger.items c.other.inside.ledger.items c.in-Ok-opened.opened.rows.items
-    c.other.inside.entries
+    (states_joined c.in-Ok-opened.opened.horizon c.other.inside.horizon c.in-Ok-opened.opened.ledger.items c.other.inside.ledger.items
+    c.in-Ok-opened.opened.rows.items c.other.inside.entries
     c.in-Ok-opened.ensures.valid c.other.invariant.valid (floor_meant c.floor_with-floor.result)
     (subst (λ (s : State). IsFloor (s.ledger ++ map item_meant c.other.inside.ledger.items) (floor_meant c.floor_with-floor.result))
     (sym c.in-Ok-opened.ensures.parts)

@@ -28,5 +28,6 @@ pub returns-in-Ok : goal.returns-in-Ok
 returns-in-Ok c = λ records of.
     subst (λ kept. IsStateOfChanges records kept c.in-Ok.state) (kept_are c.args.file c.into_parts.result c.into_parts.ensures.thin)
     (kept_state (item_meant c.item_of-item.result) (map change_meant c.into_parts.result.changes.items) records c.in-Ok.state
-    (item_is_of c.header.result c.args.file.file.header_line (item_meant c.item_of-item.result) records c.header.ensures.header of.header_is c.item_of-item.ensures)
+    (item_is_of c.header.result c.args.file.file.header_line (item_meant c.item_of-item.result) records
+    c.header.ensures.header of.header_is c.item_of-item.ensures)
     c.in-Ok.ensures.ok)

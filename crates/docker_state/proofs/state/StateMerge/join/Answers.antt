@@ -26,4 +26,6 @@ returns-then-covers-2-clause-summary c = λ files others g h one two.
 
 pub returns-clause-summary : goal.returns-clause-summary
 returns-clause-summary c = λ files others g h one two.
-    IfOk-weaker c.join_into_longer.result _ _ (λ joined is. join_is_summary files others g h c.args.self c.args.other joined one two is) c.join_into_longer.ensures.ok
+    IfOk-weaker c.join_into_longer.result _ _
+    (λ joined is. join_is_summary files others g h c.args.self c.args.other joined one two is)
+    c.join_into_longer.ensures.ok

@@ -14,7 +14,8 @@ returns-clause-rows c =
     let place = c.args.tiploc.now in
     subst (λ (t : Timetable). AreLinked (live_in t) place c.of.result) c.self.view_is
     (subst (λ (rows : List Row). AreLinked (counted_table (counts c.self.inside.permanent) live) place rows)
-    (sym (c.of.ensures ∙ ap (counted_rows (counts c.self.inside.permanent)) c.numbered.ensures)) (counted_linked (counts c.self.inside.permanent) live place c.linked.result c.linked.ensures))
+    (sym (c.of.ensures ∙ ap (counted_rows (counts c.self.inside.permanent)) c.numbered.ensures))
+    (counted_linked (counts c.self.inside.permanent) live place c.linked.result c.linked.ensures))
 
 pub returns-clause-good : goal.returns-clause-good
 returns-clause-good c =

@@ -1,18 +1,20 @@
-use Rattle.std.proofs.Common.{sym, ap, ◌∙◌}
+use Rattle.std.proofs.Common.{sym, ap, ◌∙◌, subst}
+use Rattle.std.proofs.lemmas.Result.{IfOk-weaker}
+use Rattle.docker_model.specs.state.State.{IsValid}
 use Rattle.state_text.specs.PartsSoFar.{horizon_meant, under}
-use Rattle.state_text.proofs.PartsSoFarLemmas.{under_none, set_behind}
+use Rattle.state_text.proofs.PartsSoFarLemmas.{under_none}
 use Rattle.state_text.proofs.whole.WholeMaker.finish.Goals as goal
-use Rattle.state_text.proofs.whole.WholeMaker.finish.Goals.{in-Some, in_default}
 
-pub returns : goal.returns
-returns c =
-    let parts = c.self.inside.parts in
-    let given = c.args.self in
-    elim c.match-horizon.branch [
-      | in-Some w ↦ w.state-is
-          ∙ set_behind w.in-Some.day (under (horizon_meant c.args.horizon) given) parts c.in_ok-state.state w.set_horizon.new.self
-          (ap (λ h. under (horizon_meant h) given) w.in-Some.is ∙ ap (under w.in-Some.day) (sym c.self.view_is)) c.self.invariant c.requires
-          c.in_ok-state.ensures w.set_horizon.ensures.raised
-      | in_default w ↦ w.state-is ∙ c.in_ok-state.ensures ∙ under_none parts c.self.invariant ∙ ap (under 0) c.self.view_is
-          ∙ ap (λ h. under (horizon_meant h) given) (sym w.in_default.is)
-    ]
+pub finish_under-requires : goal.finish_under-requires
+finish_under-requires c =
+    subst IsValid (ap (λ h. under (horizon_meant h) c.args.self) c.in-Some.is ∙ ap (under c.in-Some.day) (sym c.self.view_is)) c.requires
+
+pub returns-in-Some : goal.returns-in-Some
+returns-in-Some c =
+    IfOk-weaker c.finish_under.result _ _ (λ state is. is ∙ ap (under c.in-Some.day) c.self.view_is
+    ∙ ap (λ h. under (horizon_meant h) c.args.self) (sym c.in-Some.is)) c.finish_under.ensures
+
+pub returns-in-None : goal.returns-in-None
+returns-in-None c =
+    IfOk-weaker c.finish.result _ _ (λ state is. is ∙ under_none c.self.inside.parts c.self.invariant ∙ ap (under 0) c.self.view_is
+    ∙ ap (λ h. under (horizon_meant h) c.args.self) (sym c.in-None.is)) c.finish.ensures

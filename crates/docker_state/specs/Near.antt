@@ -1,0 +1,18 @@
+-- Where a key lies among rows in key order.
+use Rattle.std.specs.Prelude.{◌≡◌, ℕ, ◌-◌, ◌<◌, ◌≤◌, List, length, get_or}
+use Rattle.std.specs.declared.cmp.Ordering.TheVariants.{Less, Greater}
+use Rattle.docker_model.specs.file.Change as model
+use Rattle.docker_model.specs.state.Op.{key_cmp}
+use Rattle.cif_file.specs.Key.{Key}
+use Rattle.cif_change.specs.Meaning.{key_meant}
+use Rattle.docker_join.specs.declared.entry.Entry.{Entry}
+
+-- the key is below the key of the row at this index, or the rows end at this index
+abbrev pub IsBelowAt : model.Key → List (Key × Entry) → ℕ → Type 0
+IsBelowAt key rows at =
+    (at ≤ length rows) × ((d : Key × Entry) → at < length rows → key_cmp (key_meant (get_or rows at d).0) key ≡ Greater)
+
+-- the key is above the key of the row before this index, if there is one
+abbrev pub IsAboveBefore : model.Key → List (Key × Entry) → ℕ → Type 0
+IsAboveBefore key rows at =
+    (d : Key × Entry) → 0 < at → key_cmp (key_meant (get_or rows (at - 1) d).0) key ≡ Less
