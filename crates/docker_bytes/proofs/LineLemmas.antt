@@ -7,7 +7,8 @@ use Rattle.docker_model.specs.state.Stamp.{Stamp}
 use Rattle.docker_model.specs.state.State.{State}
 use Rattle.docker_model.specs.state.StateText.{Format}
 use Rattle.docker_model.specs.state.StatePart.{in_entry, before_line, width, AreGood}
-use Rattle.docker_model.specs.state.StateFault.{bad_mark, bad_item, bad_order, bad_floor, bad_tag, bad_stamp, bad_body, too_short, has_tail, too_long, bad_horizon}
+use Rattle.docker_model.specs.state.StateFault.{bad_mark, bad_item, bad_order, bad_floor, bad_tag, bad_stamp}
+use Rattle.docker_model.specs.state.StateFault.{bad_body, too_short, has_tail, too_long, bad_horizon}
 use Rattle.docker_model.specs.state.StateFault as model
 use Rattle.state_laws.specs.TextStage.{advance}
 use Rattle.state_laws.proofs.texts.TextsBefore.{more_lines}

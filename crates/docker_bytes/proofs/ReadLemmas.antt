@@ -1,5 +1,6 @@
 -- Reading a source: the bytes that the parser was fed are exactly the bytes that the source held.
-use Rattle.std.proofs.Common.{◌≡◌, ◌≢◌, ℕ, ◌<◌, List, [], ◌∷◌, ◌++◌, length, take, drop, refl, ap, sym, ◌∙◌, subst, inl, inr, ◌⊎◌, arith, append_assoc, append-nil, length-drop, Some, None, Err, Result}
+use Rattle.std.proofs.Common.{◌≡◌, ◌≢◌, ℕ, ◌<◌, List, [], ◌∷◌, ◌++◌, length, take, drop, refl, ap, sym, ◌∙◌, subst, inl, inr}
+use Rattle.std.proofs.Common.{◌⊎◌, arith, append_assoc, append-nil, length-drop, Some, None, Err, Result}
 use Rattle.std.specs.Prelude.{Option, Ok, IfErr, IsOk, OnOk, ◌^◌}
 use Rattle.std.proofs.lemmas.List.{take-append-drop}
 use Rattle.cif_device.specs.Device.{Reads, IsEnd}
@@ -20,7 +21,8 @@ use Rattle.state_text.specs.FaultMeaning.{cause_meant}
 use Rattle.docker_bytes.specs.StateReading.{format_of, IsCauseSoFar, IsFaultReported, IsCauseAtEnd, IsUnended, IsWhole, IsWanting, IsMadeOf, IsStep, JoinsText}
 use Rattle.docker_bytes.specs.ParserRead.{ParserState, HasRead, IsUnread}
 use Rattle.docker_bytes.specs.StateTaken.{RefusesPart, StateTerms, TakesState}
-use Rattle.docker_bytes.specs.SourceRead.{Held, ReadsState, ReadsMade, IsCauseOf, IsFaultOf, RefusesState, ReadsOnePieceMore, ReadsAll, WantsSoFar, WantsMemory, JoinsState}
+use Rattle.docker_bytes.specs.SourceRead.{Held, ReadsState, ReadsMade, IsCauseOf, IsFaultOf, RefusesState}
+use Rattle.docker_bytes.specs.SourceRead.{ReadsOnePieceMore, ReadsAll, WantsSoFar, WantsMemory, JoinsState}
 use Rattle.docker_bytes.specs.ReadEnds.{as_it_is, CountsOutcome, CountsWhy, EndsReadingBy, EndsText, IsOutcome, IsWhyUnread, StopsReading, Wanting}
 use Rattle.docker_bytes.proofs.TextEnd.{sound_text}
 

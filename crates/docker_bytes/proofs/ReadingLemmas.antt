@@ -1,5 +1,6 @@
 -- Reading the text of a state part by part.
-use Rattle.std.proofs.Common.{◌≡◌, ℕ, zero, suc, ◌+◌, ◌-◌, ◌<◌, ◌≤◌, List, [], ◌∷◌, ◌++◌, length, take, get_or, refl, ap, sym, ◌∙◌, subst, inl, inr, ◌⊎◌, arith, Bool, true, false, cond, nat_le, append_assoc, append-nil, length-append, Some, None}
+use Rattle.std.proofs.Common.{◌≡◌, ℕ, zero, suc, ◌+◌, ◌-◌, ◌<◌, ◌≤◌, List, [], ◌∷◌, ◌++◌, length, take, get_or, refl, ap, sym, ◌∙◌, subst, inl, inr}
+use Rattle.std.proofs.Common.{◌⊎◌, arith, Bool, true, false, cond, nat_le, append_assoc, append-nil, length-append, Some, None}
 use Rattle.std.specs.Prelude.{Option, slice_index}
 use Rattle.std.specs.Int.{w32, w64, from_be_bytes}
 use Rattle.docker_model.specs.file.Change.{tiploc_key, association_key, schedule_key, tiploc_body, association_body, schedule_body, ScheduleKey}
@@ -8,7 +9,9 @@ use Rattle.docker_model.specs.state.Stamp.{Stamp, LedgerItem}
 use Rattle.docker_model.specs.state.State.{State}
 use Rattle.docker_model.specs.state.StateText.{Format, dks_1, dks_2, item_in}
 use Rattle.docker_model.specs.state.StateFault.{StateCause, too_short, IsBadPart, HasBadPart, IsLong}
-use Rattle.docker_model.specs.state.StatePart.{EntryPart, before_tag, before_key, before_stamp, before_op, before_body, before_line, Before, before_mark, before_horizon, before_ledger_count, before_item, before_entry_count, in_entry, at_end, items_before, parts_before, text_before, width, AreGood}
+use Rattle.docker_model.specs.state.StatePart.{EntryPart, before_tag, before_key, before_stamp, before_op, before_body, before_line, Before}
+use Rattle.docker_model.specs.state.StatePart.{before_mark, before_horizon, before_ledger_count, before_item, before_entry_count, in_entry}
+use Rattle.docker_model.specs.state.StatePart.{at_end, items_before, parts_before, text_before, width, AreGood}
 use Rattle.state_laws.proofs.texts.StateBytes.{AreBytes}
 use Rattle.state_laws.proofs.texts.StateFaultStays.{bad_part_stays, long_stays}
 use Rattle.std.proofs.Math.Seq.{take-append_seam}
@@ -134,8 +137,8 @@ good_next format before bytes good some wide small not_bad = by (judge format be
     by (inr fine) = fine
 
 -- if a part isn't bad, the text up to the part's end has been read
-pub part_read : {K : Type 0} (old new : StateReading K) (bytes : List ℕ) → IsReading old → old.partial.items ≡ [] → length bytes ≡ width (before_of old) → 0 < length bytes
-    → ((i : ℕ) → get_or bytes i 0 < 256)
+pub part_read : {K : Type 0} (old new : StateReading K) (bytes : List ℕ) → IsReading old → old.partial.items ≡ []
+    → length bytes ≡ width (before_of old) → 0 < length bytes → ((i : ℕ) → get_or bytes i 0 < 256)
     → old.reached + length bytes ≤ old.limit → LeadsTo (format_of old) (before_of old) bytes new.stage new.parts new.lines → new.partial.items ≡ []
     → new.reached ≡ old.reached + length bytes → new.limit ≡ old.limit → format_of new ≡ format_of old
     → (begins_item (before_of new) ≡ true) × (new.item_at ≡ new.reached) ⊎ (begins_item (before_of new) ≡ false) × (new.item_at ≡ old.item_at)
@@ -185,8 +188,8 @@ part_read old new bytes is none wide some small fits leads empty reached same ke
 
 -- if a part that ends with these bytes is bad, or memory ran out for the part, the text has this
 -- fault
-pub part_refused : {K : Type 0} (old : StateReading K) (front bytes : List ℕ) (at : ℕ) (cause : Option StateCause) → IsReading old → bytes ≡ old.partial.items ++ front
-    → length bytes ≡ width (before_of old)
+pub part_refused : {K : Type 0} (old : StateReading K) (front bytes : List ℕ) (at : ℕ) (cause : Option StateCause) → IsReading old
+    → bytes ≡ old.partial.items ++ front → length bytes ≡ width (before_of old)
     → 0 < length front → old.reached + length bytes ≤ old.limit → at ≡ old.item_at → IsBadHere (format_of old) (before_of old) bytes cause
     → IsCauseSoFar (format_of old) old.limit (text_of old) front at cause
 part_refused old front bytes at cause is split wide some fits same bad = by cause bad
@@ -288,58 +291,58 @@ pub reads_none : {K : Type 0} (now : StateReading K) (piece : List ℕ) → IsRe
 reads_none now piece is =
     subst (ReadsOn now now) (sym (rest_first piece).0) (record { reading = is; text = sym (append-nil (text_of now)); limit = refl; format = refl })
 
-module _ {K : Type 0} (initial now : StateReading K) (piece rest : List ℕ) (whole : before_rest piece rest ++ rest ≡ piece) (on : ReadsOn initial now (before_rest piece rest))
-  where
-    -- the text that was read, followed by the rest, equals the text before the piece, followed by
-    -- the piece
-    pub all_text : text_of now ++ rest ≡ text_of initial ++ piece
-    all_text = ap (λ xs. xs ++ rest) on.text ∙ append_assoc (text_of initial) (before_rest piece rest) rest ∙ ap (λ xs. text_of initial ++ xs) whole
+module _ {K : Type 0} (initial now : StateReading K) (piece rest : List ℕ) (whole : before_rest piece rest ++ rest ≡ piece)
+    (on : ReadsOn initial now (before_rest piece rest)) where
+  -- the text that was read, followed by the rest, equals the text before the piece, followed by
+  -- the piece
+  pub all_text : text_of now ++ rest ≡ text_of initial ++ piece
+  all_text = ap (λ xs. xs ++ rest) on.text ∙ append_assoc (text_of initial) (before_rest piece rest) rest ∙ ap (λ xs. text_of initial ++ xs) whole
 
-    -- a fault that is returned for the first bytes of the rest is correct for the whole piece
-    pub told_of_piece : (front behind : List ℕ) (at : ℕ) (cause : Option StateCause) → rest ≡ front ++ behind
-        → IsCauseSoFar (format_of now) now.limit (text_of now) front at cause
-        → IsCauseSoFar (format_of initial) initial.limit (text_of initial) piece at cause
-    told_of_piece front behind at cause split told =
-        let all = rest_more piece rest front behind whole split in
-        let parted : (before_rest piece rest ++ front) ++ behind ≡ piece = ap (λ xs. xs ++ behind) (sym all.0) ∙ all.1 in
-        subst (λ xs. IsCauseSoFar (format_of initial) initial.limit (text_of initial) xs at cause) parted
-        (told_stays (format_of initial) initial.limit (text_of initial) (before_rest piece rest) front behind at cause
-        (subst (λ f. IsCauseSoFar f initial.limit (text_of initial ++ before_rest piece rest) front at cause) on.format
-        (subst (λ n. IsCauseSoFar (format_of now) n (text_of initial ++ before_rest piece rest) front at cause) on.limit
-        (subst (λ xs. IsCauseSoFar (format_of now) now.limit xs front at cause) on.text told))))
+  -- a fault that is returned for the first bytes of the rest is correct for the whole piece
+  pub told_of_piece : (front behind : List ℕ) (at : ℕ) (cause : Option StateCause) → rest ≡ front ++ behind
+      → IsCauseSoFar (format_of now) now.limit (text_of now) front at cause
+      → IsCauseSoFar (format_of initial) initial.limit (text_of initial) piece at cause
+  told_of_piece front behind at cause split told =
+      let all = rest_more piece rest front behind whole split in
+      let parted : (before_rest piece rest ++ front) ++ behind ≡ piece = ap (λ xs. xs ++ behind) (sym all.0) ∙ all.1 in
+      subst (λ xs. IsCauseSoFar (format_of initial) initial.limit (text_of initial) xs at cause) parted
+      (told_stays (format_of initial) initial.limit (text_of initial) (before_rest piece rest) front behind at cause
+      (subst (λ f. IsCauseSoFar f initial.limit (text_of initial ++ before_rest piece rest) front at cause) on.format
+      (subst (λ n. IsCauseSoFar (format_of now) n (text_of initial ++ before_rest piece rest) front at cause) on.limit
+      (subst (λ xs. IsCauseSoFar (format_of now) now.limit xs front at cause) on.text told))))
 
-    -- if the first bytes of the rest were read, the piece was read up to the end of these bytes
-    pub reads_further : (next : StateReading K) (front behind : List ℕ) → rest ≡ front ++ behind → ReadsOn now next front
-        → ReadsOn initial next (before_rest piece behind)
-    reads_further next front behind split further = record {
-      reading = further.reading;
-      text = further.text ∙ ap (λ xs. xs ++ front) on.text ∙ append_assoc (text_of initial) (before_rest piece rest) front
-          ∙ ap (λ xs. text_of initial ++ xs) (sym (rest_more piece rest front behind whole split).0);
-      limit = further.limit ∙ on.limit;
-      format = further.format ∙ on.format;
-    }
+  -- if the first bytes of the rest were read, the piece was read up to the end of these bytes
+  pub reads_further : (next : StateReading K) (front behind : List ℕ) → rest ≡ front ++ behind → ReadsOn now next front
+      → ReadsOn initial next (before_rest piece behind)
+  reads_further next front behind split further = record {
+    reading = further.reading;
+    text = further.text ∙ ap (λ xs. xs ++ front) on.text ∙ append_assoc (text_of initial) (before_rest piece rest) front
+        ∙ ap (λ xs. text_of initial ++ xs) (sym (rest_more piece rest front behind whole split).0);
+    limit = further.limit ∙ on.limit;
+    format = further.format ∙ on.format;
+  }
 
-    -- if the rest ends before the next part ends, the state needs more bytes after the piece
-    pub open_text : (next : StateReading K) → length now.partial.items + length rest < width (before_of now) → ReadsOn now next rest
-        → IsOpen (format_of initial) initial.limit (text_of initial ++ piece)
-    open_text next short further =
-        subst (λ f. IsOpen f initial.limit (text_of initial ++ piece)) on.format
-        (subst (λ n. IsOpen (format_of now) n (text_of initial ++ piece)) on.limit
-        (subst (IsOpen (format_of now) now.limit) all_text (
-          record { at = length (items_before (format_of now) (before_of now)); cause = too_short },
-          record {
-            before = before_of now;
-            good = on.reading.ready.good;
-            rest = now.partial.items ++ rest;
-            whole = append_assoc (text_before (format_of now) (before_of now)) now.partial.items rest;
-            ends = (let size = length-append now.partial.items rest in omega arith);
-            within =
-                (let sizes = sym (ap length further.text) ∙ length-append (text_before (format_of next) (before_of next)) next.partial.items in
-                let reached = further.reading.reached_is in
-                let within = further.reading.within in
-                let same = further.limit in
-                omega arith);
-            cause = refl;
-            item_at = refl;
-          },
-        )))
+  -- if the rest ends before the next part ends, the state needs more bytes after the piece
+  pub open_text : (next : StateReading K) → length now.partial.items + length rest < width (before_of now) → ReadsOn now next rest
+      → IsOpen (format_of initial) initial.limit (text_of initial ++ piece)
+  open_text next short further =
+      subst (λ f. IsOpen f initial.limit (text_of initial ++ piece)) on.format
+      (subst (λ n. IsOpen (format_of now) n (text_of initial ++ piece)) on.limit
+      (subst (IsOpen (format_of now) now.limit) all_text (
+        record { at = length (items_before (format_of now) (before_of now)); cause = too_short },
+        record {
+          before = before_of now;
+          good = on.reading.ready.good;
+          rest = now.partial.items ++ rest;
+          whole = append_assoc (text_before (format_of now) (before_of now)) now.partial.items rest;
+          ends = (let size = length-append now.partial.items rest in omega arith);
+          within =
+              (let sizes = sym (ap length further.text) ∙ length-append (text_before (format_of next) (before_of next)) next.partial.items in
+              let reached = further.reading.reached_is in
+              let within = further.reading.within in
+              let same = further.limit in
+              omega arith);
+          cause = refl;
+          item_at = refl;
+        },
+      )))

@@ -80,7 +80,8 @@ short_at_end reading is some = record {
 }
 
 -- if there is a next part, the state needs more bytes
-pub open_reading : {K : Type 0} (reading : StateReading K) → IsReading reading → 0 < width (before_of reading) → IsOpen (format_of reading) reading.limit (text_of reading)
+pub open_reading : {K : Type 0} (reading : StateReading K) → IsReading reading → 0 < width (before_of reading)
+    → IsOpen (format_of reading) reading.limit (text_of reading)
 open_reading reading is some = (
   record { at = length (items_before (format_of reading) (before_of reading)); cause = too_short },
   record {

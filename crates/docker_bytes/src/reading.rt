@@ -10,7 +10,7 @@ use fixed_text::put;
 use state_text::format::{Format, LINE};
 use state_text::{
     Gathered, Keeper, Maker, PartsSoFar, Received, Receiver, ScheduleKey, Stage, State, StateCause,
-    judged_inner_line, step,
+    judged_inner_line, put_head, step,
 };
 use std::alloc::Global;
 
@@ -161,6 +161,31 @@ impl<K: Keeper> StateReading<K> {
         Ok(rest)
     }
 
+    /// Takes the head of a put at once, if it is whole at the head of a piece, good and within the
+    /// limit. Returns the bytes after it: if no head was taken, the whole piece.
+    fn take_head<'a>(&mut self, piece: &'a [u8]) -> &'a [u8]
+        requires { IsReading self.old }
+        ensures rest { take (length piece.now - length result.now) piece.now ++ result.now
+            ≡ piece.now }
+        ensures on { ReadsOn self.old self.new
+            (take (length piece.now - length result.now) piece.now) }
+    {
+        let Stage::Tag(count) = self.stage else {
+            return piece;
+        };
+        let Some((stage, len)) = put_head(count, &self.parts, piece) else {
+            return piece;
+        };
+        if len as u64 > self.limit - self.reached {
+            return piece;
+        }
+        let (_head, behind) = piece.split_at(len);
+        self.lines.clear();
+        self.stage = stage;
+        self.reached += len as u64;
+        behind
+    }
+
     /// Takes a complete part that lies whole in a piece. A line that isn't its schedule's last line
     /// leaves the stage unchanged.
     fn judge(&mut self, bytes: &[u8]) -> Result<(), StateFault>
@@ -258,7 +283,8 @@ impl<K: Keeper> StateReading<K> {
             }
             let (front, behind) = rest.split_at(missing);
             self.take(front)?;
-            rest = self.take_lines(behind)?;
+            let after = self.take_head(behind);
+            rest = self.take_lines(after)?;
         }
     }
 }

@@ -44,13 +44,15 @@ docker_of_whole place day state part is docker made = record {
 module _ (place : List ℕ) (day horizon : ℕ) (told : State) (valid : IsValid (under horizon told)) where
   -- the kept entries fit the ledger
   pub kept_entries : (rows : List (Key × Entry)) → rows ≡ (excerpt_on place day told).entries → AreEntries told.ledger rows
-  kept_entries rows is = subst (λ (all : List (Key × Entry)). AreEntries told.ledger all) (sym is) (excerpt_on_valid place day (under horizon told) valid).entries
+  kept_entries rows is =
+      subst (λ (all : List (Key × Entry)). AreEntries told.ledger all) (sym is) (excerpt_on_valid place day (under horizon told) valid).entries
 
   -- a state with the kept entries is valid under the horizon
   pub kept_valid : (state : State) (rows : List (Key × Entry)) → rows ≡ (excerpt_on place day told).entries → state.ledger ≡ told.ledger → state.entries ≡ rows
       → IsValid (under horizon state)
   kept_valid state rows is same entries =
-      subst IsValid (λ i. record { horizon = horizon; ledger = sym same i; entries = sym (entries ∙ is) i }) (excerpt_on_valid place day (under horizon told) valid)
+      subst IsValid (λ i. record { horizon = horizon; ledger = sym same i; entries = sym (entries ∙ is) i })
+      (excerpt_on_valid place day (under horizon told) valid)
 
   part_is : (part : State) (rows : List (Key × Entry)) → rows ≡ (excerpt_on place day told).entries → part.horizon ≡ horizon → part.ledger ≡ told.ledger
       → part.entries ≡ rows → part ≡ excerpt_on place day (under horizon told)
@@ -62,8 +64,12 @@ module _ (place : List ℕ) (day horizon : ℕ) (told : State) (valid : IsValid 
   is_excerpt_of part rows entries is same_horizon same kept given =
       docker_of_whole place day (with_entries part entries) part
       (subst (λ (p : State). IsExcerptOf place day (with_entries p entries) p) (sym (part_is part rows is same_horizon same kept))
-      (subst (λ (all : List (Key × Entry)). IsExcerptOf place day (with_entries (excerpt_on place day (under horizon told)) all) (excerpt_on place day (under horizon told)))
-      (sym given) (record { valid = valid; excerpt = walk_is_excerpt place (near_state day (under horizon told)) (near_valid day (under horizon told) valid).entries.1 })))
+      (subst (λ (all : List (Key × Entry)).
+      IsExcerptOf place day (with_entries (excerpt_on place day (under horizon told)) all) (excerpt_on place day (under horizon told)))
+      (sym given) (record {
+        valid = valid;
+        excerpt = walk_is_excerpt place (near_state day (under horizon told)) (near_valid day (under horizon told) valid).entries.1;
+      })))
 
   -- the value of the excerpt has the state whose parts were given, under the horizon
   pub stands_for : (part : State) (entries : List (Key × Entry)) → part.horizon ≡ horizon → part.ledger ≡ told.ledger → entries ≡ told.entries

@@ -10,3 +10,4 @@ pub mod ScheduleLemmas
 pub mod PartsSoFarLemmas
 pub mod ReceivingLemmas
 pub mod StepLemmas
+pub mod HeadLemmas

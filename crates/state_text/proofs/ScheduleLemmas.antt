@@ -1,5 +1,6 @@
 -- How the lines of a schedule are judged.
-use Rattle.std.proofs.Common.{◌≡◌, ◌∙◌, ℕ, List, [], ◌∷◌, ◌++◌, length, refl, ap, sym, subst, inl, inr, ◌⊎◌, Some, None, ◌+◌, ◌<◌, ◌≤◌, Bool, true, false, arith, length-append}
+use Rattle.std.proofs.Common.{◌≡◌, ◌∙◌, ℕ, List, [], ◌∷◌, ◌++◌, length, refl, ap, sym, subst, inl, inr, ◌⊎◌, Some}
+use Rattle.std.proofs.Common.{None, ◌+◌, ◌<◌, ◌≤◌, Bool, true, false, arith, length-append}
 use Rattle.std.specs.Prelude.{Option, IsTrue, ◌↔◌, slice_index_or}
 use Rattle.std.proofs.Math.Seq.{get_or-append_seam}
 use Rattle.std.proofs.lemmas.Bool.{cases_lt}
@@ -8,7 +9,8 @@ use Rattle.docker_model.specs.records.Field.{HasGoodFields}
 use Rattle.docker_model.specs.file.Change.{ScheduleKey}
 use Rattle.docker_model.specs.state.State.{State}
 use Rattle.docker_model.specs.file.File.{first_record, IsSchedule, BeginsSchedule}
-use Rattle.docker_model.specs.state.StateFault.{StateCause, bad_mark, bad_item, bad_order, bad_floor, bad_tag, bad_stamp, bad_body, too_short, has_tail, too_long, bad_horizon}
+use Rattle.docker_model.specs.state.StateFault.{StateCause, bad_mark, bad_item, bad_order, bad_floor, bad_tag, bad_stamp}
+use Rattle.docker_model.specs.state.StateFault.{bad_body, too_short, has_tail, too_long, bad_horizon}
 use Rattle.state_text.specs.Judged.{IsOfKey, IsFirstOf}
 use Rattle.state_text.specs.Lines.{BeginUpTo, AreLinesIn, AreLinesUpToIn, IsLineRefusal, IsUpToRefusal}
 

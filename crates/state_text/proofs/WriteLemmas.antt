@@ -1,5 +1,6 @@
 -- The text of a state, in the pieces in which it is written.
-use Rattle.std.proofs.Common.{◌≡◌, ℕ, ◌+◌, ◌<◌, List, [], ◌∷◌, ◌++◌, length, map, get_or, ap, sym, ◌∙◌, subst, arith, append_assoc, append-nil, All, Ok, Err, Result}
+use Rattle.std.proofs.Common.{◌≡◌, ℕ, ◌+◌, ◌<◌, List, [], ◌∷◌, ◌++◌, length, map, get_or, ap, sym, ◌∙◌, subst}
+use Rattle.std.proofs.Common.{arith, append_assoc, append-nil, All, Ok, Err, Result}
 use Rattle.std.specs.Prelude.{Option, IsErrAnd}
 use Rattle.std.specs.List.{concat, flat_map}
 use Rattle.std.specs.Int.{w32, w64, to_be_bytes}

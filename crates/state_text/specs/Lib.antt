@@ -4,6 +4,7 @@ pub mod FormatMeaning
 pub mod PartsSoFar
 pub mod Receiving
 pub mod Stage
+pub mod Head
 pub mod FaultMeaning
 pub mod CauseText
 pub mod Judged

@@ -71,7 +71,7 @@ impl Gathered {
     }
 
     /// Drops the lines.
-    pub(crate) fn clear(&mut self)
+    pub fn clear(&mut self)
         ensures { self.new ≡ [] }
     {
         let_go(&mut self.journey, &mut self.lines);

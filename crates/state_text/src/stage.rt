@@ -25,7 +25,7 @@ pub enum Tag {
 
 impl Tag {
     /// The width of a key of this kind.
-    fn width(self) -> usize
+    pub(crate) fn width(self) -> usize
         ensures value { result ≡ key_width (tag_meant self) }
         ensures bound { result ≤ LINE }
     {

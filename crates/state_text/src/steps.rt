@@ -270,7 +270,7 @@ fn after_assoc_body<K: Keeper>(
 }
 
 /// The number of a schedule's lines, from four bytes. `None` if no schedule can have this many.
-fn line_count(bytes: &[u8]) -> Option<u32>
+pub(crate) fn line_count(bytes: &[u8]) -> Option<u32>
     requires { length bytes.now ≡ LINE_COUNT }
     ensures { MatchOption result (¬ IsLineCount (from_be_bytes w32 bytes.now))
         (λ count. (count ≡ from_be_bytes w32 bytes.now)

@@ -22,5 +22,6 @@ returns g c =
     entry_judged g.format (in_entry c.args.count c.args.parts.now (before_line key stamp c.args.schedule.count lines)) _ c.args.bytes.now
     c.give.new.parts c.take_body.new.self c.give.result c.give.ensures.ok c.give.ensures.fresh c.give.ensures.err
     (all_there g.format c.args.count c.args.parts.now key stamp c.args.schedule.count lines c.args.bytes.now c.judged_line.new.lines c.requires.1.0.4
-    taken c.in_ok-take_body.field-0 c.in_ok-take_body.ensures (taken_all lines c.args.bytes.now c.judged_line.new.lines c.args.schedule.count taken c.requires.1.1))
+    taken c.in_ok-take_body.field-0 c.in_ok-take_body.ensures
+    (taken_all lines c.args.bytes.now c.judged_line.new.lines c.args.schedule.count taken c.requires.1.1))
     (record { takes = tt; not_bad = λ cause bad. bad.1 (c.in_ok-judged_line.ensures.up_to refl) })

@@ -29,22 +29,32 @@ returns-in_err-rest-clause-err g c =
     let same = err_from_is_err_and c.from_residual-in_err-rest.result c.from_residual-in_err-rest.ensures.1 in
     let fault = c.in_err-rest.field-0.0 in
     let behind = c.split_at.result.1.now in
+    let after = c.take_head-after.result.now in
     let further = rest_more c.args.piece.now c.parts.rest.now c.split_at.result.0.now behind c.parts.invariant.whole c.split_at.ensures.by_index.0 in
     let on = reads_further c.args.self.now c.parts.self c.args.piece.now c.parts.rest.now c.parts.invariant.whole c.parts.invariant.on c.take.new.self
     c.split_at.result.0.now behind c.split_at.ensures.by_index.0 (c.in_ok-take.ensures.ok refl) in
-    rw (same.1, same.2) (told_of_piece c.args.self.now c.take.new.self c.args.piece.now behind further.1 on
-    behind [] fault.at (cause_meant fault.cause) (sym (append-nil behind)) c.in_err-rest.ensures.err)
+    let split = sym c.take_head-after.ensures.rest in
+    let past = rest_more c.args.piece.now behind (before_rest behind after) after further.1 split in
+    let head = reads_further c.args.self.now c.take.new.self c.args.piece.now behind further.1 on c.take_head-after.new.self
+    (before_rest behind after) after split c.take_head-after.ensures.on in
+    rw (same.1, same.2) (told_of_piece c.args.self.now c.take_head-after.new.self c.args.piece.now after past.1 head
+    after [] fault.at (cause_meant fault.cause) (sym (append-nil after)) c.in_err-rest.ensures.err)
 
 pub parts-preserved : goal.parts-preserved
 parts-preserved g c =
     let behind = c.split_at.result.1.now in
+    let after = c.take_head-after.result.now in
     let further = rest_more c.args.piece.now c.parts.rest.now c.split_at.result.0.now behind c.parts.invariant.whole c.split_at.ensures.by_index.0 in
     let on = reads_further c.args.self.now c.parts.self c.args.piece.now c.parts.rest.now c.parts.invariant.whole c.parts.invariant.on c.take.new.self
     c.split_at.result.0.now behind c.split_at.ensures.by_index.0 (c.in_ok-take.ensures.ok refl) in
+    let split = sym c.take_head-after.ensures.rest in
+    let past = rest_more c.args.piece.now behind (before_rest behind after) after further.1 split in
+    let head = reads_further c.args.self.now c.take.new.self c.args.piece.now behind further.1 on c.take_head-after.new.self
+    (before_rest behind after) after split c.take_head-after.ensures.on in
     let rest = c.in_ok-rest.rest.now in
-    let split = sym (c.in_ok-rest.ensures.rest) in
+    let parted = sym c.in_ok-rest.ensures.rest in
     record {
-      whole = (rest_more c.args.piece.now behind (before_rest behind rest) rest further.1 split).1;
-      on = reads_further c.args.self.now c.take.new.self c.args.piece.now behind further.1 on c.take_lines.new.self
-          (before_rest behind rest) rest split c.in_ok-rest.ensures.on;
+      whole = (rest_more c.args.piece.now after (before_rest after rest) rest past.1 parted).1;
+      on = reads_further c.args.self.now c.take_head-after.new.self c.args.piece.now after past.1 head c.take_lines.new.self
+          (before_rest after rest) rest parted c.in_ok-rest.ensures.on;
     }

@@ -12,7 +12,8 @@ with_rows-requires-clause-entries c =
     let told = c.self.inside.ledger in
     let valid = subst (λ (v : Excerpting). IsValid (under (horizon_meant c.args.horizon) v.told)) (sym c.self.view_is) c.requires in
     subst (λ (parts : State). AreEntries parts.ledger rows) (sym c.into_parts-parts.ensures.parts)
-    (kept_entries c.self.inside.walk.walk.place c.self.inside.walk.day (horizon_meant c.args.horizon) told valid rows (c.in_ok-rows.ensures told c.self.invariant))
+    (kept_entries c.self.inside.walk.walk.place c.self.inside.walk.day (horizon_meant c.args.horizon) told valid rows
+    (c.in_ok-rows.ensures told c.self.invariant))
 
 pub under_horizon-requires-clause-valid : goal.under_horizon-requires-clause-valid
 under_horizon-requires-clause-valid c =
@@ -20,7 +21,8 @@ under_horizon-requires-clause-valid c =
     let told = c.self.inside.ledger in
     let valid = subst (λ (v : Excerpting). IsValid (under (horizon_meant c.args.horizon) v.told)) (sym c.self.view_is) c.requires in
     let same = c.in_ok-state.ensures ∙ c.in_ok-whole.ensures in
-    kept_valid c.self.inside.walk.walk.place c.self.inside.walk.day (horizon_meant c.args.horizon) told valid c.in_ok-state.state rows (c.in_ok-rows.ensures told c.self.invariant)
+    kept_valid c.self.inside.walk.walk.place c.self.inside.walk.day (horizon_meant c.args.horizon) told valid c.in_ok-state.state rows
+    (c.in_ok-rows.ensures told c.self.invariant)
     (ap (λ (s : State). s.ledger) same ∙ ap (λ (s : State). s.ledger) c.into_parts-parts.ensures.parts) (ap (λ (s : State). s.entries) same)
 
 pub of-requires : goal.of-requires
@@ -34,7 +36,8 @@ of-requires c =
     let set = c.under_horizon.ensures in
     subst (λ place. StandsAt place c.day-day.result (with_entries part given) part) (sym c.place-place.ensures)
     (subst (λ day. StandsAt c.self.inside.walk.walk.place day (with_entries part given) part) (sym c.day-day.ensures)
-    (is_excerpt_of c.self.inside.walk.walk.place c.self.inside.walk.day (horizon_meant c.args.horizon) told valid part rows given (c.in_ok-rows.ensures told c.self.invariant)
+    (is_excerpt_of c.self.inside.walk.walk.place c.self.inside.walk.day (horizon_meant c.args.horizon) told valid part rows given
+    (c.in_ok-rows.ensures told c.self.invariant)
     (ap (λ (s : State). s.horizon) set)
     (ap (λ (s : State). s.ledger) set ∙ ap (λ (s : State). s.ledger) same ∙ ap (λ (s : State). s.ledger) c.into_parts-parts.ensures.parts)
     (ap (λ (s : State). s.entries) set ∙ ap (λ (s : State). s.entries) same) c.into_parts-parts.ensures.given))

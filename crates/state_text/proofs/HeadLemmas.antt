@@ -1,0 +1,116 @@
+-- The head of an entry: its bytes are its parts, written.
+use Rattle.std.proofs.Common.{◌≡◌, ℕ, suc, ◌+◌, ◌<◌, List, [], ◌∷◌, ◌++◌, length, take, get_or, refl, ap, sym}
+use Rattle.std.proofs.Common.{◌∙◌, subst, inl, inr, arith, append_assoc, append-nil, length-append}
+use Rattle.std.specs.Prelude.{slice_index}
+use Rattle.std.specs.Int.{w32, to_be_bytes, from_be_bytes}
+use Rattle.std.proofs.Math.Seq.{take-append_seam}
+use Rattle.docker_model.specs.file.Change.{schedule_key}
+use Rattle.docker_model.specs.state.State.{State}
+use Rattle.docker_model.specs.state.StateText.{key_in, stamp_in, stamp_bytes}
+use Rattle.docker_model.specs.state.StatePart.{before_body, before_line, key_text, key_width, IsTag, IsLineCount, IsStampHere}
+use Rattle.state_laws.proofs.texts.StateBytes.{AreBytes, four_bytes, stamp_written, key_written, tag_of_key, single}
+use Rattle.cif_change.specs.declared.key.Key.{Key}
+use Rattle.cif_change.specs.declared.key.ScheduleKey.{ScheduleKey}
+use Rattle.cif_change.specs.Meaning.{key_meant}
+use Rattle.docker_join.specs.Meaning.{stamp_meant}
+use Rattle.docker_join.specs.declared.stamp.Stamp.{Stamp}
+use Rattle.state_text.specs.Stage.{tag_meant, schedule_meant}
+use Rattle.state_text.specs.declared.stage.Tag.{Tag}
+use Rattle.state_text.specs.declared.stage.Tag.TheVariants as tag
+use Rattle.state_text.specs.declared.stage.Stage.TheVariants as stage
+use Rattle.state_text.specs.Head.{BeginsWithHead}
+
+bytes_are : (bytes : List ℕ) → ((i : ℕ) → get_or bytes i 0 < 256) → AreBytes bytes
+bytes_are [] small = tt
+bytes_are (b ∷ bytes) small = (small 0, bytes_are bytes (λ i. small (suc i)))
+
+front_are : (front behind : List ℕ) → AreBytes (front ++ behind) → AreBytes front
+front_are [] behind small = tt
+front_are (b ∷ front) behind small = (small.0, front_are front behind small.1)
+
+behind_are : (front behind : List ℕ) → AreBytes (front ++ behind) → AreBytes behind
+behind_are [] behind small = small
+behind_are (b ∷ front) behind small = behind_are front behind small.1
+
+taken : (n : ℕ) (all front behind : List ℕ) → all ≡ front ++ behind → n ≡ length front → take n all ≡ front
+taken n all front behind split size = ap (λ m. take m all) size ∙ ap (take (length front)) split ∙ take-append_seam front behind
+
+-- the number of a tag is one of the three
+pub is_tag : (kind : Tag) → IsTag (tag_meant kind)
+is_tag tag.Tiploc = inl refl
+is_tag tag.Assoc = inr (inl refl)
+is_tag tag.Schedule = inr (inr refl)
+
+-- a put's key, stamp and op, written, are the bytes from which they were read
+pub put_text : (number : ℕ) (bytes key rest stamp op : List ℕ) → IsTag number → bytes ≡ key ++ rest → rest ≡ stamp ++ op → length key ≡ key_width number
+    → length stamp ≡ 15 → length op ≡ 1 → slice_index op 0 ≡ 1 → ((i : ℕ) → get_or bytes i 0 < 256)
+    → key_text (key_in number key) ++ stamp_bytes (stamp_in stamp) ++ 1 ∷ [] ≡ number ∷ bytes
+put_text number bytes key rest stamp op is front back key_size stamp_size op_size put small =
+    (λ i. (tag_of_key number key is i ∷ key_written number key is key_size key_small i) ++ stamp_written stamp stamp_size stamp_small i ++ op_is i)
+    ∙ append_assoc (number ∷ key) stamp op ∙ ap (λ xs. (number ∷ key) ++ xs) (sym back) ∙ ap (λ xs. number ∷ xs) (sym front)
+  where
+    all_small : AreBytes (key ++ rest)
+    all_small = subst AreBytes front (bytes_are bytes small)
+
+    key_small : AreBytes key
+    key_small = front_are key rest all_small
+
+    stamp_small : AreBytes stamp
+    stamp_small = front_are stamp op (subst AreBytes back (behind_are key rest all_small))
+
+    op_is : 1 ∷ [] ≡ op
+    op_is = ap (λ b. b ∷ []) (sym put) ∙ single op op_size
+
+-- the body comes after a put's key, stamp and op
+pub body_after : (count : ℕ) (state : State) (key : Key) (stamp : Stamp) (number n : ℕ) (bytes put body : List ℕ) → bytes ≡ put ++ body → length put ≡ n
+    → IsStampHere state (key_meant key) (stamp_meant stamp)
+    → key_text (key_meant key) ++ stamp_bytes (stamp_meant stamp) ++ 1 ∷ [] ≡ number ∷ put
+    → BeginsWithHead count state (number ∷ bytes) (stage.Body count key stamp, 1 + n)
+body_after count state key stamp number n bytes put body split size here text =
+    let whole : number ∷ bytes ≡ (number ∷ put) ++ body = ap (λ xs. number ∷ xs) split in
+    let sizes = ap length split ∙ length-append put body in (
+      omega arith,
+      record {
+        part = before_body (key_meant key) (stamp_meant stamp);
+        is = refl;
+        here = here;
+        text = text ∙ sym (taken (1 + n) (number ∷ bytes) (number ∷ put) body whole (omega arith));
+        fresh = tt;
+      },
+    )
+
+-- the lines come after a schedule's key, stamp, op and number of lines
+pub lines_after : (count : ℕ) (state : State) (key : ScheduleKey) (stamp : Stamp) (n : ℕ) (bytes put rest number lines : List ℕ) → bytes ≡ put ++ rest
+    → rest ≡ number ++ lines → length put ≡ 25 → length number ≡ 4 → ((i : ℕ) → get_or bytes i 0 < 256)
+    → IsStampHere state (schedule_key (schedule_meant key)) (stamp_meant stamp)
+    → key_text (schedule_key (schedule_meant key)) ++ stamp_bytes (stamp_meant stamp) ++ 1 ∷ [] ≡ 3 ∷ put
+    → n ≡ from_be_bytes w32 number → IsLineCount (from_be_bytes w32 number)
+    → BeginsWithHead count state (3 ∷ bytes) (stage.Line count key stamp n, 30)
+lines_after count state key stamp n bytes put rest number lines split parted put_size number_size small here text is good =
+    let sizes = ap length whole ∙ length-append ((3 ∷ put) ++ number) lines in
+    let both = length-append (3 ∷ put) number in (
+      omega arith,
+      record {
+        part = before_line (schedule_meant key) (stamp_meant stamp) n [];
+        is = refl;
+        here = (here, few, few.0, inl refl);
+        text = append-nil (head ++ 1 ∷ to_be_bytes w32 n) ∙ sym (append_assoc head (1 ∷ []) (to_be_bytes w32 n))
+            ∙ (λ i. text i ++ written i) ∙ sym (taken 30 (3 ∷ bytes) ((3 ∷ put) ++ number) lines whole (omega arith));
+        fresh = tt;
+      },
+    )
+  where
+    head : List ℕ
+    head = key_text (schedule_key (schedule_meant key)) ++ stamp_bytes (stamp_meant stamp)
+
+    few : IsLineCount n
+    few = subst IsLineCount (sym is) good
+
+    whole : 3 ∷ bytes ≡ ((3 ∷ put) ++ number) ++ lines
+    whole = ap (λ xs. 3 ∷ xs) (split ∙ ap (λ xs. put ++ xs) parted ∙ sym (append_assoc put number lines))
+
+    number_small : AreBytes number
+    number_small = front_are number lines (subst AreBytes parted (behind_are put rest (subst AreBytes split (bytes_are bytes small))))
+
+    written : to_be_bytes w32 n ≡ number
+    written = ap (to_be_bytes w32) is ∙ four_bytes number number_size number_small

@@ -1,0 +1,21 @@
+use Rattle.std.proofs.Common.{◌≡◌, [], ◌∷◌, ◌++◌, subst, arith}
+use Rattle.docker_model.specs.state.StateText.{stamp_bytes}
+use Rattle.docker_model.specs.state.StatePart.{key_text, IsStampHere}
+use Rattle.cif_change.specs.declared.key.Key.{Key}
+use Rattle.cif_change.specs.Meaning.{key_meant}
+use Rattle.docker_join.specs.Meaning.{stamp_meant}
+use Rattle.state_text.proofs.HeadLemmas.{lines_after}
+use Rattle.state_text.proofs.head.schedule_head.Goals as goal
+
+pub returns-in-Schedule : goal.returns-in-Schedule
+returns-in-Schedule g c =
+    let parts = c.args.parts.now in
+    let stamp = stamp_meant c.in-Some.stamp in
+    let put = c.split_at.result.0.now in
+    lines_after c.args.count parts c.in-Schedule.key c.in-Some.stamp c.in_ok-lines.lines c.args.bytes.now put c.split_at.result.1.now
+    c.split_at-2.result.0.now c.split_at-2.result.1.now c.split_at.ensures.by_index.0 c.split_at-2.ensures.by_index.0 c.split_at.ensures.front_len
+    c.split_at-2.ensures.front_len
+    (λ i. let fits = c.type_inv.bytes i in omega arith)
+    (subst (λ (k : Key). IsStampHere parts (key_meant k) stamp) c.in-Schedule.is c.in-Some.ensures.here)
+    (subst (λ (k : Key). key_text (key_meant k) ++ stamp_bytes stamp ++ 1 ∷ [] ≡ 3 ∷ put) c.in-Schedule.is c.in-Some.ensures.text)
+    c.in_ok-lines.ensures.0 c.in_ok-lines.ensures.1

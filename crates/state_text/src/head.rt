@@ -1,0 +1,120 @@
+//! Reads the head of a put at once: its parts up to the body, or up to a schedule's lines.
+ghost use Rattle.std.specs.Prelude.{◌≡◌, ◌+◌, [], ◌∷◌, ◌++◌, length, IfSome};
+ghost use Rattle.docker_model.specs.state.State.{IsValid};
+ghost use Rattle.docker_model.specs.state.StateText.{stamp_bytes};
+ghost use Rattle.docker_model.specs.state.StatePart.{key_text, key_width, IsStampHere};
+ghost use Rattle.cif_change.specs.Meaning.{key_meant};
+ghost use Rattle.docker_join.specs.Meaning.{stamp_meant};
+ghost use Rattle.state_text.specs.Stage.{tag_meant};
+ghost use Rattle.state_text.specs.Head.{BeginsWithHead};
+
+use crate::format::{
+    ASSOC_TAG, LINE_COUNT, OP, PUT, SCHEDULE_KEY, SCHEDULE_TAG, STAMP, TAG, TIPLOC_TAG,
+};
+use crate::keeper::Keeper;
+use crate::key::judged_key;
+use crate::parts_so_far::PartsSoFar;
+use crate::stage::{Stage, Tag};
+use crate::stamp::judged_stamp;
+use crate::steps::line_count;
+use cif_file::Key;
+use docker_join::Stamp;
+
+/// The width of what a schedule's put has between its tag and the number of its lines.
+const SCHEDULE_PUT: usize = SCHEDULE_KEY + STAMP + OP;
+
+/// The key and the stamp of a put, from its bytes between the tag and the body. `None` if a part is
+/// bad, or if the op is another.
+#[inline(always)]
+fn put_of<K: Keeper>(tag: Tag, parts: &PartsSoFar<K>, bytes: &[u8]) -> Option<(Key, Stamp)>
+    requires valid { IsValid parts.now }
+    requires wide { length bytes.now ≡ key_width (tag_meant tag) + (STAMP + OP) }
+    ensures here { IfSome result (λ put.
+        IsStampHere parts.now (key_meant put.0) (stamp_meant put.1)) }
+    ensures text { IfSome result (λ put.
+        key_text (key_meant put.0) ++ stamp_bytes (stamp_meant put.1) ++ 1 ∷ []
+        ≡ tag_meant tag ∷ bytes.now) }
+{
+    let (key, rest) = bytes.split_at(tag.width());
+    let (stamp, op) = rest.split_at(STAMP);
+    if op[0] != PUT {
+        return None;
+    }
+    let Ok(key) = judged_key(tag, parts, key) else {
+        return None;
+    };
+    let Some(stamp) = judged_stamp(parts.ledger(), stamp) else {
+        return None;
+    };
+    Some((key, stamp))
+}
+
+/// The head of a put of this kind up to its body, from the bytes after its tag.
+#[inline(always)]
+fn body_head<K: Keeper>(
+    tag: Tag,
+    count: u64,
+    parts: &PartsSoFar<K>,
+    bytes: &[u8],
+) -> Option<(Stage, usize)>
+    requires { IsValid parts.now }
+    ensures { IfSome result (BeginsWithHead count parts.now (tag_meant tag ∷ bytes.now)) }
+{
+    let len = tag.width() + (STAMP + OP);
+    if bytes.len() < len {
+        return None;
+    }
+    let (put, _body) = bytes.split_at(len);
+    match put_of(tag, parts, put) {
+        Some((key, stamp)) => Some((Stage::Body(count, key, stamp), TAG + len)),
+        None => None,
+    }
+}
+
+/// The head of a schedule's put up to its lines, from the bytes after its tag.
+#[inline(always)]
+fn schedule_head<K: Keeper>(
+    count: u64,
+    parts: &PartsSoFar<K>,
+    bytes: &[u8],
+) -> Option<(Stage, usize)>
+    requires { IsValid parts.now }
+    ensures { IfSome result (BeginsWithHead count parts.now (3 ∷ bytes.now)) }
+{
+    if bytes.len() < SCHEDULE_PUT + LINE_COUNT {
+        return None;
+    }
+    let (put, rest) = bytes.split_at(SCHEDULE_PUT);
+    let (number, _lines) = rest.split_at(LINE_COUNT);
+    let lines = line_count(number)?;
+    let Some((key, stamp)) = put_of(Tag::Schedule, parts, put) else {
+        return None;
+    };
+    match key {
+        Key::Schedule(key) => Some((
+            Stage::Line(count, key, stamp, lines),
+            TAG + SCHEDULE_PUT + LINE_COUNT,
+        )),
+        _ => None,
+    }
+}
+
+/// The head of the next entry, one of `count`: the stage after it, and how many bytes it has. It is
+/// the tag, the key, the stamp and the op of a put, and for a schedule the number of its lines.
+/// `None` if the head isn't whole in the bytes, if one of its parts is bad, or if the op is another.
+pub fn put_head<K: Keeper>(
+    count: u64,
+    parts: &PartsSoFar<K>,
+    bytes: &[u8],
+) -> Option<(Stage, usize)>
+    requires { IsValid parts.now }
+    ensures { IfSome result (BeginsWithHead count parts.now bytes.now) }
+{
+    let (tag, rest) = bytes.split_first()?;
+    match *tag {
+        SCHEDULE_TAG => schedule_head(count, parts, rest),
+        ASSOC_TAG => body_head(Tag::Assoc, count, parts, rest),
+        TIPLOC_TAG => body_head(Tag::Tiploc, count, parts, rest),
+        _ => None,
+    }
+}
