@@ -81,8 +81,9 @@ pub(crate) fn room_for_notes(alloc: Global, notes: &Option<Notes>) -> Result<Opt
     }
 }
 
-/// The index of rows, in the room for it, if they are noted. Their notes are at these numbers of
-/// all that was noted, and their pieces go into `pieces`, which is empty and has room for them.
+/// Makes the index of the rows in the memory that was reserved for it, if rows were noted. `order`
+/// has the numbers that these rows have among all noted rows. `pieces` must be empty and have room
+/// for a piece of each row.
 pub(crate) fn picked_index(
     room: Option<Room>,
     notes: Option<Notes>,
@@ -106,7 +107,7 @@ pub(crate) fn picked_index(
     }
 }
 
-/// Takes the postings of rows that have lapsed out of the index, if there is one.
+/// Removes the marks of rows that have lapsed from the index, if there is one.
 pub(crate) fn lapse_index(index: &mut Option<Index>, rows: &[(Key, Entry)])
     ensures { (before : List (model.Key × ops.Entry)) (horizon : ℕ)
         → map row_meant rows.now ≡ lapse_entries horizon before

@@ -100,8 +100,8 @@ fn found<'a>(row: &'a (Key, Entry), place: &Tiploc, links: bool) -> Option<(&'a 
     }
 }
 
-/// Whether a live key with this body is at the place: linked there or calling there, whichever is
-/// asked for.
+/// Whether a live key with this body is at the place: linked there if `links` is true, and
+/// otherwise calling there.
 fn is_here(links: bool, place: &Tiploc, key: &Key, body: &Body) -> bool
     ensures { result ≡ is_here links place.now (key_meant key.now) (body_meant body.now) }
 {

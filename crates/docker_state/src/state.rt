@@ -67,20 +67,19 @@ impl Model for State {
 }
 
 impl State {
-    /// The state of a horizon, ledger items and rows, which are valid under it, and of the index of
-    /// the rows, if there is one. Horizon 0 stands for none.
+    /// Makes a state of ledger items, of rows and, if there is one, of the index of these rows. The
+    /// state has no horizon, and must be valid.
     pub(crate) fn of_rows(
-        horizon: u16,
         ledger: Vec<LedgerItem>,
         rows: Vec<(Key, Entry)>,
         index: Option<Index>,
     ) -> State
-        requires valid { IsValid (state_meant horizon ledger.items rows.items) }
+        requires valid { IsValid (state_meant 0 ledger.items rows.items) }
         requires index { IsIndexIfAny (map row_meant rows.items) index }
-        ensures { result ≡ state_meant horizon ledger.items rows.items }
+        ensures { result ≡ state_meant 0 ledger.items rows.items }
     {
         State {
-            horizon,
+            horizon: 0,
             ledger,
             entries: Table::from_rows(rows),
             index,
@@ -137,8 +136,8 @@ impl State {
         }
     }
 
-    /// The state of what was kept of a file for the docker of a place on a day. It has the same
-    /// docker there on that day as the state of the file, and serves for nothing else. If memory
+    /// The state of what was kept of a file for the docker of one place on one day. It gives the
+    /// same docker as the state of the whole file, and is of no use for anything else. If memory
     /// runs out, what was kept is dropped.
     pub fn of_thin(alloc: Global, file: ThinFile) -> Result<State, Memory>
         ensures { (records : List (List ℕ)) → IsOfRecords file.file records
@@ -194,7 +193,7 @@ impl State {
         let FileParts { changes, .. } = parts;
         let made = rows_made(changes, &item.stamp(), made);
         let rows = last_greatest(made, rows);
-        Ok(State::of_rows(0, ledger, rows, None))
+        Ok(State::of_rows(ledger, rows, None))
     }
 
     /// The state, with its index, that changes of the file with this ledger item make. If there are
@@ -239,7 +238,7 @@ impl State {
         let made = made_rows(changes, &item.stamp(), made);
         let (rows, order) = greatest_rows(made, rows, order);
         let index = picked_index(room, notes, order.as_slice(), pieces, rows.as_slice());
-        Ok(State::of_rows(0, ledger, rows, index))
+        Ok(State::of_rows(ledger, rows, index))
     }
 
     /// The horizon: a day number from 0 for 1960-01-01. Nothing that is put ends before that day. 0
@@ -380,9 +379,8 @@ impl State {
         self.of_uid_near(uid, 0)
     }
 
-    /// Like `of_uid`, but the row with this index is looked at first; `PlaceRows::numbered` gives
-    /// such an index. If that row is of the UID, a few rows beside it are looked at, and nothing is
-    /// searched.
+    /// Like `of_uid`, but first looks at the row at index `near`, such as `PlaceRows::numbered`
+    /// gives. If that row is of the UID, a few rows next to it are read, and no search is needed.
     pub fn of_uid_near(&self, uid: &Uid, near: usize) -> Live<'_>
         ensures { AreOfUid (live_table self.now) uid.now result }
     {
@@ -584,8 +582,8 @@ struct OpenedState {
     rows: Vec<(Key, Entry)>,
 }
 
-/// Rows that have lapsed under their own horizon, lapsed under another horizon too. If that isn't
-/// greater, no row is looked at. The room after the rows stays.
+/// Applies the horizon `other` to rows that have already lapsed under the horizon `own`. If `other`
+/// isn't greater, no row is read. The room after the rows stays.
 fn lapsed_under(mut rows: Vec<(Key, Entry)>, own: u16, other: u16) -> Vec<(Key, Entry)>
     requires lapsed { HaveLapsed own (map row_meant rows.items) }
     requires ascending { AreAscending rows.items }
