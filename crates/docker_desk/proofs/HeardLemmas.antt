@@ -24,7 +24,7 @@ one_more : (old first second : List Event) → old ++ first ≡ old ++ second �
 one_more [] first second same = same
 one_more (event ∷ old) first second same = let rest : old ++ first ≡ old ++ second = cc in one_more old first second rest
 
--- a file that was opened last held only one text
+-- if a file was opened last, it held exactly one text
 pub held_once : (name : Text) (old new : List Event) (first second : Reading) → new ≡ old ++ events_of name first → new ≡ old ++ events_of name second
     → first.held ≡ second.held
 held_once name old new first second one two =

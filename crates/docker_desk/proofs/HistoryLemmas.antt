@@ -31,7 +31,7 @@ then_unplaced name made_for look old middle new took bytes made failed same held
 
 -- ---- an opening
 
--- the same opening, of states that are the same
+-- an opening that fits two states fits equal states too
 pub opens_as : (name : Text) (Stops : Reading → Type 0) (Ends : State → State → Result ⊤ OfficeFault → Option Reading → Type 0) (own now old new : State)
     (result : Result ⊤ OfficeFault) (before after : List Event) → own ≡ old → now ≡ new → OpensOnce name Stops (Ends own now result) before after
     → OpensOnce name Stops (Ends old new result) before after
@@ -43,14 +43,14 @@ opens_as name Stops Ends own now old new result before after is same opens = rec
       subst (λ (state : State). Ends state new result opens.read) is (subst (λ (state : State). Ends own state result opens.read) same opens.ends);
 }
 
--- a file that was opened and then closed
+-- opening a file and closing it adds these two events
 pub then_closed : (name : Text) (held left : Bytes) (old opened_now new : List Event) → opened_now ≡ old ++ opened name held ∷ []
     → new ≡ opened_now ++ closed left ∷ [] → new ≡ old ++ events_of name (record { held = held; left = left })
 then_closed name held left old opened_now new opens closes = then old opened_now new (opened name held ∷ []) (closed left ∷ []) opens closes
 
 -- ---- a saving
 
--- a text that was stored and then looked at was saved
+-- storing a state's text and then looking at the file is a saving that was done
 pub saved_then : (names_bytes : Bool) (name : Text) (look : ℕ) (own state : State) (old middle new : List Event)
     → IsStored names_bytes name look (state_text dks_2 own) old middle → new ≡ middle ++ looked name ∷ [] → own ≡ state
     → EndsSaving names_bytes name look (state_text dks_2 state) old new (Ok tt)

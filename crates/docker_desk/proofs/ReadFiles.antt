@@ -1,4 +1,4 @@
--- What taking, receiving and reloading come to for a desk, from how the office's reading ends.
+-- How taking, receiving and reloading end for a desk, derived from how the office's reading ends.
 use Rattle.std.proofs.Common.{◌≡◌, ◌≢◌, ◌+◌, ◌∙◌, ℕ, ap, arith, refl, subst, sym, Some, Ok, Err, IsErr, true, false}
 use Rattle.std.specs.Prelude.{Result, ⊤, Bool, List, ◌++◌, Option, None, IfSome, Vec, option_map}
 use Rattle.cif_device.specs.Device.{Reads}
@@ -29,7 +29,7 @@ not_failed status before after other same =
 failed_once : (before after : ℕ) → after ≡ before + 1 → IsCounted 4 before after
 failed_once before after rose = ((λ is. rose, λ is. refl), λ differs. absurd (differs refl))
 
--- a folder that takes back a file counts the failures of the file
+-- a folder that takes back a file adds the file's failures to its own
 pub counted_back : (status first opened start read after : ℕ) → opened ≡ first → start ≡ 0 → IsCounted status start read → after ≡ opened + read
     → IsCounted status first after
 counted_back status first opened start read after same none counted back = (
@@ -107,7 +107,7 @@ reading_counted before after (Err fault) counted = fault_counted before after fa
 
 -- ---- a state that was compared
 
--- what the copy was found to be, the source held
+-- what the copy was found to be is true of the bytes that the source held
 found_held : (bytes : Bytes) (copy : Option Text) (found : Compared) (state : State) (left : Bytes) → IfSome copy (IsText bytes)
     → ComparesCopy found copy (state_text dks_2 state) → IsFound found state (reading bytes left)
 found_held None copy compared.Same state left held is = tt
@@ -118,13 +118,13 @@ found_held (Some text) None compared.Same state left held is = let never : ⊥ =
 found_held (Some text) (Some it) compared.Other state left held is = λ same. is (sym held ∙ same)
 found_held (Some text) None compared.Other state left held is = absurd is
 
--- a source that was copied was read no further than decides
+-- a source that was read through a copy stopped where reading a state stops
 pub stops_as : (held left seen seen_left : Bytes) → ReadsFewOfState dks_2 seen seen_left → seen ≡ held → left ≡ seen_left
     → StopsInState (reading held left)
 stops_as held left seen seen_left stops same same_left =
     subst (λ (bytes : Bytes). ReadsFewOfState dks_2 bytes left) same (subst (ReadsFewOfState dks_2 seen) (sym same_left) stops)
 
--- and is refused as it is
+-- a source that was read through a copy is refused for the same fault
 pub refuses_as : (held left seen seen_left : Bytes) (old new : State) (fault : OfficeFault)
     → IsWhyUnread WantsMemory dks_2 most_bytes seen seen_left (why_unread fault) → new ≡ old → seen ≡ held → left ≡ seen_left
     → EndsComparing old new (Err fault) (Some (reading held left))
@@ -135,13 +135,13 @@ refuses_as held left seen seen_left old new fault why kept same same_left = (
   kept,
 )
 
--- the copy, as its bytes
+-- if a copy is the text of these bytes, so are the items of its vector
 copied : {Z : Type 0} (bytes : Bytes) (copy : Option (Vec ℕ Z)) → IfSome copy (λ it. IsText bytes it.items)
     → IfSome (option_map (λ (it : Vec ℕ Z). it.items) copy) (IsText bytes)
 copied bytes None held = tt
 copied bytes (Some it) held = held
 
--- a state was received, and what was held was compared with it
+-- a state was received, and the bytes that the source held were compared with its text
 pub compares : {Z : Type 0} (held bytes left : Bytes) (copy : Option (Vec ℕ Z)) (old new : State) (found : Compared) → held ≡ bytes
     → IfSome copy (λ it. IsText bytes it.items) → ComparesCopy found (option_map (λ (it : Vec ℕ Z). it.items) copy) (state_text dks_2 new)
     → JoinsState dks_2 most_bytes held old new → EndsComparing old new (Ok found) (Some (reading held left))

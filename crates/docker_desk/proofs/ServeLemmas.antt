@@ -1,4 +1,4 @@
--- How a session comes to its end.
+-- How a session ends.
 use Rattle.std.proofs.Common.{◌≡◌, ◌+◌, ℕ, Bool, List, ◌++◌, [], ◌∷◌, length, arith, inl, inr, Some, None, Ok, ap, subst, ◌∙◌, false}
 use Rattle.std.specs.Prelude.{Option, IfSome, ◌&&◌}
 use Rattle.cif_device.specs.Device.{Takes, TakesPart}
@@ -75,7 +75,7 @@ served words names_bytes old new status name may_write first last ending unsaved
       ends = subst (λ (u : Bool). EndsWithStatus ending u status (faults_of old) (faults_of new)) same ends;
     }))
 
--- as `served`, with an equal old view
+-- the same as `served`, for a view that equals the old one
 pub served_as : (words : List Text) (names_bytes : Bool) (seen old new : HostView) (status : ℕ) (name : Text) (may_write : Bool) (first last : SessionView)
     (ending : Ending) (unsaved : Bool) → seen ≡ old
     → NamesSession words name may_write → BeginsAt name seen.history first → first.failures ≡ seen.folder_failures

@@ -152,7 +152,7 @@ takes_more (Some taken) now new first second one two =
 -- ---- steps
 
 module _ (setting : Setting) where
-  -- if steps lead to a point, and others on from there, all of them lead on
+  -- if some steps lead to a point, and more steps lead from it to a last one, all steps lead to the last point
   steps_more : (first now last : SessionView) (steps more : List Step) → AreSteps setting first steps now → AreSteps setting now more last
       → AreSteps setting first (steps ++ more) last
   steps_more first now last [] more are then_more = subst (λ m. AreSteps setting m more last) are then_more
@@ -200,7 +200,7 @@ module _ (setting : Setting) where
       → AreSteps setting before (step_of line before answer after does ∷ []) after
   one_step line before answer after does = (refl, (is_step line before answer after does, refl))
 
-  -- a session so far and one more answered line are a session so far
+  -- after one more answered line, the session so far has that line too
   so_far_more : (count : ℕ) (first now next : SessionView) (input input_now input_next output output_now output_next : DeviceBytes)
       → IsSoFar count first now input input_now output output_now → ServesNext setting now next input_now input_next output_now output_next None
       → IsSoFar (count + 1) first next input input_next output output_next
@@ -263,7 +263,7 @@ module _ (setting : Setting) where
       by InputEndless ends = (begins ends.0, (endless_more input input_now (lines_of so_far.steps) so_far.read ends.1.0, gained ends.1.1))
       by OutputFailed ends = (begins ends.0, breaks ends.1)
 
-  -- a session so far and the lines that end it are an ended session
+  -- a session so far, followed by the lines that end it, is a session that ended
   pub ended_after : (ending : Ending) (count : ℕ) (first now last : SessionView) (input input_now output output_now output_last : DeviceBytes)
       → IsSoFar count first now input input_now output output_now → AnswersLines setting now last input_now output_now output_last ending
       → AnswersLines setting first last input output output_last ending
@@ -349,7 +349,7 @@ module _ (setting : Setting) (now next : SessionView) (input input_now output ou
       has_one None read = tt
       has_one (Some text) read = (read.0, (read.1.0, read.1.0.1))
 
-  -- after a line that isn't the last, the session goes on unless the output fails
+  -- after a line that isn't the last, the session continues unless the output fails
   after_line : (line : LineView) (answer : AnswerView) (failures failures_now : ℕ) (result : Option Ending) → IsFollowed line → DoesLine setting line now answer next
       → ReadsNext input line input_now
       → TellsAnswer (answer_bytes answer) None output output_now failures failures_now result
@@ -359,7 +359,7 @@ module _ (setting : Setting) (now next : SessionView) (input input_now output ou
   after_line line answer failures failures_now result followed does read (inr part) =
       subst (ServesNext setting now next input input_now output output_now) (sym part.0) (breaks_at line answer does read part.1.0)
 
-  -- after a whole line, whose bytes were passed on, the session goes on unless the output fails
+  -- after a whole line, whose bytes were passed on, the session continues unless the output fails
   pub after_whole : (line passed : List ℕ) (answer : AnswerView) (failures failures_now : ℕ) (result : Option Ending) → passed ≡ line
       → DoesLine setting (whole_line passed) now answer next → ReadsNext input (whole_line line) input_now
       → TellsAnswer (answer_bytes answer) None output output_now failures failures_now result
@@ -367,7 +367,7 @@ module _ (setting : Setting) (now next : SessionView) (input input_now output ou
   after_whole line passed answer failures failures_now result same does read tells =
       after_line (whole_line line) answer failures failures_now result tt (subst (λ l. DoesLine setting (whole_line l) now answer next) same does) read tells
 
-  -- after a bad line the session goes on unless the output fails
+  -- after a bad line the session continues unless the output fails
   pub after_bad : (failures failures_now : ℕ) (result : Option Ending) → DoesLine setting bad_line now no_request next → ReadsNext input bad_line input_now
       → TellsAnswer (answer_bytes no_request) None output output_now failures failures_now result
       → ServesNext setting now next input input_now output output_now result
@@ -382,7 +382,7 @@ module _ (setting : Setting) (now next : SessionView) (input input_now output ou
   after_cut answer failures failures_now result does read (inr part) =
       subst (ServesNext setting now next input input_now output output_now) (sym part.0) (breaks_at cut_line answer does read part.1.0)
 
--- if the session goes on after a line, no stream failed at it
+-- if the session continues after a line, neither stream failed at that line
 pub counts_on : (result : Option Ending) (input input_now output output_now : ℕ) → result ≡ None → CountsNext result input input_now output output_now
     → (input_now ≡ input) × (output_now ≡ output)
 counts_on result input input_now output output_now none counts = subst (λ (r : Option Ending). CountsNext r input input_now output output_now) none counts

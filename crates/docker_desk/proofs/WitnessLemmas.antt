@@ -98,7 +98,7 @@ empty_told = ap (λ (zero : List ℕ). zero ++ codes " " ++ zero ++ codes " " ++
     zero_told : decimal 0 ≡ 48 ∷ []
     zero_told = decimal_digit 0 (omega arith)
 
--- an answer without files, or none if memory ran out
+-- asked for the files of the state of no files, the output gains an empty answer, or the answer that memory ran out
 answered : (output : Bytes) (state : State) (answer : AnswerView) → state ≡ no_state → IsFilesAnswer state answer → Takes (Some []) (answer_bytes answer ++ []) output
     → IsAnswered output
 answered output state (done_with text) same is takes =
@@ -200,7 +200,7 @@ sent_text text before after state none takes is same =
     unsome : (one two : List ℕ) → Some one ≡ Some two → one ≡ two
     unsome one two equal = cc
 
--- what is answered, as the bytes of a sink in memory
+-- the same as `IsAnswered`, for the bytes of a sink in memory
 bytes_answered : (taken : List ℕ) → IsAnswered (Some taken) → (taken ≡ codes "0 0 0\n") ⊎ (taken ≡ memory_answer)
 bytes_answered taken (inl done) = inl (unsome taken (codes "0 0 0\n") done)
   where
@@ -211,7 +211,7 @@ bytes_answered taken (inr refused) = inr (unsome taken memory_answer refused)
     unsome : (one two : List ℕ) → Some one ≡ Some two → one ≡ two
     unsome one two equal = cc
 
--- as `files_answered`, with an equal new view
+-- the same as `files_answered`, for a view that equals the new one
 pub files_told : (text : List ℕ) (old seen new : HostView) (status : ℕ) (taken : List ℕ) → Serves (codes "S" ∷ []) true old new status → seen ≡ new
     → text ≡ state_text dks_2 no_state → length text ≤ 100 → IsValid no_state → old.history ≡ placed (codes "S") (Some text) ∷ []
     → old.input ≡ Some (codes "files\n") → old.output ≡ Some [] → IsShelfHistory seen.history → status ≡ 0 → seen.output ≡ Some taken

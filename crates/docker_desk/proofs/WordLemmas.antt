@@ -118,7 +118,7 @@ words_last text some end = (words_behind_spaces text ∙ without_space rest end 
     behind : without_spaces (after_first is_space rest) ≡ []
     behind = nothing (after_first is_space rest) (let size = length-drop (position_or_len is_space rest + 1) rest in omega (arith, size, end))
 
--- as in `words_cut`, for a text that was stripped and then cut
+-- the same as `words_cut`, for a text that was stripped and then cut
 pub words_cut_as : (text rest word behind more : List ℕ) → rest ≡ without_spaces text → rest ≢ [] → position_or_len is_space rest < length rest
     → word ≡ before_first is_space rest → behind ≡ after_first is_space rest → more ≡ without_spaces behind → words_in text ≡ word ∷ words_in more
 words_cut_as text rest word behind more stripped some here first after last =
@@ -126,7 +126,7 @@ words_cut_as text rest word behind more stripped some here first after last =
     (sym stripped) (words_cut text) some here
     ∙ (λ i. sym first i ∷ words_in (sym (last ∙ ap without_spaces after) i))
 
--- as in `words_last`, for a text that was stripped
+-- the same as `words_last`, for a text that was stripped
 pub words_last_as : (text rest : List ℕ) → rest ≡ without_spaces text → rest ≢ [] → position_or_len is_space rest ≡ length rest → words_in text ≡ rest ∷ []
 words_last_as text rest stripped some end =
     subst (λ r. r ≢ [] → position_or_len is_space r ≡ length r → words_in text ≡ r ∷ words_in []) (sym stripped) (λ some end. (words_last text some end).0) some end

@@ -38,7 +38,7 @@ pub fn answer_line<D: Folder>(
     }
 }
 
-/// Does what is asked for.
+/// Does a request, and returns its answer.
 fn answer_request<D: Folder>(
     words: &SessionWords<'_>,
     request: Request<'_>,

@@ -1,4 +1,4 @@
-//! A desk, and what it can be asked for.
+//! A desk, and the requests that it answers.
 ghost use Rattle.std.specs.Prelude.{◌≡◌, ℕ, List, ◌+◌, ◌-◌, ◌^◌, ◌<◌, false, true, length, IsErr, IsOk};
 ghost use Rattle.docker_model.specs.state.State.{raise_horizon};
 ghost use Rattle.docker_model.specs.state.StateText.{dks_2, state_text};
@@ -186,11 +186,11 @@ impl Desk {
         self.unsaved = true;
     }
 
-    /// Looks at the named file, then opens it once and joins what the desk knows with the state
-    /// that it holds. If that is done, `seen` is what this look saw, and the result is whether the
-    /// file held the text of the state that the desk has now. It is found out only if `compares`.
-    /// For this the file's text is kept until it is compared; if there is no memory for it, nothing
-    /// is found out. Nothing is unsaved exactly if the file was found to hold that text.
+    /// Looks at the named file, then opens it once and joins what the desk knows with the state in
+    /// it. If that is done, `seen` is what this look saw, and the result says whether the file held
+    /// the text of the state that the desk has now. The texts are compared only if `compares` is
+    /// set and there is memory to keep the file's text until then. The desk then has unsaved
+    /// changes unless the file was found to hold that text.
     pub fn renew<D: Folder>(
         &mut self,
         name: &str,

@@ -33,7 +33,7 @@ no_refused (docker_written place day) (office_read state) none = λ refused. non
 no_refused files_written (office_read state) none = λ refused. refused
 no_refused state_written (office_read state) none = λ refused. refused
 
--- if the draft of a job that writes a file isn't written whole, the draft failed, and once
+-- if the draft of a job that writes a file isn't written whole, the draft failed, exactly once
 pub fails_alone : {K : Type 0} (taken : K → Bytes) (failures : K → ℕ) (old new : K) (prepared : PreparedView) (name : Text) (fault : OfficeFault) →
     stored_by prepared.job ≡ Some name → EndsEmitting taken failures (output_of prepared.job.task) prepared.read old new (Err fault) →
     (fault ≡ office.Sink) × (failures new ≡ failures old + 1)
@@ -142,7 +142,7 @@ ends_printed taken failures old new prepared history by (Err (office.File fault)
 ends_printed taken failures old new prepared history by (Err (office.State fault)) is ends lapsed = ends
 ends_printed taken failures old new prepared history by (Err office.Source) is ends lapsed = ends
 
--- if the device did not fail and the status isn't a device's, the failures are counted
+-- if the device didn't fail and the status isn't a device's, the count of failures fits the status
 none_failed : (status folder before after : ℕ) → status ≢ 4 → after ≡ before → IsCounted status (folder + before) (folder + after)
 none_failed status folder before after other same =
     ((λ is. absurd (other is), λ rose. let never : ⊥ = omega arith in absurd never), λ differs. omega arith)

@@ -16,7 +16,7 @@ use Rattle.docker_program.specs.Sources.{AreRead, Asking, FailsToOpen, IsOpened,
 
 -- ---- histories
 
--- one event more
+-- one more event extends what was added to a history by that event
 pub one_more : (old before now events : List Event) (event : Event) → before ≡ old ++ events → now ≡ before ++ event ∷ []
     → now ≡ old ++ (events ++ event ∷ [])
 one_more old before now events event earlier last =
@@ -111,7 +111,7 @@ reads_alone name before now rest second second_left job result none (inr read) =
 
 -- ---- failures
 
--- if two sources didn't fail and the status isn't a device's, the failures are counted
+-- if two sources didn't fail and the status isn't a device's, the count of failures fits the status
 none_failed : (status one one_now two two_now : ℕ) → status ≢ 4 → one_now ≡ one → two_now ≡ two → IsCounted status (one + two) (one_now + two_now)
 none_failed status one one_now two two_now other first second =
     ((λ is. absurd (other is), λ rose. let never : ⊥ = omega arith in absurd never), λ differs. omega arith)
@@ -130,7 +130,7 @@ counted_together (Err office.Memory) one one_now two two_now counts = none_faile
 counted_together (Err office.Lapsed) one one_now two two_now counts = elim counts [ ]
 counted_together (Err office.Sink) one one_now two two_now counts = elim counts [ ]
 
--- devices that didn't fail can be counted beside others
+-- a count that fits the status still fits it when the same number is added before and after
 pub counted_beside : (status before after more all all_now : ℕ) → IsCounted status before after → all ≡ before + more → all_now ≡ after + more →
     IsCounted status all all_now
 counted_beside status before after more all all_now counts is is_now = (
@@ -138,7 +138,7 @@ counted_beside status before after more all all_now counts is is_now = (
   λ differs. let same : after ≡ before = counts.1 differs in omega arith,
 )
 
--- a file that wasn't opened is counted if its device failed
+-- if a file wasn't opened, one failure is counted if and only if its device failed
 pub counted_opening : (cause : OpenFault) (before after more more_now : ℕ) → (cause ≡ opening.Failed → after ≡ before + 1)
     → (¬ (cause ≡ opening.Failed) → after ≡ before) → more_now ≡ more
     → IsCounted (result_status {A = ⊤} (Err (one_of office.Source office.Memory cause))) (more + before) (more_now + after)

@@ -50,7 +50,7 @@ unwritten words names_bytes old new job rest read prepared (office.File fault) a
 unwritten words names_bytes old new job rest read prepared (office.State fault) asks at_most is ends = elim ends [ ]
 unwritten words names_bytes old new job rest read prepared office.Source asks at_most is ends = elim ends [ ]
 
--- as `unread`, for the host as it was seen before, and for the history after the look
+-- the same as `unread`, for the host as it was seen before, and for the history after the look
 pub ends_unread : (words : List Text) (names_bytes : Bool) (before old new : HostView) (shown : List Event) (job : JobView) (rest : Bytes)
     (fault : OfficeFault) → before ≡ old → shown ≡ with_look_at (stored_by job) before.history → AsksFor words before.input job rest
     → AsksAtMost words before.input rest → new.output ≡ before.output → ReadsNamed (asking shown new.history rest new.input) job (Err fault)
@@ -94,7 +94,7 @@ ends_done words names_bytes before old new shown read job rest prepared same see
 abbrev pub with_faults : HostView → Bytes → ℕ → HostView
 with_faults host faults failures = record host { faults = faults; faults_failures = failures }
 
--- a job that has read its sources whole still has after the report of a fault
+-- if a job has read its sources whole, this is still so after the report of a fault
 read_still : (old new : HostView) (faults : Bytes) (failures : ℕ) (Holds : Written → PreparedView → Type 0) (job : JobView) (rest : Bytes)
     → HasRead old new Holds job rest → HasRead old (with_faults new faults failures) Holds job rest
 read_still old new faults failures Holds job rest has = record { prepared = has.prepared; read = has.read; is = has.is; holds = has.holds }
@@ -175,7 +175,7 @@ names_some (word ∷ words) input some one = one
 other_status : (words : List Text) (status : ℕ) → status ≢ 2 → ¬ NameNoJob words → (status ≡ 2) ↔ NameNoJob words
 other_status words status differs one = (λ is. absurd (differs is), λ none. absurd (one none))
 
--- for each ending, the status is the usage status exactly if the words name no job
+-- for each ending, the status is the usage status if and only if the words name no job
 usage_of : (words : List Text) (names_bytes : Bool) (old new : HostView) (ending : Option Fault) → words ≢ [] → EndsBy words names_bytes old new ending →
     (ending_status ending ≡ 2) ↔ NameNoJob words
 usage_of words names_bytes old new None some ends = other_status words 0 (λ is. omega arith) (names_one words old.input _ some ends)
@@ -196,7 +196,7 @@ usage_of words names_bytes old new (Some (Office office.Memory)) some ends =
 usage_of words names_bytes old new (Some (Office office.Sink)) some ends =
     other_status words 4 (λ is. omega arith) (names_one words old.input _ some ends)
 
--- the program's status is the usage status exactly if the words name no job
+-- the program's status is the usage status if and only if the words name no job
 pub usage_status : (words : List Text) (names_bytes : Bool) (old new : HostView) (status : ℕ) →
     Performs words names_bytes old new status → IsUsageStatus words status
 usage_status words names_bytes old new status performs =

@@ -116,7 +116,7 @@ check_printed extract old new put empty met performs = by (run_done run performs
 some_one : (one two : List ℕ) → ◌≡◌ {A = Bytes} (Some one) (Some two) → one ≡ two
 some_one one two same = cc
 
--- as `check_printed`, by what the host shows after the command
+-- the same as `check_printed`, for what the host shows after the command
 pub check_result : (extract text : List ℕ) (words : List Text) (old shown new : HostView) (status : ℕ)
     → words ≡ codes "check" ∷ file_name ∷ [] → status ≡ 0 → shown ≡ new
     → old.history ≡ placed file_name (Some extract) ∷ [] → old.output ≡ Some [] → IsShelfHistory shown.history
@@ -153,7 +153,7 @@ end_known extract first second left held (inr few) end =
     let rest = rest_known extract (few.1.before ++ few.1.piece) left read in
     end_some left rest.0 rest.1 end
 
--- what `take` left on a shelf
+-- on a shelf with both texts, `take` with status 0 leaves the events of `IsTaken`
 pub take_left : (state extract : List ℕ) (old new : HostView) → old.history ≡ both_put state extract
     → IsShelfHistory new.history → Performs (codes "take" ∷ state_name ∷ file_name ∷ []) true old new 0
     → IsTaken state extract new.history
@@ -207,7 +207,7 @@ take_left state extract old new put met performs = by (run_done run performs)
     by (job, read, text, inr prints) =
         absurd (none_some state_name (sym (subst (λ (j : JobView). stored_by j ≡ None) (take_job state_name file_name job prints.reads.asks.0) prints.unstored)))
 
--- as `take_left`, by what the host shows after the command
+-- the same as `take_left`, for what the host shows after the command
 pub take_result : (state extract : List ℕ) (words : List Text) (old shown new : HostView) (status : ℕ)
     → words ≡ codes "take" ∷ state_name ∷ file_name ∷ [] → status ≡ 0 → shown ≡ new
     → old.history ≡ both_put state extract → IsShelfHistory shown.history

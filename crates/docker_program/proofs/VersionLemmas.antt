@@ -47,14 +47,14 @@ stored_either : (run : Run) (job : JobView) (read : SourcesRead) (text : List �
 stored_either run job read text known (inl stores) knows = stores_known run job read text known stores knows
 stored_either run job read text known (inr stores) knows = may_store_known run job read text known stores knows
 
--- what a command stored, or may have, is known
+-- a text that a command stored, or may have stored, is the text of what its job knows
 by_command : {Held : Bytes → Bytes → Type 0} (task : TaskView) (known : Known) (text : List ℕ) (by : ByCommand task Held text)
     → Knows task by.read.first by.read.second known → IsKnownText dks_2 known text
 by_command task known text by knows =
     stored_either by.run by.job by.read text known by.stores
     (subst (λ (t : TaskView). Knows t by.read.first by.read.second known) (sym by.task_is) knows)
 
--- a state that gained this is known
+-- after one gain, the state is the summary of what it knew before and of what the gain gives
 gained_known : (knowns : List Known) (texts : List (List ℕ)) (gain : Gain) (known : Known) (old new : State) → AreKnown knowns texts
     → IsKnown known old → Gains texts gain old new → IsKnown (known_with knowns known gain) new
 gained_known knowns texts (file_gained file) known old new are is gains = taken_behind known gains.0 file old new is gains.1 gains.2
@@ -64,7 +64,7 @@ gained_known knowns texts (version_gained number) known old new are is gains =
 gained_known knowns texts (horizon_gained day) known old new are is gains =
     subst (IsKnown (united known (of_horizon day))) (sym gains.1) (known_raised known day old gains.0 is)
 
--- and so is one that gained these
+-- after a list of gains, the state is the summary of what it knew before and of what all gains give
 all_gained : (knowns : List Known) (texts : List (List ℕ)) (gains : List Gain) (known : Known) (old new : State) → AreKnown knowns texts
     → IsKnown known old → AreGained texts gains old new → IsKnown (known_once knowns known gains) new
 all_gained knowns texts [] known old new are is same = subst (IsKnown known) (sym same) is
@@ -72,7 +72,7 @@ all_gained knowns texts (gain ∷ gains) known old new are is gained =
     all_gained knowns texts gains (known_with knowns known gain) gained.0 new are
     (gained_known knowns texts gain known old gained.0 are is gained.1) gained.2
 
--- what was saved is known
+-- a text that a session saved is the text of what was known at its beginning and of what its gains give
 saved_known : (knowns : List Known) (texts : List (List ℕ)) (own : ℕ) (gains : List Gain) (text : List ℕ) → AreKnown knowns texts
     → IsSaved texts own gains text → IsKnownText dks_2 (known_once knowns (known_at knowns own) gains) text
 saved_known knowns texts own gains text are is =
@@ -148,7 +148,7 @@ one_known_docker one two place day text other first second same =
     docker_of_files dks_2 one two first.state second.state first.good second.good first.is second.is same place day first.allowed second.allowed
     text other first.docker second.docker
 
--- a docker of files with distinct moments is the plain table's
+-- a docker of files with distinct moments is a docker of their plain table
 pub plain_known_docker : (known : Known) (place : List ℕ) (day : ℕ) (text : List ℕ) → PrintsKnown known place day text
     → HaveDistinctMoments known.files → (plain : Table) × IsPlainTable known.files plain × IsDockerText plain place day text
 plain_known_docker known place day text prints distinct =
@@ -167,7 +167,7 @@ pub one_version : (versions : List Version) (number another : ℕ) (text other :
 one_version versions number another text other known also are first second same =
     one_known_text known also text other (version_known versions number text known are first) (version_known versions another other also are second) same
 
--- a docker that is printed from a version is of what the version knows
+-- a docker that is printed from a version is a docker of what the version knows
 pub version_printed : (versions : List Version) (number : ℕ) (version : List ℕ) (known : Known) → AreVersions versions
     → IsVersion versions number version known → (run : Run) (read : SourcesRead) (place : List ℕ) (day : ℕ) (words : List Text) (text : List ℕ)
     → Prints run (printing place day words) read text → read.first ≡ Some version → PrintsKnown known place day text
