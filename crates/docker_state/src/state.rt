@@ -67,19 +67,20 @@ impl Model for State {
 }
 
 impl State {
-    /// Makes a state of ledger items, of rows and, if there is one, of the index of these rows. The
-    /// state has no horizon, and must be valid.
+    /// Makes a state of a horizon, of ledger items, of rows and, if there is one, of the index of
+    /// these rows. The state must be valid. Horizon 0 stands for none.
     pub(crate) fn of_rows(
+        horizon: u16,
         ledger: Vec<LedgerItem>,
         rows: Vec<(Key, Entry)>,
         index: Option<Index>,
     ) -> State
-        requires valid { IsValid (state_meant 0 ledger.items rows.items) }
+        requires valid { IsValid (state_meant horizon ledger.items rows.items) }
         requires index { IsIndexIfAny (map row_meant rows.items) index }
-        ensures { result ≡ state_meant 0 ledger.items rows.items }
+        ensures { result ≡ state_meant horizon ledger.items rows.items }
     {
         State {
-            horizon: 0,
+            horizon,
             ledger,
             entries: Table::from_rows(rows),
             index,
@@ -193,7 +194,7 @@ impl State {
         let FileParts { changes, .. } = parts;
         let made = rows_made(changes, &item.stamp(), made);
         let rows = last_greatest(made, rows);
-        Ok(State::of_rows(ledger, rows, None))
+        Ok(State::of_rows(0, ledger, rows, None))
     }
 
     /// The state, with its index, that changes of the file with this ledger item make. If there are
@@ -238,7 +239,7 @@ impl State {
         let made = made_rows(changes, &item.stamp(), made);
         let (rows, order) = greatest_rows(made, rows, order);
         let index = picked_index(room, notes, order.as_slice(), pieces, rows.as_slice());
-        Ok(State::of_rows(ledger, rows, index))
+        Ok(State::of_rows(0, ledger, rows, index))
     }
 
     /// The horizon: a day number from 0 for 1960-01-01. Nothing that is put ends before that day. 0
