@@ -56,6 +56,7 @@ none_staged (entry ∷ rest) = (λ other among. absurd (let below : among.0 < le
 pub all_offered : (staging : Staging) (entries : List (Key × Entry)) → staging.staged ≡ [] → AreEntries staging.items entries → CanBeOffered staging entries
 all_offered staging entries none are = record {
   good = recursion_from_All (IsGoodEntry staging.items) entries are.0;
-  above = subst (λ (staged : List (Key × Entry)). AllByRecursion (λ (entry : Key × Entry). IsAboveStaged staged entry.0) entries) (sym none) (none_staged entries);
+  above = subst (λ (staged : List (Key × Entry)). AllByRecursion (λ (entry : Key × Entry). IsAboveStaged staged entry.0) entries) (sym none)
+      (none_staged entries);
   ascending = are.1;
 }

@@ -1,5 +1,6 @@
 -- A walk over a schedule's lines yields exactly the schedule's events, in order.
-use Rattle.std.proofs.Common.{◌≡◌, ℕ, ◌+◌, Bool, true, false, cond, List, [], ◌∷◌, ◌++◌, map, length, refl, ap, sym, ◌∙◌, subst, arith, Some, None, append_assoc, append-nil, length-append}
+use Rattle.std.proofs.Common.{◌≡◌, ℕ, ◌+◌, Bool, true, false, cond, List, [], ◌∷◌, ◌++◌, map, length}
+use Rattle.std.proofs.Common.{refl, ap, sym, ◌∙◌, subst, arith, Some, None, append_assoc, append-nil, length-append}
 use Rattle.std.specs.Prelude.{Option, codes, option_map, find}
 use Rattle.std.specs.Str.{bytes_eq}
 use Rattle.std.proofs.lemmas.List.{map-append, length-map}
@@ -10,7 +11,8 @@ use Rattle.docker_model.specs.docker.Event.{Event, event_line, event_identity, c
 use Rattle.docker_model.specs.file.File.{first_record}
 use Rattle.docker_laws.specs.EventWalk.{events_here, events_from, fall_at, last_time, last_change}
 use Rattle.docker_laws.proofs.dockers.EventWalk.{events_walked, times_split, falls_here, falls_more, line_here, identity_here, change_more}
-use Rattle.train_choice.specs.Occurrences.{Occurrence, occurrence_of, occurrences, Progress, before_all, occurrence_at, past_time, occurrences_at, past_times, turned, occurrences_from}
+use Rattle.train_choice.specs.Occurrences.{Occurrence, occurrence_of, occurrences, Progress}
+use Rattle.train_choice.specs.Occurrences.{before_all, occurrence_at, past_time, occurrences_at, past_times, turned, occurrences_from}
 
 abbrev Times : Type 0
 Times = List (Occasion × ℕ)

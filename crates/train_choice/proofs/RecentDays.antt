@@ -16,7 +16,8 @@ use Rattle.train_choice.proofs.KeptLines.{runs_by_key}
 
 -- if two tests are equal for every number of days back, flags that are correct for the first test
 -- are correct for the second test
-pub same_recent_runs : (test other : ℕ → Bool) (recent : RecentRuns) → ((back : ℕ) → test back ≡ other back) → AreRecentRuns test recent → AreRecentRuns other recent
+pub same_recent_runs : (test other : ℕ → Bool) (recent : RecentRuns) → ((back : ℕ) → test back ≡ other back) → AreRecentRuns test recent
+    → AreRecentRuns other recent
 same_recent_runs test other recent same are = record {
   today_is = are.today_is ∙ same 0;
   day_before_is = are.day_before_is ∙ same 1;

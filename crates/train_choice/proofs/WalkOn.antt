@@ -18,9 +18,9 @@ next_good walk lines rest line is can = (recursion_from_All HasGoodFields (line 
 
 -- if the current line has no further events, the remaining events are the events of the next line
 -- and of all later lines
-pub goes_on : (before ended after : EventWalk) (lines rest : List (List ℕ)) (line : List ℕ) → lines ≡ line ∷ rest → events_here before ≡ [] → events_here ended ≡ []
-    → progress_after_line ended ≡ progress_after_line before → after.line.now ≡ line → times_meant after.times ≡ times_of line → progress_of after ≡ turned
-    (progress_of ended) line
+pub goes_on : (before ended after : EventWalk) (lines rest : List (List ℕ)) (line : List ℕ) → lines ≡ line ∷ rest → events_here before ≡ []
+    → events_here ended ≡ [] → progress_after_line ended ≡ progress_after_line before → after.line.now ≡ line → times_meant after.times ≡ times_of line
+    → progress_of after ≡ turned (progress_of ended) line
     → events_left before lines ≡ events_left after rest
 goes_on before ended after lines rest line is none_before none behind at times progress =
     (λ i. none_before i ++ occurrences_from (sym behind i) (is i))
