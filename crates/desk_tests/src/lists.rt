@@ -62,7 +62,7 @@ PLACES       0
 ";
 
 /// Asserts the answers of a desk to `places` and `known`.
-fn lists(rt: &impl Abort, alloc: Global, desk: &Desk, places: &str, known: &str) {
+fn lists(rt: &impl Abort, alloc: Global, desk: &mut Desk, places: &str, known: &str) {
     answers(rt, alloc, &desk.places(), places);
     answers(rt, alloc, &desk.known(), known);
 }
@@ -71,18 +71,18 @@ fn lists(rt: &impl Abort, alloc: Global, desk: &Desk, places: &str, known: &str)
 fn timing_points_and_what_is_known(rt: HostRuntime) {
     let alloc = rt.alloc();
     let mut desk = desk_of(&rt, alloc, PLACES_STATE);
-    lists(&rt, alloc, &desk, PLACES, KNOWN);
+    lists(&rt, alloc, &mut desk, PLACES, KNOWN);
     desk.set_horizon(day_of(&rt, "2024-06-14"));
     answers(&rt, alloc, &desk.places(), PLACES);
     desk.set_horizon(day_of(&rt, "2024-06-15"));
-    lists(&rt, alloc, &desk, PLACES_LAPSED, KNOWN_LAPSED);
+    lists(&rt, alloc, &mut desk, PLACES_LAPSED, KNOWN_LAPSED);
 }
 
 #[test]
 fn lists_without_timing_points(rt: HostRuntime) {
     let alloc = rt.alloc();
-    let desk = desk_of(&rt, alloc, MORNING_STATE);
-    lists(&rt, alloc, &desk, "0 0 0\n", KNOWN_MORNING);
-    let desk = desk_of(&rt, alloc, EMPTY_STATE);
-    lists(&rt, alloc, &desk, "0 0 0\n", KNOWN_NOTHING);
+    let mut desk = desk_of(&rt, alloc, MORNING_STATE);
+    lists(&rt, alloc, &mut desk, "0 0 0\n", KNOWN_MORNING);
+    let mut desk = desk_of(&rt, alloc, EMPTY_STATE);
+    lists(&rt, alloc, &mut desk, "0 0 0\n", KNOWN_NOTHING);
 }

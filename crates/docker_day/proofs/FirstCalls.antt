@@ -137,7 +137,8 @@ IsWithBase link occasion visit line =
 
 -- if the event is the first event of the base train's call, the association's line that is made
 -- from this event is its line with the base train
-pub with_base : {Fault : Type 0} (link : Link) (occasion : Occasion) (event : events.Occurrence) (visit again : Visit) (result : Result (Option DockerLine) Fault) → again ≡ visit
+pub with_base : {Fault : Type 0} (link : Link) (occasion : Occasion) (event : events.Occurrence) (visit again : Visit)
+    (result : Result (Option DockerLine) Fault) → again ≡ visit
     → ((rows : List Row) → AreRowsOf (live_in visit.timetable) rows
     → Some event ≡ first_call (train_in rows link.key.base visit.start) link.key.location link.key.suffix)
     → IfOk result (IsAtEvent link occasion event again) → IfOk result (IsWithBase link occasion visit)

@@ -65,7 +65,8 @@ row_pieces trains links place day (Link link) = by (bytes_eq link.key.location p
   where
     by : (b : Bool) → flat_map (λ (start : ℕ). cond b (link_piece trains links day link start) no_line) (start_days day)
         ≡ cond b (flat_map (λ (start : ℕ). cond (is_in_force links start link.key link.line)
-        (line_with trains day start link.key link.line (category_occasion (columns 35 36 link.line)) (trains link.key.base start)) no_line) (start_days day)) no_line
+        (line_with trains day start link.key link.line (category_occasion (columns 35 36 link.line)) (trains link.key.base start)) no_line)
+        (start_days day)) no_line
     by true = λ i. flat_map (λ (start : ℕ). cond (is_in_force links start link.key link.line)
         (link_line_is trains day start link (category_occasion (columns 35 36 link.line))
         (trains link.key.base start) i) no_line) (start_days day)

@@ -25,7 +25,8 @@ module _ (there : PlaceDay) (view : RowView) where
   adds_back back visit before after is adds = by (nat_le back there.day) refl (subst (λ (v : Option Visit). AddsIf v view before after) is adds)
     where
       by : (b : Bool) → nat_le back there.day ≡ b
-          → AddsIf (cond b (Some (record { timetable = there.timetable; place = there.place; day = there.day; start = there.day - back })) None) view before after
+          → AddsIf (cond b (Some (record { timetable = there.timetable; place = there.place; day = there.day; start = there.day - back })) None) view
+          before after
           → AddsBack back before after
       by true there_is added = λ rows are.
           added rows are

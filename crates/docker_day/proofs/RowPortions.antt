@@ -1,5 +1,6 @@
 -- The docker lines are the same if the rows of a walk are read in portions.
-use Rattle.std.proofs.Common.{◌≡◌, ℕ, zero, suc, ◌<◌, Bool, true, false, List, [], ◌∷◌, ◌++◌, length, take, get_or, refl, ap, sym, ◌∙◌, subst, Some, None, arith, append_assoc}
+use Rattle.std.proofs.Common.{◌≡◌, ℕ, zero, suc, ◌<◌, Bool, true, false, List, [], ◌∷◌, ◌++◌, length}
+use Rattle.std.proofs.Common.{take, get_or, refl, ap, sym, ◌∙◌, subst, Some, None, arith, append_assoc}
 use Rattle.std.specs.Prelude.{Option, ◌||◌}
 use Rattle.std.proofs.lemmas.Grind.{flat_map-append}
 use Rattle.std.specs.List.{flat_map}
@@ -63,8 +64,8 @@ none_behind day all rest fewer false false left before after none =
 -- if the rows read before may have no lines, and no more rows are read, all rows that were read may
 -- be skipped
 pub none_after : (day : ℕ) (all rest fewer : List Row) (so_far : Bool) (found : Option Bool) → AreLeft all rest
-    → (so_far ≡ false → ArePassedOver day all rest) → ((may : Bool) → ¬ (found ≡ Some may)) → (¬ (found ≡ Some true) → ArePassedOver day rest fewer) → so_far ≡ false
-    → ArePassedOver day all fewer
+    → (so_far ≡ false → ArePassedOver day all rest) → ((may : Bool) → ¬ (found ≡ Some may)) → (¬ (found ≡ Some true) → ArePassedOver day rest fewer)
+    → so_far ≡ false → ArePassedOver day all fewer
 none_after day all rest fewer so_far None left before end after none = passed_again day all rest fewer left (before none) (after (λ bad. cc))
 none_after day all rest fewer so_far (Some may) left before end after none = absurd (end may refl)
 

@@ -2,7 +2,8 @@
 -- occasion.
 use Rattle.std.proofs.Common.{◌≡◌, ℕ, List, refl, sym, Some, None}
 use Rattle.std.specs.Prelude.{Option}
-use Rattle.docker_model.specs.records.Record.{Kind, header, tiploc_insert, tiploc_amend, tiploc_delete, association, basic_schedule, extra_details, origin_location, intermediate_location, terminating_location, change_en_route, trailer}
+use Rattle.docker_model.specs.records.Record.{Kind, header, tiploc_insert, tiploc_amend, tiploc_delete, association, basic_schedule, extra_details}
+use Rattle.docker_model.specs.records.Record.{origin_location, intermediate_location, terminating_location, change_en_route, trailer}
 use Rattle.docker_model.specs.file.Journey.{Occasion, arrival, pass, joining, dividing, next_working, departure}
 use Rattle.docker_model.specs.docker.DockerLine.{public_by_kind}
 use Rattle.docker_model.specs.records.PrintedTime.{spaces}

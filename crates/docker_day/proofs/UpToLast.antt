@@ -6,7 +6,8 @@ use Rattle.docker_model.specs.file.Change.{ScheduleKey}
 use Rattle.docker_model.specs.file.File.{first_record}
 use Rattle.docker_model.specs.file.Journey.{Occasion, times_of}
 use Rattle.docker_model.specs.docker.DockerLine.{DockerLine, Detail}
-use Rattle.train_choice.specs.Occurrences.{Occurrence, Progress, before_all, turned, past_time, past_times, occurrence_at, occurrences, occurrences_at, occurrences_from}
+use Rattle.train_choice.specs.Occurrences.{Occurrence, Progress, before_all, turned, past_time, past_times}
+use Rattle.train_choice.specs.Occurrences.{occurrence_at, occurrences, occurrences_at, occurrences_from}
 use Rattle.train_choice.specs.UpTo.{names_place, before_named, up_to_last, occurrences_to}
 use Rattle.train_choice.proofs.Occurrences.{all_met}
 use Rattle.docker_day.specs.Lines.{line_at_event, is_here, is_today, lines_there}

@@ -7,7 +7,8 @@ use Rattle.docker_model.specs.docker.Choice.{Group, Train}
 use Rattle.docker_model.specs.file.Journey.{Occasion}
 use Rattle.docker_model.specs.docker.Event.{is_at}
 use Rattle.docker_model.specs.state.Table.{Table}
-use Rattle.docker_model.specs.docker.DockerLine.{DockerLine, Detail, partner, platform_by_kind, track_by_kind, path_by_kind, public_by_kind, occasion_rank, associated_uid}
+use Rattle.docker_model.specs.docker.DockerLine.{DockerLine, Detail, partner, platform_by_kind, track_by_kind}
+use Rattle.docker_model.specs.docker.DockerLine.{path_by_kind, public_by_kind, occasion_rank, associated_uid}
 use Rattle.docker_model.specs.state.Order.{bytes_cmp}
 use Rattle.std.specs.declared.cmp.Ordering.{Ordering}
 use Rattle.std.specs.Ordering.{nat_cmp, ordering_then}

@@ -3,6 +3,7 @@
 
 mod base_calls;
 mod bases;
+mod clock;
 mod detail;
 mod docker_line;
 mod docker_list;
@@ -21,6 +22,7 @@ mod visit;
 mod visits;
 
 pub use cif_change::{Key, ScheduleKey};
+pub use clock::clock_text;
 pub use detail::Detail;
 pub use docker_line::DockerLine;
 pub use docker_list::Docker;

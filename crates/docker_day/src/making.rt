@@ -64,7 +64,8 @@ fn docker_of<'a>(
     day: Day,
 ) -> Result<Docker<'a>, DockerFault>
     ensures ok { IfOk result (IsDockerOf (live_in timetable.now) tiploc.now day) }
-    ensures lapsed { (result ≡ Err DockerFault.Lapsed) ↔ IsDayRefused timetable.now.state.horizon day }
+    ensures lapsed { (result ≡ Err DockerFault.Lapsed)
+        ↔ IsDayRefused timetable.now.state.horizon day }
 {
     if is_refused(timetable.horizon(), day) {
         return Err(DockerFault::Lapsed);

@@ -17,7 +17,8 @@ use Rattle.docker_desk.specs.Learning.{GainedBy, GainsAsked, GainsDone, GainsFil
 use Rattle.docker_desk.specs.SessionViews.{SessionView, Setting, Step}
 use Rattle.docker_desk.specs.Reading.{Reading, StopsInFile, StopsInState, events_of, opening_of}
 use Rattle.docker_desk.specs.Replies.{AnswerView, done_with, no_request, refused_for}
-use Rattle.docker_desk.specs.Requests.{RequestView, print_request, permanent_request, train_request, files_request, places_request, known_request, renew_request, take_request, merge_request, horizon_request, save_request}
+use Rattle.docker_desk.specs.Requests.{RequestView, print_request, permanent_request, train_request, files_request, places_request}
+use Rattle.docker_desk.specs.Requests.{known_request, renew_request, take_request, merge_request, horizon_request, save_request}
 use Rattle.docker_desk.specs.Serving.{BeginsAt}
 use Rattle.docker_desk.specs.declared.compared.Compared.{Compared}
 use Rattle.docker_desk.proofs.HeardLemmas.{held_after_look, held_once}

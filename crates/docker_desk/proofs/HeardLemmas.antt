@@ -10,11 +10,13 @@ use Rattle.docker_host.specs.History.{Bytes, Event, Text, looked}
 use Rattle.docker_desk.specs.Desk.{EndsReceiving, EndsRenewing, EndsSaving, EndsTaking}
 use Rattle.docker_desk.specs.Reading.{Reading, StopsInFile, StopsInState, events_of, opening_of}
 use Rattle.docker_desk.specs.declared.compared.Compared.{Compared}
-use Rattle.docker_desk.specs.Requests.{RequestView, print_request, permanent_request, train_request, files_request, places_request, known_request, renew_request, take_request, merge_request, horizon_request, save_request}
+use Rattle.docker_desk.specs.Requests.{RequestView, print_request, permanent_request, train_request, files_request, places_request}
+use Rattle.docker_desk.specs.Requests.{known_request, renew_request, take_request, merge_request, horizon_request, save_request}
 use Rattle.docker_desk.specs.Replies.{AnswerView, done_with, no_request, refused_for}
 use Rattle.docker_desk.specs.SessionViews.{SessionView, Setting, Step}
 use Rattle.docker_desk.specs.Doing.{AreSteps, DoesAsked, DoesRequest, Joins, Renews, Saves, answer_of}
-use Rattle.docker_desk.specs.Learning.{AllHearKnown, AreLearned, Hears, HearsFile, HearsKnown, HearsState, HoldsKnown, IsKnown, Learns, PlacesKnown, ReceivesKnown, renewing}
+use Rattle.docker_desk.specs.Learning.{AllHearKnown, AreLearned, Hears, HearsFile, HearsKnown, HearsState}
+use Rattle.docker_desk.specs.Learning.{HoldsKnown, IsKnown, Learns, PlacesKnown, ReceivesKnown, renewing}
 use Rattle.docker_desk.proofs.KnownLemmas.{known_read}
 
 -- ---- the bytes of an event

@@ -20,7 +20,8 @@ use Rattle.docker_cmd.specs.Words.{NamesDay, OfOne, Text}
 use Rattle.docker_host.specs.History.{Bytes, Event}
 use Rattle.docker_desk.specs.Lines.{LineView, whole_line, bad_line, cut_line}
 use Rattle.docker_cmd.specs.JobLine.{words_in}
-use Rattle.docker_desk.specs.Requests.{RequestView, after_word, print_request, permanent_request, train_request, files_request, places_request, known_request, renew_request, take_request, merge_request, horizon_request, save_request}
+use Rattle.docker_desk.specs.Requests.{RequestView, after_word, print_request, permanent_request, train_request, files_request, places_request}
+use Rattle.docker_desk.specs.Requests.{known_request, renew_request, take_request, merge_request, horizon_request, save_request}
 use Rattle.docker_desk.specs.Desk.{DeskView, EndsReceiving, EndsRenewing, EndsTaking}
 use Rattle.docker_desk.specs.Reading.{Reading, events_of}
 use Rattle.docker_desk.specs.declared.compared.Compared.{Compared}
@@ -64,7 +65,10 @@ known_raised old heard day state is_day heard_is known =
 known_file : (file : List (List ℕ)) (state : State) → IsFile file → length file ≤ most_records → IsSummary (file ∷ []) 0 state
     → IsKnown (record { files = file ∷ []; horizon = 0 }) state
 known_file file state is few summary = record {
-  good = ((All-cons IsFile file [] is (All-nil IsFile), All-cons (λ f. length f ≤ most_records) file [] few (All-nil (λ f. length f ≤ most_records))), omega arith);
+  good = (
+    (All-cons IsFile file [] is (All-nil IsFile), All-cons (λ f. length f ≤ most_records) file [] few (All-nil (λ f. length f ≤ most_records))),
+    omega arith,
+  );
   is = summary;
 }
 
@@ -183,8 +187,8 @@ one_day [] day of = absurd of
 one_day (word ∷ []) day of = of.within
 one_day (word ∷ second ∷ more) day of = absurd of
 
-pub day_asked : (may_write : Bool) (line : LineView) (request : Option RequestView) (day : ℕ) → AsksOf may_write line request → request ≡ Some (horizon_request day)
-    → IsDay day
+pub day_asked : (may_write : Bool) (line : LineView) (request : Option RequestView) (day : ℕ) → AsksOf may_write line request
+    → request ≡ Some (horizon_request day) → IsDay day
 day_asked may_write (whole_line line) request day asks same =
     let asked = subst (λ r. AsksOf may_write (whole_line line) r) same asks in one_day (words_in (after_word line)) day asked.1.rest
 day_asked may_write bad_line request day asks same = let never : ⊥ = cc in absurd never

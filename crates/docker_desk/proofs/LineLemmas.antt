@@ -1,5 +1,6 @@
 -- Reading a line byte by byte, and what the bytes so far say about the text.
-use Rattle.std.proofs.Common.{◌≡◌, ℕ, ◌+◌, ◌-◌, ◌^◌, ◌≤◌, ◌≢◌, List, [], ◌∷◌, ◌++◌, length, true, false, refl, sym, ◌∙◌, ap, subst, arith, append_assoc, length-append, append-nil, Some, None, inl, inr, Ok, Err}
+use Rattle.std.proofs.Common.{◌≡◌, ℕ, ◌+◌, ◌-◌, ◌^◌, ◌≤◌, ◌≢◌, List, [], ◌∷◌, ◌++◌, length, true, false, refl, sym, ◌∙◌}
+use Rattle.std.proofs.Common.{ap, subst, arith, append_assoc, length-append, append-nil, Some, None, inl, inr, Ok, Err}
 use Rattle.std.specs.Prelude.{Option, option_map, Result, ◌⊎◌}
 use Rattle.std.specs.List.{AllByRecursion}
 use Rattle.std.proofs.lemmas.List.Elements.{recursion_from_All, All-from_recursion}
@@ -10,7 +11,8 @@ use Rattle.docker_desk.specs.declared.lines.Asked.{Asked}
 use Rattle.docker_desk.specs.declared.lines.Asked.TheVariants as asked
 use Rattle.docker_desk.specs.declared.lines.InputFault.{InputFault}
 use Rattle.docker_desk.specs.declared.lines.InputFault.TheVariants.{Failed, Endless}
-use Rattle.docker_desk.specs.Lines.{IsWithoutFeed, ReadsNext, ReadsAsked, ReadsMany, EndsLine, EndsSkipping, SkipsLine, SkipsAll, whole_line, cut_line, with_ahead, cut_or_end}
+use Rattle.docker_desk.specs.Lines.{IsWithoutFeed, ReadsNext, ReadsAsked, ReadsMany, EndsLine, EndsSkipping}
+use Rattle.docker_desk.specs.Lines.{SkipsLine, SkipsAll, whole_line, cut_line, with_ahead, cut_or_end}
 
 -- ---- what was read ahead
 

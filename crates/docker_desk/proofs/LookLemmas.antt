@@ -9,7 +9,8 @@ use Rattle.docker_host.specs.Asked.{FailsToStore}
 use Rattle.docker_desk.specs.Desk.{DeskView, EndsRenewing, EndsSaving, look_by}
 use Rattle.docker_desk.specs.Reading.{Reading, opening_of}
 use Rattle.docker_desk.specs.declared.compared.Compared.{Compared}
-use Rattle.docker_desk.specs.Requests.{RequestView, print_request, permanent_request, train_request, files_request, places_request, known_request, renew_request, take_request, merge_request, horizon_request, save_request}
+use Rattle.docker_desk.specs.Requests.{RequestView, print_request, permanent_request, train_request, files_request, places_request}
+use Rattle.docker_desk.specs.Requests.{known_request, renew_request, take_request, merge_request, horizon_request, save_request}
 use Rattle.docker_desk.specs.Replies.{AnswerView}
 use Rattle.docker_desk.specs.SessionViews.{SessionView, Setting, Step}
 use Rattle.docker_desk.specs.Doing.{AreSteps, DoesAsked, DoesRequest}

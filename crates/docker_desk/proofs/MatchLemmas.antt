@@ -1,5 +1,6 @@
 -- How a text is compared as it is written.
-use Rattle.std.proofs.Common.{◌≡◌, ◌<◌, ◌≤◌, ◌+◌, ◌-◌, ℕ, List, [], ◌∷◌, ◌++◌, length, take, drop, Option, None, Some, refl, sym, ◌∙◌, ap, subst, arith, append-nil, append_assoc, length-append}
+use Rattle.std.proofs.Common.{◌≡◌, ◌<◌, ◌≤◌, ◌+◌, ◌-◌, ℕ, List, [], ◌∷◌, ◌++◌, length, take, drop, Option, None}
+use Rattle.std.proofs.Common.{Some, refl, sym, ◌∙◌, ap, subst, arith, append-nil, append_assoc, length-append}
 use Rattle.std.proofs.lemmas.List.{take-append-drop}
 use Rattle.std.proofs.lemmas.List.{length-drop}
 use Rattle.std.proofs.Math.Seq.{take-add, take-length}
@@ -39,7 +40,7 @@ pub sent_compares : (text sent before taken own : List ℕ) (bytes : Option (Lis
     → OnErr done (TakesPart (Some before) sent (Some taken)) → CountsFailure (done ≡ Err office.Sink) failures_before failures
     → IfErr done (λ fault. fault ≡ office.Sink) → ok ≡ is_ok done → (IsTrue whole → taken ≡ own) × (taken ≡ own → IsTrue whole)
     → (0 < failures → IsNoFront taken own) → (IsTrue (ok && whole) → text ≡ sent) × (text ≡ sent → IsTrue (ok && whole))
-sent_compares text sent before taken own bytes failures_before failures (Ok done) ok whole none zero named named_too takes part counts only is_ok wholly parted =
+sent_compares text sent before taken own bytes failures_before failures (Ok done) ok whole none zero named named_too takes part counts only is_ok wholly apart =
     subst (λ (o : Bool). (IsTrue (o && whole) → text ≡ sent) × (text ≡ sent → IsTrue (o && whole))) (sym is_ok)
     (λ is. sym same ∙ sym (wholly.0 is) ∙ took, λ is. wholly.1 (took ∙ sym is ∙ sym same))
   where
@@ -48,7 +49,7 @@ sent_compares text sent before taken own bytes failures_before failures (Ok done
 
     took : taken ≡ sent
     took = let all : Some taken ≡ Some (before ++ sent) = takes in let one : taken ≡ before ++ sent = cc in one ∙ ap (λ (b : List ℕ). b ++ sent) none
-sent_compares text sent before taken own bytes failures_before failures (Err fault) ok whole none zero named named_too takes part counts only is_ok wholly parted =
+sent_compares text sent before taken own bytes failures_before failures (Err why) ok whole none zero named named_too takes part counts only is_ok wholly apart =
     subst (λ (o : Bool). (IsTrue (o && whole) → text ≡ sent) × (text ≡ sent → IsTrue (o && whole))) (sym is_ok)
     (λ is. let never : ⊥ = cc in absurd never, λ is. absurd (other is))
   where
@@ -63,8 +64,10 @@ sent_compares text sent before taken own bytes failures_before failures (Err fau
       where
         by : TakesPart (Some before) sent (Some taken) → ⊥
         by (n, short, takes) =
-            parted (omega (arith, failed)) (drop n sent)
+            apart (omega (arith, failed)) (drop n sent)
             (same ∙ is ∙ sym (take-append-drop n sent) ∙ ap (λ (t : List ℕ). t ++ drop n sent) (sym front))
           where
             front : taken ≡ take n sent
-            front = let all : Some taken ≡ Some (before ++ take n sent) = takes in let one : taken ≡ before ++ take n sent = cc in one ∙ ap (λ (b : List ℕ). b ++ take n sent) none
+            front =
+                let all : Some taken ≡ Some (before ++ take n sent) = takes in
+                let one : taken ≡ before ++ take n sent = cc in one ∙ ap (λ (b : List ℕ). b ++ take n sent) none

@@ -146,4 +146,5 @@ pub compares : {Z : Type 0} (held bytes left : Bytes) (copy : Option (Vec ℕ Z)
     → IfSome copy (λ it. IsText bytes it.items) → ComparesCopy found (option_map (λ (it : Vec ℕ Z). it.items) copy) (state_text dks_2 new)
     → JoinsState dks_2 most_bytes held old new → EndsComparing old new (Ok found) (Some (reading held left))
 compares held bytes left copy old new found same whole is joins =
-    (joins, found_held held (option_map (λ it. it.items) copy) found new left (copied held copy (subst (λ (b : Bytes). IfSome copy (λ it. IsText b it.items)) (sym same) whole)) is)
+    let of_held = copied held copy (subst (λ (b : Bytes). IfSome copy (λ it. IsText b it.items)) (sym same) whole) in
+    (joins, found_held held (option_map (λ it. it.items) copy) found new left of_held is)

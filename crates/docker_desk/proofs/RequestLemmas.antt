@@ -5,7 +5,9 @@ use Rattle.std.specs.Str.{bytes_eq}
 use Rattle.std.proofs.lemmas.Slice.Eq.{bytes_eq-Decides}
 use Rattle.docker_cmd.specs.Words.{NamesDay, OfTwo, Text}
 use Rattle.docker_cmd.specs.JobLine.{words_in}
-use Rattle.docker_desk.specs.Requests.{ArePlaceAndDay, AsksFor, HasRest, IsRequestOf, RequestView, after_word, first_word, is_writing, name_of, verb_named, verb_of, verbs, FitsRest, NamesTrain, print_request, permanent_request, train_request, files_request, places_request, known_request, renew_request, take_request, merge_request, horizon_request, save_request}
+use Rattle.docker_desk.specs.Requests.{ArePlaceAndDay, AsksFor, HasRest, IsRequestOf, RequestView, after_word, first_word, is_writing, name_of}
+use Rattle.docker_desk.specs.Requests.{verb_named, verb_of, verbs, FitsRest, NamesTrain, print_request, permanent_request, train_request, files_request}
+use Rattle.docker_desk.specs.Requests.{places_request, known_request, renew_request, take_request, merge_request, horizon_request, save_request}
 use Rattle.docker_desk.specs.declared.requests.Verb.{Verb}
 use Rattle.docker_desk.specs.declared.requests.Verb.TheVariants as verb
 

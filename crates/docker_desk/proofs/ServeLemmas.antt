@@ -84,6 +84,6 @@ pub served_as : (words : List Text) (names_bytes : Bool) (seen old new : HostVie
     → CountsStreams ending seen.input_failures new.input_failures seen.output_failures new.output_failures
     → (seen.ended ≡ false → new.passed ≡ seen.passed) → EndsWithStatus ending unsaved status (faults_of seen) (faults_of new)
     → unsaved ≡ may_write && last.desk.unsaved → Serves words names_bytes old new status
-served_as words names_bytes seen old new status name may_write first last ending unsaved is named begins none answers history failures counts not_passed ends same =
+served_as words names_bytes seen old new status name may_write first last ending unsaved is named begins none answers history failures counts stops ends same =
     subst (λ (host : HostView). Serves words names_bytes host new status) is
-    (served words names_bytes seen new status name may_write first last ending unsaved named begins none answers history failures counts not_passed ends same)
+    (served words names_bytes seen new status name may_write first last ending unsaved named begins none answers history failures counts stops ends same)

@@ -14,8 +14,8 @@ two_words (one ∷ two ∷ []) none some few = refl
 two_words (one ∷ two ∷ three ∷ more) none some few = absurd (omega arith)
 
 -- two words that begin with `--write` name a session that may write
-pub named_to_write : {T : Type 0} (name_in : T → Text) (writes : T → Bool) (words : List (Bor Text)) (none : Bor Text) (found : Option T) → 2 ≤ length words → length words < 3
-    → (get_or words 0 none).now ≡ codes "--write"
+pub named_to_write : {T : Type 0} (name_in : T → Text) (writes : T → Bool) (words : List (Bor Text)) (none : Bor Text) (found : Option T)
+    → 2 ≤ length words → length words < 3 → (get_or words 0 none).now ≡ codes "--write"
     → IfSome found (λ it. (name_in it ≡ (get_or words 1 none).now) × (writes it ≡ true) × NamesFile (get_or words 1 none).now (get_or words 1 none).now)
     → IfSome found (λ it. NamesSession (texts words) (name_in it) (writes it))
 named_to_write name_in writes words none None some few first is = tt

@@ -1,5 +1,6 @@
 -- A session after some lines, and after one more line.
-use Rattle.std.proofs.Common.{◌≡◌, ◌≢◌, ℕ, ◌+◌, ◌-◌, ◌^◌, ◌≤◌, List, [], ◌∷◌, ◌++◌, length, refl, sym, ◌∙◌, ap, subst, arith, append_assoc, append-nil, length-append, Some, None, Ok, Err, true, false, inl, inr}
+use Rattle.std.proofs.Common.{◌≡◌, ◌≢◌, ℕ, ◌+◌, ◌-◌, ◌^◌, ◌≤◌, List, [], ◌∷◌, ◌++◌, length, refl, sym, ◌∙◌, ap, subst}
+use Rattle.std.proofs.Common.{arith, append_assoc, append-nil, length-append, Some, None, Ok, Err, true, false, inl, inr}
 use Rattle.std.specs.Prelude.{Option, option_map, ◌⊎◌, ⊤}
 use Rattle.std.proofs.Math.Dec.{eqb}
 use Rattle.std.proofs.lemmas.Bool.Decides.{eqb_tells}
@@ -7,7 +8,8 @@ use Rattle.std.proofs.lemmas.List.{length-map, map-append}
 use Rattle.std.proofs.lemmas.Grind.{flat_map-append}
 use Rattle.cif_device.specs.Device.{IsEnd, Reads, Takes, TakesPart}
 use Rattle.docker_cmd.specs.Prepared.{DeviceBytes}
-use Rattle.docker_desk.specs.Lines.{AreLines, EndsLine, IsNextLine, LineView, ReadsAsked, ReadsMany, ReadsNext, asked_meant, with_ahead, whole_line, bad_line, cut_line}
+use Rattle.docker_desk.specs.Lines.{AreLines, EndsLine, IsNextLine, LineView, ReadsAsked, ReadsMany}
+use Rattle.docker_desk.specs.Lines.{ReadsNext, asked_meant, with_ahead, whole_line, bad_line, cut_line}
 use Rattle.docker_desk.specs.declared.lines.Asked.{Asked}
 use Rattle.docker_desk.specs.declared.lines.InputFault.{InputFault}
 use Rattle.docker_desk.specs.declared.lines.InputFault.TheVariants.{Endless}
@@ -17,7 +19,8 @@ use Rattle.docker_desk.specs.declared.ending.Ending.{Ending}
 use Rattle.docker_desk.specs.declared.ending.Ending.TheVariants.{Ended, InputFailed, InputEndless, OutputFailed}
 use Rattle.docker_desk.specs.SessionViews.{SessionView, Setting, Step}
 use Rattle.docker_desk.specs.Doing.{AreSteps, DoesLine, IsStep}
-use Rattle.docker_desk.specs.Answering.{AnswersLines, AreFirstLines, BeginsWith, BreaksOff, CountsNext, EndsSession, HasLines, IsEndless, IsFollowed, ServesNext, TellsAnswer, answers_text, lines_of}
+use Rattle.docker_desk.specs.Answering.{AnswersLines, AreFirstLines, BeginsWith, BreaksOff, CountsNext, EndsSession}
+use Rattle.docker_desk.specs.Answering.{HasLines, IsEndless, IsFollowed, ServesNext, TellsAnswer, answers_text, lines_of}
 
 -- ---- the input
 
@@ -178,7 +181,8 @@ module _ (setting : Setting) where
       record { steps = []; many = refl; are = refl; read = reads_none input; told = takes_none output }
 
   -- before the first line nothing was read ahead
-  pub so_far_first : (first : SessionView) (ahead : List ℕ) (left output : DeviceBytes) → ahead ≡ [] → IsSoFar 0 first first left (with_ahead ahead left) output output
+  pub so_far_first : (first : SessionView) (ahead : List ℕ) (left output : DeviceBytes) → ahead ≡ []
+      → IsSoFar 0 first first left (with_ahead ahead left) output output
   so_far_first first ahead left output none =
       subst (λ bytes. IsSoFar 0 first first left (with_ahead bytes left) output output) (sym none)
       (subst (λ input. IsSoFar 0 first first left input output output) (sym (none_ahead left)) (so_far_none first left output))
@@ -295,7 +299,8 @@ module _ (setting : Setting) where
 
 module _ (setting : Setting) (now next : SessionView) (input input_now output output_now : DeviceBytes) where
   -- at the end of the input the session ends without another line
-  pub ends_before : next ≡ now → IsEnd input → input_now ≡ input → output_now ≡ output → ServesNext setting now next input input_now output output_now (Some Ended)
+  pub ends_before : next ≡ now → IsEnd input → input_now ≡ input → output_now ≡ output
+      → ServesNext setting now next input input_now output output_now (Some Ended)
   ends_before same end kept silent = record { steps = []; are = same; ends = (by input end, subst (Takes output []) (sym silent) (takes_none output)) }
     where
       by : (input : DeviceBytes) → IsEnd input → HasLines input []
@@ -350,8 +355,8 @@ module _ (setting : Setting) (now next : SessionView) (input input_now output ou
       has_one (Some text) read = (read.0, (read.1.0, read.1.0.1))
 
   -- after a line that isn't the last, the session continues unless the output fails
-  after_line : (line : LineView) (answer : AnswerView) (failures failures_now : ℕ) (result : Option Ending) → IsFollowed line → DoesLine setting line now answer next
-      → ReadsNext input line input_now
+  after_line : (line : LineView) (answer : AnswerView) (failures failures_now : ℕ) (result : Option Ending) → IsFollowed line
+      → DoesLine setting line now answer next → ReadsNext input line input_now
       → TellsAnswer (answer_bytes answer) None output output_now failures failures_now result
       → ServesNext setting now next input input_now output output_now result
   after_line line answer failures failures_now result followed does read (inl told) =

@@ -1,5 +1,6 @@
 -- A session that asks a state without files for its files.
-use Rattle.std.proofs.Common.{◌≡◌, ◌≢◌, ℕ, ◌≤◌, Bool, true, false, List, [], ◌∷◌, ◌++◌, length, refl, sym, ◌∙◌, ap, subst, arith, append-nil, Some, None, ◌⊎◌, inl, inr}
+use Rattle.std.proofs.Common.{◌≡◌, ◌≢◌, ℕ, ◌≤◌, Bool, true, false, List, [], ◌∷◌, ◌++◌, length, refl}
+use Rattle.std.proofs.Common.{sym, ◌∙◌, ap, subst, arith, append-nil, Some, None, ◌⊎◌, inl, inr}
 use Rattle.std.specs.Prelude.{Option, codes, decimal}
 use Rattle.std.proofs.lemmas.Fmt.{decimal_digit}
 use Rattle.std.proofs.lemmas.List.Sums.{AllPass-from_list_all}
@@ -17,7 +18,8 @@ use Rattle.docker_host.specs.History.{Bytes, Event, Text, closed, looked, opened
 use Rattle.docker_host.specs.Host.{HostView}
 use Rattle.docker_host.specs.Shelf.{IsShelfHistory}
 use Rattle.docker_desk.specs.Lines.{AreLines, LineView, whole_line}
-use Rattle.docker_desk.specs.Requests.{AsksFor, IsRequestOf, RequestView, print_request, permanent_request, train_request, files_request, places_request, known_request, renew_request, take_request, merge_request, horizon_request, save_request}
+use Rattle.docker_desk.specs.Requests.{AsksFor, IsRequestOf, RequestView, print_request, permanent_request, train_request, files_request}
+use Rattle.docker_desk.specs.Requests.{places_request, known_request, renew_request, take_request, merge_request, horizon_request, save_request}
 use Rattle.docker_desk.specs.Desk.{IsFilesAnswer}
 use Rattle.docker_desk.specs.Replies.{AnswerView, answer_bytes, done_with, memory_answer, no_request, refused_for}
 use Rattle.docker_desk.specs.SessionViews.{SessionView, Setting, Step, setting}
@@ -99,8 +101,8 @@ empty_told = ap (λ (zero : List ℕ). zero ++ codes " " ++ zero ++ codes " " ++
     zero_told = decimal_digit 0 (omega arith)
 
 -- asked for the files of the state of no files, the output gains an empty answer, or the answer that memory ran out
-answered : (output : Bytes) (state : State) (answer : AnswerView) → state ≡ no_state → IsFilesAnswer state answer → Takes (Some []) (answer_bytes answer ++ []) output
-    → IsAnswered output
+answered : (output : Bytes) (state : State) (answer : AnswerView) → state ≡ no_state → IsFilesAnswer state answer
+    → Takes (Some []) (answer_bytes answer ++ []) output → IsAnswered output
 answered output state (done_with text) same is takes =
     let none : text ≡ [] = subst (λ (s : State). IsFilesAnswer s (done_with text)) same is in
     inl (takes ∙ ap (λ (t : List ℕ). Some (answer_bytes (done_with t) ++ [])) none ∙ ap Some (append-nil (answer_bytes (done_with [])) ∙ empty_told))

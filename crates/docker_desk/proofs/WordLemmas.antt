@@ -1,5 +1,6 @@
 -- The words of a line: the first word, and the words after it.
-use Rattle.std.proofs.Common.{◌≡◌, ◌≢◌, ℕ, ◌+◌, ◌<◌, List, [], ◌∷◌, ◌++◌, length, take, drop, ap, ◌∙◌, refl, sym, subst, Bool, true, false, cond, suc, arith, rules, tests, append-nil, length-drop}
+use Rattle.std.proofs.Common.{◌≡◌, ◌≢◌, ℕ, ◌+◌, ◌<◌, List, [], ◌∷◌, ◌++◌, length, take, drop, ap, ◌∙◌, refl, sym}
+use Rattle.std.proofs.Common.{subst, Bool, true, false, cond, suc, arith, rules, tests, append-nil, length-drop}
 use Rattle.std.specs.Prelude.{◌==◌, not, filter}
 use Rattle.std.specs.List.{slice_split, position_or_len, before_first, after_first, AllByRecursion}
 use Rattle.std.proofs.lemmas.List.{length-take-le, take_all}
@@ -129,7 +130,8 @@ words_cut_as text rest word behind more stripped some here first after last =
 -- the same as `words_last`, for a text that was stripped
 pub words_last_as : (text rest : List ℕ) → rest ≡ without_spaces text → rest ≢ [] → position_or_len is_space rest ≡ length rest → words_in text ≡ rest ∷ []
 words_last_as text rest stripped some end =
-    subst (λ r. r ≢ [] → position_or_len is_space r ≡ length r → words_in text ≡ r ∷ words_in []) (sym stripped) (λ some end. (words_last text some end).0) some end
+    subst (λ r. r ≢ [] → position_or_len is_space r ≡ length r → words_in text ≡ r ∷ words_in []) (sym stripped)
+    (λ some end. (words_last text some end).0) some end
 
 -- a text with no byte but spaces has no word
 pub words_none : (text : List ℕ) → without_spaces text ≡ [] → (words_in text ≡ []) × (first_word text ≡ [])

@@ -1,5 +1,6 @@
 -- One write after another.
-use Rattle.std.proofs.Common.{◌≡◌, ℕ, ◌+◌, List, ◌++◌, ◌-◌, arith, length, take, drop, Option, None, Some, ap, sym, subst, ◌∙◌, append_assoc, length-append, slice_range}
+use Rattle.std.proofs.Common.{◌≡◌, ℕ, ◌+◌, List, ◌++◌, ◌-◌, arith, length, take, drop, Option, None}
+use Rattle.std.proofs.Common.{Some, ap, sym, subst, ◌∙◌, append_assoc, length-append, slice_range}
 use Rattle.std.specs.Prelude.{option_map}
 use Rattle.std.proofs.lemmas.List.{take-append-le}
 use Rattle.std.proofs.Math.Seq.{take-add, take-append-add, take-length}

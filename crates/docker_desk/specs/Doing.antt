@@ -7,8 +7,10 @@ use Rattle.docker_cmd.specs.JobLine.{IsLineText}
 use Rattle.docker_cmd.specs.OfficeFault.{OfficeFault}
 use Rattle.docker_host.specs.History.{Text}
 use Rattle.docker_desk.specs.Lines.{LineView, whole_line, bad_line, cut_line}
-use Rattle.docker_desk.specs.Requests.{AsksFor, RequestView, print_request, permanent_request, train_request, files_request, places_request, known_request, renew_request, take_request, merge_request, horizon_request, save_request}
-use Rattle.docker_desk.specs.Desk.{DeskView, EndsReceiving, EndsRenewing, EndsSaving, EndsTaking, IsDockerAnswer, IsFilesAnswer, IsKnownAnswer, IsPermanentAnswer, IsPlacesAnswer, IsTrainAnswer, look_by, unsaved_by}
+use Rattle.docker_desk.specs.Requests.{AsksFor, RequestView, print_request, permanent_request, train_request, files_request, places_request}
+use Rattle.docker_desk.specs.Requests.{known_request, renew_request, take_request, merge_request, horizon_request, save_request}
+use Rattle.docker_desk.specs.Desk.{DeskView, EndsReceiving, EndsRenewing, EndsSaving, EndsTaking, IsDockerAnswer, IsFilesAnswer}
+use Rattle.docker_desk.specs.Desk.{IsKnownAnswer, IsPermanentAnswer, IsPlacesAnswer, IsTrainAnswer, look_by, unsaved_by}
 use Rattle.docker_desk.specs.Reading.{LooksAndOpens, OpensOnce, Reading, StopsInFile, StopsInState}
 use Rattle.docker_desk.specs.declared.compared.Compared.{Compared}
 use Rattle.docker_desk.specs.Replies.{AnswerView, done_with, no_request, refused_for, answer_status}

@@ -1,5 +1,5 @@
 //! A desk, and the requests that it answers.
-ghost use Rattle.std.specs.Prelude.{◌≡◌, ℕ, List, ◌+◌, ◌-◌, ◌^◌, ◌<◌, false, true, length, IsErr, IsOk};
+ghost use Rattle.std.specs.Prelude.{◌≡◌, ℕ, List, ◌+◌, ◌-◌, ◌^◌, ◌<◌, false, true, length, IfSome, IsErr, IsOk};
 ghost use Rattle.docker_model.specs.state.State.{raise_horizon};
 ghost use Rattle.docker_model.specs.state.StateText.{dks_2, state_text};
 ghost use Rattle.docker_cmd.specs.FaultLine.{IsCounted, result_status};
@@ -10,35 +10,41 @@ ghost use Rattle.docker_desk.specs.Doing.{desk_by};
 ghost use Rattle.docker_desk.specs.Replies.{answer_meant, done_with, refused_for};
 ghost use Rattle.docker_model.specs.state.Table.{Table};
 ghost use Rattle.docker_train.specs.Dockers.{IsDockerOf};
+ghost use Rattle.state_lists.specs.Known.{IsKnownText};
 
 use crate::compared::Compared;
 use crate::page::Page;
 use crate::reading::{receive_state, renew_state, take_file};
 use crate::reply::Answer;
 use crate::saving::store_office;
-use cif_line::{Day, Failed, Tiploc, Uid};
+use cif_line::{Day, Failed, Tiploc, Uid, write_all};
 use docker_cmd::{Office, OfficeFault};
 use docker_host::Folder;
 use docker_train::{Docker, DockerFault, TrainFault, permanent_docker, print_train, write_docker};
-use state_lists::{print_known, print_places};
+use state_lists::{KnownText, known_text, print_places};
 use std::alloc::Global;
 use std::marker::Model;
 
 /// A desk: an office, and whether its state may differ from the one that the state's file was last
-/// seen to hold.
+/// seen to hold. If it was asked what it knows since the state last changed, it keeps that text.
 #[derive(Debug, Drop)]
 pub struct Desk {
     alloc: Global,
     office: Office,
     unsaved: bool,
+    known: Option<KnownText>,
 }
 
 impl Model for Desk {
+    ghost use Rattle.std.specs.Prelude.{IfSome};
+    ghost use Rattle.state_lists.specs.Known.{IsKnownText};
     ghost use Rattle.docker_desk.specs.Desk.{DeskView};
 
     ghost Value = { DeskView };
 
     ghost view = { λ desk. record { state = desk.office; unsaved = desk.unsaved } };
+
+    ghost invariant = { λ desk. IfSome desk.known (λ text. IsKnownText desk.office text.items) };
 }
 
 impl Desk {
@@ -50,6 +56,7 @@ impl Desk {
             alloc,
             office,
             unsaved: false,
+            known: None,
         }
     }
 
@@ -122,12 +129,16 @@ impl Desk {
     }
 
     /// What the desk knows, in a few lines: the horizon, the newest full extract, the last day, and
-    /// how much is live. Refused only if memory ran out.
-    pub fn known(&self) -> Answer
-        ensures { IsKnownAnswer self.now.state (answer_meant result) }
+    /// how much is live. Refused only if memory ran out. All entries are counted for it, but only
+    /// once until the state may have changed.
+    pub fn known(&mut self) -> Answer
+        ensures answer { IsKnownAnswer self.old.state (answer_meant result) }
+        ensures desk { self.new ≡ self.old }
     {
+        let text = text_of_known(self.known.take(), &self.office);
         let mut page = Page::new(self.alloc);
-        let printed = print_known(self.office.state(), &mut page);
+        let printed = write_all(&mut page, text.as_slice());
+        self.known = Some(text);
         answer_on(page, printed)
     }
 
@@ -135,12 +146,14 @@ impl Desk {
     /// the desk as it was.
     pub fn take<D: Folder>(&mut self, name: &str, folder: &mut D) -> Result<(), OfficeFault>
         requires { D.failures folder.old < 2 ^ 64 - 1 }
-        ensures opens { OpensOnce name.now StopsInFile (EndsTaking self.old.state self.new.state result)
+        ensures opens { OpensOnce name.now StopsInFile
+            (EndsTaking self.old.state self.new.state result)
             (D.history folder.old) (D.history folder.new) }
         ensures unsaved { self.new.unsaved ≡ unsaved_by result self.old.unsaved }
         ensures counted { IsCounted (result_status result)
             (D.failures folder.old) (D.failures folder.new) }
     {
+        self.known = None;
         match take_file(&mut self.office, name, folder) {
             Ok(()) => {
                 self.note_change();
@@ -154,12 +167,14 @@ impl Desk {
     /// `State`, `Source` or `Memory`, leaves the desk as it was.
     pub fn receive<D: Folder>(&mut self, name: &str, folder: &mut D) -> Result<(), OfficeFault>
         requires { D.failures folder.old < 2 ^ 64 - 1 }
-        ensures opens { OpensOnce name.now StopsInState (EndsReceiving self.old.state self.new.state result)
+        ensures opens { OpensOnce name.now StopsInState
+            (EndsReceiving self.old.state self.new.state result)
             (D.history folder.old) (D.history folder.new) }
         ensures unsaved { self.new.unsaved ≡ unsaved_by result self.old.unsaved }
         ensures counted { IsCounted (result_status result)
             (D.failures folder.old) (D.failures folder.new) }
     {
+        self.known = None;
         match receive_state(&mut self.office, name, folder) {
             Ok(()) => {
                 self.note_change();
@@ -175,6 +190,7 @@ impl Desk {
         ensures { self.new
             ≡ record { state = raise_horizon day self.old.state; unsaved = true } }
     {
+        self.known = None;
         self.office.set_horizon(day);
         self.note_change();
     }
@@ -207,6 +223,7 @@ impl Desk {
             (D.failures folder.old) (D.failures folder.new) }
     {
         let sight = folder.look(name);
+        self.known = None;
         match renew_state(self.alloc, &mut self.office, name, compares, folder) {
             Ok(found) => {
                 *seen = sight;
@@ -245,6 +262,17 @@ impl Desk {
             }
             Err(fault) => Err(fault),
         }
+    }
+}
+
+/// What an office knows, as text: the kept text, or a new one if none is kept.
+fn text_of_known(kept: Option<KnownText>, office: &Office) -> KnownText
+    requires { IfSome kept (λ text. IsKnownText office.now text.items) }
+    ensures { IsKnownText office.now result.items }
+{
+    match kept {
+        Some(text) => text,
+        None => known_text(office.state()),
     }
 }
 

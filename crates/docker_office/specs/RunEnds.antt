@@ -5,7 +5,8 @@ use Rattle.docker_model.specs.state.Lapse.{IsDayRefused}
 use Rattle.docker_model.specs.state.Table.{Table}
 use Rattle.docker_model.specs.docker.DockerText.{IsDockerText}
 use Rattle.docker_model.specs.state.StateText.{dks_2}
-use Rattle.docker_model.specs.run.Run.{RunEvent, take_file, send_state, deliver, reload, horizon_event, Reply, done, Known, Exchange, IsRun, IsReply, IsStateOf, IsMessageOf, office_known, message_known, known_sets}
+use Rattle.docker_model.specs.run.Run.{RunEvent, take_file, send_state, deliver, reload, horizon_event, Reply, done, Known}
+use Rattle.docker_model.specs.run.Run.{Exchange, IsRun, IsReply, IsStateOf, IsMessageOf, office_known, message_known, known_sets}
 use Rattle.docker_model.specs.run.Knowledge.{IsGoodEvent, office_state, message_text, sets_of}
 
 -- says that the limit of a take is at most 4,294,967,294 records

@@ -2,13 +2,12 @@
 ghost use Rattle.std.specs.Prelude.{◌≡◌, ◌-◌, ◌^◌, ◌<◌, map, All, IsErr, OnOk, OnErr};
 ghost use Rattle.cif_device.specs.Device.{CountsFailure, Takes, TakesPart};
 ghost use Rattle.docker_model.specs.docker.DockerText.{ended, file_text, files_text};
-ghost use Rattle.docker_model.specs.records.PrintedTime.{minute_text};
 ghost use Rattle.docker_model.specs.state.State.{IsGoodItem};
 ghost use Rattle.docker_day.specs.Meaning.{item_meant};
 
 use arrayvec::ArrayVec;
 use cif_line::{Failed, Sink, write_all};
-use docker_day::LedgerItem;
+use docker_day::{LedgerItem, clock_text};
 use fixed_text::{put, whole};
 
 /// The number of bytes of a line: 33 columns and a line feed.
@@ -47,18 +46,4 @@ fn line_of(item: &LedgerItem) -> [u8; WIDTH]
     put(&mut text, &item.last_reference);
     put(&mut text, b"\n");
     whole(text)
-}
-
-/// The time of a minute of the day as HHMM.
-fn clock_text(minute: u16) -> [u8; 4]
-    requires { minute < 1440 }
-    ensures { result ≡ minute_text minute }
-{
-    let (hour, minute) = ((minute / 60) as u8, (minute % 60) as u8);
-    [
-        b'0' + hour / 10,
-        b'0' + hour % 10,
-        b'0' + minute / 10,
-        b'0' + minute % 10,
-    ]
 }

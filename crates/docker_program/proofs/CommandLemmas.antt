@@ -25,7 +25,8 @@ use Rattle.docker_cmd.specs.Saved.{HoldsFile}
 use Rattle.docker_cmd.specs.Words.{NamesDay, NamesStored, OfTwo, Text}
 use Rattle.docker_cmd.specs.Job.{JobView}
 use Rattle.docker_cmd.specs.Prepared.{IsOutputText, IsReadOf, IsRefusedDocker, ReadView, file_read, office_read}
-use Rattle.docker_cmd.specs.Tasks.{AreWordsOf, TaskView, new_task, check_task, day_task, take_task, merge_task, print_task, files_task, horizon_task, migrate_task, output_of}
+use Rattle.docker_cmd.specs.Tasks.{AreWordsOf, TaskView, new_task, check_task, day_task, take_task}
+use Rattle.docker_cmd.specs.Tasks.{merge_task, print_task, files_task, horizon_task, migrate_task, output_of}
 use Rattle.docker_program.specs.SourceNames.{file_stored}
 use Rattle.docker_program.specs.Program.{AsksFor}
 use Rattle.docker_program.specs.Sources.{SourcesRead}
@@ -98,7 +99,10 @@ known_raised old day state is_day known = record {
 pub known_file : (file : List (List ℕ)) (state : State) → IsFile file → length file ≤ most_records → IsSummary (file ∷ []) 0 state
     → IsKnown (of_file file) state
 known_file file state is few summary = record {
-  good = ((All-cons IsFile file [] is (All-nil IsFile), All-cons (λ f. length f ≤ most_records) file [] few (All-nil (λ f. length f ≤ most_records))), omega arith);
+  good = (
+    (All-cons IsFile file [] is (All-nil IsFile), All-cons (λ f. length f ≤ most_records) file [] few (All-nil (λ f. length f ≤ most_records))),
+    omega arith,
+  );
   is = summary;
 }
 

@@ -1,5 +1,6 @@
 -- What a command stored or printed, from how it ended.
-use Rattle.std.proofs.Common.{◌≡◌, ◌≢◌, ℕ, List, [], ◌∷◌, ◌++◌, Option, None, Some, length, refl, sym, ◌∙◌, ap, subst, arith, inl, inr, append-nil, append_assoc}
+use Rattle.std.proofs.Common.{◌≡◌, ◌≢◌, ℕ, List, [], ◌∷◌, ◌++◌, Option, None, Some, length, refl}
+use Rattle.std.proofs.Common.{sym, ◌∙◌, ap, subst, arith, inl, inr, append-nil, append_assoc}
 use Rattle.docker_host.specs.Asked.{IsStored, IsUnplaced}
 use Rattle.docker_host.specs.History.{Bytes, Event, looked, opened, unopened, closed, drafted, undrafted, dropped}
 use Rattle.docker_cmd.specs.Words.{Text}

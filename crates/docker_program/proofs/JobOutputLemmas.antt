@@ -62,7 +62,8 @@ ends_wanting by written prepared name is none kept =
 
 -- if the draft failed and was given up, the job ends with the draft's fault
 pub ends_dropped : (by : Drafting) (written : Written) (prepared : PreparedView) (name : Text) (fault : OfficeFault) → stored_by prepared.job ≡ Some name
-    → fault ≡ office.Sink → IsDropped name by.look written.before written.now → written.output_now ≡ written.output → EndsWriting by written prepared (Err fault)
+    → fault ≡ office.Sink → IsDropped name by.look written.before written.now → written.output_now ≡ written.output
+    → EndsWriting by written prepared (Err fault)
 ends_dropped by written prepared name fault is alone given_up kept =
     subst (λ (fault : OfficeFault). EndsWriting by written prepared (Err fault)) (sym alone)
     (subst (λ (stored : Option Text). WritesPartTo stored by written prepared) (sym is) (inr (inl given_up), kept))

@@ -15,7 +15,8 @@ use Rattle.docker_program.specs.SourceNames.{stored_by}
 use Rattle.docker_program.specs.Sources.{IsPrepared, ReadsNamed, asking, with_look_at}
 use Rattle.docker_cmd.specs.FaultLine.{IsCounted, fault_line, status_of}
 use Rattle.docker_program.specs.Writing.{EndsWriting, Writes, Written, written}
-use Rattle.docker_program.specs.Program.{AskForNone, AskForSome, AsksAtMost, AsksFor, EndsBy, HasRead, IsAsked, IsNotAsked, IsUsageStatus, Performs, WantsMemory, ending_status, failures_of, from_first_look, reading}
+use Rattle.docker_program.specs.Program.{AskForNone, AskForSome, AsksAtMost, AsksFor, EndsBy, HasRead, IsAsked, IsNotAsked}
+use Rattle.docker_program.specs.Program.{IsUsageStatus, Performs, WantsMemory, ending_status, failures_of, from_first_look, reading}
 
 -- if a job is refused for what its sources held, the program ends with that fault
 unread : (words : List Text) (names_bytes : Bool) (old new : HostView) (job : JobView) (rest : Bytes) (fault : OfficeFault) →

@@ -11,8 +11,10 @@ use Rattle.docker_host.specs.Host.{HostView}
 use Rattle.docker_host.specs.Shelf.{IsShelfHistory}
 use Rattle.docker_cmd.specs.CheckLine.{count_line}
 use Rattle.docker_cmd.specs.Job.{IsJobOf, JobView}
-use Rattle.docker_cmd.specs.Prepared.{IsOutputText, IsReadOf, ReadView, ReadsFewOfSecond, ReadsFewOfState, counts_written, file_read, office_read, state_and_file}
-use Rattle.docker_cmd.specs.Tasks.{TaskView, new_task, check_task, day_task, take_task, merge_task, print_task, files_task, horizon_task, migrate_task, name_of, subcommand_of}
+use Rattle.docker_cmd.specs.Prepared.{IsOutputText, IsReadOf, ReadView, ReadsFewOfSecond, ReadsFewOfState}
+use Rattle.docker_cmd.specs.Prepared.{counts_written, file_read, office_read, state_and_file}
+use Rattle.docker_cmd.specs.Tasks.{TaskView, new_task, check_task, day_task, take_task, merge_task}
+use Rattle.docker_cmd.specs.Tasks.{print_task, files_task, horizon_task, migrate_task, name_of, subcommand_of}
 use Rattle.docker_cmd.specs.Words.{Text}
 use Rattle.docker_program.specs.SourceNames.{first_word, stored_by}
 use Rattle.docker_program.specs.Sources.{SourcesRead}
@@ -187,7 +189,8 @@ take_left state extract old new put met performs = by (run_done run performs)
         let shelf : IsShelfHistory (all read state_name 2 text) = subst IsShelfHistory events met in
         let first : read.first ≡ Some state = shelf.1.1.1.0.0 in
         let second : read.second ≡ Some extract = shelf.1.1.1.1.0.0 in
-        let few : ReadsFewOfState dks_2 (Some state) read.first_left = subst (λ (b : Bytes). ReadsFewOfState dks_2 b read.first_left) first stores.reads.first_few in
+        let few : ReadsFewOfState dks_2 (Some state) read.first_left =
+        subst (λ (b : Bytes). ReadsFewOfState dks_2 b read.first_left) first stores.reads.first_few in
         let left = few_known state read.first_left few in
         let none : read.second_left ≡ Some [] = end_known extract read.first read.second read.second_left second stores.reads.second_few stores.reads.to_end in
         record {
@@ -205,7 +208,8 @@ take_left state extract old new put met performs = by (run_done run performs)
     by (job, read, text, inl stores) =
         left read text (subst (λ (j : JobView). Stores run j read text) (take_job state_name file_name job stores.reads.asks.0) stores)
     by (job, read, text, inr prints) =
-        absurd (none_some state_name (sym (subst (λ (j : JobView). stored_by j ≡ None) (take_job state_name file_name job prints.reads.asks.0) prints.unstored)))
+        let none = subst (λ (j : JobView). stored_by j ≡ None) (take_job state_name file_name job prints.reads.asks.0) prints.unstored in
+        absurd (none_some state_name (sym none))
 
 -- the same as `take_left`, for what the host shows after the command
 pub take_result : (state extract : List ℕ) (words : List Text) (old shown new : HostView) (status : ℕ)

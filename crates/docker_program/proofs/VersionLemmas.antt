@@ -21,8 +21,11 @@ use Rattle.docker_cmd.specs.Saved.{AreGained, Gain, Gains, HoldsVersion, IsSaved
 use Rattle.docker_cmd.specs.Tasks.{TaskView, horizon_task, merge_task, migrate_task, new_task, take_task}
 use Rattle.docker_cmd.specs.Words.{Text}
 use Rattle.docker_program.specs.Sources.{SourcesRead}
-use Rattle.docker_program.specs.Commands.{AreMade, AreVersions, ByCommand, HoldsKnown, IsKnownText, IsMade, IsVersion, Knows, MayStore, Origin, Prints, PrintsKnown, Run, Stores, Version, begun, known_after, known_at, known_by, known_once, known_with, merged, migrated, of_file, of_horizon, printing, raised, saved, taken}
-use Rattle.docker_program.proofs.CommandLemmas.{IsKnown, known_held, known_joined, known_raised, known_text, may_store_known, prints_known, stores_known, taken_behind}
+use Rattle.docker_program.specs.Commands.{AreMade, AreVersions, ByCommand, HoldsKnown, IsKnownText, IsMade, IsVersion, Knows, MayStore}
+use Rattle.docker_program.specs.Commands.{Origin, Prints, PrintsKnown, Run, Stores, Version, begun, known_after, known_at, known_by}
+use Rattle.docker_program.specs.Commands.{known_once, known_with, merged, migrated, of_file, of_horizon, printing, raised, saved, taken}
+use Rattle.docker_program.proofs.CommandLemmas.{IsKnown, known_held, known_joined, known_raised, known_text}
+use Rattle.docker_program.proofs.CommandLemmas.{may_store_known, prints_known, stores_known, taken_behind}
 
 -- the texts of versions
 abbrev pub texts_of : List Version → List (List ℕ)
@@ -109,7 +112,8 @@ all_known knowns texts (version ∷ versions) are made =
     subst (AreKnown (known_after (knowns ++ known_by knowns version.origin ∷ []) versions))
     (append_assoc texts (version.text ∷ []) (texts_of versions))
     (all_known (knowns ++ known_by knowns version.origin ∷ []) (texts ++ version.text ∷ []) versions
-    (zip_end (IsKnownText dks_2) knowns texts (known_by knowns version.origin) version.text are (made_known knowns texts version.origin version.text are made.0)) made.1)
+    (zip_end (IsKnownText dks_2) knowns texts (known_by knowns version.origin) version.text are
+    (made_known knowns texts version.origin version.text are made.0)) made.1)
 
 -- for each version there is one entry of what is known
 known_long : (knowns : List Known) (texts : List (List ℕ)) (versions : List Version) → AreKnown knowns texts → AreMade texts versions

@@ -13,7 +13,8 @@ use Rattle.docker_host.specs.Host.{HostView}
 use Rattle.docker_cmd.specs.Job.{JobView}
 use Rattle.docker_cmd.specs.Prepared.{HasReadToEnd, IsOutputText, IsReadOf, IsRefusedDocker, ReadView, ReadsFewOfFirst, ReadsFewOfSecond}
 use Rattle.docker_cmd.specs.Saved.{Gain, HoldsFile, HoldsVersion, IsSaved, file_gained, horizon_gained, version_gained}
-use Rattle.docker_cmd.specs.Tasks.{TaskView, new_task, check_task, day_task, take_task, merge_task, print_task, files_task, horizon_task, migrate_task, output_of, sources_of}
+use Rattle.docker_cmd.specs.Tasks.{TaskView, new_task, check_task, day_task, take_task, merge_task}
+use Rattle.docker_cmd.specs.Tasks.{print_task, files_task, horizon_task, migrate_task, output_of, sources_of}
 use Rattle.docker_cmd.specs.Words.{Text}
 use Rattle.docker_program.specs.SourceNames.{names_of, stored_by}
 use Rattle.docker_program.specs.Sources.{AreOthers, SourcesRead, with_files_read, with_look_at}

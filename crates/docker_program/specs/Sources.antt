@@ -6,7 +6,8 @@ use Rattle.cif_file.specs.declared.fault.FileFault.{FileFault}
 use Rattle.docker_cmd.specs.Job.{JobView}
 use Rattle.docker_cmd.specs.OfficeFault.{OfficeFault}
 use Rattle.docker_cmd.specs.OfficeFault.TheVariants as office
-use Rattle.docker_cmd.specs.Prepared.{PreparedView, HasReadToEnd, IsReadOf, ReadsFewOfFirst, ReadsFewOfSecond, ReadsInOrder, RefusesFileOf, RefusesStateOf, WantsFor, sources_of}
+use Rattle.docker_cmd.specs.Prepared.{PreparedView, HasReadToEnd, IsReadOf, ReadsFewOfFirst, ReadsFewOfSecond}
+use Rattle.docker_cmd.specs.Prepared.{ReadsInOrder, RefusesFileOf, RefusesStateOf, WantsFor, sources_of}
 use Rattle.docker_cmd.specs.StateFault.{StateFault}
 use Rattle.docker_cmd.specs.Words.{Text}
 use Rattle.docker_program.specs.SourceNames.{SourceNames, no_source, standard_input, one_file, file_and_input, two_files, names_of}

@@ -5,7 +5,6 @@ ghost use Rattle.std.specs.List.{flat_map};
 ghost use Rattle.std.specs.Option.{option_copied};
 ghost use Rattle.cif_device.specs.Device.{CountsFailure, Takes, TakesPart};
 ghost use Rattle.docker_join.specs.Meaning.{stamp_meant};
-ghost use Rattle.docker_model.specs.records.PrintedTime.{minute_text};
 ghost use Rattle.docker_model.specs.docker.DockerText.{ended};
 ghost use Rattle.docker_model.specs.state.State as states;
 ghost use Rattle.cif_line.specs.Letter.{stp_letter};
@@ -18,7 +17,7 @@ use crate::finding::find_train;
 use crate::stamped::Stamped;
 use arrayvec::ArrayVec;
 use cif_line::{Day, Failed, Line, Sink, Stp, Uid, write_all};
-use docker_day::State;
+use docker_day::{State, clock_text};
 use docker_join::Stamp;
 use fixed_text::{put, whole};
 use itoa::Buffer;
@@ -154,20 +153,6 @@ fn text_of_stamp(stamp: &Stamp) -> [u8; 34]
     put(&mut text, b" ");
     put(&mut text, &number_text(stamp.number));
     whole(text)
-}
-
-/// The time of a minute of the day as HHMM.
-fn clock_text(minute: u16) -> [u8; 4]
-    requires { minute < 1440 }
-    ensures { result ≡ minute_text minute }
-{
-    let (hour, minute) = ((minute / 60) as u8, (minute % 60) as u8);
-    [
-        b'0' + hour / 10,
-        b'0' + hour % 10,
-        b'0' + minute / 10,
-        b'0' + minute % 10,
-    ]
 }
 
 /// A record number in ten columns, padded with spaces on the left.

@@ -2,7 +2,6 @@
 use Rattle.std.proofs.Common.{◌≡◌, ℕ, ◌<◌, List, ◌++◌, ap, ◌∙◌, subst, Some, None}
 use Rattle.std.specs.Prelude.{Option, IfSome, codes, option_map}
 use Rattle.std.proofs.lemmas.List.Elements.{All-contains}
-use Rattle.cif_device.specs.Device.{Takes, TakesPart}
 use Rattle.docker_model.specs.file.Change as model
 use Rattle.docker_model.specs.state.Op as ops
 use Rattle.docker_model.specs.state.Stamp.{FileStamp, IsFloor}
@@ -10,7 +9,6 @@ use Rattle.docker_model.specs.state.State.{State, IsGoodItem, IsValid}
 use Rattle.docker_join.specs.declared.stamp.FileStamp as stamps
 use Rattle.docker_join.specs.Meaning.{file_stamp_meant}
 use Rattle.docker_state.specs.Live.{live_rows}
-use Rattle.state_lists.specs.Gained.{Gains, GainsPart}
 use Rattle.state_lists.specs.Known.{IsKnownText, count_line, full_line, horizon_line, last_line}
 use Rattle.state_lists.specs.Tallies.{IsTallyOf, known_lines}
 use Rattle.state_lists.specs.declared.tally.Tally.{Tally}
@@ -30,7 +28,8 @@ module _ (state : State) (valid : IsValid state) (entries : List (model.Key × o
   of_all : IsTallyOf (live_rows state.entries) tally
   of_all = subst (λ (all : List (model.Key × ops.Entry)). IsTallyOf (live_rows all) tally) are counted
 
-  is_known : IsKnownText state bytes
+  -- the lines of a tally of all live rows are the text of what is known
+  pub is_known : IsKnownText state bytes
   is_known = record {
     full = full;
     is_full = is_full;
@@ -41,12 +40,3 @@ module _ (state : State) (valid : IsValid state) (entries : List (model.Key × o
     text_is = is ∙ (λ i. horizon_line (horizon_is i) ++ full_line full ++ last_line tally.last ++ count_line (codes "SCHEDULES   ") (of_all.schedules i)
         ++ count_line (codes "ASSOCIATIONS") (of_all.associations i) ++ count_line (codes "PLACES      ") (of_all.places i));
   }
-
-  -- if a sink gains all bytes that are written, it gains the text of what the state knows
-  pub known_taken : (old new : Option (List ℕ)) → Takes old bytes new → Gains (IsKnownText state) old new
-  known_taken old new taken = record { text = bytes; is = is_known; gained = taken }
-
-  -- if a sink gains a proper prefix of the bytes that are written, it gains a proper prefix of the
-  -- text of what the state knows
-  pub known_begun : (old new : Option (List ℕ)) → TakesPart old bytes new → GainsPart (IsKnownText state) old new
-  known_begun old new taken = record { text = bytes; is = is_known; gained = taken }

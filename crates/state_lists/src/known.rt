@@ -1,41 +1,31 @@
 //! Prints what a state knows. Each line has a name in columns 1 to 12 and a value from column 14
 //! on.
-ghost use Rattle.std.specs.Prelude.{◌≡◌, ◌-◌, ◌^◌, ◌<◌, IfSome, IsErr, OnOk, OnErr, option_map};
-ghost use Rattle.cif_device.specs.Device.{CountsFailure};
+ghost use Rattle.std.specs.Prelude.{◌≡◌, ◌<◌, IfSome, option_map};
 ghost use Rattle.docker_model.specs.records.Date.{IsDay};
-ghost use Rattle.docker_model.specs.records.PrintedTime.{minute_text};
 ghost use Rattle.docker_join.specs.Meaning.{file_stamp_meant};
-ghost use Rattle.state_lists.specs.Gained.{Gains, GainsPart};
 ghost use Rattle.state_lists.specs.Known.{IsKnownText, count_line, full_line, horizon_line, horizon_text, last_line};
 ghost use Rattle.state_lists.specs.Tallies.{known_lines};
 
 use crate::tally::{Tally, tally_of};
 use arrayvec::ArrayVec;
-use cif_line::{Day, Failed, Sink, write_all};
+use cif_line::Day;
+use docker_day::clock_text;
 use docker_join::FileStamp;
 use docker_state::State;
 use fixed_text::put;
 use itoa::Buffer;
 
-/// The whole text. Its capacity is enough for all lines, however great the counts are.
-type KnownText = ArrayVec<u8, 187>;
+/// What a state knows, as text. It has room for all lines, whatever the counts.
+pub type KnownText = ArrayVec<u8, 187>;
 
-/// Prints what a state knows: its horizon, its newest full extract, the greatest last day of a live
-/// schedule, and how many schedules, associations and timing points are live. The line of the full
-/// extract is omitted if there is no full extract, and the line of the last day if no schedule has
-/// a last day. The call allocates nothing. If the write fails, the sink has gained a proper prefix
-/// of the text.
-pub fn print_known<K: Sink>(state: &State, sink: &mut K) -> Result<(), Failed>
-    requires { K.failures sink.old < 2 ^ 64 - 1 }
-    ensures whole { OnOk result (Gains (IsKnownText state.now)
-        (K.taken sink.old) (K.taken sink.new)) }
-    ensures part { OnErr result (GainsPart (IsKnownText state.now)
-        (K.taken sink.old) (K.taken sink.new)) }
-    ensures failures { CountsFailure (IsErr result) (K.failures sink.old) (K.failures sink.new) }
+/// What a state knows, as text. There is a line for its horizon, and lines for how many schedules,
+/// associations and timing points are live. The newest full extract and the greatest last day of a
+/// live schedule have a line if there is one. It counts all entries, and allocates nothing.
+pub fn known_text(state: &State) -> KnownText
+    ensures { IsKnownText state.now result.items }
 {
     let tally = tally_of(state.entries());
-    let text = lines_of(state.horizon(), state.floor(), &tally);
-    write_all(sink, text.as_slice())
+    lines_of(state.horizon(), state.floor(), &tally)
 }
 
 /// The text of all lines. `full` is the newest full extract.
@@ -147,18 +137,4 @@ fn count_line(name: &[u8; 12], count: usize) -> ArrayVec<u8, 34>
     put(&mut text, Buffer::new().format(count).as_bytes());
     put(&mut text, b"\n");
     text
-}
-
-/// The time of a minute of the day as HHMM.
-fn clock_text(minute: u16) -> [u8; 4]
-    requires { minute < 1440 }
-    ensures { result ≡ minute_text minute }
-{
-    let (hour, minute) = ((minute / 60) as u8, (minute % 60) as u8);
-    [
-        b'0' + hour / 10,
-        b'0' + hour % 10,
-        b'0' + minute / 10,
-        b'0' + minute % 10,
-    ]
 }

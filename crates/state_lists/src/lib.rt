@@ -7,5 +7,5 @@ pub mod laws;
 mod places;
 mod tally;
 
-pub use known::print_known;
+pub use known::{KnownText, known_text};
 pub use places::print_places;

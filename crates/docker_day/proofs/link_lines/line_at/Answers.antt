@@ -14,4 +14,6 @@ returns-clause-line c = λ rows are base same.
     ∙ c.if-not-is_today.false in
     told_if _ _ _ today
     (ap (λ line. line ∷ []) (c.of_link.ensures base same
-    ∙ (λ i. line_of_link (occasion_meant c.args.occasion) link.key base ((c.start-2.ensures.start ∙ ap (λ (v : Visit). v.start) c.partner_identity.ensures.same) i) (occurrence_meant c.args.event.now) (c.in_ok-identity.ensures.identity rows are i))))
+    ∙ (λ i. line_of_link (occasion_meant c.args.occasion) link.key base
+    ((c.start-2.ensures.start ∙ ap (λ (v : Visit). v.start) c.partner_identity.ensures.same) i)
+    (occurrence_meant c.args.event.now) (c.in_ok-identity.ensures.identity rows are i))))

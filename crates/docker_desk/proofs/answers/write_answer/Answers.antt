@@ -10,5 +10,6 @@ returns-clause-part g c =
     on_err_weaker c.write_all-2.result
     (part_of_back (g.K.Sink.taken c.args.sink.now) (g.K.Sink.taken c.write_all.new.sink) (g.K.Sink.taken c.write_all-2.new.sink) _ c.args.text.now
     (subst (λ (front : List ℕ). Takes (g.K.Sink.taken c.args.sink.now) front (g.K.Sink.taken c.write_all.new.sink))
-    (c.as_slice.ensures.value ∙ c.header-header.ensures ∙ ap (λ lines. header_text c.args.status lines (length c.args.text.now)) c.line_feeds.ensures) c.in_ok-write_all.ensures.whole))
+    (c.as_slice.ensures.value ∙ c.header-header.ensures
+    ∙ ap (λ lines. header_text c.args.status lines (length c.args.text.now)) c.line_feeds.ensures) c.in_ok-write_all.ensures.whole))
     c.write_all-2.ensures.part

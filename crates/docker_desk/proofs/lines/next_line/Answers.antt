@@ -16,4 +16,5 @@ returns-then-is_full-clause-ends g c =
           let full : length c.loop.line.items ≡ 255 = search rules in record { other = other; why = inl full }
       | then-is_full-via-else-is_full+then-not-is_printable w ↦ record { other = other; why = inr (search rules) }
     ] in
-    reads_bad _ _ _ _ c.loop.line.items c.in-Some.byte c.skip_line.result c.loop.invariant.so_far read c.loop.invariant.printable spoiled c.skip_line.ensures.ends
+    reads_bad _ _ _ _ c.loop.line.items c.in-Some.byte c.skip_line.result c.loop.invariant.so_far read c.loop.invariant.printable spoiled
+    c.skip_line.ensures.ends

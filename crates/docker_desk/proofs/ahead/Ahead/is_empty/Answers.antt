@@ -21,5 +21,7 @@ pub returns : goal.returns
 returns c =
     let bytes = c.self.inside.bytes in (
       λ same. sym c.self.view_is ∙ at_end bytes c.self.inside.at c.self.inside.end c.self.invariant.1 (search (rules, tests)),
-      λ none. let same : c.self.inside.at ≡ c.self.inside.end = none_left bytes c.self.inside.at c.self.inside.end c.self.invariant.0 c.self.invariant.1 (c.self.view_is ∙ none) in search (rules, tests),
+      λ none.
+          let same : c.self.inside.at ≡ c.self.inside.end =
+          none_left bytes c.self.inside.at c.self.inside.end c.self.invariant.0 c.self.invariant.1 (c.self.view_is ∙ none) in search (rules, tests),
     )
