@@ -165,7 +165,8 @@ ended_read keeps old new limit text front reading plain counted none = record {
 -- a fault of the line that ends at a line feed is a fault of the text up to this line feed
 pub ended_fault : {K : Type 0} (keeps : Keeps K) (wants : Type 0) (old : FileReading K) (limit : ℕ) (text front : List ℕ) (fault : FileFault)
     → IsReading keeps old limit text → HasNoFeed front
-    → IsFaultNext wants limit (complete_lines text) (strip_carriage_return (open_line text ++ front)) fault → IsFaultReported limit (text ++ (front ++ 10 ∷ [])) fault
+    → IsFaultNext wants limit (complete_lines text) (strip_carriage_return (open_line text ++ front)) fault
+    → IsFaultReported limit (text ++ (front ++ 10 ∷ [])) fault
 ended_fault keeps wants old limit text front fault reading plain next = by (cause_meant fault.cause) next.cause
   where
     by : (meant : Option model.FileCause) → IsCauseAfter wants limit (complete_lines text) (strip_carriage_return (open_line text ++ front)) meant

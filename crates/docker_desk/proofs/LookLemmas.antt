@@ -126,7 +126,8 @@ module _ (setting : Setting) where
       good_saved setting.name setting.names_bytes (state_text dks_2 before.desk.state) before.history after.history does.result before.look before.look
       after.look does.stores does.look good
 
-  good_asked : (request : Option RequestView) (before after : SessionView) (answer : AnswerView) → DoesAsked setting request before answer after → LooksWell before
+  good_asked : (request : Option RequestView) (before after : SessionView) (answer : AnswerView) → DoesAsked setting request before answer after
+      → LooksWell before
       → LooksWell after
   good_asked (Some request) before after answer does good = good_request request before after answer does good
   good_asked None before after answer does good = good_kept before after does.1 good

@@ -88,7 +88,8 @@ module _ (places : Places) (none : (key : Key) (op : Op) → is_put op ≡ false
           (filter_forth (is_put_at rows) spots spot ((of.members spot).1 there) (put_row rows spot row at ∙ put))
 
   -- removing the postings of rows that lapsed leaves the postings of the rows after the lapse
-  pub lapsed_postings : (names : List (List ℕ)) (postings after : List Posting) → after ≡ filter (is_put_at_posting rows) postings → ArePostingsOf places before names postings
+  pub lapsed_postings : (names : List (List ℕ)) (postings after : List Posting) → after ≡ filter (is_put_at_posting rows) postings
+      → ArePostingsOf places before names postings
       → ArePostingsOf places rows names after
   lapsed_postings names postings after is of = record {
     up = subst (IsStrictlyAscending posting_cmp) (sym is) (filter_ascends posting_cmp (is_put_at_posting rows) postings of.up);

@@ -36,7 +36,8 @@ pub moved_few : (ranks : List ℕ) (moves : List (Option ℕ)) (postings : List 
 moved_few ranks moves [] = omega arith
 moved_few ranks moves (posting ∷ postings) = by (moved_posting ranks moves posting) (moved_few ranks moves postings)
   where
-    by : (o : Option Posting) → length (moved_postings ranks moves postings) ≤ length postings → length (cons_option o (moved_postings ranks moves postings)) ≤ suc (length postings)
+    by : (o : Option Posting) → length (moved_postings ranks moves postings) ≤ length postings
+        → length (cons_option o (moved_postings ranks moves postings)) ≤ suc (length postings)
     by None rest = omega arith
     by (Some moved) rest = omega arith
 
@@ -45,7 +46,8 @@ module _ (names others : List (List ℕ)) (ranks : List ℕ) (are : AreRanks oth
   rank_at i = sym (slice_get-map (slice_get others) ranks i) ∙ ap (λ (all : List (Option (List ℕ))). slice_get all i) are ∙ slice_get-map Some names i
 
   -- the spot of a moved posting is the moved spot of the posting
-  same_move : (posting : Posting) → option_and_then (posting_spot others) (moved_posting ranks moves posting) ≡ option_and_then (moved_spot moves) (posting_spot names posting)
+  same_move : (posting : Posting) → option_and_then (posting_spot others) (moved_posting ranks moves posting) ≡ option_and_then (moved_spot moves)
+      (posting_spot names posting)
   same_move posting = by (slice_get ranks posting.place) refl (slice_get names posting.place) refl
     where
       there : Option ℕ → Option Spot
@@ -109,7 +111,8 @@ module _ (names others : List (List ℕ)) (ranks : List ℕ) (are : AreRanks oth
       )
 
   module _ (up : IsStrictlyAscending bytes_cmp names) (others_up : IsStrictlyAscending bytes_cmp others) (rise : AreRising moves) where
-    moved_below : (a b c d : Posting) → posting_cmp a b ≡ Less → moved_posting ranks moves a ≡ Some c → moved_posting ranks moves b ≡ Some d → posting_cmp c d ≡ Less
+    moved_below : (a b c d : Posting) → posting_cmp a b ≡ Less → moved_posting ranks moves a ≡ Some c → moved_posting ranks moves b ≡ Some d
+        → posting_cmp c d ≡ Less
     moved_below a b c d below is_c is_d = by (nat_cmp a.place b.place) refl below
       where
         from_a : (slice_get ranks a.place ≡ Some c.place) × (slice_get moves a.at ≡ Some (Some c.at))
@@ -134,7 +137,8 @@ module _ (names others : List (List ℕ)) (ranks : List ℕ) (are : AreRanks oth
             (λ i. ordering_then ((same ∙ at) i) (nat_cmp c.at d.at))
             ∙ sym (nat_cmp_is c.at d.at Less (rise a.at b.at c.at d.at (ranked a.at b.at Less (sym told)) from_a.1 from_b.1))
 
-    pub moved_ascends : (postings : List Posting) → IsStrictlyAscending posting_cmp postings → IsStrictlyAscending posting_cmp (moved_postings ranks moves postings)
+    pub moved_ascends : (postings : List Posting) → IsStrictlyAscending posting_cmp postings
+        → IsStrictlyAscending posting_cmp (moved_postings ranks moves postings)
     moved_ascends postings rising = chosen_ascends (moved_posting ranks moves) posting_cmp posting_cmp moved_below postings rising
 
 -- merging the moved postings of both tables gives the postings of the joined rows

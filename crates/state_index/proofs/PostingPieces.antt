@@ -43,13 +43,15 @@ module _ {A : Type 0} (P : A → Type 0) where
 
 -- ---- a test that passes up to some index and fails from there on
 
-above_at : (low : Posting) (postings : List Posting) (j : ℕ) (d : Posting) → AllByRecursion (IsBelow posting_cmp low) postings → j < length postings → posting_cmp low
+above_at : (low : Posting) (postings : List Posting) (j : ℕ) (d : Posting) → AllByRecursion (IsBelow posting_cmp low) postings → j < length postings
+    → posting_cmp low
     (get_or postings j d) ≡ Less
 above_at low [] j d above within = absurd (let none : j < 0 = within in omega arith)
 above_at low (posting ∷ postings) zero d above within = above.0
 above_at low (posting ∷ postings) (suc j) d above within = above_at low postings j d above.1 (omega arith)
 
-below_at : (postings : List Posting) (i j : ℕ) (d : Posting) → IsStrictlyAscending posting_cmp postings → i < j → j < length postings → posting_cmp (get_or postings i d)
+below_at : (postings : List Posting) (i j : ℕ) (d : Posting) → IsStrictlyAscending posting_cmp postings → i < j → j < length postings
+    → posting_cmp (get_or postings i d)
     (get_or postings j d) ≡ Less
 below_at [] i j d up before within = absurd (let none : j < 0 = within in omega arith)
 below_at (posting ∷ postings) i zero d up before within = absurd (omega arith)
@@ -86,7 +88,8 @@ module _ (test : Ordering → Bool) (down : GoesDown test) (place : ℕ) where
     where
       by : (i j : ℕ) (d : Posting) → i ≤ j → j < length postings → test (by_place place (get_or postings j d)) ≡ true → (i < j) ⊎ (j ≤ i) → test
           (by_place place (get_or postings i d)) ≡ true
-      by i j d before within passes (inl strictly) = passes_below (get_or postings i d) (get_or postings j d) (below_at postings i j d up strictly within) passes
+      by i j d before within passes (inl strictly) = passes_below (get_or postings i d) (get_or postings j d)
+          (below_at postings i j d up strictly within) passes
       by i j d before within passes (inr after) =
           let same : j ≡ i = omega arith in
           subst (λ k. test (by_place place (get_or postings k d)) ≡ true) same passes

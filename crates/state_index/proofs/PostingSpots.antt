@@ -50,7 +50,8 @@ module _ (names : List (List ℕ)) (up : IsStrictlyAscending bytes_cmp names) wh
           nat_list_cmp_total.antisymm x y ∙ ap ordering_reverse (at_ascends bytes_cmp names up j i y x (ranked i j Greater (sym at)) is_y is_x) ∙ sym at
 
   -- the places of two spots compare like the places of their postings
-  pub same_order : (a b : Posting) (x y : Spot) → posting_spot names a ≡ Some x → posting_spot names b ≡ Some y → bytes_cmp x.place y.place ≡ nat_cmp a.place b.place
+  pub same_order : (a b : Posting) (x y : Spot) → posting_spot names a ≡ Some x → posting_spot names b ≡ Some y
+      → bytes_cmp x.place y.place ≡ nat_cmp a.place b.place
   same_order a b x y is_x is_y = place_order a.place b.place x.place y.place (spot_named names a x is_x).0 (spot_named names b y is_y).0
 
   pub same_cmp : (a b : Posting) (x y : Spot) → posting_spot names a ≡ Some x → posting_spot names b ≡ Some y → spot_cmp x y ≡ posting_cmp a b
@@ -60,7 +61,8 @@ module _ (names : List (List ℕ)) (up : IsStrictlyAscending bytes_cmp names) wh
 
   -- ascending postings have ascending spots
   pub spots_ascend : (postings : List Posting) → IsStrictlyAscending posting_cmp postings → IsStrictlyAscending spot_cmp (spots_in names postings)
-  spots_ascend postings rise = chosen_ascends (posting_spot names) posting_cmp spot_cmp (λ a b c d below is_c is_d. same_cmp a b c d is_c is_d ∙ below) postings rise
+  spots_ascend postings rise = chosen_ascends (posting_spot names) posting_cmp spot_cmp
+      (λ a b c d below is_c is_d. same_cmp a b c d is_c is_d ∙ below) postings rise
 
   -- a place is at only one index of an ascending list
   one_rank : (i j : ℕ) (place : List ℕ) → slice_get names i ≡ Some place → slice_get names j ≡ Some place → i ≡ j
@@ -102,7 +104,8 @@ no_piece names postings place never all all_is = record {
 
 -- the postings of a place name the same rows as their spots
 pub same_rows : (names : List (List ℕ)) (rank : ℕ) (place : List ℕ) → slice_get names rank ≡ Some place → (piece : List Posting)
-    → ((posting : Posting) → Contains piece posting → posting.place ≡ rank) → (rows : List Keyed) → rows_at_postings rows piece ≡ rows_at_spots rows (spots_in names piece)
+    → ((posting : Posting) → Contains piece posting → posting.place ≡ rank) → (rows : List Keyed)
+    → rows_at_postings rows piece ≡ rows_at_spots rows (spots_in names piece)
 same_rows names rank place at [] here rows = refl
 same_rows names rank place at (posting ∷ piece) here rows =
     by (posting_spot names posting) (ap (option_map (spot_at posting.at)) (ap (slice_get names) (here posting (cons-Contains-first posting piece)) ∙ at))
@@ -116,7 +119,8 @@ same_rows names rank place at (posting ∷ piece) here rows =
         λ i. cons_option (option_and_then live_row (slice_get rows (sym (ap (λ (s : Spot). s.at) same) i))) (rest i)
 
 -- if all postings of one list are in another, all spots of the first are spots of the other
-pub same_spots : (names : List (List ℕ)) (postings others : List Posting) → ((posting : Posting) → Contains postings posting → Contains others posting) → (spot : Spot)
+pub same_spots : (names : List (List ℕ)) (postings others : List Posting) → ((posting : Posting) → Contains postings posting → Contains others posting)
+    → (spot : Spot)
     → Contains (spots_in names postings) spot → Contains (spots_in names others) spot
 same_spots names postings others same spot among =
     let found = chosen_from (posting_spot names) postings spot among in
@@ -124,7 +128,8 @@ same_spots names postings others same spot among =
 
 -- if postings have the spots of some rows, sorting them and removing repeats gives the postings of these rows
 pub postings_made : (places : Places) (rows : List Keyed) (names : List (List ℕ)) (made postings : List Posting) → IsStrictlyAscending bytes_cmp names
-    → spots_in names made ≡ spots_of places rows → IsStrictlyAscending posting_cmp postings → ((posting : Posting) → Contains postings posting ↔ Contains made posting)
+    → spots_in names made ≡ spots_of places rows → IsStrictlyAscending posting_cmp postings
+    → ((posting : Posting) → Contains postings posting ↔ Contains made posting)
     → ArePostingsOf places rows names postings
 postings_made places rows names made postings named are up same = record {
   up = up;

@@ -3,8 +3,10 @@
 use Rattle.std.specs.Prelude.{◌≢◌, ℕ, List, Option, Some, None, slice_index, ⊤}
 use Rattle.docker_model.specs.file.Change.{tiploc_key, association_key, schedule_key}
 use Rattle.docker_model.specs.state.StateText.{Format}
-use Rattle.docker_model.specs.state.StateFault.{bad_mark, bad_item, bad_order, bad_floor, bad_tag, bad_stamp, bad_body, too_short, has_tail, too_long, bad_horizon, IsBadPart}
-use Rattle.docker_model.specs.state.StatePart.{EntryPart, before_tag, before_key, before_stamp, before_op, before_body, before_line, Before, before_item, in_entry}
+use Rattle.docker_model.specs.state.StateFault.{bad_mark, bad_item, bad_order, bad_floor, bad_tag, bad_stamp, bad_body, too_short, has_tail, too_long}
+use Rattle.docker_model.specs.state.StateFault.{bad_horizon, IsBadPart}
+use Rattle.docker_model.specs.state.StatePart.{EntryPart, before_tag, before_key, before_stamp, before_op, before_body, before_line, Before, before_item}
+use Rattle.docker_model.specs.state.StatePart.{in_entry}
 use Rattle.docker_model.specs.state.StateFault as model
 use Rattle.state_text.specs.declared.cause.StateCause.{StateCause}
 use Rattle.state_text.specs.declared.cause.StateCause.TheVariants as cause

@@ -144,7 +144,8 @@ fault_stays limit text more fault told =
     on : GoesOn text more
     on = goes_on text more
 
-    open_told : length (complete_lines text) ≤ length told.is.earlier → (b : Bool) → nat_le 82 (length (open_line text)) ≡ b → length told.is.earlier + 1 ≤ length
+    open_told : length (complete_lines text) ≤ length told.is.earlier → (b : Bool) → nat_le 82 (length (open_line text)) ≡ b
+        → length told.is.earlier + 1 ≤ length
         (complete_lines text) + cond b 1 0
         → (length told.is.earlier ≡ length (complete_lines text)) × (82 ≤ length (open_line text))
     open_told high true h most = (omega arith, leb-true 82 (length (open_line text)) h)
@@ -296,7 +297,8 @@ passes_no_fault limit text fault passes told = by told.is.here
 
     within : (rest : Lines) × (complete_lines text ≡ told.is.earlier ++ told.is.line ∷ rest)
     within =
-        within_front (complete_lines text) (line_left (open_line text)) told.is.earlier told.is.line told.is.later (sym (lines_of_told text) ∙ told.is.whole) below
+        within_front (complete_lines text) (line_left (open_line text)) told.is.earlier told.is.line told.is.later
+        (sym (lines_of_told text) ∙ told.is.whole) below
 
     by : (limit ≤ length told.is.earlier) ⊎ (¬ BeginsFile (told.is.earlier ++ told.is.line ∷ [])) → ⊥
     by (inl over) = let most = passes.1 in let under = below in let told_is = same in absurd (omega arith)
@@ -359,7 +361,8 @@ fault_at_long limit text place found within long =
     (cause_of_length limit (length (complete_lines text)) place (strip_carriage_return (open_line text)) apart)
     (record {
       is =
-          record_fault limit (complete_lines text) place (strip_carriage_return (open_line text)) found (lines_of text) [] (lines_of_open text (omega arith)) within
+          record_fault limit (complete_lines text) place (strip_carriage_return (open_line text)) found (lines_of text) []
+          (lines_of_open text (omega arith)) within
           (inr (no_next_place place (strip_carriage_return (open_line text)) apart));
       told = omega arith;
     })

@@ -64,7 +64,8 @@ docker_stays horizon state place day text is_day valid printed is = by (nat_lt 0
         (subst (λ (s : State). IsDockerText (live_table s) place day text) (sym (lapsed_already 0 state (none_to_lapse state.entries))) is)
 
 -- a table has at most one docker text for a place and a day
-pub one_text : (live : Table) (place : List ℕ) (day : ℕ) (text other : List ℕ) → IsDockerText live place day text → IsDockerText live place day other → text ≡ other
+pub one_text : (live : Table) (place : List ℕ) (day : ℕ) (text other : List ℕ) → IsDockerText live place day text → IsDockerText live place day other
+    → text ≡ other
 one_text live place day text other is that = is.2 ∙ ap (docker_text live place day) (docker_unique _ is.0 that.0 is.1 that.1) ∙ sym that.2
 
 -- two states of the same files have the same docker for each place and each day that neither

@@ -6,7 +6,8 @@ use Rattle.state_index.proofs.place_rows.postings_at.Goals as goal
 
 pub returns-in-Some-clause-piece : goal.returns-in-Some-clause-piece
 returns-in-Some-clause-piece c =
-    piece_at c.args.places.now c.requires.named c.in-Some.rank c.args.place.now c.args.postings.now c.postings_of.result.now c.in-Some.ensures.some c.postings_of.ensures
+    piece_at c.args.places.now c.requires.named c.in-Some.rank c.args.place.now c.args.postings.now
+    c.postings_of.result.now c.in-Some.ensures.some c.postings_of.ensures
 
 pub returns-in-Some-clause-each : goal.returns-in-Some-clause-each
 returns-in-Some-clause-each c =
