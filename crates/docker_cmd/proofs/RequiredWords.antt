@@ -175,7 +175,7 @@ words_held s position (id ∷ ids) (word ∷ words) h rows fits fresh settles pl
 
 -- ---- the end of the walk
 
--- if both branches of a choice are the same rows, the choice gives these rows
+-- if both branches of a choice are the same rows, the choice equals these rows
 same_rows : (id : Text) (rows : List Row) → cond (has_row id rows) rows rows ≡ rows
 same_rows id rows = go (has_row id rows)
   where
@@ -197,7 +197,7 @@ no_default_fault position (id ∷ ids) rows =
     ap (λ b. or_else (cond b [] []) (defaults_fault (with_default rows (placed position id)) rest)) (or-true (has_row id rows))
     ∙ ap (λ rs. defaults_fault rs rest) (same_rows id rows) ∙ no_default_fault (next position) ids rows
 
--- if the first rows have no row of an id, the id is given if and only if the other rows give it
+-- if the first rows have no row of an id, the id is given in all rows if and only if it is given in the other rows
 not_given : (id : Text) (rows rest : List Row) → has_row id rows ≡ false → is_given id (rows ++ rest) ≡ is_given id rest
 not_given id [] rest fresh = refl
 not_given id (r ∷ rows) rest fresh =

@@ -55,7 +55,7 @@ words_refused words kind plain (inr among) other = elim (judged words plain) [
   | inr refuses ↦ λ s behind names. refuses.names_none s behind (record { whole = names.whole; count = names.count })
 ]
 
--- what `read_words` may return for these words. `held` gives the bytes of the words after the subcommand
+-- what `read_words` may return for these words. `held` returns the bytes of the words after the subcommand
 abbrev pub IsRead : {B : Type 0} → (B → List Text) → List Text → Result (Subcommand × B) JobFault → Type 0
 IsRead held words result = IfOk result (λ read. NamesSubcommand words read.0 (held read.1)) × ((result ≡ Err Usage) → NameNoSubcommand words)
 
