@@ -92,7 +92,7 @@ fn asks(rt: &impl Abort, alloc: Global, line: &str, may_write: bool, words: &str
     same_in(rt, line, asked.as_slice(), words.as_bytes());
 }
 
-/// Rows of requests that every desk allows.
+/// Rows of requests that any desk accepts.
 const READING: &[Row] = &[
     ("print ASHFELD 2024-06-10", "print ASHFELD 2024-06-10"),
     ("  print  ELM   1960-01-01 ", "print ELM     1960-01-01"),
@@ -114,8 +114,8 @@ const READING: &[Row] = &[
     ("renew ", "renew"),
 ];
 
-/// Rows of requests that only a desk that may write allows. The name of a file is everything after
-/// the verb and its spaces.
+/// Rows of requests that a desk accepts only if it may write. The name of a file is everything
+/// after the verb and its spaces.
 const WRITING: &[Row] = &[
     ("take F2", "take F2"),
     (" take   F2", "take F2"),

@@ -61,8 +61,9 @@ pub fn looks_come_before_readings()
 {}
 
 /// Suppose that a file that was merged or renewed held the text of a summary. Then the session
-/// learns that summary from it. If this holds for each such file, the knowledge after every step is
-/// determined, and the law `known_files_fix_sessions` applies to the whole session.
+/// learns that summary from the file. If each file that is merged or renewed holds such a text, the
+/// knowledge after every step is determined, and the law `known_files_fix_sessions` applies to the
+/// whole session.
 pub fn known_texts_are_heard()
     ensures merged { (setting : Setting) (other text : List ℕ) (before after : SessionView)
         (known : Known) → DoesRequest setting (merge_request other) before (done_with text) after
@@ -100,8 +101,8 @@ pub fn saves_are_versions()
         → IsPlaced setting earlier own gains before after }
 {}
 
-/// A session can be cut at any step: the steps before it lead to a point, and the steps after it
-/// lead on from this point. So what a law says of a session's last point holds at every point.
+/// A session can be split at any step. The steps before it end at a point, and the later steps
+/// begin at this point. So what a law says of a session's last point holds at every point.
 pub fn each_point_is_a_last_one()
     ensures { (setting : Setting) (first last : SessionView) (earlier later : List Step)
         → AreSteps setting first (earlier ++ later) last → (between : SessionView)
@@ -115,8 +116,8 @@ pub fn offices_know_as_desks()
 {}
 
 /// Two sessions that know the same files under the same horizon have equal states, and so equal
-/// bytes. So have a session and an office of a run. They print the same docker for each timing
-/// point and each day that neither refuses, even if their horizons differ.
+/// bytes. The same holds for a session and an office of a run. They print the same docker for each
+/// timing point and each day that neither refuses, even if their horizons differ.
 pub fn known_files_fix_states()
     ensures state { (first second : Known) (one two : State) → IsKnown first one
         → IsKnown second two → AreOneKnowledge first second → one ≡ two }
@@ -138,8 +139,8 @@ pub fn dockers_are_of_the_plain_table()
         → (plain : Table) × IsPlainTable known.files plain × PrintsAs state plain }
 {}
 
-/// Two sessions that know the same files have the same dockers without the short-term plan. So have
-/// a session and an office of a run. This holds for each timing point and each day that neither
+/// Two sessions that know the same files have the same dockers without the short-term plan. The
+/// same holds for a session and an office of a run, for each timing point and each day that neither
 /// refuses, even if their horizons differ. If no two of the files have the same moment, these are
 /// the dockers of the plain table without its short-term entries.
 pub fn known_files_fix_permanent_answers()
@@ -166,7 +167,7 @@ pub fn trains_came_from_known_files()
 }
 
 /// Two sessions that know the same files under the same horizon have the same list of timing points
-/// and the same text of what is known. So have a session and an office of a run.
+/// and the same text of what is known. The same holds for a session and an office of a run.
 pub fn known_files_fix_lists()
     ensures places { (first second : Known) (one two : State) → IsKnown first one
         → IsKnown second two → AreOneKnowledge first second → (text other : List ℕ)

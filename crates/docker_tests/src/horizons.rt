@@ -51,7 +51,7 @@ END
     ),
 ];
 
-/// Nothing happens at Ashfeld on 24 June.
+/// The docker of Ashfeld on 24 June, which has no lines.
 const NONE_ON_24_JUNE: &str = "\
 DOCKER ASHFELD 2024-06-24                               
 END                                                     

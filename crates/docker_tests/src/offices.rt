@@ -89,7 +89,7 @@ pub(crate) fn has_text(rt: &impl Abort, alloc: Global, office: &Office, text: &[
     same(rt, own.bytes(), text);
 }
 
-/// Asserts that the state of an office has the text that these parts make.
+/// Asserts that the text of an office's state consists of these parts.
 pub(crate) fn has(rt: &impl Abort, alloc: Global, office: &Office, parts: Parts) {
     let text = text_of_parts(rt, alloc, parts);
     has_text(rt, alloc, office, text.as_slice());

@@ -21,8 +21,8 @@ const FIRST_HORIZON: usize = 23537;
 
 const HORIZONS: usize = 16;
 
-/// A random event. One event in twelve is at an office that doesn't exist. The event may name any
-/// message that was sent, or one that wasn't.
+/// A random event. One event in twelve is at an office that doesn't exist. An event that delivers
+/// or reloads a message may name a message that was never sent.
 fn random_step(rt: &impl Abort, dice: &mut Dice, sent: u16) -> Step {
     let office = if dice.roll(12) == 0 {
         OFFICES

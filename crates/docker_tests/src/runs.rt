@@ -91,7 +91,7 @@ fn message_is(rt: &impl Abort, alloc: Global, left: &Exchange, message: usize, p
     same(rt, (message, kept.bytes()), (message, wanted.as_slice()));
 }
 
-/// Asserts that the first `done` replies are `Done`, and that these others follow.
+/// Asserts that the first `done` replies are `Done`, and that the other replies are these.
 fn replies(rt: &impl Abort, left: &Exchange, done: usize, others: &[Reply]) {
     let (first, rest) = left.replies().split_at(left.replies().len().min(done));
     same(rt, first.len(), done);
@@ -260,7 +260,7 @@ macro_rules! up_to_loss {
     };
 }
 
-/// What the run leaves whose reload has lost the revision.
+/// What a run leaves whose last event is a reload that loses the revision.
 fn lost_left(rt: &impl Abort, alloc: Global) -> Exchange {
     let text = text_of(rt, alloc, MORNING);
     let revision = text_of(rt, alloc, REVISION);
