@@ -91,9 +91,9 @@ fn changed(rt: &impl Abort, alloc: Global, text: &[u8], at: usize, bytes: &[u8])
 /// offset and the cause of the fault.
 type Change = (usize, &'static [u8], u64, StateCause);
 
-/// Changes to the text of one file's state. In order, the changes replace bytes of its mark, of its
-/// horizon (twice), and of the day of its ledger item; then of its entry's tag, stamp, op (twice)
-/// and first line. The last change replaces the number of entries.
+/// Changes to the text of one file's state. The first four replace bytes of its mark, of its
+/// horizon (twice), and of the day of its ledger item. The next five replace bytes of its entry's
+/// tag, stamp, op (twice) and first line. The last replaces the number of entries.
 const CHANGED: &[Change] = &[
     (3, b"1", 0, StateCause::Mark),
     (4, b"\x8e\xad", 4, StateCause::Horizon),
