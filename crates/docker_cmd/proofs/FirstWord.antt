@@ -16,7 +16,7 @@ use Rattle.docker_cmd.specs.Words.{is_plain_word}
 use Rattle.docker_cmd.proofs.PlainWords.{plain_walk_fault}
 use Rattle.docker_cmd.proofs.RequiredWords.{built_top}
 
--- the program with these subcommands, after `clap` has built it
+-- the program with these subcommands, after `clap` has built the program
 abbrev pub built_with : List Shape → App
 built_with subs = record { top = built_top; subs = subs }
 

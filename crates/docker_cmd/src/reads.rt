@@ -15,6 +15,6 @@ pub enum Sources {
     OlderState,
     /// A state, and then a CIF file that the office with this state takes.
     StateAndFile,
-    /// A state, and then a second state that is joined to it.
+    /// A state, and then a second state that is joined to the first.
     TwoStates,
 }

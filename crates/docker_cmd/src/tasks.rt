@@ -31,7 +31,7 @@ pub enum Subcommand {
     Files,
     /// Raises the horizon of a state.
     Horizon,
-    /// Reads a state in the older format, and writes it in the present one.
+    /// Reads a state in the older format, and writes it in the present format.
     Migrate,
 }
 
@@ -268,7 +268,7 @@ impl Task {
         self.subcommand().row().reads
     }
 
-    /// What the task writes once it has read its sources.
+    /// What the task writes after it has read its sources.
     pub fn writes(self) -> Output
         ensures { output_meant result ≡ output_of (task_meant self) }
     {

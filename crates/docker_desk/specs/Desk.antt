@@ -1,4 +1,4 @@
--- What a desk knows, and what each request answers or changes.
+-- What a desk knows, how it answers each request, and what each request changes.
 use Rattle.std.specs.Prelude.{◌≡◌, ◌≢◌, ◌<◌, ℕ, Bool, true, false, List, [], ◌∷◌, ◌++◌, Option, Some, None, Result, Ok, Err, ⊤}
 use Rattle.docker_model.specs.file.File.{most_records}
 use Rattle.docker_model.specs.state.State.{State, live_table}

@@ -1,4 +1,4 @@
--- What each request does in a session, and how a session goes from step to step.
+-- What each request does in a session, and the steps of a session.
 use Rattle.std.specs.Prelude.{◌≡◌, ℕ, ◌+◌, Bool, true, false, List, [], ◌∷◌, length, Option, Some, None, Result, Ok, Err, ⊤}
 use Rattle.docker_model.specs.state.State.{State, raise_horizon}
 use Rattle.docker_model.specs.state.StateText.{dks_2, state_text}

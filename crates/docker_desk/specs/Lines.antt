@@ -82,7 +82,7 @@ EndsLine old (Ok asked) new = ReadsAsked old (asked_meant asked) new
 EndsLine old (Err Failed) new = ReadsMany 0 old new
 EndsLine old (Err Endless) new = ReadsMany (2 ^ 64 - 1) old new
 
--- if a source hadn't reported its end before, then it has reported its end now if and only if `at_end` is true, and it wasn't read past its end
+-- if a source hadn't reported its end before, then it has reported its end now if and only if `at_end` is true, and the source wasn't read past its end
 pub record MeetsEnd (at_end ended now_ended passed now_passed : Bool) : Type 0 where
   pub told : ended ≡ false → now_ended ≡ at_end
   pub kept : ended ≡ false → now_passed ≡ passed

@@ -46,8 +46,8 @@ fn receive_of(rt: &impl Abort, alloc: Global, office: &mut Office, file: File) {
     office.receive(&mut source, 1000).expect(rt, "a state");
 }
 
-/// An office that has received the states of other offices. Each of these has taken one of these
-/// files.
+/// An office that has received the states of other offices. Each of the other offices has taken one
+/// of these files.
 pub(crate) fn merged(rt: &impl Abort, alloc: Global, files: &[File]) -> Office {
     let mut office = Office::new(alloc);
     for file in files {

@@ -1,5 +1,5 @@
 //! A thousand random runs of three offices. At the end of a run, the text of every office and of
-//! every message is the text of the state of what it knows.
+//! every message is the text of the state of what that office or message knows.
 ghost use Rattle.docker_office.specs.RunEnds.{HasGoodLimit};
 ghost use Rattle.docker_office.specs.RunMeaning.{event_meant};
 

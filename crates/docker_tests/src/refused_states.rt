@@ -75,7 +75,7 @@ fn fault(at: u64, cause: StateCause) -> StateFault {
     StateFault { at, cause }
 }
 
-/// This text, with its bytes from this offset on replaced by these.
+/// A copy of the text in which these bytes replace the bytes at this offset.
 fn changed(rt: &impl Abort, alloc: Global, text: &[u8], at: usize, bytes: &[u8]) -> Vec<u8> {
     let front = text.get(..at).expect(rt, "an offset");
     let after = at.saturating_add(bytes.len());
