@@ -52,8 +52,8 @@ pub fn known_files_fix_sessions()
 /// Each point of a session has a look, from which the next draft is made. The look comes right
 /// before an opening of the state's file, whose text was then read, or right after the desk put its
 /// own text in the file's place. So a text that arrived between the look and the reading is never
-/// overwritten unread. Either the desk read it, or the file is no longer the one that the look saw,
-/// and the draft is refused.
+/// overwritten unread. Either the desk read it, or the file was replaced after the look, and the
+/// draft is refused.
 pub fn looks_come_before_readings()
     ensures { (setting : Setting) (old : List Event) (first last : SessionView) (steps : List Step)
         → BeginsAt setting.name old first → AreSteps setting first steps last
@@ -116,8 +116,8 @@ pub fn offices_know_as_desks()
 {}
 
 /// Two sessions that know the same files under the same horizon have equal states, and so equal
-/// bytes. The same holds for a session and an office of a run. They print the same docker for each
-/// timing point and each day that neither refuses, even if their horizons differ.
+/// bytes. The same holds for a session and an office of a run. In both cases the two print the same
+/// docker for each timing point and each day that neither refuses, even if their horizons differ.
 pub fn known_files_fix_states()
     ensures state { (first second : Known) (one two : State) → IsKnown first one
         → IsKnown second two → AreOneKnowledge first second → one ≡ two }
@@ -161,7 +161,8 @@ pub fn trains_came_from_known_files()
         → IsKnown known state → IsTrainText state uid day text → state.horizon ≤ day
         → IsTrainOf known uid day text }
 {
-    // These calls are made only for their contracts, which say this of the files of any summary.
+    // These calls are made only for their contracts, which state the law for the files of any
+    // summary.
     train_came_from_a_file();
     found_train_is_plain();
 }

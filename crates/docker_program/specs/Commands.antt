@@ -1,4 +1,4 @@
--- What commands know. The texts that they store and print are the summaries of known files under a known horizon. The same holds of the texts that desks save.
+-- What commands know. The texts that they store and print are the summaries of known files under a known horizon. The same holds for the texts that desks save.
 use Rattle.std.specs.Prelude.{◌≡◌, ◌⊎◌, ◌<◌, ℕ, Bool, List, [], ◌∷◌, ◌++◌, length, map, slice_index_or, Some, None, ⊤}
 use Rattle.docker_model.specs.state.Lapse.{IsDayRefused}
 use Rattle.docker_model.specs.state.State.{State, live_table}

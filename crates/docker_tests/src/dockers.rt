@@ -16,8 +16,8 @@ DOCKER ASHFELD 2024-06-10
 END                                                     
 ";
 
-/// The docker of Ashfeld if C10002 leaves there, and the morning train leaves two hours later than
-/// usual.
+/// The docker of Ashfeld if C10002 leaves Ashfeld, and the morning train leaves two hours later
+/// than usual.
 pub(crate) const TWO_TRAINS: &str = "\
 DOCKER ASHFELD 2024-06-10                               
 1000  D 1A20 C10002 P   1   SL      1000 ASHFELD BRAYTON
@@ -37,14 +37,14 @@ DOCKER COLWELL 2024-06-10
 END                                                     
 ";
 
-/// The docker of Colwell if one train ends there and has no next working.
+/// The docker of Colwell if one train ends at Colwell and has no next working.
 const COLWELL_ONLY: &str = "\
 DOCKER COLWELL 2024-06-10                               
 2350  A 4D40 C40001 P   1                ASHFELD COLWELL
 END                                                     
 ";
 
-/// The docker of Colwell if one train ends there and its next working doesn't run.
+/// The docker of Colwell if one train ends at Colwell and its next working doesn't run.
 const COLWELL_UNKNOWN: &str = "\
 DOCKER COLWELL 2024-06-10                               
 2350  A 4D40 C40001 P   1                ASHFELD COLWELL
