@@ -116,8 +116,9 @@ pub fn offices_know_as_desks()
 {}
 
 /// Two sessions that know the same files under the same horizon have equal states, and so equal
-/// bytes. The same holds for a session and an office of a run. In both cases the two print the same
-/// docker for each timing point and each day that neither refuses, even if their horizons differ.
+/// texts. Two sessions that know the same files, even under different horizons, print the same
+/// docker for each timing point and each day that neither refuses. Both facts hold for a session
+/// and an office of a run, too.
 pub fn known_files_fix_states()
     ensures state { (first second : Known) (one two : State) → IsKnown first one
         → IsKnown second two → AreOneKnowledge first second → one ≡ two }
@@ -139,10 +140,10 @@ pub fn dockers_are_of_the_plain_table()
         → (plain : Table) × IsPlainTable known.files plain × PrintsAs state plain }
 {}
 
-/// Two sessions that know the same files have the same dockers without the short-term plan. The
-/// same holds for a session and an office of a run, for each timing point and each day that neither
-/// refuses, even if their horizons differ. If no two of the files have the same moment, these are
-/// the dockers of the plain table without its short-term entries.
+/// Two sessions that know the same files, even under different horizons, have the same dockers
+/// without the short-term plan, for each timing point and each day that neither refuses. The same
+/// holds for a session and an office of a run. If no two of the files have the same moment, these
+/// are the dockers of the plain table without its short-term entries.
 pub fn known_files_fix_permanent_answers()
     ensures docker { (first second : Known) (one two : State) → IsKnown first one
         → IsKnown second two → HaveSameFiles first.files second.files → (place : List ℕ) (day : ℕ)
