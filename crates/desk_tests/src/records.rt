@@ -1,4 +1,4 @@
-//! The files and the texts of states of the tests, worked out by hand.
+//! The files and the states' texts that the tests use, worked out by hand.
 
 use std::alloc::Global;
 use std::process::Abort;

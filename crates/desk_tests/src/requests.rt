@@ -42,8 +42,8 @@ fn add_dated(rt: &impl Abort, text: &mut Vec<u8>, request: &Request<'_>) {
     }
 }
 
-/// The verb of a request that names no day, and the file that it names, if it names one. The verb
-/// is empty for any other request.
+/// The verb of a request that names no day, and the name of the file if the request has one. For a
+/// request that names a day, the verb is empty.
 fn file_words<'a>(request: &Request<'a>) -> (&'static str, Option<&'a str>) {
     match request {
         Request::Take(file) => ("take", Some(*file)),

@@ -20,7 +20,7 @@ pub record MatchView : Type 0 where
   pub taken : Text
   pub failures : ℕ
 
--- the copy gained these bytes, or the copy was given up
+-- the copy gained these bytes, or the copy was dropped
 abbrev pub KeepsMore : Option Text → List ℕ → Option Text → Type 0
 KeepsMore old bytes None = ⊤
 KeepsMore None bytes (Some new) = ⊥

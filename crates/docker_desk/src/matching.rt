@@ -10,8 +10,8 @@ use docker_cmd::Office;
 use std::marker::{Brand, Model, PhantomData};
 
 /// A sink that compares what is written with a text. It accepts the bytes of the text, and after
-/// them the first byte that differs. After that it fails. It allocates nothing. For contracts, its
-/// type has the text.
+/// them the first byte that differs. After that it fails. It allocates nothing. Its type parameter
+/// `B` has the text, for contracts.
 #[derive(Drop)]
 pub(crate) struct Matching<'a, B: Begun> {
     text: &'a [u8],

@@ -73,18 +73,18 @@ pub record Prints (run : Run) (job : JobView) (read : SourcesRead) (text : List 
   pub history : run.new.history ≡ history_read run.old.history job read
   pub printed : Takes run.old.output text run.new.output
 
--- this event didn't put a draft in the place of a file, and can't have done so
+-- this event didn't put a draft in the place of a file, and can't have put one there
 abbrev pub IsNoStoring : Event → Type 0
 IsNoStoring (placed name bytes) = ⊥
 IsNoStoring (unplaced name bytes) = ⊥
 IsNoStoring _ = ⊤
 
--- none of these events put a draft in the place of a file, or can have done so
+-- no event in this list put a draft in the place of a file, or may have put one there
 abbrev pub AreNoStorings : List Event → Type 0
 AreNoStorings [] = ⊤
 AreNoStorings (event ∷ events) = IsNoStoring event × AreNoStorings events
 
--- none of a command's events put a draft in the place of a file, or can have done so
+-- no event of the command put a draft in the place of a file, or may have put one there
 pub record StoresNothing (run : Run) : Type 0 where
   pub events : List Event
   pub history : run.new.history ≡ run.old.history ++ events

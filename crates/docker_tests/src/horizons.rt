@@ -57,7 +57,8 @@ DOCKER ASHFELD 2024-06-24
 END                                                     
 ";
 
-/// Sets the row's horizon, and asserts what the row says of the office.
+/// Sets the row's horizon. Asserts the size of the state's text, the day that is refused, and the
+/// docker.
 fn is_after(rt: &impl Abort, alloc: Global, office: &mut Office, row: &Row) {
     let (horizon, bytes, refused, printed, docker) = *row;
     set(rt, office, horizon);

@@ -179,7 +179,7 @@ impl Known {
         state
     }
 
-    /// The text of that state.
+    /// The text of the state of the known files under the known horizon.
     pub(crate) fn text(&self, rt: &impl Abort, alloc: Global, texts: &[Vec<u8>]) -> Kept {
         let state = self.state(rt, alloc, texts);
         let room = usize::try_from(encoded_len(&state)).expect(rt, "a length");

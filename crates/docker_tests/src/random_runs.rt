@@ -274,7 +274,7 @@ fn messages_are_of_known(
     }
 }
 
-/// Makes a random run, and asserts what it leaves.
+/// Makes a random run. Asserts its replies, and the texts of its offices and messages.
 fn random_run(
     rt: &impl Abort,
     alloc: Global,
