@@ -156,8 +156,8 @@ pub fn known_files_fix_permanent_answers()
 {}
 
 /// Each schedule that `train` shows came from a known file. If no two known files have the same
-/// moment, the schedule that is shown is the one that the plain table of these files has for the
-/// UID on the day.
+/// moment, `train` shows the schedule that the plain table of these files has for the UID on the
+/// day.
 pub fn trains_came_from_known_files()
     ensures { (known : Known) (state : State) (uid : List ℕ) (day : ℕ) (text : List ℕ)
         → IsKnown known state → IsTrainText state uid day text → state.horizon ≤ day
